@@ -1,0 +1,73 @@
+//! Runs the cases in a folder, each from five files: `N.args` has its words, one a line, `N.in` its input, and `N.out`,
+//! `N.err` and `N.status` have what it must write and answer, to the byte. Prints a line for each case.
+//!
+//! The folder is the program's one argument, or `data` where there is none.
+#![tactic(auto)]
+
+use outside::{MemSink, MemSource};
+use replay::run_program;
+use std::rt::Files;
+use std::{env, fs, io};
+
+/// How many cases there are.
+const CASES: u32 = 20;
+
+/// The most bytes that a read or a write moves.
+const PIECE: usize = 100;
+
+/// The bytes of one file of a case.
+fn file<R: Files + AllocGlobal>(
+    rt: &R,
+    folder: &str,
+    case: u32,
+    kind: &str,
+) -> io::Result<Vec<u8>> {
+    let path = format!(in rt.alloc(); "{folder}/{case}.{kind}")?;
+    fs::read(rt, path.as_str())
+}
+
+/// The text of one file of a case.
+fn text<R: Files + AllocGlobal>(rt: &R, folder: &str, case: u32, kind: &str) -> io::Result<String> {
+    let path = format!(in rt.alloc(); "{folder}/{case}.{kind}")?;
+    fs::read_to_string(rt, path.as_str())
+}
+
+/// The words of a case.
+fn words<R: Files + AllocGlobal>(rt: &R, folder: &str, case: u32) -> io::Result<Vec<String>> {
+    let lines = text(rt, folder, case, "args")?;
+    let mut words = Vec::new(rt.alloc());
+    for line in lines.lines() {
+        words.push(line.to_string(rt.alloc())?)?;
+    }
+    Ok(words)
+}
+
+/// What a case shows: that all is as its files have it, or what differs first.
+fn outcome<R: Files + AllocGlobal>(rt: &R, folder: &str, case: u32) -> io::Result<&'static str> {
+    let words = words(rt, folder, case)?;
+    let mut input = MemSource::new(file(rt, folder, case, "in")?, PIECE, Vec::new(rt.alloc()));
+    let mut out = MemSink::new(rt.alloc(), PIECE, Vec::new(rt.alloc()));
+    let mut err = MemSink::new(rt.alloc(), PIECE, Vec::new(rt.alloc()));
+    let status = run_program(rt.alloc(), words.as_slice(), &mut input, &mut out, &mut err);
+    let wanted = text(rt, folder, case, "status")?;
+    if wanted.trim().parse() != Ok(status) {
+        return Ok("another status");
+    }
+    if out.bytes() != file(rt, folder, case, "out")?.as_slice() {
+        return Ok("other output");
+    }
+    if err.bytes() != file(rt, folder, case, "err")?.as_slice() {
+        return Ok("other text on standard error");
+    }
+    Ok("as expected")
+}
+
+fn main(rt: HostRuntime) -> io::Result<()> {
+    let given = env::args(&rt)?.nth(1);
+    let folder = given.as_ref().map_or("data", |it| it.as_str());
+    for case in 1..CASES + 1 {
+        let said = outcome(&rt, folder, case)?;
+        println!(rt; "case {case}: {said}")?;
+    }
+    Ok(())
+}

@@ -1,0 +1,4 @@
+pub mod Fault
+pub mod Arms
+pub mod Grammar
+pub mod Whole

@@ -1,0 +1,4 @@
+pub mod Statuses
+pub mod Command
+pub mod Outcome
+pub mod Run

@@ -1,0 +1,9 @@
+pub mod Steps
+pub mod Numbers
+pub mod LeafLaws
+pub mod Opaque
+pub mod Combining
+pub mod Unions
+pub mod Looping
+pub mod AllLeaves
+pub mod Grammar

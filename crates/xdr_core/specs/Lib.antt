@@ -1,0 +1,5 @@
+pub mod Place
+pub mod Format
+pub mod Leaves
+pub mod Ending
+pub mod Combinators

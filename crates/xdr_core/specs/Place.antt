@@ -1,0 +1,56 @@
+-- Where reading stands in a text, and what a step of reading answers.
+use Rattle.std.specs.Prelude.{◌≡◌, ℕ, ◌+◌, List, length, drop, Bool, false, Result, Ok, Err}
+use Rattle.std.specs.Bool.{OnFalse}
+use Rattle.xdr_core.specs.declared.fault.XdrFault.{XdrFault}
+use Rattle.xdr_core.specs.declared.fault.XdrKind.{XdrKind}
+use Rattle.xdr_core.specs.declared.fault.XdrKind.TheVariants.{Short}
+
+-- how many bytes lie behind, and the bytes ahead
+pub record Place : Type 0 where
+  pub at : ℕ
+  pub rest : List ℕ
+
+-- the place at the front of a text
+abbrev pub start_of : List ℕ → Place
+start_of text = record { at = 0; rest = text }
+
+-- n bytes further on
+abbrev pub onward : ℕ → Place → Place
+onward n p = record { at = p.at + n; rest = drop n p.rest }
+
+-- a fault at the first byte ahead
+abbrev pub fault_at : Place → XdrKind → XdrFault
+fault_at p kind = record { at = p.at; kind = kind }
+
+-- the text ends too early: the fault names the length of the whole text
+abbrev pub short_at : Place → XdrFault
+short_at p = record { at = p.at + length p.rest; kind = Short }
+
+-- a value and the place behind it, or a fault
+abbrev pub Reading : Type 0 → Type 0 → Type 0
+Reading F A = Result (A × Place) F
+
+-- one step after another, up to the first fault
+infixl 10 ◌>>=◌
+abbrev pub ◌>>=◌ : {F A B : Type 0} → Result A F → (A → Result B F) → Result B F
+(Ok x) >>= f = f x
+(Err e) >>= f = Err e
+
+-- the same answer with its fault seen as another type's
+abbrev pub with_fault : {E F A : Type 0} → (E → F) → Result A E → Result A F
+with_fault as_fault (Ok x) = Ok x
+with_fault as_fault (Err e) = Err (as_fault e)
+
+-- no fault is free
+abbrev pub never : {F : Type 0} → F → Bool
+never f = false
+
+-- What a reader answered, seen by a view, is what reading gives. With a value the reader stands behind it; with
+-- a fault it stands where it stood. A free fault is want of memory, which says nothing of the bytes.
+abbrev pub ReadsBy : {X Y F : Type 0} → (X → Y) → (F → Bool) → Result X F → Place → Place → Reading F Y → Type 0
+ReadsBy view free (Ok x) old new reading = reading ≡ Ok (view x, new)
+ReadsBy view free (Err f) old new reading = OnFalse (free f) (reading ≡ Err f) × (new ≡ old)
+
+-- the same where the value is seen as it is
+abbrev pub Reads : {X F : Type 0} → (F → Bool) → Result X F → Place → Place → Reading F X → Type 0
+Reads free result old new reading = ReadsBy (λ x. x) free result old new reading

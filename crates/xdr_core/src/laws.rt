@@ -1,0 +1,18 @@
+//! The laws of the formats that are made of no others, as contracts.
+
+ghost use Rattle.std.specs.Prelude.{ℕ, ◌^◌, ◌<◌};
+ghost use Rattle.xdr_core.specs.Format.{Lawful};
+ghost use Rattle.xdr_core.specs.Leaves.{u32, u64, i32, i64, flag, fixed, count, var};
+
+/// What is read is spelled so, what is spelled so is read whatever follows, and writing puts the spelling at the end.
+#[tactic(auto, using(crate::proofs::AllLeaves::leaf_laws))]
+pub fn reading_and_spelling_agree()
+    ensures unsigned_32 { Lawful u32 }
+    ensures unsigned_64 { Lawful u64 }
+    ensures signed_32 { Lawful i32 }
+    ensures signed_64 { Lawful i64 }
+    ensures flags { Lawful flag }
+    ensures fixed_opaque { (n : ℕ) → Lawful (fixed n) }
+    ensures counts { (max : ℕ) → max < 2 ^ 32 → Lawful (count max) }
+    ensures variable_opaque { (max : ℕ) → max < 2 ^ 32 → Lawful (var max) }
+{}

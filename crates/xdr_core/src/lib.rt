@@ -1,0 +1,17 @@
+//! XDR (RFC 4506): a cursor that reads a text, a builder that writes one, and the formats that both go by.
+#![tactic(auto)]
+
+mod builder;
+mod cursor;
+mod decode;
+mod failure;
+mod fault;
+pub mod laws;
+#[cfg(test)]
+mod tests;
+
+pub use builder::Builder;
+pub use cursor::Cursor;
+pub use decode::{Decode, read_list, read_option};
+pub use failure::ReadFailure;
+pub use fault::{XdrFault, XdrKind};

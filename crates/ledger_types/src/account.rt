@@ -1,48 +1,73 @@
-//! Accounts and their signers.
+//! Accounts.
 
 ghost use Rattle.std.specs.Prelude.{◌≡◌, IfOk};
 
-use crate::ids::{AccountId, Hash};
+use crate::ids::AccountId;
+use crate::price::Liabilities;
+use crate::signer::Signer;
 use item_list::ItemList;
 use std::alloc::AllocError;
 
-/// What a signature of a signer shows: the key that made it, or that it is the text with a hash. Keys are ordered
-/// by their arm and then by their bytes.
-#[derive(Clone, Copy, Debug, PartialEq, Eq, PartialOrd, Ord)]
-pub enum SignerKey {
-    /// An Ed25519 public key.
-    Ed25519([u8; 32]),
-    /// The SHA-256 of a text that is the signature.
-    HashX(Hash),
+/// What sponsorship adds to an account (AccountEntryExtensionV2 in Stellar-ledger-entries.x; CAP-0033).
+#[derive(Clone, Debug, PartialEq, Eq, Drop)]
+pub struct AccountEntryExtensionV2 {
+    /// How many reserves of this account another one pays.
+    pub num_sponsored: u32,
+    /// How many reserves this account pays for others.
+    pub num_sponsoring: u32,
+    /// Who pays each signer's reserve, in the order of the signers. At most 20; one item a signer in a valid account.
+    pub signer_sponsoring_ids: ItemList<Option<AccountId>>,
 }
 
-/// A key that may sign for an account.
-#[derive(Clone, Copy, Debug, PartialEq, Eq)]
-pub struct Signer {
-    pub key: SignerKey,
-    /// 1 to 255 in a valid account. What is above 255 counts as 255.
-    pub weight: u32,
+/// What liabilities add to an account (AccountEntryExtensionV1 in Stellar-ledger-entries.x; CAP-0003).
+#[derive(Clone, Debug, PartialEq, Eq, Drop)]
+pub struct AccountEntryExtensionV1 {
+    pub liabilities: Liabilities,
+    /// Arm 2, or none, arm 0.
+    pub ext: Option<AccountEntryExtensionV2>,
 }
 
-/// An account.
-#[derive(Debug, Drop)]
+/// An account (AccountEntry in Stellar-ledger-entries.x).
+#[derive(Clone, Debug, PartialEq, Eq)]
 pub struct AccountEntry {
     pub account_id: AccountId,
     /// In stroops, of which a lumen has 10,000,000. At least 0 in a valid account.
     pub balance: i64,
     /// The sequence number of the account's last transaction. At least 0 in a valid account.
     pub seq_num: i64,
-    /// How many entries count towards the account's reserve.
+    /// How many trust lines, offers, data and signers count towards the account's reserve.
     pub num_sub_entries: u32,
     pub inflation_dest: Option<AccountId>,
-    /// `AUTH_REQUIRED` 1, `AUTH_REVOCABLE` 2, `AUTH_IMMUTABLE` 4, `AUTH_CLAWBACK_ENABLED` 8.
+    /// AUTH_REQUIRED 1, AUTH_REVOCABLE 2, AUTH_IMMUTABLE 4, AUTH_CLAWBACK_ENABLED 8.
     pub flags: u32,
     /// At most 32 bytes.
     pub home_domain: ItemList<u8>,
     /// The weight of the account's own key, and the low, the medium and the high threshold.
     pub thresholds: [u8; 4],
-    /// At most 20, in rising order of key in a valid account.
+    /// At most 20. In rising order of key, and distinct, in a valid account.
     pub signers: ItemList<Signer>,
+    /// Arm 1, or none, arm 0.
+    pub ext: Option<AccountEntryExtensionV1>,
+}
+
+impl Drop for AccountEntry {
+    fn drop(self) {
+        let AccountEntry {
+            account_id: _,
+            balance: _,
+            seq_num: _,
+            num_sub_entries: _,
+            inflation_dest: _,
+            flags: _,
+            home_domain,
+            thresholds: _,
+            signers,
+            ext,
+        } = self;
+        drop(home_domain);
+        drop(signers);
+        drop(ext);
+    }
 }
 
 impl AccountEntry {
@@ -50,38 +75,6 @@ impl AccountEntry {
     pub fn copy(&self) -> Result<AccountEntry, AllocError>
         ensures { IfOk result (λ account. account ≡ self.now) }
     {
-        let home_domain = self.home_domain.copy()?;
-        let signers = self.signers.copy()?;
-        Ok(AccountEntry {
-            account_id: self.account_id,
-            balance: self.balance,
-            seq_num: self.seq_num,
-            num_sub_entries: self.num_sub_entries,
-            inflation_dest: self.inflation_dest,
-            flags: self.flags,
-            home_domain,
-            thresholds: self.thresholds,
-            signers,
-        })
-    }
-}
-
-/// An entry of the ledger. The only type of entry so far is the account.
-#[derive(Debug, Drop)]
-pub struct LedgerEntry {
-    /// The ledger in which the entry was last changed.
-    pub last_modified_ledger_seq: u32,
-    pub body: AccountEntry,
-}
-
-impl LedgerEntry {
-    /// The same entry once more.
-    pub fn copy(&self) -> Result<LedgerEntry, AllocError>
-        ensures { IfOk result (λ entry. entry ≡ self.now) }
-    {
-        Ok(LedgerEntry {
-            last_modified_ledger_seq: self.last_modified_ledger_seq,
-            body: self.body.copy()?,
-        })
+        self.clone()
     }
 }

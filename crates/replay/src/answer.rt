@@ -11,7 +11,7 @@ use crate::text::{refused_text, results_text};
 use byteorder::{BigEndian, ByteOrder};
 use hash_ids::network_id;
 use item_list::ItemList;
-use ledger_types::{AccountEntry, LedgerEntry};
+use set_types::{AccountEntry, LedgerEntry};
 use set_form::{FormFault, SetInput, read_set_input};
 use set_outcome::Status;
 use set_rules::Terms;

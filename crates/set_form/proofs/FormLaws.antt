@@ -11,9 +11,9 @@ use Rattle.xdr_core.proofs.Opaque.{fixed_lawful, var_lawful}
 use Rattle.xdr_core.proofs.Combining.{lifted_law, ◌&◌, struct_law, constant_law, marked_law, closed_law, option_law, list_law}
 use Rattle.xdr_core.proofs.Unions.{IsFound, union_law}
 use Rattle.xdr_core.proofs.Grammar.{prefix_free, faults_rightly}
-use Rattle.ledger_types.specs.declared.account.SignerKey.{SignerKey}
-use Rattle.ledger_types.specs.declared.account.SignerKey.TheVariants.{Ed25519, HashX}
-use Rattle.op_types.specs.declared.transaction.Transaction.{Transaction}
+use Rattle.set_types.specs.declared.account.SignerKey.{SignerKey}
+use Rattle.set_types.specs.declared.account.SignerKey.TheVariants.{Ed25519, HashX}
+use Rattle.set_types.specs.declared.transaction.Transaction.{Transaction}
 use Rattle.set_form.specs.declared.fault.FormFault.TheVariants.{Xdr}
 use Rattle.set_form.specs.declared.input.SetInput.{SetInput}
 use Rattle.set_form.specs.Arms.{arm, other_arm, absent, present, one_operation, other_count}

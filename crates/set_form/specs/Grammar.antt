@@ -5,16 +5,16 @@ use Rattle.xdr_core.specs.Leaves.{u32, u64, i64, fixed, var}
 use Rattle.xdr_core.specs.Combinators.{lifted, ◌⨾◌, Fields, struct_of, marked, closed, option, list, Arm, Part, part, union}
 use Rattle.ledger_types.specs.declared.ids.AccountId.{AccountId}
 use Rattle.ledger_types.specs.declared.ids.Hash.{Hash}
-use Rattle.ledger_types.specs.declared.account.SignerKey.{SignerKey}
-use Rattle.ledger_types.specs.declared.account.SignerKey.TheVariants.{Ed25519, HashX}
-use Rattle.ledger_types.specs.declared.account.Signer.{Signer}
-use Rattle.ledger_types.specs.declared.account.AccountEntry.{AccountEntry}
-use Rattle.ledger_types.specs.declared.account.LedgerEntry.{LedgerEntry}
-use Rattle.op_types.specs.declared.transaction.DecoratedSignature.{DecoratedSignature}
-use Rattle.op_types.specs.declared.transaction.BumpSequenceOp.{BumpSequenceOp}
-use Rattle.op_types.specs.declared.transaction.Transaction.{Transaction}
-use Rattle.op_types.specs.declared.transaction.TransactionEnvelope.{TransactionEnvelope}
-use Rattle.op_types.specs.declared.transaction.TransactionSet.{TransactionSet}
+use Rattle.set_types.specs.declared.account.SignerKey.{SignerKey}
+use Rattle.set_types.specs.declared.account.SignerKey.TheVariants.{Ed25519, HashX}
+use Rattle.set_types.specs.declared.account.Signer.{Signer}
+use Rattle.set_types.specs.declared.account.AccountEntry.{AccountEntry}
+use Rattle.set_types.specs.declared.account.LedgerEntry.{LedgerEntry}
+use Rattle.set_types.specs.declared.transaction.DecoratedSignature.{DecoratedSignature}
+use Rattle.set_types.specs.declared.transaction.BumpSequenceOp.{BumpSequenceOp}
+use Rattle.set_types.specs.declared.transaction.Transaction.{Transaction}
+use Rattle.set_types.specs.declared.transaction.TransactionEnvelope.{TransactionEnvelope}
+use Rattle.set_types.specs.declared.transaction.TransactionSet.{TransactionSet}
 use Rattle.set_form.specs.declared.fault.FormFault.{FormFault}
 use Rattle.set_form.specs.declared.fault.FormFault.TheVariants.{Xdr}
 use Rattle.set_form.specs.declared.input.SetInput.{SetInput}

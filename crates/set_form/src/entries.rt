@@ -8,7 +8,8 @@ ghost use Rattle.set_form.specs.Grammar.{account_id as account_id_format, muxed_
 use crate::arms::{read_arm, refused};
 use crate::fault::FormFault;
 use item_list::ItemList;
-use ledger_types::{AccountEntry, AccountId, Hash, LedgerEntry, Signer, SignerKey};
+use ledger_types::{AccountId, Hash};
+use set_types::{AccountEntry, LedgerEntry, Signer, SignerKey};
 use std::alloc::Global;
 use xdr_core::{Cursor, Decode, XdrKind, read_list, read_option};
 

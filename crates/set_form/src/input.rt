@@ -11,8 +11,7 @@ use crate::entries::LedgerEntryFormat;
 use crate::fault::FormFault;
 use crate::transactions::read_transaction_set;
 use item_list::ItemList;
-use ledger_types::LedgerEntry;
-use op_types::TransactionSet;
+use set_types::{LedgerEntry, TransactionSet};
 use std::alloc::Global;
 use xdr_core::{Cursor, read_list};
 

@@ -9,7 +9,7 @@ use crate::arms::{read_absent, read_arm, read_one_operation};
 use crate::entries::{KEY_TYPE_ED25519, read_hash, read_muxed_account};
 use crate::fault::FormFault;
 use item_list::ItemList;
-use op_types::{
+use set_types::{
     BumpSequenceOp, DecoratedSignature, Transaction, TransactionEnvelope, TransactionSet,
 };
 use std::alloc::{AllocError, Global};

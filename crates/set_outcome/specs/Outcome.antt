@@ -5,7 +5,7 @@ use Rattle.std.specs.Fmt.{decimal, signed_decimal}
 use Rattle.hex.specs.Hex.{encode_lower}
 use Rattle.byteorder.specs.Endian.{big_number}
 use Rattle.ledger_types.specs.declared.ids.Hash.{Hash}
-use Rattle.op_types.specs.declared.result.TransactionResultPair.{TransactionResultPair}
+use Rattle.set_types.specs.declared.result.TransactionResultPair.{TransactionResultPair}
 use Rattle.hash_ids.specs.Ids.{network_id_of}
 use Rattle.set_form.specs.declared.fault.FormFault.{FormFault}
 use Rattle.set_form.specs.declared.fault.FormFault.TheVariants as faults

@@ -5,7 +5,7 @@ use Rattle.std.specs.declared.cmp.Ordering.{Ordering}
 use Rattle.std.specs.Ordering.{is_eq, nat_cmp}
 use Rattle.std.specs.Cmp.Lexicographic.{slice_cmp}
 use Rattle.ledger_types.specs.declared.ids.AccountId.{AccountId}
-use Rattle.ledger_types.specs.declared.account.AccountEntry.{AccountEntry}
+use Rattle.set_types.specs.declared.account.AccountEntry.{AccountEntry}
 
 -- ids are ordered as their bytes
 abbrev pub account_id_cmp : AccountId → AccountId → Ordering

@@ -7,12 +7,12 @@ use Rattle.std.specs.Ordering.{is_lt, nat_cmp}
 use Rattle.std.specs.declared.cmp.Ordering.TheVariants.{Less, Greater}
 use Rattle.std.specs.Cmp.Lexicographic.{slice_cmp}
 use Rattle.std.specs.Str.{bytes_eq}
-use Rattle.ledger_types.specs.declared.account.SignerKey.{SignerKey}
-use Rattle.ledger_types.specs.declared.account.SignerKey.TheVariants.{Ed25519, HashX}
-use Rattle.ledger_types.specs.declared.account.Signer.{Signer}
-use Rattle.ledger_types.specs.declared.account.AccountEntry.{AccountEntry}
-use Rattle.ledger_types.specs.declared.account.LedgerEntry.{LedgerEntry}
-use Rattle.op_types.specs.declared.transaction.TransactionEnvelope.{TransactionEnvelope}
+use Rattle.set_types.specs.declared.account.SignerKey.{SignerKey}
+use Rattle.set_types.specs.declared.account.SignerKey.TheVariants.{Ed25519, HashX}
+use Rattle.set_types.specs.declared.account.Signer.{Signer}
+use Rattle.set_types.specs.declared.account.AccountEntry.{AccountEntry}
+use Rattle.set_types.specs.declared.account.LedgerEntry.{LedgerEntry}
+use Rattle.set_types.specs.declared.transaction.TransactionEnvelope.{TransactionEnvelope}
 use Rattle.set_form.specs.declared.input.SetInput.{SetInput}
 use Rattle.set_rules.specs.declared.terms.Terms.{Terms}
 use Rattle.set_rules.specs.Accounts.{account_id_cmp, account_at}

@@ -2,8 +2,8 @@
 -- Source: CAP-0005; stellar-core, TransactionFrame::getFee and processFeeSeqNum.
 use Rattle.std.specs.Prelude.{ℕ, ℤ, pos, ◌-ℤ◌, min, List, [], ◌∷◌, Option, Some, None}
 use Rattle.std.specs.Int.{int_min}
-use Rattle.ledger_types.specs.declared.account.AccountEntry.{AccountEntry}
-use Rattle.op_types.specs.declared.transaction.TransactionEnvelope.{TransactionEnvelope}
+use Rattle.set_types.specs.declared.account.AccountEntry.{AccountEntry}
+use Rattle.set_types.specs.declared.transaction.TransactionEnvelope.{TransactionEnvelope}
 use Rattle.set_rules.specs.Accounts.{account_at, with_account}
 
 -- the bid or the base fee, whichever is less, as far as the balance goes

@@ -4,16 +4,16 @@ use Rattle.std.specs.Prelude.{ℕ, ℤ, pos, negsuc, List, [], ◌∷◌, ◌++�
 use Rattle.std.specs.List.{flat_map}
 use Rattle.xdr_core.specs.Leaves.{u32, i32, i64}
 use Rattle.ledger_types.specs.declared.ids.Hash.{Hash}
-use Rattle.ledger_types.specs.declared.account.AccountEntry.{AccountEntry}
-use Rattle.op_types.specs.declared.transaction.TransactionEnvelope.{TransactionEnvelope}
-use Rattle.op_types.specs.declared.result.BumpSequenceResult.{BumpSequenceResult}
-use Rattle.op_types.specs.declared.result.BumpSequenceResult.TheVariants as bump
-use Rattle.op_types.specs.declared.result.OperationResult.{OperationResult}
-use Rattle.op_types.specs.declared.result.OperationResult.TheVariants as operation
-use Rattle.op_types.specs.declared.result.TransactionOutcome.{TransactionOutcome}
-use Rattle.op_types.specs.declared.result.TransactionOutcome.TheVariants as outcome
-use Rattle.op_types.specs.declared.result.TransactionResult.{TransactionResult}
-use Rattle.op_types.specs.declared.result.TransactionResultPair.{TransactionResultPair}
+use Rattle.set_types.specs.declared.account.AccountEntry.{AccountEntry}
+use Rattle.set_types.specs.declared.transaction.TransactionEnvelope.{TransactionEnvelope}
+use Rattle.set_types.specs.declared.result.BumpSequenceResult.{BumpSequenceResult}
+use Rattle.set_types.specs.declared.result.BumpSequenceResult.TheVariants as bump
+use Rattle.set_types.specs.declared.result.OperationResult.{OperationResult}
+use Rattle.set_types.specs.declared.result.OperationResult.TheVariants as operation
+use Rattle.set_types.specs.declared.result.TransactionOutcome.{TransactionOutcome}
+use Rattle.set_types.specs.declared.result.TransactionOutcome.TheVariants as outcome
+use Rattle.set_types.specs.declared.result.TransactionResult.{TransactionResult}
+use Rattle.set_types.specs.declared.result.TransactionResultPair.{TransactionResultPair}
 use Rattle.hash_ids.specs.Ids.{tx_hash_of, hash_of}
 use Rattle.set_form.specs.Grammar.{transaction}
 use Rattle.set_rules.specs.Fees.{charge_all}

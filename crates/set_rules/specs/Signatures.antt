@@ -3,11 +3,11 @@
 use Rattle.std.specs.Prelude.{ℕ, ◌-◌, ◌&&◌, ◌||◌, nat_le, min, List, [], ◌∷◌, drop, slice_index, Bool, true, false, Option, Some, None, if◌then◌else◌}
 use Rattle.std.specs.Str.{bytes_eq}
 use Rattle.sha2.specs.Sha256.{sha256}
-use Rattle.ledger_types.specs.declared.account.SignerKey.{SignerKey}
-use Rattle.ledger_types.specs.declared.account.SignerKey.TheVariants.{Ed25519, HashX}
-use Rattle.ledger_types.specs.declared.account.Signer.{Signer}
-use Rattle.ledger_types.specs.declared.account.AccountEntry.{AccountEntry}
-use Rattle.op_types.specs.declared.transaction.DecoratedSignature.{DecoratedSignature}
+use Rattle.set_types.specs.declared.account.SignerKey.{SignerKey}
+use Rattle.set_types.specs.declared.account.SignerKey.TheVariants.{Ed25519, HashX}
+use Rattle.set_types.specs.declared.account.Signer.{Signer}
+use Rattle.set_types.specs.declared.account.AccountEntry.{AccountEntry}
+use Rattle.set_types.specs.declared.transaction.DecoratedSignature.{DecoratedSignature}
 
 -- A hint and a digest match a hash whose last four bytes are the hint and that is the digest. An Ed25519 key matches
 -- nothing.

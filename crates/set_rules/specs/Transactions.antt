@@ -3,13 +3,13 @@
 use Rattle.std.specs.Prelude.{ℤ, pos, ◌+ℤ◌, ◌||◌, int_lt, nat_lt, not, List, [], ◌∷◌, Bool, Option, Some, None, if◌then◌else◌}
 use Rattle.std.specs.Int.{int_max}
 use Rattle.std.specs.Ordering.{int_eq}
-use Rattle.ledger_types.specs.declared.account.AccountEntry.{AccountEntry}
-use Rattle.op_types.specs.declared.transaction.Transaction.{Transaction}
-use Rattle.op_types.specs.declared.transaction.TransactionEnvelope.{TransactionEnvelope}
-use Rattle.op_types.specs.declared.result.BumpSequenceResult.TheVariants as bump
-use Rattle.op_types.specs.declared.result.OperationResult.TheVariants as operation
-use Rattle.op_types.specs.declared.result.TransactionOutcome.{TransactionOutcome}
-use Rattle.op_types.specs.declared.result.TransactionOutcome.TheVariants as outcome
+use Rattle.set_types.specs.declared.account.AccountEntry.{AccountEntry}
+use Rattle.set_types.specs.declared.transaction.Transaction.{Transaction}
+use Rattle.set_types.specs.declared.transaction.TransactionEnvelope.{TransactionEnvelope}
+use Rattle.set_types.specs.declared.result.BumpSequenceResult.TheVariants as bump
+use Rattle.set_types.specs.declared.result.OperationResult.TheVariants as operation
+use Rattle.set_types.specs.declared.result.TransactionOutcome.{TransactionOutcome}
+use Rattle.set_types.specs.declared.result.TransactionOutcome.TheVariants as outcome
 use Rattle.set_rules.specs.declared.terms.Terms.{Terms}
 use Rattle.set_rules.specs.Accounts.{account_at, with_account, available}
 use Rattle.set_rules.specs.Signatures.{weights, reaches, uses_all, low_threshold}

@@ -3,7 +3,7 @@
 ghost use Rattle.std.specs.Prelude.{◌≡◌};
 ghost use Rattle.set_rules.specs.Results.{outcome_code as code_of_outcome, bump_code as code_of_bump};
 
-use op_types::{BumpSequenceResult, TransactionOutcome};
+use set_types::{BumpSequenceResult, TransactionOutcome};
 
 /// The code of how a transaction ended (TransactionResultCode).
 pub fn outcome_code(outcome: TransactionOutcome) -> i32

@@ -4,7 +4,7 @@ ghost use Rattle.std.specs.Prelude.{◌≡◌};
 ghost use Rattle.set_rules.specs.Accounts.{available as available_of};
 ghost use Rattle.set_rules.specs.Fees.{fee_charged as charge_of};
 
-use ledger_types::AccountEntry;
+use set_types::AccountEntry;
 
 /// What an account has above the balance that it has to keep. It may be less than nothing.
 pub fn available(account: &AccountEntry, base_reserve: u32) -> i128

@@ -7,10 +7,10 @@ use Rattle.std.proofs.lemmas.Bool.{le-ltb}
 use Rattle.std.proofs.lemmas.List.{append-nil, nil_from_length, length-drop}
 use Rattle.std.proofs.Math.Seq.{drop-cons}
 use Rattle.ledger_types.specs.declared.ids.Hash.{Hash}
-use Rattle.ledger_types.specs.declared.account.AccountEntry.{AccountEntry}
-use Rattle.op_types.specs.declared.transaction.TransactionEnvelope.{TransactionEnvelope}
-use Rattle.op_types.specs.declared.result.TransactionOutcome.{TransactionOutcome}
-use Rattle.op_types.specs.declared.result.TransactionResultPair.{TransactionResultPair}
+use Rattle.set_types.specs.declared.account.AccountEntry.{AccountEntry}
+use Rattle.set_types.specs.declared.transaction.TransactionEnvelope.{TransactionEnvelope}
+use Rattle.set_types.specs.declared.result.TransactionOutcome.{TransactionOutcome}
+use Rattle.set_types.specs.declared.result.TransactionResultPair.{TransactionResultPair}
 use Rattle.set_rules.specs.declared.terms.Terms.{Terms}
 use Rattle.set_rules.specs.Accounts.{account_at, with_account}
 use Rattle.set_rules.specs.Fees.{fee_of_source, debited, charge_all}

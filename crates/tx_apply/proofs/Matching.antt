@@ -4,7 +4,7 @@ use Rattle.std.specs.Prelude.{position, remove}
 use Rattle.std.specs.List.{prefix_len}
 use Rattle.std.specs.Option.{option_map}
 use Rattle.std.proofs.lemmas.Bool.{cases_lt, lt-ltb, le-ltb}
-use Rattle.ledger_types.specs.declared.account.Signer.{Signer}
+use Rattle.set_types.specs.declared.account.Signer.{Signer}
 use Rattle.set_rules.specs.Signatures.{matches_key, Counted, behind, first_match, counts_of}
 
 -- the place in a list, one further on where the list has another item in front

@@ -6,7 +6,7 @@ use Rattle.std.specs.Cmp.{IsTotalOrder}
 use Rattle.std.specs.Cmp.Lexicographic.{nat_list_cmp_total}
 use Rattle.std.specs.List.Sorted.{IsNonDecreasingBy, IsPartitionPoint}
 use Rattle.ledger_types.specs.declared.ids.AccountId.{AccountId}
-use Rattle.ledger_types.specs.declared.account.AccountEntry.{AccountEntry}
+use Rattle.set_types.specs.declared.account.AccountEntry.{AccountEntry}
 use Rattle.set_rules.specs.Accounts.{account_id_cmp, account_at}
 use Rattle.tx_apply.specs.Place.{IdsRise, IsPlaceOf}
 use Rattle.tx_apply.proofs.Rising.{found_at, not_found, still_rises}

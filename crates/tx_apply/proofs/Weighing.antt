@@ -4,8 +4,8 @@ use Rattle.std.proofs.lemmas.Bool.{le-leb, lt-leb, cases_lt, eq-eqb, ne_eqb}
 use Rattle.std.proofs.lemmas.List.{length-drop, nil_from_length}
 use Rattle.std.proofs.Math.Seq.{drop-cons}
 use Rattle.sha2.specs.Sha256.{sha256}
-use Rattle.ledger_types.specs.declared.account.Signer.{Signer}
-use Rattle.op_types.specs.declared.transaction.DecoratedSignature.{DecoratedSignature}
+use Rattle.set_types.specs.declared.account.Signer.{Signer}
+use Rattle.set_types.specs.declared.transaction.DecoratedSignature.{DecoratedSignature}
 use Rattle.set_rules.specs.Signatures.{first_match, Counts, counts_of, weights, reaches, is_nil, uses_all}
 
 -- what one signature counts

@@ -1,7 +1,7 @@
 -- Where an account stands among accounts whose ids rise.
 use Rattle.std.specs.Prelude.{◌≡◌, ℕ, ◌<◌, true, List, length, Option, Some, None, slice_index_or, slice_set}
 use Rattle.ledger_types.specs.declared.ids.AccountId.{AccountId}
-use Rattle.ledger_types.specs.declared.account.AccountEntry.{AccountEntry}
+use Rattle.set_types.specs.declared.account.AccountEntry.{AccountEntry}
 use Rattle.set_rules.specs.Accounts.{account_id_cmp, account_at, with_account}
 use Rattle.set_rules.specs.Conditions.{rises}
 

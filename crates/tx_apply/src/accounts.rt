@@ -5,7 +5,8 @@ ghost use Rattle.std.specs.List.Sorted.{IsBinarySearchResult};
 ghost use Rattle.set_rules.specs.Accounts.{account_id_cmp, account_at};
 ghost use Rattle.tx_apply.specs.Place.{IdsRise, IsPlaceOf};
 
-use ledger_types::{AccountEntry, AccountId};
+use ledger_types::AccountId;
+use set_types::AccountEntry;
 
 /// Where the account with this id stands, or where it would.
 fn search(accounts: &[AccountEntry], id: &AccountId) -> Result<usize, usize>

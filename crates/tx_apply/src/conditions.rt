@@ -7,8 +7,7 @@ ghost use Rattle.set_rules.specs.Conditions.{rises, signer_key_cmp, is_own_key a
 ghost use Rattle.tx_apply.specs.Place.{IdsRise};
 
 use crate::accounts::has_account;
-use ledger_types::{AccountEntry, Signer, SignerKey};
-use op_types::TransactionEnvelope;
+use set_types::{AccountEntry, Signer, SignerKey, TransactionEnvelope};
 use set_rules::Terms;
 use std::cmp::Ordering;
 

@@ -6,8 +6,7 @@ ghost use Rattle.set_rules.specs.Fees.{fee_charged as charge_of, fee_of_source, 
 ghost use Rattle.tx_apply.specs.Place.{IdsRise};
 
 use crate::accounts::account_place;
-use ledger_types::AccountEntry;
-use op_types::TransactionEnvelope;
+use set_types::{AccountEntry, TransactionEnvelope};
 use set_rules::fee_charged;
 use std::alloc::{AllocError, Global};
 

@@ -5,7 +5,7 @@ ghost use Rattle.set_rules.specs.Results.{spell_operation, spell_operations, spe
 
 use hash_ids::hash;
 use ledger_types::Hash;
-use op_types::{OperationResult, TransactionOutcome, TransactionResult, TransactionResultPair};
+use set_types::{OperationResult, TransactionOutcome, TransactionResult, TransactionResultPair};
 use set_rules::{bump_code, outcome_code};
 use std::alloc::{AllocError, Global};
 use xdr_core::Builder;

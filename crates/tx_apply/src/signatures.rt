@@ -5,8 +5,8 @@ ghost use Rattle.sha2.specs.Sha256.{sha256};
 ghost use Rattle.set_rules.specs.Signatures.{matches_key as key_matches, first_match, counts_of, weights, reaches, uses_all};
 
 use hash_ids::hash;
-use ledger_types::{Hash, Signer, SignerKey};
-use op_types::DecoratedSignature;
+use ledger_types::Hash;
+use set_types::{DecoratedSignature, Signer, SignerKey};
 use std::alloc::{AllocError, Global};
 
 /// What the signatures of a transaction come to at a threshold.

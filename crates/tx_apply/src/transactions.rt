@@ -6,10 +6,7 @@ ghost use Rattle.tx_apply.specs.Place.{IdsRise};
 
 use crate::accounts::account_place;
 use crate::signatures::check_signatures;
-use ledger_types::AccountEntry;
-use op_types::{
-    BumpSequenceResult, OperationResult, Transaction, TransactionEnvelope, TransactionOutcome,
-};
+use set_types::{AccountEntry, BumpSequenceResult, OperationResult, Transaction, TransactionEnvelope, TransactionOutcome};
 use set_rules::{Terms, available};
 use std::alloc::{AllocError, Global};
 

@@ -1,6 +1,6 @@
 -- Reading values one after another, as a loop does.
-use Rattle.std.proofs.Common.{◌≡◌, ℕ, suc, ◌-◌, ◌+◌, ◌≤◌, ◌<◌, Bool, true, false, List, [], ◌∷◌, ◌++◌, Ok, Err, refl, sym, ap, ◌∙◌, append_assoc, arith}
-use Rattle.std.specs.Bool.{OnFalse}
+use Rattle.std.proofs.Common.{◌≡◌, ℕ, suc, ◌-◌, ◌+◌, ◌≤◌, ◌<◌, Option, Some, None, List, [], ◌∷◌, ◌++◌, Ok, Err, refl, sym, ap, ◌∙◌, append_assoc, arith}
+use Rattle.std.specs.Prelude.{IfSome}
 use Rattle.std.proofs.lemmas.List.{append-nil}
 use Rattle.xdr_core.specs.Place.{Place, Reading, ◌>>=◌}
 use Rattle.xdr_core.specs.Format.{Format}
@@ -30,10 +30,10 @@ ends_at f front len i p e total lt h so_far =
     let one : with_front front (many_at f (len - i) p) ≡ Err e = rw (k, h) refl in
     sym so_far ∙ one
 
-pub fails_at : {F A : Type 0} (free : Bool) (f : Format F A) (front : List A) (len i : ℕ) (p : Place) (e : F) (total : Reading F (List A)) → i < len → OnFalse free (f.read p ≡ Err e)
-    → with_front front (many_at f (len - i) p) ≡ total → OnFalse free (total ≡ Err e)
-fails_at true f front len i p e total lt h so_far = tt
-fails_at false f front len i p e total lt h so_far = ends_at f front len i p e total lt h so_far
+pub fails_at : {F A : Type 0} (cause : Option F) (f : Format F A) (front : List A) (len i : ℕ) (p : Place) (total : Reading F (List A)) → i < len → IfSome cause (λ e. f.read p ≡ Err e)
+    → with_front front (many_at f (len - i) p) ≡ total → IfSome cause (λ e. total ≡ Err e)
+fails_at None f front len i p total lt h so_far = tt
+fails_at (Some e) f front len i p total lt h so_far = ends_at f front len i p e total lt h so_far
 
 pub is_done : {F A : Type 0} (f : Format F A) (front : List A) (len i : ℕ) (p : Place) (total : Reading F (List A)) → len ≤ i → with_front front (many_at f (len - i) p) ≡ total → total ≡ Ok (front, p)
 unfolding many_at

@@ -1,9 +1,10 @@
 -- Formats made of other formats: one behind another, constants, options, lists and unions.
-use Rattle.std.specs.Prelude.{◌≡◌, ℕ, zero, suc, ◌≤◌, ℤ, List, [], ◌∷◌, ◌++◌, length, fold, if◌then◌else◌, Bool, true, false, Option, Some, None, IfSome, Ok, Err}
+use Rattle.std.specs.Prelude.{◌≡◌, ℕ, zero, suc, ◌≤◌, ℤ, pos, List, [], ◌∷◌, ◌++◌, length, fold, if◌then◌else◌, Bool, true, false, Option, Some, None, IfSome, Ok, Err}
 use Rattle.std.specs.List.{flat_map, AllByRecursion}
 use Rattle.std.specs.Ordering.{int_eq}
 use Rattle.xdr_core.specs.declared.fault.XdrFault.{XdrFault}
-use Rattle.xdr_core.specs.Place.{Place, Reading, with_fault, ◌>>=◌}
+use Rattle.xdr_core.specs.declared.fault.XdrKind.TheVariants.{BadEnum}
+use Rattle.xdr_core.specs.Place.{Place, Reading, fault_at, with_fault, ◌>>=◌}
 use Rattle.xdr_core.specs.Format.{Format}
 use Rattle.xdr_core.specs.Leaves.{i32, flag, count}
 
@@ -42,6 +43,28 @@ struct_of fields f = record {
   read = λ p. f.read p >>= λ x. Ok (fields.to x.0, x.1);
   within = λ v. f.within (fields.from v);
   sized = λ v. f.sized (fields.from v);
+}
+
+-- ---- nothing
+
+-- a value that has no bytes
+abbrev pub empty : {F : Type 0} → Format F (Unit {0})
+empty = record {
+  spell = λ v. [];
+  onto = λ out v. out;
+  read = λ p. Ok (tt, p);
+  within = λ v. Unit {0};
+  sized = λ v. Unit {0};
+}
+
+-- where no value may stand: the fault comes before any byte is read
+unfoldable pub refused : {F V : Type 0} → (Place → F) → Format F V
+refused wrong = record {
+  spell = λ v. [];
+  onto = λ out v. out;
+  read = λ p. Err (wrong p);
+  within = λ v. ⊥;
+  sized = λ v. Unit {0};
 }
 
 -- ---- constants
@@ -161,3 +184,18 @@ union as_fault part_of arms wrong = record {
   within = λ v. part_within (part_of v);
   sized = λ v. part_sized (part_of v);
 }
+
+-- ---- extensions: nothing behind the discriminant 0, or a value behind another one
+
+abbrev pub without : {F V : Type 0} → Arm F (Option V)
+without = record { Body = Unit {0}; mark = pos 0; body = empty; make = λ v. None }
+
+abbrev pub extended : {F V : Type 0} → ℤ → Format F V → Arm F (Option V)
+extended {F} {V} mark f = record { Body = V; mark = mark; body = f; make = λ v. Some v }
+
+abbrev pub extension_part : {F V : Type 0} → ℤ → Format F V → Option V → Part F (Option V)
+extension_part mark f None = part without tt
+extension_part mark f (Some v) = part (extended mark f) v
+
+unfoldable pub extension : {F V : Type 0} → (XdrFault → F) → ℤ → Format F V → Format F (Option V)
+extension as_fault mark f = union as_fault (extension_part mark f) (without ∷ extended mark f ∷ []) (λ p d. as_fault (fault_at p BadEnum))

@@ -3,7 +3,7 @@ use Rattle.std.specs.Prelude.{◌≡◌, ℕ, ◌+◌, ◌-◌, ◌%◌, ◌^◌
 use Rattle.std.specs.Int.{Width, w32, w64, cast_signed, cast_unsigned}
 use Rattle.byteorder.specs.Endian.{big_number, big_bytes}
 use Rattle.xdr_core.specs.declared.fault.XdrFault.{XdrFault}
-use Rattle.xdr_core.specs.declared.fault.XdrKind.TheVariants.{BadFlag, Padding, TooLong}
+use Rattle.xdr_core.specs.declared.fault.XdrKind.TheVariants.{BadFlag, BadMark, Padding, TooLong}
 use Rattle.xdr_core.specs.Place.{Place, Reading, onward, fault_at, short_at, ◌>>=◌}
 use Rattle.xdr_core.specs.Format.{Format, IsBytes}
 
@@ -123,6 +123,26 @@ var max = record {
   spell = λ v. (count max).spell (length v) ++ padded v;
   onto = λ out v. (count max).onto out (length v) ++ padded v;
   read = λ p. (count max).read p >>= λ n. opaque_at n.0 n.1;
+  within = λ v. length v ≤ max;
+  sized = λ v. IsBytes v;
+}
+
+-- ---- record marks (RFC 5531, 11)
+
+-- the word of a mark: the top bit is set, and the other bits are the length
+abbrev pub mark_word : ℕ → ℕ
+mark_word len = 2 ^ 31 + len
+
+-- the length in a mark, within a bound
+abbrev pub mark_len : ℕ → Place → ℕ × Place → Reading XdrFault ℕ
+mark_len max p n = if nat_lt n.0 (2 ^ 31) then Err (fault_at p BadMark) else bounded max p (n.0 - 2 ^ 31, n.1)
+
+-- at most max bytes behind their mark, without padding
+unfoldable pub mark : ℕ → Format XdrFault (List ℕ)
+mark max = record {
+  spell = λ v. big_bytes 4 (mark_word (length v)) ++ v;
+  onto = λ out v. out ++ big_bytes 4 (mark_word (length v)) ++ v;
+  read = λ p. number_at 4 p >>= mark_len max p >>= λ n. bytes_at n.0 n.1;
   within = λ v. length v ≤ max;
   sized = λ v. IsBytes v;
 }

@@ -1,6 +1,5 @@
 -- Where reading stands in a text, and what a step of reading answers.
-use Rattle.std.specs.Prelude.{◌≡◌, ℕ, ◌+◌, List, length, drop, Bool, false, Result, Ok, Err}
-use Rattle.std.specs.Bool.{OnFalse}
+use Rattle.std.specs.Prelude.{◌≡◌, ℕ, ◌+◌, List, length, drop, Option, Some, IfSome, Result, Ok, Err}
 use Rattle.xdr_core.specs.declared.fault.XdrFault.{XdrFault}
 use Rattle.xdr_core.specs.declared.fault.XdrKind.{XdrKind}
 use Rattle.xdr_core.specs.declared.fault.XdrKind.TheVariants.{Short}
@@ -41,16 +40,17 @@ abbrev pub with_fault : {E F A : Type 0} → (E → F) → Result A E → Result
 with_fault as_fault (Ok x) = Ok x
 with_fault as_fault (Err e) = Err (as_fault e)
 
--- no fault is free
-abbrev pub never : {F : Type 0} → F → Bool
-never f = false
-
 -- What a reader answered, seen by a view, is what reading gives. With a value the reader stands behind it; with
--- a fault it stands where it stood. A free fault is want of memory, which says nothing of the bytes.
-abbrev pub ReadsBy : {X Y F : Type 0} → (X → Y) → (F → Bool) → Result X F → Place → Place → Reading F Y → Type 0
-ReadsBy view free (Ok x) old new reading = reading ≡ Ok (view x, new)
-ReadsBy view free (Err f) old new reading = OnFalse (free f) (reading ≡ Err f) × (new ≡ old)
+-- a failure it stands where it stood. A failure has a fault of the text as its cause, or none where memory was refused, which
+-- says nothing of the text.
+abbrev pub ReadsBy : {X Y D F : Type 0} → (X → Y) → (D → Option F) → Result X D → Place → Place → Reading F Y → Type 0
+ReadsBy view cause (Ok x) old new reading = reading ≡ Ok (view x, new)
+ReadsBy view cause (Err d) old new reading = IfSome (cause d) (λ fault. reading ≡ Err fault) × (new ≡ old)
 
 -- the same where the value is seen as it is
-abbrev pub Reads : {X F : Type 0} → (F → Bool) → Result X F → Place → Place → Reading F X → Type 0
-Reads free result old new reading = ReadsBy (λ x. x) free result old new reading
+abbrev pub Reads : {X D F : Type 0} → (D → Option F) → Result X D → Place → Place → Reading F X → Type 0
+Reads cause result old new reading = ReadsBy (λ x. x) cause result old new reading
+
+-- the cause of a fault that is one of the text
+abbrev pub itself : {F : Type 0} → F → Option F
+itself fault = Some fault

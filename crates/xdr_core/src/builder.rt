@@ -1,8 +1,9 @@
 //! Writing a text of XDR at its end (RFC 4506).
 
-ghost use Rattle.std.specs.Prelude.{◌≡◌, ◌≤◌, [], ◌++◌, length, OnOk};
-ghost use Rattle.xdr_core.specs.Leaves.{u32 as u32_format, i32 as i32_format, u64 as u64_format, i64 as i64_format, flag as flag_format, fixed as fixed_format, count as count_format, var as var_format, padded};
+ghost use Rattle.std.specs.Prelude.{◌≡◌, ◌≤◌, ◌<◌, ◌^◌, [], ◌++◌, length, OnOk};
+ghost use Rattle.xdr_core.specs.Leaves.{u32 as u32_format, i32 as i32_format, u64 as u64_format, i64 as i64_format, flag as flag_format, fixed as fixed_format, count as count_format, var as var_format, mark as mark_format, padded};
 
+use crate::cursor::TOP_BIT;
 use byteorder::{BigEndian, ByteOrder};
 use std::alloc::{AllocError, Global};
 use std::marker::Model;
@@ -135,5 +136,16 @@ impl Builder {
     {
         self.count(bytes.len(), max)?;
         self.opaque(bytes)
+    }
+
+    /// At most `max` bytes behind their mark (RFC 5531, 11), with no padding.
+    #[tactic(auto, unfolding(crate::specs::Leaves::mark, crate::specs::Leaves::u32))]
+    pub fn mark(&mut self, bytes: &[u8], max: u32) -> Result<(), AllocError>
+        requires fits { (mark_format max).within bytes.now }
+        requires room { max < 2 ^ 31 }
+        ensures { OnOk result (self.new ≡ (mark_format max).onto self.old bytes.now) }
+    {
+        self.u32(TOP_BIT + bytes.len() as u32)?;
+        self.raw(bytes)
     }
 }

@@ -1,13 +1,17 @@
 //! Reading a text of XDR from the front (RFC 4506).
 
 ghost use Rattle.std.specs.Prelude.{◌≡◌, ◌==◌, length, position, not, IfOk};
-ghost use Rattle.xdr_core.specs.Place.{Reads, ReadsBy, never, start_of, fault_at, short_at};
-ghost use Rattle.xdr_core.specs.Leaves.{u32 as u32_format, i32 as i32_format, u64 as u64_format, i64 as i64_format, flag as flag_format, fixed as fixed_format, count as count_format, var as var_format, bytes_at, padding_at, opaque_at};
+ghost use Rattle.xdr_core.specs.Place.{Reads, ReadsBy, itself, start_of, fault_at, short_at};
+ghost use Rattle.xdr_core.specs.Leaves.{u32 as u32_format, i32 as i32_format, u64 as u64_format, i64 as i64_format, flag as flag_format, fixed as fixed_format, count as count_format, var as var_format, mark as mark_format, bytes_at, padding_at, opaque_at};
 ghost use Rattle.xdr_core.specs.Ending.{EndsAt};
+ghost use Rattle.xdr_core.specs.Xdr.{tag as tag_format};
 
 use crate::fault::{XdrFault, XdrKind};
 use byteorder::{BigEndian, ByteOrder};
 use std::marker::Model;
+
+/// The bit that every record mark has.
+pub(crate) const TOP_BIT: u32 = 1 << 31;
 
 /// A place in a text. A read that faults leaves it as it was.
 #[derive(Drop)]
@@ -71,7 +75,7 @@ impl<'a> Cursor<'a> {
 
     /// The next `n` bytes as they are, with no padding.
     fn bytes(&mut self, n: usize) -> Result<&'a [u8], XdrFault>
-        ensures reads { ReadsBy (λ bytes. bytes.now) never result self.old self.new (bytes_at n self.old) }
+        ensures reads { ReadsBy (λ bytes. bytes.now) itself result self.old self.new (bytes_at n self.old) }
         ensures len { IfOk result (λ bytes. length bytes.now ≡ n) }
     {
         let rest = self.rest();
@@ -85,7 +89,7 @@ impl<'a> Cursor<'a> {
     /// An unsigned integer of 32 bits.
     #[tactic(auto, unfolding(crate::specs::Leaves::u32))]
     pub fn u32(&mut self) -> Result<u32, XdrFault>
-        ensures { Reads never result self.old self.new (u32_format.read self.old) }
+        ensures { Reads itself result self.old self.new (u32_format.read self.old) }
     {
         let rest = self.rest();
         if rest.len() < 4 {
@@ -98,7 +102,7 @@ impl<'a> Cursor<'a> {
     /// A signed integer of 32 bits.
     #[tactic(auto, unfolding(crate::specs::Leaves::i32))]
     pub fn i32(&mut self) -> Result<i32, XdrFault>
-        ensures { Reads never result self.old self.new (i32_format.read self.old) }
+        ensures { Reads itself result self.old self.new (i32_format.read self.old) }
     {
         let rest = self.rest();
         if rest.len() < 4 {
@@ -111,7 +115,7 @@ impl<'a> Cursor<'a> {
     /// An unsigned integer of 64 bits.
     #[tactic(auto, unfolding(crate::specs::Leaves::u64))]
     pub fn u64(&mut self) -> Result<u64, XdrFault>
-        ensures { Reads never result self.old self.new (u64_format.read self.old) }
+        ensures { Reads itself result self.old self.new (u64_format.read self.old) }
     {
         let rest = self.rest();
         if rest.len() < 8 {
@@ -124,7 +128,7 @@ impl<'a> Cursor<'a> {
     /// A signed integer of 64 bits.
     #[tactic(auto, unfolding(crate::specs::Leaves::i64))]
     pub fn i64(&mut self) -> Result<i64, XdrFault>
-        ensures { Reads never result self.old self.new (i64_format.read self.old) }
+        ensures { Reads itself result self.old self.new (i64_format.read self.old) }
     {
         let rest = self.rest();
         if rest.len() < 8 {
@@ -137,7 +141,7 @@ impl<'a> Cursor<'a> {
     /// A flag: 0 is false, 1 is true, and any other number is `BadFlag`.
     #[tactic(auto, unfolding(crate::specs::Leaves::flag, crate::specs::Leaves::u32))]
     pub fn flag(&mut self) -> Result<bool, XdrFault>
-        ensures { Reads never result self.old self.new (flag_format.read self.old) }
+        ensures { Reads itself result self.old self.new (flag_format.read self.old) }
     {
         let mut ahead = self.fork();
         let value = match ahead.u32()? {
@@ -151,7 +155,7 @@ impl<'a> Cursor<'a> {
 
     /// `n` zero bytes, which fill up to a multiple of four.
     fn padding(&mut self, n: usize) -> Result<(), XdrFault>
-        ensures { Reads never result self.old self.new (padding_at n self.old) }
+        ensures { Reads itself result self.old self.new (padding_at n self.old) }
     {
         let rest = self.rest();
         if rest.len() < n {
@@ -170,7 +174,7 @@ impl<'a> Cursor<'a> {
     /// `n` bytes and their padding up to a multiple of four. Its bytes must be zero.
     #[tactic(auto, unfolding(crate::specs::Leaves::opaque_at))]
     fn opaque(&mut self, n: usize) -> Result<&'a [u8], XdrFault>
-        ensures reads { ReadsBy (λ bytes. bytes.now) never result self.old self.new (opaque_at n self.old) }
+        ensures reads { ReadsBy (λ bytes. bytes.now) itself result self.old self.new (opaque_at n self.old) }
         ensures len { IfOk result (λ bytes. length bytes.now ≡ n) }
     {
         let mut ahead = self.fork();
@@ -183,7 +187,7 @@ impl<'a> Cursor<'a> {
     /// `n` bytes and their padding, where both sides know `n`.
     #[tactic(auto, unfolding(crate::specs::Leaves::fixed))]
     pub fn fixed(&mut self, n: usize) -> Result<&'a [u8], XdrFault>
-        ensures reads { ReadsBy (λ bytes. bytes.now) never result self.old self.new ((fixed_format n).read self.old) }
+        ensures reads { ReadsBy (λ bytes. bytes.now) itself result self.old self.new ((fixed_format n).read self.old) }
         ensures len { IfOk result (λ bytes. length bytes.now ≡ n) }
     {
         self.opaque(n)
@@ -191,7 +195,7 @@ impl<'a> Cursor<'a> {
 
     /// `N` bytes and their padding, where both sides know `N`, as an array.
     pub fn array<const N: usize>(&mut self) -> Result<[u8; N], XdrFault>
-        ensures { Reads never result self.old self.new ((fixed_format N).read self.old) }
+        ensures { Reads itself result self.old self.new ((fixed_format N).read self.old) }
     {
         let bytes = self.fixed(N)?;
         let mut array = [0u8; N];
@@ -202,7 +206,7 @@ impl<'a> Cursor<'a> {
     /// A length of at most `max`. A greater one is `TooLong`.
     #[tactic(auto, unfolding(crate::specs::Leaves::count, crate::specs::Leaves::u32))]
     pub fn count(&mut self, max: u32) -> Result<u32, XdrFault>
-        ensures { Reads never result self.old self.new ((count_format max).read self.old) }
+        ensures { Reads itself result self.old self.new ((count_format max).read self.old) }
     {
         let mut ahead = self.fork();
         let len = ahead.u32()?;
@@ -216,13 +220,46 @@ impl<'a> Cursor<'a> {
     /// At most `max` bytes behind their number, and their padding. A number above `max` is `TooLong`.
     #[tactic(auto, unfolding(crate::specs::Leaves::var))]
     pub fn var(&mut self, max: u32) -> Result<&'a [u8], XdrFault>
-        ensures { ReadsBy (λ bytes. bytes.now) never result self.old self.new ((var_format max).read self.old) }
+        ensures { ReadsBy (λ bytes. bytes.now) itself result self.old self.new ((var_format max).read self.old) }
     {
         let mut ahead = self.fork();
         let len = ahead.count(max)?;
         let bytes = ahead.opaque(len as usize)?;
         *self = ahead;
         Ok(bytes)
+    }
+
+    /// At most `max` bytes behind their mark, which is their number with the top bit of four bytes set (RFC 5531, 11). A clear
+    /// top bit is `BadMark`, a number above `max` is `TooLong`.
+    #[tactic(auto, unfolding(crate::specs::Leaves::mark, crate::specs::Leaves::u32))]
+    pub fn mark(&mut self, max: u32) -> Result<&'a [u8], XdrFault>
+        ensures { ReadsBy (λ bytes. bytes.now) itself result self.old self.new ((mark_format max).read self.old) }
+    {
+        let mut ahead = self.fork();
+        let word = ahead.u32()?;
+        if word < TOP_BIT {
+            return Err(self.fault(XdrKind::BadMark));
+        }
+        let marked = word - TOP_BIT;
+        if marked > max {
+            return Err(self.fault(XdrKind::TooLong));
+        }
+        let bytes = ahead.bytes(marked as usize)?;
+        *self = ahead;
+        Ok(bytes)
+    }
+
+    /// The discriminant `mark` of a union that has one arm. Another one is `BadEnum`.
+    #[tactic(auto, unfolding(crate::specs::Combinators::constant))]
+    pub fn tag(&mut self, mark: i32) -> Result<(), XdrFault>
+        ensures { Reads itself result self.old self.new ((tag_format mark).read self.old) }
+    {
+        let mut ahead = self.fork();
+        if ahead.i32()? != mark {
+            return Err(self.fault(XdrKind::BadEnum));
+        }
+        *self = ahead;
+        Ok(())
     }
 
     /// `Trailing` where bytes are left over.

@@ -2,7 +2,7 @@
 
 ghost use Rattle.xdr_core.specs.Place.{Reads};
 ghost use Rattle.xdr_core.specs.Format.{Format};
-ghost use Rattle.xdr_core.specs.Combinators.{list, many_at, option};
+ghost use Rattle.xdr_core.specs.Combinators.{list, many_at, option, extension};
 
 use crate::cursor::Cursor;
 use crate::failure::ReadFailure;
@@ -19,11 +19,11 @@ pub trait Decode {
     type Failure: ReadFailure;
 
     // The format.
-    ghost format: { Format Self.Failure Self.Value };
+    ghost format: { Format Self.Failure.Fault Self.Value };
 
     /// Reads one value. A failure leaves the cursor as it was.
     fn decode(alloc: Global, cursor: &mut Cursor<'_>) -> Result<Self::Value, Self::Failure>
-        ensures { Reads Self.Failure.is_free result cursor.old cursor.new (format.read cursor.old) };
+        ensures { Reads Self.Failure.cause result cursor.old cursor.new (format.read cursor.old) };
 }
 
 /// Reads a flag, and a value where the flag is set.
@@ -32,7 +32,7 @@ pub fn read_option<D: Decode>(
     alloc: Global,
     cursor: &mut Cursor<'_>,
 ) -> Result<Option<D::Value>, D::Failure>
-    ensures { Reads D.Failure.is_free result cursor.old cursor.new ((option D.Failure.of_fault D.format).read cursor.old) }
+    ensures { Reads D.Failure.cause result cursor.old cursor.new ((option D.Failure.of_fault D.format).read cursor.old) }
 {
     let mut ahead = cursor.fork();
     let is_there = match ahead.flag() {
@@ -48,13 +48,39 @@ pub fn read_option<D: Decode>(
     Ok(Some(value))
 }
 
+/// Reads an extension: nothing behind the discriminant 0, or a value behind the discriminant `mark`, which isn't 0.
+#[tactic(auto, unfolding(crate::specs::Combinators::extension))]
+pub fn read_extension<D: Decode>(
+    alloc: Global,
+    mark: i32,
+    cursor: &mut Cursor<'_>,
+) -> Result<Option<D::Value>, D::Failure>
+    ensures { Reads D.Failure.cause result cursor.old cursor.new ((extension D.Failure.of_fault mark D.format).read cursor.old) }
+{
+    let mut ahead = cursor.fork();
+    let discriminant = match ahead.i32() {
+        Ok(discriminant) => discriminant,
+        Err(fault) => return Err(D::Failure::from_fault(fault)),
+    };
+    if discriminant == 0 {
+        *cursor = ahead;
+        return Ok(None);
+    }
+    if discriminant != mark {
+        return Err(D::Failure::from_fault(cursor.fault(XdrKind::BadEnum)));
+    }
+    let value = D::decode(alloc, &mut ahead)?;
+    *cursor = ahead;
+    Ok(Some(value))
+}
+
 /// Reads `len` values, one behind another.
 fn read_many<D: Decode>(
     alloc: Global,
     len: u32,
     cursor: &mut Cursor<'_>,
 ) -> Result<ItemList<D::Value>, D::Failure>
-    ensures { Reads D.Failure.is_free result cursor.old cursor.new (many_at D.format len cursor.old) }
+    ensures { Reads D.Failure.cause result cursor.old cursor.new (many_at D.format len cursor.old) }
 {
     let mut ahead = cursor.fork();
     let mut items = ItemList::new(alloc);
@@ -76,7 +102,7 @@ pub fn read_list<D: Decode>(
     max: u32,
     cursor: &mut Cursor<'_>,
 ) -> Result<ItemList<D::Value>, D::Failure>
-    ensures { Reads D.Failure.is_free result cursor.old cursor.new ((list D.Failure.of_fault max D.format).read cursor.old) }
+    ensures { Reads D.Failure.cause result cursor.old cursor.new ((list D.Failure.of_fault max D.format).read cursor.old) }
 {
     let mut ahead = cursor.fork();
     let len = match ahead.count(max) {

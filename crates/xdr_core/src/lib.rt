@@ -4,14 +4,18 @@
 mod builder;
 mod cursor;
 mod decode;
+mod encode;
 mod failure;
 mod fault;
 pub mod laws;
+mod read_fault;
 #[cfg(test)]
 mod tests;
 
 pub use builder::Builder;
 pub use cursor::Cursor;
-pub use decode::{Decode, read_list, read_option};
+pub use decode::{Decode, read_extension, read_list, read_option};
+pub use encode::{Encode, write_extension, write_list, write_option};
 pub use failure::ReadFailure;
 pub use fault::{XdrFault, XdrKind};
+pub use read_fault::ReadFault;

@@ -1,6 +1,6 @@
 use Rattle.std.proofs.Common.{rules}
 use Rattle.std.proofs.lemmas.List.Sorted.{answers_always}
-use Rattle.ledger_types.specs.declared.account.AccountEntry.{AccountEntry}
+use Rattle.set_types.specs.declared.account.AccountEntry.{AccountEntry}
 use Rattle.tx_apply.proofs.accounts.search.Goals as goal
 
 pub returns-clause-searched : goal.returns-clause-searched

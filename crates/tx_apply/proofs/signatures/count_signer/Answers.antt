@@ -1,7 +1,7 @@
 use Rattle.std.proofs.Common.{Some, min, sym, ap, ◌∙◌}
 use Rattle.std.specs.Prelude.{position}
 use Rattle.sha2.specs.Sha256.{sha256}
-use Rattle.ledger_types.specs.declared.account.Signer.{Signer}
+use Rattle.set_types.specs.declared.account.Signer.{Signer}
 use Rattle.set_rules.specs.Signatures.{matches_key, Counts}
 use Rattle.tx_apply.proofs.Matching.{counts_at, counts_nothing}
 use Rattle.tx_apply.proofs.signatures.count_signer.Goals as goal

@@ -8,8 +8,7 @@ pub returns-in_err-item : goal.returns-in_err-item
 returns-in_err-item g c =
     let p = err_from_is_err_and c.from_residual.result c.from_residual.ensures.1 in
     let f = g.D.Decode.format in
-    let e = c.in_err-item.field-0.0 in
-    rw (p.1, p.2) (fails_at (g.D.Failure.ReadFailure.is_free e) f c.loop.items c.args.len c.loop.counter c.loop.ahead e (many_at f c.args.len c.args.cursor.now) c.loop-test.true c.in_err-item.ensures.0 c.loop.invariant, refl)
+    rw (p.1, p.2) (fails_at (g.D.Failure.ReadFailure.cause c.in_err-item.field-0.0) f c.loop.items c.args.len c.loop.counter c.loop.ahead (many_at f c.args.len c.args.cursor.now) c.loop-test.true c.in_err-item.ensures.0 c.loop.invariant, refl)
 
 pub loop-preserved : goal.loop-preserved
 loop-preserved g c =

@@ -1,5 +1,6 @@
 use super::*;
 use item_list::ItemList;
+use ledger_types::{AccountId, Hash};
 use std::test::Fail;
 
 #[test]
@@ -31,14 +32,14 @@ fn a_copy_has_every_field(rt: HostRuntime) -> Result<(), Fail> {
     Ok(())
 }
 
-// The order of a list of signers.
 #[test]
-fn keys_are_ordered_by_arm_and_then_by_unsigned_bytes(rt: HostRuntime) {
-    let mut high = [0; 32];
-    high[0] = 128;
-    let mut low = [255; 32];
-    low[0] = 127;
-    assert!(rt; AccountId(low) < AccountId(high));
-    assert!(rt; SignerKey::Ed25519(low) < SignerKey::Ed25519(high));
-    assert!(rt; SignerKey::Ed25519(high) < SignerKey::HashX(Hash(low)));
+fn a_copy_of_a_signature_has_its_bytes(rt: HostRuntime) -> Result<(), Fail> {
+    let signature = DecoratedSignature {
+        hint: [1, 2, 3, 4],
+        signature: ItemList::from_slice(rt.alloc(), &[5; 64])?,
+    };
+    let copy = signature.copy()?;
+    assert_eq!(rt; copy.hint, [1, 2, 3, 4]);
+    assert_eq!(rt; copy.signature.as_slice(), [5; 64].as_slice());
+    Ok(())
 }

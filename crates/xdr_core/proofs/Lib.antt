@@ -4,6 +4,8 @@ pub mod LeafLaws
 pub mod Opaque
 pub mod Combining
 pub mod Unions
+pub mod Extensions
+pub mod Marks
 pub mod Looping
 pub mod AllLeaves
 pub mod Grammar

@@ -116,7 +116,7 @@ opaque_takes n p q v fits e =
     subst (λ (x : List ℕ × Place). Takes p x.1 (padded x.0) × (length x.0 ≡ n) × IsBytes x.0) (ok_is {F = XdrFault} (a.0.0, b.0.1) (v, q) b.2)
     (whole, len, subst IsBytes text (IsBytes-take n p.rest fits))
 
-bytes_again : (n at : ℕ) (v rest : List ℕ) → length v ≡ n → bytes_at n (record { at = at; rest = v ++ rest }) ≡ Ok (v, record { at = at + length v; rest = rest })
+pub bytes_again : (n at : ℕ) (v rest : List ℕ) → length v ≡ n → bytes_at n (record { at = at; rest = v ++ rest }) ≡ Ok (v, record { at = at + length v; rest = rest })
 bytes_again n at v rest len = rw (front_is_there n v rest len, take_front n v rest len, drop_front n v rest len, len) refl
 
 pub opaque_again : (n at : ℕ) (v rest : List ℕ) → length v ≡ n → opaque_at n (record { at = at; rest = padded v ++ rest }) ≡ Ok (v, record { at = at + length (padded v); rest = rest })

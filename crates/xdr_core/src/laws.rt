@@ -2,7 +2,7 @@
 
 ghost use Rattle.std.specs.Prelude.{ℕ, ◌^◌, ◌<◌};
 ghost use Rattle.xdr_core.specs.Format.{Lawful};
-ghost use Rattle.xdr_core.specs.Leaves.{u32, u64, i32, i64, flag, fixed, count, var};
+ghost use Rattle.xdr_core.specs.Leaves.{u32, u64, i32, i64, flag, fixed, count, var, mark};
 
 /// What is read is spelled so, what is spelled so is read whatever follows, and writing puts the spelling at the end.
 #[tactic(auto, using(crate::proofs::AllLeaves::leaf_laws))]
@@ -15,4 +15,5 @@ pub fn reading_and_spelling_agree()
     ensures fixed_opaque { (n : ℕ) → Lawful (fixed n) }
     ensures counts { (max : ℕ) → max < 2 ^ 32 → Lawful (count max) }
     ensures variable_opaque { (max : ℕ) → max < 2 ^ 32 → Lawful (var max) }
+    ensures marked_records { (max : ℕ) → max < 2 ^ 31 → Lawful (mark max) }
 {}

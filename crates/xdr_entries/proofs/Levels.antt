@@ -1,0 +1,27 @@
+-- Predicates of a number of levels.
+use Rattle.std.proofs.Common.{◌≡◌, ℕ, zero, suc, ◌-◌, ◌<◌, List, refl, arith}
+use Rattle.xdr_core.specs.Place.{Place}
+use Rattle.xdr_core.specs.Combinators.{refused}
+use Rattle.ledger_types.specs.declared.predicate.ClaimPredicate.{ClaimPredicate}
+use Rattle.xdr_entries.specs.Predicates.{predicate_of, predicate_below}
+
+pub one_level_more : (levels : ℕ) (p : Place) → 0 < levels → (predicate_below levels).read p ≡ (predicate_of (predicate_below (levels - 1))).read p
+unfolding predicate_below
+one_level_more zero p lt = absurd (omega arith)
+one_level_more (suc levels) p lt = let e : suc levels - 1 ≡ levels = omega arith in rw e refl
+
+-- a predicate that has a spelling has a level
+pub some_level : (levels : ℕ) (v : ClaimPredicate) → (predicate_below levels).within v → 0 < levels
+unfolding predicate_below refused
+some_level zero v h = absurd h
+some_level (suc levels) v h = omega arith
+
+pub write_one_level_more : (levels : ℕ) (out : List ℕ) (v : ClaimPredicate) → 0 < levels → (predicate_below levels).onto out v ≡ (predicate_of (predicate_below (levels - 1))).onto out v
+unfolding predicate_below
+write_one_level_more zero out v lt = absurd (omega arith)
+write_one_level_more (suc levels) out v lt = let e : suc levels - 1 ≡ levels = omega arith in rw e refl
+
+pub within_one_level_more : (levels : ℕ) (v : ClaimPredicate) → 0 < levels → (predicate_below levels).within v → (predicate_of (predicate_below (levels - 1))).within v
+unfolding predicate_below
+within_one_level_more zero v lt h = absurd (omega arith)
+within_one_level_more (suc levels) v lt h = let e : suc levels - 1 ≡ levels = omega arith in rw e h

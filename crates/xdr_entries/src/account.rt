@@ -1,0 +1,186 @@
+//! Accounts.
+
+ghost use Rattle.std.specs.Prelude.{◌≡◌, OnOk};
+ghost use Rattle.xdr_core.specs.Place.{Reads};
+ghost use Rattle.xdr_core.specs.ReadFault.{cause_of};
+ghost use Rattle.xdr_entries.specs.Entries.{account_extension_v2 as v2_format, account_extension_v1 as v1_format, account_entry as account_format};
+
+use crate::ids::{AccountIdFormat, OptionalAccountIdFormat, read_account_id, write_account_id};
+use crate::price::{read_liabilities, write_liabilities};
+use crate::signer::SignerFormat;
+use item_list::ItemList;
+use ledger_types::{AccountEntry, AccountEntryExtensionV1, AccountEntryExtensionV2};
+use std::alloc::{AllocError, Global};
+use xdr_core::{
+    Builder, Cursor, Decode, Encode, ReadFault, read_extension, read_list, read_option,
+    write_extension, write_list, write_option,
+};
+
+/// The most signers of an account (MAX_SIGNERS in Stellar-ledger-entries.x).
+const MAX_SIGNERS: u32 = 20;
+
+/// The most bytes of a home domain (string32 in Stellar-ledger-entries.x).
+const MAX_HOME_DOMAIN_LEN: u32 = 32;
+
+/// Reads what sponsorship adds to an account.
+#[tactic(auto, unfolding(crate::specs::Entries::account_extension_v2))]
+pub fn read_account_extension_v2(
+    alloc: Global,
+    cursor: &mut Cursor<'_>,
+) -> Result<AccountEntryExtensionV2, ReadFault>
+    ensures { Reads cause_of result cursor.old cursor.new (v2_format.read cursor.old) }
+{
+    let mut ahead = cursor.fork();
+    let num_sponsored = ahead.u32()?;
+    let num_sponsoring = ahead.u32()?;
+    let signer_sponsoring_ids =
+        read_list::<OptionalAccountIdFormat>(alloc, MAX_SIGNERS, &mut ahead)?;
+    ahead.tag(0)?;
+    *cursor = ahead;
+    Ok(AccountEntryExtensionV2 {
+        num_sponsored,
+        num_sponsoring,
+        signer_sponsoring_ids,
+    })
+}
+
+/// Writes what sponsorship adds to an account.
+#[tactic(auto, unfolding(crate::specs::Entries::account_extension_v2, xdr_core::specs::Combinators::constant))]
+pub fn write_account_extension_v2(
+    value: &AccountEntryExtensionV2,
+    builder: &mut Builder,
+) -> Result<(), AllocError>
+    requires { v2_format.within value.now }
+    ensures { OnOk result (builder.new ≡ v2_format.onto builder.old value.now) }
+{
+    builder.u32(value.num_sponsored)?;
+    builder.u32(value.num_sponsoring)?;
+    write_list::<OptionalAccountIdFormat>(
+        value.signer_sponsoring_ids.as_slice(),
+        MAX_SIGNERS,
+        builder,
+    )?;
+    builder.i32(0)
+}
+
+/// Reads what liabilities add to an account.
+#[tactic(auto, unfolding(crate::specs::Entries::account_extension_v1))]
+pub fn read_account_extension_v1(
+    alloc: Global,
+    cursor: &mut Cursor<'_>,
+) -> Result<AccountEntryExtensionV1, ReadFault>
+    ensures { Reads cause_of result cursor.old cursor.new (v1_format.read cursor.old) }
+{
+    let mut ahead = cursor.fork();
+    let liabilities = read_liabilities(&mut ahead)?;
+    let ext = read_extension::<AccountExtensionV2Format>(alloc, 2, &mut ahead)?;
+    *cursor = ahead;
+    Ok(AccountEntryExtensionV1 { liabilities, ext })
+}
+
+/// Writes what liabilities add to an account.
+#[tactic(auto, unfolding(crate::specs::Entries::account_extension_v1))]
+pub fn write_account_extension_v1(
+    value: &AccountEntryExtensionV1,
+    builder: &mut Builder,
+) -> Result<(), AllocError>
+    requires { v1_format.within value.now }
+    ensures { OnOk result (builder.new ≡ v1_format.onto builder.old value.now) }
+{
+    write_liabilities(&value.liabilities, builder)?;
+    write_extension::<AccountExtensionV2Format>(&value.ext, 2, builder)
+}
+
+/// Reads an account.
+#[tactic(auto, unfolding(crate::specs::Entries::account_entry))]
+pub fn read_account_entry(
+    alloc: Global,
+    cursor: &mut Cursor<'_>,
+) -> Result<AccountEntry, ReadFault>
+    ensures { Reads cause_of result cursor.old cursor.new (account_format.read cursor.old) }
+{
+    let mut ahead = cursor.fork();
+    let account_id = read_account_id(&mut ahead)?;
+    let balance = ahead.i64()?;
+    let seq_num = ahead.i64()?;
+    let num_sub_entries = ahead.u32()?;
+    let inflation_dest = read_option::<AccountIdFormat>(alloc, &mut ahead)?;
+    let flags = ahead.u32()?;
+    let home_domain = ItemList::from_slice(alloc, ahead.var(MAX_HOME_DOMAIN_LEN)?)?;
+    let thresholds = ahead.array::<4>()?;
+    let signers = read_list::<SignerFormat>(alloc, MAX_SIGNERS, &mut ahead)?;
+    let ext = read_extension::<AccountExtensionV1Format>(alloc, 1, &mut ahead)?;
+    *cursor = ahead;
+    Ok(AccountEntry {
+        account_id,
+        balance,
+        seq_num,
+        num_sub_entries,
+        inflation_dest,
+        flags,
+        home_domain,
+        thresholds,
+        signers,
+        ext,
+    })
+}
+
+/// Writes an account.
+#[tactic(auto, unfolding(crate::specs::Entries::account_entry))]
+pub fn write_account_entry(value: &AccountEntry, builder: &mut Builder) -> Result<(), AllocError>
+    requires { account_format.within value.now }
+    ensures { OnOk result (builder.new ≡ account_format.onto builder.old value.now) }
+{
+    write_account_id(&value.account_id, builder)?;
+    builder.i64(value.balance)?;
+    builder.i64(value.seq_num)?;
+    builder.u32(value.num_sub_entries)?;
+    write_option::<AccountIdFormat>(&value.inflation_dest, builder)?;
+    builder.u32(value.flags)?;
+    builder.var(value.home_domain.as_slice(), MAX_HOME_DOMAIN_LEN)?;
+    builder.fixed(&value.thresholds)?;
+    write_list::<SignerFormat>(value.signers.as_slice(), MAX_SIGNERS, builder)?;
+    write_extension::<AccountExtensionV1Format>(&value.ext, 1, builder)
+}
+
+/// What sponsorship adds to accounts, as a format.
+pub enum AccountExtensionV2Format {}
+
+impl Decode for AccountExtensionV2Format {
+    type Value = AccountEntryExtensionV2;
+
+    type Failure = ReadFault;
+
+    ghost format = { v2_format };
+
+    fn decode(alloc: Global, cursor: &mut Cursor<'_>) -> Result<AccountEntryExtensionV2, ReadFault> {
+        read_account_extension_v2(alloc, cursor)
+    }
+}
+
+impl Encode for AccountExtensionV2Format {
+    fn encode(value: &AccountEntryExtensionV2, builder: &mut Builder) -> Result<(), AllocError> {
+        write_account_extension_v2(value, builder)
+    }
+}
+
+/// What liabilities add to accounts, as a format.
+pub enum AccountExtensionV1Format {}
+
+impl Decode for AccountExtensionV1Format {
+    type Value = AccountEntryExtensionV1;
+
+    type Failure = ReadFault;
+
+    ghost format = { v1_format };
+
+    fn decode(alloc: Global, cursor: &mut Cursor<'_>) -> Result<AccountEntryExtensionV1, ReadFault> {
+        read_account_extension_v1(alloc, cursor)
+    }
+}
+
+impl Encode for AccountExtensionV1Format {
+    fn encode(value: &AccountEntryExtensionV1, builder: &mut Builder) -> Result<(), AllocError> {
+        write_account_extension_v1(value, builder)
+    }
+}

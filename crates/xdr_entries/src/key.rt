@@ -1,0 +1,95 @@
+//! Keys.
+
+ghost use Rattle.std.specs.Prelude.{◌≡◌, OnOk};
+ghost use Rattle.xdr_core.specs.Place.{Reads};
+ghost use Rattle.xdr_core.specs.ReadFault.{cause_of};
+ghost use Rattle.xdr_entries.specs.Keys.{ledger_key as key_format};
+
+use crate::asset::{read_trust_line_asset, write_trust_line_asset};
+use crate::data_entry::MAX_DATA_NAME_LEN;
+use crate::entry::{ACCOUNT, CLAIMABLE_BALANCE, DATA, LIQUIDITY_POOL, OFFER, TRUSTLINE};
+use crate::ids::{
+    read_account_id, read_claimable_balance_id, read_hash, write_account_id,
+    write_claimable_balance_id, write_hash,
+};
+use item_list::ItemList;
+use ledger_types::LedgerKey;
+use std::alloc::{AllocError, Global};
+use xdr_core::{Builder, Cursor, ReadFault, XdrKind};
+
+/// Reads a key.
+#[tactic(auto, unfolding(crate::specs::Keys::ledger_key))]
+pub fn read_ledger_key(alloc: Global, cursor: &mut Cursor<'_>) -> Result<LedgerKey, ReadFault>
+    ensures { Reads cause_of result cursor.old cursor.new (key_format.read cursor.old) }
+{
+    let mut ahead = cursor.fork();
+    let key = match ahead.i32()? {
+        ACCOUNT => LedgerKey::Account {
+            account_id: read_account_id(&mut ahead)?,
+        },
+        TRUSTLINE => LedgerKey::TrustLine {
+            account_id: read_account_id(&mut ahead)?,
+            asset: read_trust_line_asset(&mut ahead)?,
+        },
+        OFFER => LedgerKey::Offer {
+            seller_id: read_account_id(&mut ahead)?,
+            offer_id: ahead.i64()?,
+        },
+        DATA => LedgerKey::Data {
+            account_id: read_account_id(&mut ahead)?,
+            data_name: ItemList::from_slice(alloc, ahead.var(MAX_DATA_NAME_LEN)?)?,
+        },
+        CLAIMABLE_BALANCE => LedgerKey::ClaimableBalance {
+            balance_id: read_claimable_balance_id(&mut ahead)?,
+        },
+        LIQUIDITY_POOL => LedgerKey::LiquidityPool {
+            pool_id: read_hash(&mut ahead)?,
+        },
+        _ => return Err(ReadFault::Xdr(cursor.fault(XdrKind::BadEnum))),
+    };
+    *cursor = ahead;
+    Ok(key)
+}
+
+/// Writes a key.
+#[tactic(auto, unfolding(crate::specs::Keys::ledger_key))]
+pub fn write_ledger_key(value: &LedgerKey, builder: &mut Builder) -> Result<(), AllocError>
+    requires { key_format.within value.now }
+    ensures { OnOk result (builder.new ≡ key_format.onto builder.old value.now) }
+{
+    match value {
+        LedgerKey::Account { account_id } => {
+            builder.i32(ACCOUNT)?;
+            write_account_id(account_id, builder)
+        }
+        LedgerKey::TrustLine { account_id, asset } => {
+            builder.i32(TRUSTLINE)?;
+            write_account_id(account_id, builder)?;
+            write_trust_line_asset(asset, builder)
+        }
+        LedgerKey::Offer {
+            seller_id,
+            offer_id,
+        } => {
+            builder.i32(OFFER)?;
+            write_account_id(seller_id, builder)?;
+            builder.i64(*offer_id)
+        }
+        LedgerKey::Data {
+            account_id,
+            data_name,
+        } => {
+            builder.i32(DATA)?;
+            write_account_id(account_id, builder)?;
+            builder.var(data_name.as_slice(), MAX_DATA_NAME_LEN)
+        }
+        LedgerKey::ClaimableBalance { balance_id } => {
+            builder.i32(CLAIMABLE_BALANCE)?;
+            write_claimable_balance_id(balance_id, builder)
+        }
+        LedgerKey::LiquidityPool { pool_id } => {
+            builder.i32(LIQUIDITY_POOL)?;
+            write_hash(pool_id, builder)
+        }
+    }
+}

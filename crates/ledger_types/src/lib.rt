@@ -10,6 +10,7 @@ mod claim_atom;
 mod claimable_balance;
 mod data_entry;
 mod entry;
+mod header;
 mod ids;
 mod key;
 pub mod laws;
@@ -27,6 +28,9 @@ pub use claim_atom::ClaimAtom;
 pub use claimable_balance::{ClaimableBalanceEntry, ClaimableBalanceEntryExtensionV1, Claimant};
 pub use data_entry::DataEntry;
 pub use entry::{LedgerEntry, LedgerEntryBody, LedgerEntryExtensionV1};
+pub use header::{
+    LedgerCloseValueSignature, LedgerHeader, LedgerHeaderExtensionV1, LedgerUpgrade, StellarValue,
+};
 pub use ids::{AccountId, ClaimableBalanceId, Hash, MuxedAccount};
 pub use key::LedgerKey;
 pub use liquidity_pool::LiquidityPoolEntry;

@@ -1,0 +1,3 @@
+pub mod EntryMap
+pub mod Batch
+pub mod Undo

@@ -1,0 +1,10 @@
+//! What accounts and trust lines can spend and take. No call takes memory.
+#![tactic(auto)]
+
+mod account;
+mod line;
+#[cfg(test)]
+mod tests;
+
+pub use account::{add_balance, available, min_balance, room};
+pub use line::{line_add, line_available, line_room};

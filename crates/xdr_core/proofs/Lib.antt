@@ -5,6 +5,7 @@ pub mod Opaque
 pub mod Combining
 pub mod Unions
 pub mod Extensions
+pub mod Discriminants
 pub mod Marks
 pub mod Looping
 pub mod AllLeaves

@@ -1,1 +1,6 @@
 pub mod Levels
+pub mod BasicLaws
+pub mod PredicateLaws
+pub mod EntryLaws
+pub mod KeyLaws
+pub mod AllLaws

@@ -1,6 +1,6 @@
 -- The formats of ids, signers, assets and prices (Stellar-types.x, Stellar-ledger-entries.x and Stellar-transaction.x of
 -- protocol 18, over RFC 4506).
-use Rattle.std.specs.Prelude.{◌≡◌, ℕ, ℤ, pos, List, [], ◌∷◌, refl}
+use Rattle.std.specs.Prelude.{ℕ, ℤ, pos, List, [], ◌∷◌, refl}
 use Rattle.xdr_core.specs.declared.fault.XdrFault.{XdrFault}
 use Rattle.xdr_core.specs.Leaves.{u32, u64, i32, i64, fixed}
 use Rattle.xdr_core.specs.Combinators.{◌⨾◌, Fields, struct_of, marked, empty, Arm, Part, part}

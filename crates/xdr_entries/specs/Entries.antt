@@ -1,5 +1,5 @@
 -- The formats of ledger entries (Stellar-ledger-entries.x of protocol 18).
-use Rattle.std.specs.Prelude.{◌≡◌, ℕ, ℤ, pos, List, [], ◌∷◌, Option, refl}
+use Rattle.std.specs.Prelude.{ℕ, ℤ, pos, List, [], ◌∷◌, Option, refl}
 use Rattle.xdr_core.specs.declared.fault.XdrFault.{XdrFault}
 use Rattle.xdr_core.specs.Leaves.{u32, i32, i64, fixed, var}
 use Rattle.xdr_core.specs.Combinators.{◌⨾◌, Fields, struct_of, marked, closed, Arm, Part, part}

@@ -1,6 +1,6 @@
 -- The formats of keys (LedgerKey in Stellar-ledger-entries.x) and of the items of buckets (BucketEntry in Stellar-ledger.x;
 -- CAP-0020).
-use Rattle.std.specs.Prelude.{ℕ, ℤ, pos, negsuc, List, [], ◌∷◌}
+use Rattle.std.specs.Prelude.{pos, negsuc, List, [], ◌∷◌}
 use Rattle.xdr_core.specs.declared.fault.XdrFault.{XdrFault}
 use Rattle.xdr_core.specs.Leaves.{u32, i64, var}
 use Rattle.xdr_core.specs.Combinators.{◌⨾◌, closed, Arm, Part, part}

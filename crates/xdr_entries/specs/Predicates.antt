@@ -1,5 +1,5 @@
 -- The format of predicates (ClaimPredicate in Stellar-ledger-entries.x; CAP-0023).
-use Rattle.std.specs.Prelude.{◌≡◌, ℕ, zero, suc, ℤ, pos, List, [], ◌∷◌, Option, refl}
+use Rattle.std.specs.Prelude.{ℕ, zero, suc, pos, List, [], ◌∷◌}
 use Rattle.xdr_core.specs.declared.fault.XdrFault.{XdrFault}
 use Rattle.xdr_core.specs.Leaves.{i64}
 use Rattle.xdr_core.specs.Combinators.{Fields, struct_of, empty, Arm, Part, part}

@@ -33,8 +33,11 @@ pub fn read_account_extension_v2(
     let mut ahead = cursor.fork();
     let num_sponsored = ahead.u32()?;
     let num_sponsoring = ahead.u32()?;
-    let signer_sponsoring_ids =
-        read_list::<OptionalAccountIdFormat>(alloc, MAX_SIGNERS, &mut ahead)?;
+    let signer_sponsoring_ids = read_list::<OptionalAccountIdFormat>(
+        alloc,
+        MAX_SIGNERS,
+        &mut ahead,
+    )?;
     ahead.tag(0)?;
     *cursor = ahead;
     Ok(AccountEntryExtensionV2 {
@@ -93,10 +96,7 @@ pub fn write_account_extension_v1(
 
 /// Reads an account.
 #[tactic(auto, unfolding(crate::specs::Entries::account_entry))]
-pub fn read_account_entry(
-    alloc: Global,
-    cursor: &mut Cursor<'_>,
-) -> Result<AccountEntry, ReadFault>
+pub fn read_account_entry(alloc: Global, cursor: &mut Cursor<'_>) -> Result<AccountEntry, ReadFault>
     ensures { Reads cause_of result cursor.old cursor.new (account_format.read cursor.old) }
 {
     let mut ahead = cursor.fork();
@@ -153,7 +153,10 @@ impl Decode for AccountExtensionV2Format {
 
     ghost format = { v2_format };
 
-    fn decode(alloc: Global, cursor: &mut Cursor<'_>) -> Result<AccountEntryExtensionV2, ReadFault> {
+    fn decode(
+        alloc: Global,
+        cursor: &mut Cursor<'_>,
+    ) -> Result<AccountEntryExtensionV2, ReadFault> {
         read_account_extension_v2(alloc, cursor)
     }
 }
@@ -174,7 +177,10 @@ impl Decode for AccountExtensionV1Format {
 
     ghost format = { v1_format };
 
-    fn decode(alloc: Global, cursor: &mut Cursor<'_>) -> Result<AccountEntryExtensionV1, ReadFault> {
+    fn decode(
+        alloc: Global,
+        cursor: &mut Cursor<'_>,
+    ) -> Result<AccountEntryExtensionV1, ReadFault> {
         read_account_extension_v1(alloc, cursor)
     }
 }

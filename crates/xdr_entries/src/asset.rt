@@ -91,7 +91,10 @@ pub fn read_trust_line_asset(cursor: &mut Cursor<'_>) -> Result<TrustLineAsset, 
 
 /// Writes what a trust line is in.
 #[tactic(auto, unfolding(crate::specs::Basic::trust_line_asset))]
-pub fn write_trust_line_asset(value: &TrustLineAsset, builder: &mut Builder) -> Result<(), AllocError>
+pub fn write_trust_line_asset(
+    value: &TrustLineAsset,
+    builder: &mut Builder,
+) -> Result<(), AllocError>
     ensures { OnOk result (builder.new ≡ trust_line_asset_format.onto builder.old value.now) }
 {
     match value {
@@ -165,7 +168,10 @@ pub fn read_change_trust_asset(cursor: &mut Cursor<'_>) -> Result<ChangeTrustAss
 
 /// Writes what a trust line is asked for.
 #[tactic(auto, unfolding(crate::specs::Basic::change_trust_asset))]
-pub fn write_change_trust_asset(value: &ChangeTrustAsset, builder: &mut Builder) -> Result<(), AllocError>
+pub fn write_change_trust_asset(
+    value: &ChangeTrustAsset,
+    builder: &mut Builder,
+) -> Result<(), AllocError>
     ensures { OnOk result (builder.new ≡ change_trust_asset_format.onto builder.old value.now) }
 {
     match value {

@@ -10,7 +10,7 @@ use crate::ids::{
     read_account_id, read_claimable_balance_id, write_account_id, write_claimable_balance_id,
 };
 use crate::predicate::{read_claim_predicate, write_claim_predicate};
-use ledger_types::{Claimant, ClaimableBalanceEntry, ClaimableBalanceEntryExtensionV1};
+use ledger_types::{ClaimableBalanceEntry, ClaimableBalanceEntryExtensionV1, Claimant};
 use std::alloc::{AllocError, Global};
 use xdr_core::{
     Builder, Cursor, Decode, Encode, ReadFault, XdrFault, read_extension, read_list,
@@ -147,13 +147,19 @@ impl Decode for ClaimableBalanceExtensionV1Format {
 
     ghost format = { v1_format };
 
-    fn decode(_alloc: Global, cursor: &mut Cursor<'_>) -> Result<ClaimableBalanceEntryExtensionV1, ReadFault> {
+    fn decode(
+        _alloc: Global,
+        cursor: &mut Cursor<'_>,
+    ) -> Result<ClaimableBalanceEntryExtensionV1, ReadFault> {
         Ok(read_claimable_balance_extension_v1(cursor)?)
     }
 }
 
 impl Encode for ClaimableBalanceExtensionV1Format {
-    fn encode(value: &ClaimableBalanceEntryExtensionV1, builder: &mut Builder) -> Result<(), AllocError> {
+    fn encode(
+        value: &ClaimableBalanceEntryExtensionV1,
+        builder: &mut Builder,
+    ) -> Result<(), AllocError> {
         write_claimable_balance_extension_v1(value, builder)
     }
 }

@@ -13,6 +13,7 @@ mod data_entry;
 mod entry;
 mod ids;
 mod key;
+pub mod laws;
 mod liquidity_pool;
 mod offer;
 mod predicate;
@@ -49,9 +50,7 @@ pub use liquidity_pool::{read_liquidity_pool_entry, write_liquidity_pool_entry};
 pub use offer::{read_offer_entry, write_offer_entry};
 pub use predicate::{read_claim_predicate, write_claim_predicate};
 pub use price::{read_liabilities, read_price, write_liabilities, write_price};
-pub use signer::{
-    SignerFormat, read_signer, read_signer_key, write_signer, write_signer_key,
-};
+pub use signer::{SignerFormat, read_signer, read_signer_key, write_signer, write_signer_key};
 pub use trust_line::{
     read_trust_line_entry, read_trust_line_extension_v1, read_trust_line_extension_v2,
     write_trust_line_entry, write_trust_line_extension_v1, write_trust_line_extension_v2,

@@ -143,7 +143,10 @@ fn read_inner(
 }
 
 /// Writes a predicate of at most 32 levels.
-pub fn write_claim_predicate(value: &ClaimPredicate, builder: &mut Builder) -> Result<(), AllocError>
+pub fn write_claim_predicate(
+    value: &ClaimPredicate,
+    builder: &mut Builder,
+) -> Result<(), AllocError>
     requires { claim_predicate.within value.now }
     ensures { OnOk result (builder.new ≡ claim_predicate.onto builder.old value.now) }
 {
@@ -200,7 +203,11 @@ fn write_level(value: &ClaimPredicate, below: u32, builder: &mut Builder) -> Res
 /// Writes the parts of AND or OR.
 #[cycle(predicate_out)]
 #[tactic(auto, unfolding(xdr_core::specs::Combinators::list))]
-fn write_parts(parts: &[ClaimPredicate], levels: u32, builder: &mut Builder) -> Result<(), AllocError>
+fn write_parts(
+    parts: &[ClaimPredicate],
+    levels: u32,
+    builder: &mut Builder,
+) -> Result<(), AllocError>
     requires { (list_of MAX_PARTS (predicate_below levels)).within parts.now }
     ensures { OnOk result (builder.new ≡ (list_of MAX_PARTS (predicate_below levels)).onto builder.old parts.now) }
 {

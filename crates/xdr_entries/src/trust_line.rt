@@ -96,7 +96,10 @@ pub fn read_trust_line_entry(
 
 /// Writes a trust line.
 #[tactic(auto, unfolding(crate::specs::Entries::trust_line_entry))]
-pub fn write_trust_line_entry(value: &TrustLineEntry, builder: &mut Builder) -> Result<(), AllocError>
+pub fn write_trust_line_entry(
+    value: &TrustLineEntry,
+    builder: &mut Builder,
+) -> Result<(), AllocError>
     requires { line_format.within value.now }
     ensures { OnOk result (builder.new ≡ line_format.onto builder.old value.now) }
 {
@@ -118,7 +121,10 @@ impl Decode for TrustLineExtensionV2Format {
 
     ghost format = { v2_format };
 
-    fn decode(_alloc: Global, cursor: &mut Cursor<'_>) -> Result<TrustLineEntryExtensionV2, ReadFault> {
+    fn decode(
+        _alloc: Global,
+        cursor: &mut Cursor<'_>,
+    ) -> Result<TrustLineEntryExtensionV2, ReadFault> {
         Ok(read_trust_line_extension_v2(cursor)?)
     }
 }
@@ -139,7 +145,10 @@ impl Decode for TrustLineExtensionV1Format {
 
     ghost format = { v1_format };
 
-    fn decode(alloc: Global, cursor: &mut Cursor<'_>) -> Result<TrustLineEntryExtensionV1, ReadFault> {
+    fn decode(
+        alloc: Global,
+        cursor: &mut Cursor<'_>,
+    ) -> Result<TrustLineEntryExtensionV1, ReadFault> {
         read_trust_line_extension_v1(alloc, cursor)
     }
 }

@@ -1,0 +1,37 @@
+//! Claimable balances.
+
+ghost use Rattle.std.specs.Prelude.{◌≡◌, IfOk};
+
+use item_list::ItemList;
+use ledger_types::{Asset, ClaimableBalanceId, Claimant};
+use std::alloc::AllocError;
+
+/// Makes a claimable balance (CreateClaimableBalanceOp in Stellar-transaction.x; CAP-0023).
+#[derive(Clone, Debug, PartialEq, Eq, Drop)]
+pub struct CreateClaimableBalanceOp {
+    pub asset: Asset,
+    pub amount: i64,
+    /// At most 10.
+    pub claimants: ItemList<Claimant>,
+}
+
+impl CreateClaimableBalanceOp {
+    /// The same operation once more.
+    pub fn copy(&self) -> Result<CreateClaimableBalanceOp, AllocError>
+        ensures { IfOk result (λ op. op ≡ self.now) }
+    {
+        self.clone()
+    }
+}
+
+/// Claims a claimable balance (ClaimClaimableBalanceOp in Stellar-transaction.x; CAP-0023).
+#[derive(Clone, Copy, Debug, PartialEq, Eq)]
+pub struct ClaimClaimableBalanceOp {
+    pub balance_id: ClaimableBalanceId,
+}
+
+/// Takes a claimable balance back whose asset the source issues (ClawbackClaimableBalanceOp in Stellar-transaction.x; CAP-0035).
+#[derive(Clone, Copy, Debug, PartialEq, Eq)]
+pub struct ClawbackClaimableBalanceOp {
+    pub balance_id: ClaimableBalanceId,
+}

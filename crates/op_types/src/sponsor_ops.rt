@@ -1,0 +1,33 @@
+//! Sponsorship.
+
+ghost use Rattle.std.specs.Prelude.{◌≡◌, IfOk};
+
+use ledger_types::{AccountId, LedgerKey, SignerKey};
+use std::alloc::AllocError;
+
+/// Begins to pay the reserves of what an account adds (BeginSponsoringFutureReservesOp in Stellar-transaction.x; CAP-0033).
+#[derive(Clone, Copy, Debug, PartialEq, Eq)]
+pub struct BeginSponsoringFutureReservesOp {
+    pub sponsored_id: AccountId,
+}
+
+/// Gives the reserve of an entry or of a signer to another payer (RevokeSponsorshipOp in Stellar-transaction.x; CAP-0033).
+#[derive(Clone, Debug, PartialEq, Eq, Drop)]
+pub enum RevokeSponsorshipOp {
+    /// REVOKE_SPONSORSHIP_LEDGER_ENTRY, 0.
+    LedgerEntry(LedgerKey),
+    /// REVOKE_SPONSORSHIP_SIGNER, 1.
+    Signer {
+        account_id: AccountId,
+        signer_key: SignerKey,
+    },
+}
+
+impl RevokeSponsorshipOp {
+    /// The same operation once more.
+    pub fn copy(&self) -> Result<RevokeSponsorshipOp, AllocError>
+        ensures { IfOk result (λ op. op ≡ self.now) }
+    {
+        self.clone()
+    }
+}

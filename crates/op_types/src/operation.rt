@@ -2,8 +2,12 @@
 
 ghost use Rattle.std.specs.Prelude.{◌≡◌, IfOk};
 
-use crate::account_ops::{AccountMergeOp, BumpSequenceOp, CreateAccountOp, ManageDataOp, SetOptionsOp};
-use crate::balance_ops::{ClaimClaimableBalanceOp, ClawbackClaimableBalanceOp, CreateClaimableBalanceOp};
+use crate::account_ops::{
+    AccountMergeOp, BumpSequenceOp, CreateAccountOp, ManageDataOp, SetOptionsOp,
+};
+use crate::balance_ops::{
+    ClaimClaimableBalanceOp, ClawbackClaimableBalanceOp, CreateClaimableBalanceOp,
+};
 use crate::offer_ops::{CreatePassiveSellOfferOp, ManageBuyOfferOp, ManageSellOfferOp};
 use crate::payment_ops::{PathPaymentStrictReceiveOp, PathPaymentStrictSendOp, PaymentOp};
 use crate::pool_ops::{LiquidityPoolDepositOp, LiquidityPoolWithdrawOp};
@@ -73,9 +77,13 @@ impl OperationBody {
         match self {
             OperationBody::CreateAccount(op) => Ok(OperationBody::CreateAccount(*op)),
             OperationBody::Payment(op) => Ok(OperationBody::Payment(*op)),
-            OperationBody::PathPaymentStrictReceive(op) => Ok(OperationBody::PathPaymentStrictReceive(op.copy()?)),
+            OperationBody::PathPaymentStrictReceive(op) => Ok(
+                OperationBody::PathPaymentStrictReceive(op.copy()?),
+            ),
             OperationBody::ManageSellOffer(op) => Ok(OperationBody::ManageSellOffer(*op)),
-            OperationBody::CreatePassiveSellOffer(op) => Ok(OperationBody::CreatePassiveSellOffer(*op)),
+            OperationBody::CreatePassiveSellOffer(op) => Ok(OperationBody::CreatePassiveSellOffer(
+                *op,
+            )),
             OperationBody::SetOptions(op) => Ok(OperationBody::SetOptions(op.copy()?)),
             OperationBody::ChangeTrust(op) => Ok(OperationBody::ChangeTrust(*op)),
             OperationBody::AllowTrust(op) => Ok(OperationBody::AllowTrust(*op)),
@@ -84,17 +92,33 @@ impl OperationBody {
             OperationBody::ManageData(op) => Ok(OperationBody::ManageData(op.copy()?)),
             OperationBody::BumpSequence(op) => Ok(OperationBody::BumpSequence(*op)),
             OperationBody::ManageBuyOffer(op) => Ok(OperationBody::ManageBuyOffer(*op)),
-            OperationBody::PathPaymentStrictSend(op) => Ok(OperationBody::PathPaymentStrictSend(op.copy()?)),
-            OperationBody::CreateClaimableBalance(op) => Ok(OperationBody::CreateClaimableBalance(op.copy()?)),
-            OperationBody::ClaimClaimableBalance(op) => Ok(OperationBody::ClaimClaimableBalance(*op)),
-            OperationBody::BeginSponsoringFutureReserves(op) => Ok(OperationBody::BeginSponsoringFutureReserves(*op)),
-            OperationBody::EndSponsoringFutureReserves => Ok(OperationBody::EndSponsoringFutureReserves),
-            OperationBody::RevokeSponsorship(op) => Ok(OperationBody::RevokeSponsorship(op.copy()?)),
+            OperationBody::PathPaymentStrictSend(op) => Ok(OperationBody::PathPaymentStrictSend(
+                op.copy()?,
+            )),
+            OperationBody::CreateClaimableBalance(op) => Ok(OperationBody::CreateClaimableBalance(
+                op.copy()?,
+            )),
+            OperationBody::ClaimClaimableBalance(op) => Ok(OperationBody::ClaimClaimableBalance(
+                *op,
+            )),
+            OperationBody::BeginSponsoringFutureReserves(op) => Ok(
+                OperationBody::BeginSponsoringFutureReserves(*op),
+            ),
+            OperationBody::EndSponsoringFutureReserves => Ok(
+                OperationBody::EndSponsoringFutureReserves,
+            ),
+            OperationBody::RevokeSponsorship(op) => Ok(OperationBody::RevokeSponsorship(
+                op.copy()?,
+            )),
             OperationBody::Clawback(op) => Ok(OperationBody::Clawback(*op)),
-            OperationBody::ClawbackClaimableBalance(op) => Ok(OperationBody::ClawbackClaimableBalance(*op)),
+            OperationBody::ClawbackClaimableBalance(op) => Ok(
+                OperationBody::ClawbackClaimableBalance(*op),
+            ),
             OperationBody::SetTrustLineFlags(op) => Ok(OperationBody::SetTrustLineFlags(*op)),
             OperationBody::LiquidityPoolDeposit(op) => Ok(OperationBody::LiquidityPoolDeposit(*op)),
-            OperationBody::LiquidityPoolWithdraw(op) => Ok(OperationBody::LiquidityPoolWithdraw(*op)),
+            OperationBody::LiquidityPoolWithdraw(op) => Ok(OperationBody::LiquidityPoolWithdraw(
+                *op,
+            )),
         }
     }
 }

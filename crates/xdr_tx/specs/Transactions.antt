@@ -1,0 +1,167 @@
+-- The formats of transactions, their envelopes and sets of them (Stellar-transaction.x and Stellar-ledger.x of protocol 18, over
+-- RFC 4506).
+use Rattle.std.specs.Prelude.{◌≡◌, ℕ, ℤ, pos, List, [], ◌∷◌, Option, refl}
+use Rattle.xdr_core.specs.declared.fault.XdrFault.{XdrFault}
+use Rattle.xdr_core.specs.Leaves.{u32, u64, i64, fixed, var}
+use Rattle.xdr_core.specs.Combinators.{◌⨾◌, Fields, struct_of, marked, closed, empty, Arm, Part, part}
+use Rattle.xdr_core.specs.Xdr.{Xdr, tag, optional, list_of, union_of}
+use Rattle.ledger_types.specs.declared.ids.MuxedAccount.{MuxedAccount}
+use Rattle.ledger_types.specs.declared.ids.Hash.{Hash}
+use Rattle.op_types.specs.declared.operation.Operation.{Operation}
+use Rattle.op_types.specs.declared.transaction.Memo.{Memo}
+use Rattle.op_types.specs.declared.transaction.Memo.TheVariants as memos
+use Rattle.op_types.specs.declared.transaction.TimeBounds.{TimeBounds}
+use Rattle.op_types.specs.declared.transaction.DecoratedSignature.{DecoratedSignature}
+use Rattle.op_types.specs.declared.transaction.Transaction.{Transaction}
+use Rattle.op_types.specs.declared.transaction.TransactionV0.{TransactionV0}
+use Rattle.op_types.specs.declared.transaction.TransactionV1Envelope.{TransactionV1Envelope}
+use Rattle.op_types.specs.declared.transaction.TransactionV0Envelope.{TransactionV0Envelope}
+use Rattle.op_types.specs.declared.transaction.FeeBumpTransaction.{FeeBumpTransaction}
+use Rattle.op_types.specs.declared.transaction.FeeBumpTransactionEnvelope.{FeeBumpTransactionEnvelope}
+use Rattle.op_types.specs.declared.transaction.TransactionEnvelope.{TransactionEnvelope}
+use Rattle.op_types.specs.declared.transaction.TransactionSet.{TransactionSet}
+use Rattle.op_types.specs.declared.transaction.TransactionEnvelope.TheVariants as envelope
+use Rattle.xdr_entries.specs.Basic.{arm, hash, muxed_account}
+use Rattle.xdr_tx.specs.Operations.{operation}
+
+-- ---- parts of transactions
+
+abbrev pub memo_none : Arm XdrFault Memo
+memo_none = arm (pos 0) empty (λ v. memos.None)
+
+abbrev pub memo_text : Arm XdrFault Memo
+memo_text = arm (pos 1) (var 28) memos.Text
+
+abbrev pub memo_id : Arm XdrFault Memo
+memo_id = arm (pos 2) u64 memos.Id
+
+abbrev pub memo_hash : Arm XdrFault Memo
+memo_hash = arm (pos 3) hash memos.Hash
+
+abbrev pub memo_return : Arm XdrFault Memo
+memo_return = arm (pos 4) hash memos.Return
+
+abbrev pub memo_arms : List (Arm XdrFault Memo)
+memo_arms = memo_none ∷ memo_text ∷ memo_id ∷ memo_hash ∷ memo_return ∷ []
+
+abbrev pub memo_part : Memo → Part XdrFault Memo
+memo_part memos.None = part memo_none tt
+memo_part (memos.Text text) = part memo_text text
+memo_part (memos.Id id) = part memo_id id
+memo_part (memos.Hash digest) = part memo_hash digest
+memo_part (memos.Return digest) = part memo_return digest
+
+unfoldable pub memo : Xdr Memo
+memo = union_of memo_part memo_arms
+
+abbrev pub time_bounds_fields : Fields (ℕ × ℕ) TimeBounds
+time_bounds_fields = record { to = λ v. record { min_time = v.0; max_time = v.1 }; from = λ t. (t.min_time, t.max_time); there = λ _. refl; back = λ _. refl }
+
+unfoldable pub time_bounds : Xdr TimeBounds
+time_bounds = struct_of time_bounds_fields (u64 ⨾ u64)
+
+abbrev pub signature_fields : Fields (List ℕ × List ℕ) DecoratedSignature
+signature_fields = record { to = λ v. record { hint = v.0; signature = v.1 }; from = λ s. (s.hint, s.signature); there = λ _. refl; back = λ _. refl }
+
+unfoldable pub decorated_signature : Xdr DecoratedSignature
+decorated_signature = struct_of signature_fields (fixed 4 ⨾ var 64)
+
+-- ---- transactions
+
+abbrev pub transaction_fields : Fields (MuxedAccount × (ℕ × (ℤ × (Option TimeBounds × (Memo × List Operation))))) Transaction
+transaction_fields = record {
+  to = λ (source, (fee, (seq_num, (bounds, (note, operations))))). record {
+    source_account = source;
+    fee = fee;
+    seq_num = seq_num;
+    time_bounds = bounds;
+    memo = note;
+    operations = operations;
+  };
+  from = λ t. (t.source_account, (t.fee, (t.seq_num, (t.time_bounds, (t.memo, t.operations)))));
+  there = λ _. refl;
+  back = λ _. refl;
+}
+
+unfoldable pub transaction : Xdr Transaction
+transaction = struct_of transaction_fields (muxed_account ⨾ u32 ⨾ i64 ⨾ optional time_bounds ⨾ memo ⨾ closed (list_of 100 operation) (tag (pos 0)))
+
+abbrev pub transaction_v0_fields : Fields (List ℕ × (ℕ × (ℤ × (Option TimeBounds × (Memo × List Operation))))) TransactionV0
+transaction_v0_fields = record {
+  to = λ (key, (fee, (seq_num, (bounds, (note, operations))))). record {
+    source_account_ed25519 = key;
+    fee = fee;
+    seq_num = seq_num;
+    time_bounds = bounds;
+    memo = note;
+    operations = operations;
+  };
+  from = λ t. (t.source_account_ed25519, (t.fee, (t.seq_num, (t.time_bounds, (t.memo, t.operations)))));
+  there = λ _. refl;
+  back = λ _. refl;
+}
+
+-- its source is a key without a type
+unfoldable pub transaction_v0 : Xdr TransactionV0
+transaction_v0 = struct_of transaction_v0_fields (fixed 32 ⨾ u32 ⨾ i64 ⨾ optional time_bounds ⨾ memo ⨾ closed (list_of 100 operation) (tag (pos 0)))
+
+-- ---- envelopes
+
+abbrev pub v1_fields : Fields (Transaction × List DecoratedSignature) TransactionV1Envelope
+v1_fields = record { to = λ v. record { tx = v.0; signatures = v.1 }; from = λ e. (e.tx, e.signatures); there = λ _. refl; back = λ _. refl }
+
+unfoldable pub transaction_v1_envelope : Xdr TransactionV1Envelope
+transaction_v1_envelope = struct_of v1_fields (transaction ⨾ list_of 20 decorated_signature)
+
+abbrev pub v0_fields : Fields (TransactionV0 × List DecoratedSignature) TransactionV0Envelope
+v0_fields = record { to = λ v. record { tx = v.0; signatures = v.1 }; from = λ e. (e.tx, e.signatures); there = λ _. refl; back = λ _. refl }
+
+unfoldable pub transaction_v0_envelope : Xdr TransactionV0Envelope
+transaction_v0_envelope = struct_of v0_fields (transaction_v0 ⨾ list_of 20 decorated_signature)
+
+abbrev pub fee_bump_fields : Fields (MuxedAccount × (ℤ × TransactionV1Envelope)) FeeBumpTransaction
+fee_bump_fields = record {
+  to = λ (source, (fee, inner)). record { fee_source = source; fee = fee; inner_tx = inner };
+  from = λ t. (t.fee_source, (t.fee, t.inner_tx));
+  there = λ _. refl;
+  back = λ _. refl;
+}
+
+-- its inner transaction has one arm, ENVELOPE_TYPE_TX
+unfoldable pub fee_bump_transaction : Xdr FeeBumpTransaction
+fee_bump_transaction = struct_of fee_bump_fields (muxed_account ⨾ i64 ⨾ closed (marked (tag (pos 2)) transaction_v1_envelope) (tag (pos 0)))
+
+abbrev pub bump_fields : Fields (FeeBumpTransaction × List DecoratedSignature) FeeBumpTransactionEnvelope
+bump_fields = record { to = λ v. record { tx = v.0; signatures = v.1 }; from = λ e. (e.tx, e.signatures); there = λ _. refl; back = λ _. refl }
+
+unfoldable pub fee_bump_envelope : Xdr FeeBumpTransactionEnvelope
+fee_bump_envelope = struct_of bump_fields (fee_bump_transaction ⨾ list_of 20 decorated_signature)
+
+abbrev pub envelope_v0 : Arm XdrFault TransactionEnvelope
+envelope_v0 = arm (pos 0) transaction_v0_envelope envelope.V0
+
+abbrev pub envelope_v1 : Arm XdrFault TransactionEnvelope
+envelope_v1 = arm (pos 2) transaction_v1_envelope envelope.V1
+
+abbrev pub envelope_fee_bump : Arm XdrFault TransactionEnvelope
+envelope_fee_bump = arm (pos 5) fee_bump_envelope envelope.FeeBump
+
+abbrev pub envelope_arms : List (Arm XdrFault TransactionEnvelope)
+envelope_arms = envelope_v0 ∷ envelope_v1 ∷ envelope_fee_bump ∷ []
+
+abbrev pub envelope_part : TransactionEnvelope → Part XdrFault TransactionEnvelope
+envelope_part (envelope.V0 inner) = part envelope_v0 inner
+envelope_part (envelope.V1 inner) = part envelope_v1 inner
+envelope_part (envelope.FeeBump inner) = part envelope_fee_bump inner
+
+unfoldable pub transaction_envelope : Xdr TransactionEnvelope
+transaction_envelope = union_of envelope_part envelope_arms
+
+-- ---- sets
+
+abbrev pub set_fields : Fields (Hash × List TransactionEnvelope) TransactionSet
+set_fields = record { to = λ v. record { previous_ledger_hash = v.0; txs = v.1 }; from = λ s. (s.previous_ledger_hash, s.txs); there = λ _. refl; back = λ _. refl }
+
+-- the number of envelopes has no bound but that of its field
+unfoldable pub transaction_set : Xdr TransactionSet
+transaction_set = struct_of set_fields (hash ⨾ list_of 4294967295 transaction_envelope)

@@ -1,0 +1,80 @@
+//! Fields that may be absent.
+
+ghost use Rattle.xdr_core.specs.Leaves.{u32 as u32_format, var};
+
+use item_list::ItemList;
+use std::alloc::{AllocError, Global};
+use xdr_core::{Builder, Cursor, Decode, Encode, ReadFault};
+use xdr_entries::MAX_DATA_VALUE_LEN;
+
+/// The most bytes of a home domain (string32 in Stellar-ledger-entries.x).
+const MAX_HOME_DOMAIN_LEN: u32 = 32;
+
+/// Numbers of 32 bits, as a format.
+pub enum U32Format {}
+
+impl Decode for U32Format {
+    type Value = u32;
+
+    type Failure = ReadFault;
+
+    ghost format = { u32_format };
+
+    fn decode(_alloc: Global, cursor: &mut Cursor<'_>) -> Result<u32, ReadFault> {
+        Ok(cursor.u32()?)
+    }
+}
+
+impl Encode for U32Format {
+    fn encode(value: &u32, builder: &mut Builder) -> Result<(), AllocError> {
+        builder.u32(*value)
+    }
+}
+
+/// Home domains, as a format.
+pub enum HomeDomainFormat {}
+
+impl Decode for HomeDomainFormat {
+    type Value = ItemList<u8>;
+
+    type Failure = ReadFault;
+
+    ghost format = { var 32 };
+
+    fn decode(alloc: Global, cursor: &mut Cursor<'_>) -> Result<ItemList<u8>, ReadFault> {
+        let mut ahead = cursor.fork();
+        let domain = ItemList::from_slice(alloc, ahead.var(MAX_HOME_DOMAIN_LEN)?)?;
+        *cursor = ahead;
+        Ok(domain)
+    }
+}
+
+impl Encode for HomeDomainFormat {
+    fn encode(value: &ItemList<u8>, builder: &mut Builder) -> Result<(), AllocError> {
+        builder.var(value.as_slice(), MAX_HOME_DOMAIN_LEN)
+    }
+}
+
+/// Values of data, as a format.
+pub enum DataValueFormat {}
+
+impl Decode for DataValueFormat {
+    type Value = ItemList<u8>;
+
+    type Failure = ReadFault;
+
+    ghost format = { var 64 };
+
+    fn decode(alloc: Global, cursor: &mut Cursor<'_>) -> Result<ItemList<u8>, ReadFault> {
+        let mut ahead = cursor.fork();
+        let value = ItemList::from_slice(alloc, ahead.var(MAX_DATA_VALUE_LEN)?)?;
+        *cursor = ahead;
+        Ok(value)
+    }
+}
+
+impl Encode for DataValueFormat {
+    fn encode(value: &ItemList<u8>, builder: &mut Builder) -> Result<(), AllocError> {
+        builder.var(value.as_slice(), MAX_DATA_VALUE_LEN)
+    }
+}

@@ -1,0 +1,299 @@
+//! Operations.
+
+ghost use Rattle.std.specs.Prelude.{◌≡◌, OnOk};
+ghost use Rattle.xdr_core.specs.Place.{Place, Reads};
+ghost use Rattle.xdr_core.specs.ReadFault.{cause_of};
+ghost use Rattle.xdr_core.specs.Combinators.{pick};
+ghost use Rattle.xdr_core.specs.Xdr.{no_arm};
+ghost use Rattle.xdr_tx.specs.Operations.{later_body_arms, operation_body as body_format, operation as operation_format};
+
+use crate::account_ops::{read_account_merge_op, read_bump_sequence_op, read_create_account_op, read_manage_data_op, read_set_options_op, write_account_merge_op, write_bump_sequence_op, write_create_account_op, write_manage_data_op, write_set_options_op};
+use crate::balance_ops::{read_claim_claimable_balance_op, read_clawback_claimable_balance_op, read_create_claimable_balance_op, write_claim_claimable_balance_op, write_clawback_claimable_balance_op, write_create_claimable_balance_op};
+use crate::offer_ops::{read_create_passive_sell_offer_op, read_manage_buy_offer_op, read_manage_sell_offer_op, write_create_passive_sell_offer_op, write_manage_buy_offer_op, write_manage_sell_offer_op};
+use crate::payment_ops::{read_path_payment_strict_receive_op, read_path_payment_strict_send_op, read_payment_op, write_path_payment_strict_receive_op, write_path_payment_strict_send_op, write_payment_op};
+use crate::pool_ops::{read_liquidity_pool_deposit_op, read_liquidity_pool_withdraw_op, write_liquidity_pool_deposit_op, write_liquidity_pool_withdraw_op};
+use crate::sponsor_ops::{read_begin_sponsoring_future_reserves_op, read_revoke_sponsorship_op, write_begin_sponsoring_future_reserves_op, write_revoke_sponsorship_op};
+use crate::trust_ops::{read_allow_trust_op, read_change_trust_op, read_clawback_op, read_set_trust_line_flags_op, write_allow_trust_op, write_change_trust_op, write_clawback_op, write_set_trust_line_flags_op};
+use op_types::{Operation, OperationBody};
+use std::alloc::{AllocError, Global};
+use xdr_core::{Builder, Cursor, Decode, Encode, ReadFault, XdrKind, read_option, write_option};
+use xdr_entries::MuxedAccountFormat;
+
+/// CREATE_ACCOUNT (OperationType in Stellar-transaction.x).
+const CREATE_ACCOUNT: i32 = 0;
+
+/// PAYMENT (OperationType in Stellar-transaction.x).
+const PAYMENT: i32 = 1;
+
+/// PATH_PAYMENT_STRICT_RECEIVE (OperationType in Stellar-transaction.x).
+const PATH_PAYMENT_STRICT_RECEIVE: i32 = 2;
+
+/// MANAGE_SELL_OFFER (OperationType in Stellar-transaction.x).
+const MANAGE_SELL_OFFER: i32 = 3;
+
+/// CREATE_PASSIVE_SELL_OFFER (OperationType in Stellar-transaction.x).
+const CREATE_PASSIVE_SELL_OFFER: i32 = 4;
+
+/// SET_OPTIONS (OperationType in Stellar-transaction.x).
+const SET_OPTIONS: i32 = 5;
+
+/// CHANGE_TRUST (OperationType in Stellar-transaction.x).
+const CHANGE_TRUST: i32 = 6;
+
+/// ALLOW_TRUST (OperationType in Stellar-transaction.x).
+const ALLOW_TRUST: i32 = 7;
+
+/// ACCOUNT_MERGE (OperationType in Stellar-transaction.x).
+const ACCOUNT_MERGE: i32 = 8;
+
+/// INFLATION (OperationType in Stellar-transaction.x).
+const INFLATION: i32 = 9;
+
+/// MANAGE_DATA (OperationType in Stellar-transaction.x).
+const MANAGE_DATA: i32 = 10;
+
+/// BUMP_SEQUENCE (OperationType in Stellar-transaction.x).
+const BUMP_SEQUENCE: i32 = 11;
+
+/// MANAGE_BUY_OFFER (OperationType in Stellar-transaction.x).
+const MANAGE_BUY_OFFER: i32 = 12;
+
+/// PATH_PAYMENT_STRICT_SEND (OperationType in Stellar-transaction.x).
+const PATH_PAYMENT_STRICT_SEND: i32 = 13;
+
+/// CREATE_CLAIMABLE_BALANCE (OperationType in Stellar-transaction.x).
+const CREATE_CLAIMABLE_BALANCE: i32 = 14;
+
+/// CLAIM_CLAIMABLE_BALANCE (OperationType in Stellar-transaction.x).
+const CLAIM_CLAIMABLE_BALANCE: i32 = 15;
+
+/// BEGIN_SPONSORING_FUTURE_RESERVES (OperationType in Stellar-transaction.x).
+const BEGIN_SPONSORING_FUTURE_RESERVES: i32 = 16;
+
+/// END_SPONSORING_FUTURE_RESERVES (OperationType in Stellar-transaction.x).
+const END_SPONSORING_FUTURE_RESERVES: i32 = 17;
+
+/// REVOKE_SPONSORSHIP (OperationType in Stellar-transaction.x).
+const REVOKE_SPONSORSHIP: i32 = 18;
+
+/// CLAWBACK (OperationType in Stellar-transaction.x).
+const CLAWBACK: i32 = 19;
+
+/// CLAWBACK_CLAIMABLE_BALANCE (OperationType in Stellar-transaction.x).
+const CLAWBACK_CLAIMABLE_BALANCE: i32 = 20;
+
+/// SET_TRUST_LINE_FLAGS (OperationType in Stellar-transaction.x).
+const SET_TRUST_LINE_FLAGS: i32 = 21;
+
+/// LIQUIDITY_POOL_DEPOSIT (OperationType in Stellar-transaction.x).
+const LIQUIDITY_POOL_DEPOSIT: i32 = 22;
+
+/// LIQUIDITY_POOL_WITHDRAW (OperationType in Stellar-transaction.x).
+const LIQUIDITY_POOL_WITHDRAW: i32 = 23;
+
+/// Reads what an operation does.
+#[tactic(auto, unfolding(crate::specs::Operations::operation_body))]
+pub fn read_operation_body(
+    alloc: Global,
+    cursor: &mut Cursor<'_>,
+) -> Result<OperationBody, ReadFault>
+    ensures { Reads cause_of result cursor.old cursor.new (body_format.read cursor.old) }
+{
+    let mut ahead = cursor.fork();
+    let body = match ahead.i32()? {
+        CREATE_ACCOUNT => OperationBody::CreateAccount(read_create_account_op(&mut ahead)?),
+        PAYMENT => OperationBody::Payment(read_payment_op(&mut ahead)?),
+        PATH_PAYMENT_STRICT_RECEIVE => OperationBody::PathPaymentStrictReceive(read_path_payment_strict_receive_op(alloc, &mut ahead)?),
+        MANAGE_SELL_OFFER => OperationBody::ManageSellOffer(read_manage_sell_offer_op(&mut ahead)?),
+        CREATE_PASSIVE_SELL_OFFER => OperationBody::CreatePassiveSellOffer(read_create_passive_sell_offer_op(&mut ahead)?),
+        SET_OPTIONS => OperationBody::SetOptions(read_set_options_op(alloc, &mut ahead)?),
+        CHANGE_TRUST => OperationBody::ChangeTrust(read_change_trust_op(&mut ahead)?),
+        ALLOW_TRUST => OperationBody::AllowTrust(read_allow_trust_op(&mut ahead)?),
+        ACCOUNT_MERGE => OperationBody::AccountMerge(read_account_merge_op(&mut ahead)?),
+        INFLATION => OperationBody::Inflation,
+        MANAGE_DATA => OperationBody::ManageData(read_manage_data_op(alloc, &mut ahead)?),
+        BUMP_SEQUENCE => OperationBody::BumpSequence(read_bump_sequence_op(&mut ahead)?),
+        kind => read_later_body(alloc, cursor, kind, &mut ahead)?,
+    };
+    *cursor = ahead;
+    Ok(body)
+}
+
+/// Reads what an operation does whose type is 12 or above. `start` stands at the operation's type.
+#[tactic(auto, unfolding(crate::specs::Operations::later_body_arms))]
+fn read_later_body(
+    alloc: Global,
+    start: &Cursor<'_>,
+    kind: i32,
+    cursor: &mut Cursor<'_>,
+) -> Result<OperationBody, ReadFault>
+    ensures { Reads cause_of result cursor.old cursor.new (pick later_body_arms no_arm start.now (kind, cursor.old)) }
+{
+    let mut ahead = cursor.fork();
+    let body = match kind {
+        MANAGE_BUY_OFFER => OperationBody::ManageBuyOffer(read_manage_buy_offer_op(&mut ahead)?),
+        PATH_PAYMENT_STRICT_SEND => OperationBody::PathPaymentStrictSend(read_path_payment_strict_send_op(alloc, &mut ahead)?),
+        CREATE_CLAIMABLE_BALANCE => OperationBody::CreateClaimableBalance(read_create_claimable_balance_op(alloc, &mut ahead)?),
+        CLAIM_CLAIMABLE_BALANCE => OperationBody::ClaimClaimableBalance(read_claim_claimable_balance_op(&mut ahead)?),
+        BEGIN_SPONSORING_FUTURE_RESERVES => OperationBody::BeginSponsoringFutureReserves(read_begin_sponsoring_future_reserves_op(&mut ahead)?),
+        END_SPONSORING_FUTURE_RESERVES => OperationBody::EndSponsoringFutureReserves,
+        REVOKE_SPONSORSHIP => OperationBody::RevokeSponsorship(read_revoke_sponsorship_op(alloc, &mut ahead)?),
+        CLAWBACK => OperationBody::Clawback(read_clawback_op(&mut ahead)?),
+        CLAWBACK_CLAIMABLE_BALANCE => OperationBody::ClawbackClaimableBalance(read_clawback_claimable_balance_op(&mut ahead)?),
+        SET_TRUST_LINE_FLAGS => OperationBody::SetTrustLineFlags(read_set_trust_line_flags_op(&mut ahead)?),
+        LIQUIDITY_POOL_DEPOSIT => OperationBody::LiquidityPoolDeposit(read_liquidity_pool_deposit_op(&mut ahead)?),
+        LIQUIDITY_POOL_WITHDRAW => OperationBody::LiquidityPoolWithdraw(read_liquidity_pool_withdraw_op(&mut ahead)?),
+        _ => return Err(ReadFault::Xdr(start.fault(XdrKind::BadEnum))),
+    };
+    *cursor = ahead;
+    Ok(body)
+}
+
+/// Writes what an operation does.
+#[tactic(auto, unfolding(crate::specs::Operations::operation_body))]
+pub fn write_operation_body(
+    value: &OperationBody,
+    builder: &mut Builder,
+) -> Result<(), AllocError>
+    requires { body_format.within value.now }
+    ensures { OnOk result (builder.new ≡ body_format.onto builder.old value.now) }
+{
+    match value {
+        OperationBody::CreateAccount(op) => {
+            builder.i32(CREATE_ACCOUNT)?;
+            write_create_account_op(op, builder)
+        }
+        OperationBody::Payment(op) => {
+            builder.i32(PAYMENT)?;
+            write_payment_op(op, builder)
+        }
+        OperationBody::PathPaymentStrictReceive(op) => {
+            builder.i32(PATH_PAYMENT_STRICT_RECEIVE)?;
+            write_path_payment_strict_receive_op(op, builder)
+        }
+        OperationBody::ManageSellOffer(op) => {
+            builder.i32(MANAGE_SELL_OFFER)?;
+            write_manage_sell_offer_op(op, builder)
+        }
+        OperationBody::CreatePassiveSellOffer(op) => {
+            builder.i32(CREATE_PASSIVE_SELL_OFFER)?;
+            write_create_passive_sell_offer_op(op, builder)
+        }
+        OperationBody::SetOptions(op) => {
+            builder.i32(SET_OPTIONS)?;
+            write_set_options_op(op, builder)
+        }
+        OperationBody::ChangeTrust(op) => {
+            builder.i32(CHANGE_TRUST)?;
+            write_change_trust_op(op, builder)
+        }
+        OperationBody::AllowTrust(op) => {
+            builder.i32(ALLOW_TRUST)?;
+            write_allow_trust_op(op, builder)
+        }
+        OperationBody::AccountMerge(op) => {
+            builder.i32(ACCOUNT_MERGE)?;
+            write_account_merge_op(op, builder)
+        }
+        OperationBody::Inflation => builder.i32(INFLATION),
+        OperationBody::ManageData(op) => {
+            builder.i32(MANAGE_DATA)?;
+            write_manage_data_op(op, builder)
+        }
+        OperationBody::BumpSequence(op) => {
+            builder.i32(BUMP_SEQUENCE)?;
+            write_bump_sequence_op(op, builder)
+        }
+        OperationBody::ManageBuyOffer(op) => {
+            builder.i32(MANAGE_BUY_OFFER)?;
+            write_manage_buy_offer_op(op, builder)
+        }
+        OperationBody::PathPaymentStrictSend(op) => {
+            builder.i32(PATH_PAYMENT_STRICT_SEND)?;
+            write_path_payment_strict_send_op(op, builder)
+        }
+        OperationBody::CreateClaimableBalance(op) => {
+            builder.i32(CREATE_CLAIMABLE_BALANCE)?;
+            write_create_claimable_balance_op(op, builder)
+        }
+        OperationBody::ClaimClaimableBalance(op) => {
+            builder.i32(CLAIM_CLAIMABLE_BALANCE)?;
+            write_claim_claimable_balance_op(op, builder)
+        }
+        OperationBody::BeginSponsoringFutureReserves(op) => {
+            builder.i32(BEGIN_SPONSORING_FUTURE_RESERVES)?;
+            write_begin_sponsoring_future_reserves_op(op, builder)
+        }
+        OperationBody::EndSponsoringFutureReserves => builder.i32(END_SPONSORING_FUTURE_RESERVES),
+        OperationBody::RevokeSponsorship(op) => {
+            builder.i32(REVOKE_SPONSORSHIP)?;
+            write_revoke_sponsorship_op(op, builder)
+        }
+        OperationBody::Clawback(op) => {
+            builder.i32(CLAWBACK)?;
+            write_clawback_op(op, builder)
+        }
+        OperationBody::ClawbackClaimableBalance(op) => {
+            builder.i32(CLAWBACK_CLAIMABLE_BALANCE)?;
+            write_clawback_claimable_balance_op(op, builder)
+        }
+        OperationBody::SetTrustLineFlags(op) => {
+            builder.i32(SET_TRUST_LINE_FLAGS)?;
+            write_set_trust_line_flags_op(op, builder)
+        }
+        OperationBody::LiquidityPoolDeposit(op) => {
+            builder.i32(LIQUIDITY_POOL_DEPOSIT)?;
+            write_liquidity_pool_deposit_op(op, builder)
+        }
+        OperationBody::LiquidityPoolWithdraw(op) => {
+            builder.i32(LIQUIDITY_POOL_WITHDRAW)?;
+            write_liquidity_pool_withdraw_op(op, builder)
+        }
+    }
+}
+
+/// Reads an operation.
+#[tactic(auto, unfolding(crate::specs::Operations::operation))]
+pub fn read_operation(alloc: Global, cursor: &mut Cursor<'_>) -> Result<Operation, ReadFault>
+    ensures { Reads cause_of result cursor.old cursor.new (operation_format.read cursor.old) }
+{
+    let mut ahead = cursor.fork();
+    let source_account = read_option::<MuxedAccountFormat>(alloc, &mut ahead)?;
+    let body = read_operation_body(alloc, &mut ahead)?;
+    *cursor = ahead;
+    Ok(Operation {
+        source_account,
+        body,
+    })
+}
+
+/// Writes an operation.
+#[tactic(auto, unfolding(crate::specs::Operations::operation))]
+pub fn write_operation(value: &Operation, builder: &mut Builder) -> Result<(), AllocError>
+    requires { operation_format.within value.now }
+    ensures { OnOk result (builder.new ≡ operation_format.onto builder.old value.now) }
+{
+    write_option::<MuxedAccountFormat>(&value.source_account, builder)?;
+    write_operation_body(&value.body, builder)
+}
+
+/// Operations, as a format.
+pub enum OperationFormat {}
+
+impl Decode for OperationFormat {
+    type Value = Operation;
+
+    type Failure = ReadFault;
+
+    ghost format = { operation_format };
+
+    fn decode(alloc: Global, cursor: &mut Cursor<'_>) -> Result<Operation, ReadFault> {
+        read_operation(alloc, cursor)
+    }
+}
+
+impl Encode for OperationFormat {
+    fn encode(value: &Operation, builder: &mut Builder) -> Result<(), AllocError> {
+        write_operation(value, builder)
+    }
+}

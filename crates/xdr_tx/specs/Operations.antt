@@ -398,16 +398,20 @@ liquidity_pool_deposit_arm = arm (pos 22) liquidity_pool_deposit_op body.Liquidi
 abbrev pub liquidity_pool_withdraw_arm : Arm XdrFault OperationBody
 liquidity_pool_withdraw_arm = arm (pos 23) liquidity_pool_withdraw_op body.LiquidityPoolWithdraw
 
+-- the types from 18 on
+unfoldable pub last_body_arms : List (Arm XdrFault OperationBody)
+last_body_arms = revoke_sponsorship_arm ∷ clawback_arm ∷ clawback_claimable_balance_arm ∷ set_trust_line_flags_arm ∷ liquidity_pool_deposit_arm ∷ liquidity_pool_withdraw_arm ∷ []
+
 -- the types from 12 on
-unfoldable pub later_body_arms : List (Arm XdrFault OperationBody)
-later_body_arms =
-    manage_buy_offer_arm ∷ path_payment_strict_send_arm ∷ create_claimable_balance_arm ∷ claim_claimable_balance_arm ∷ begin_sponsoring_future_reserves_arm ∷ end_sponsoring_future_reserves_arm
-    ∷ revoke_sponsorship_arm ∷ clawback_arm ∷ clawback_claimable_balance_arm ∷ set_trust_line_flags_arm ∷ liquidity_pool_deposit_arm ∷ liquidity_pool_withdraw_arm ∷ []
+unfoldable pub third_body_arms : List (Arm XdrFault OperationBody)
+third_body_arms = manage_buy_offer_arm ∷ path_payment_strict_send_arm ∷ create_claimable_balance_arm ∷ claim_claimable_balance_arm ∷ begin_sponsoring_future_reserves_arm ∷ end_sponsoring_future_reserves_arm ∷ last_body_arms
+
+-- the types from 6 on
+unfoldable pub second_body_arms : List (Arm XdrFault OperationBody)
+second_body_arms = change_trust_arm ∷ allow_trust_arm ∷ account_merge_arm ∷ inflation_arm ∷ manage_data_arm ∷ bump_sequence_arm ∷ third_body_arms
 
 abbrev pub body_arms : List (Arm XdrFault OperationBody)
-body_arms =
-    create_account_arm ∷ payment_arm ∷ path_payment_strict_receive_arm ∷ manage_sell_offer_arm ∷ create_passive_sell_offer_arm ∷ set_options_arm
-    ∷ change_trust_arm ∷ allow_trust_arm ∷ account_merge_arm ∷ inflation_arm ∷ manage_data_arm ∷ bump_sequence_arm ∷ later_body_arms
+body_arms = create_account_arm ∷ payment_arm ∷ path_payment_strict_receive_arm ∷ manage_sell_offer_arm ∷ create_passive_sell_offer_arm ∷ set_options_arm ∷ second_body_arms
 
 abbrev pub body_part : OperationBody → Part XdrFault OperationBody
 body_part (body.CreateAccount op) = part create_account_arm op

@@ -5,12 +5,15 @@ ghost use Rattle.xdr_core.specs.Place.{Reads, itself};
 ghost use Rattle.xdr_core.specs.ReadFault.{cause_of};
 ghost use Rattle.xdr_tx.specs.Operations.{create_account_op as create_account_op_format, set_options_op as set_options_op_format, account_merge_op as account_merge_op_format, manage_data_op as manage_data_op_format, bump_sequence_op as bump_sequence_op_format};
 
-use crate::fields::{HomeDomainFormat, DataValueFormat, U32Format};
+use crate::fields::{DataValueFormat, HomeDomainFormat, U32Format};
 use item_list::ItemList;
 use op_types::{AccountMergeOp, BumpSequenceOp, CreateAccountOp, ManageDataOp, SetOptionsOp};
 use std::alloc::{AllocError, Global};
 use xdr_core::{Builder, Cursor, ReadFault, XdrFault, read_option, write_option};
-use xdr_entries::{AccountIdFormat, MAX_DATA_NAME_LEN, SignerFormat, read_account_id, read_muxed_account, write_account_id, write_muxed_account};
+use xdr_entries::{
+    AccountIdFormat, MAX_DATA_NAME_LEN, SignerFormat, read_account_id, read_muxed_account,
+    write_account_id, write_muxed_account,
+};
 
 /// Reads what makes an account.
 #[tactic(auto, unfolding(crate::specs::Operations::create_account_op))]
@@ -21,12 +24,18 @@ pub fn read_create_account_op(cursor: &mut Cursor<'_>) -> Result<CreateAccountOp
     let destination = read_account_id(&mut ahead)?;
     let starting_balance = ahead.i64()?;
     *cursor = ahead;
-    Ok(CreateAccountOp { destination, starting_balance })
+    Ok(CreateAccountOp {
+        destination,
+        starting_balance,
+    })
 }
 
 /// Writes what makes an account.
 #[tactic(auto, unfolding(crate::specs::Operations::create_account_op))]
-pub fn write_create_account_op(value: &CreateAccountOp, builder: &mut Builder) -> Result<(), AllocError>
+pub fn write_create_account_op(
+    value: &CreateAccountOp,
+    builder: &mut Builder,
+) -> Result<(), AllocError>
     ensures { OnOk result (builder.new ≡ create_account_op_format.onto builder.old value.now) }
 {
     write_account_id(&value.destination, builder)?;
@@ -52,7 +61,17 @@ pub fn read_set_options_op(
     let home_domain = read_option::<HomeDomainFormat>(alloc, &mut ahead)?;
     let signer = read_option::<SignerFormat>(alloc, &mut ahead)?;
     *cursor = ahead;
-    Ok(SetOptionsOp { inflation_dest, clear_flags, set_flags, master_weight, low_threshold, med_threshold, high_threshold, home_domain, signer })
+    Ok(SetOptionsOp {
+        inflation_dest,
+        clear_flags,
+        set_flags,
+        master_weight,
+        low_threshold,
+        med_threshold,
+        high_threshold,
+        home_domain,
+        signer,
+    })
 }
 
 /// Writes what changes an account.
@@ -85,7 +104,10 @@ pub fn read_account_merge_op(cursor: &mut Cursor<'_>) -> Result<AccountMergeOp, 
 
 /// Writes what removes an account.
 #[tactic(auto, unfolding(crate::specs::Operations::account_merge_op))]
-pub fn write_account_merge_op(value: &AccountMergeOp, builder: &mut Builder) -> Result<(), AllocError>
+pub fn write_account_merge_op(
+    value: &AccountMergeOp,
+    builder: &mut Builder,
+) -> Result<(), AllocError>
     ensures { OnOk result (builder.new ≡ account_merge_op_format.onto builder.old value.now) }
 {
     write_muxed_account(&value.destination, builder)
@@ -103,7 +125,10 @@ pub fn read_manage_data_op(
     let data_name = ItemList::from_slice(alloc, ahead.var(MAX_DATA_NAME_LEN)?)?;
     let data_value = read_option::<DataValueFormat>(alloc, &mut ahead)?;
     *cursor = ahead;
-    Ok(ManageDataOp { data_name, data_value })
+    Ok(ManageDataOp {
+        data_name,
+        data_value,
+    })
 }
 
 /// Writes what makes, changes or removes data.
@@ -129,7 +154,10 @@ pub fn read_bump_sequence_op(cursor: &mut Cursor<'_>) -> Result<BumpSequenceOp, 
 
 /// Writes what raises a sequence number.
 #[tactic(auto, unfolding(crate::specs::Operations::bump_sequence_op))]
-pub fn write_bump_sequence_op(value: &BumpSequenceOp, builder: &mut Builder) -> Result<(), AllocError>
+pub fn write_bump_sequence_op(
+    value: &BumpSequenceOp,
+    builder: &mut Builder,
+) -> Result<(), AllocError>
     ensures { OnOk result (builder.new ≡ bump_sequence_op_format.onto builder.old value.now) }
 {
     builder.i64(value.bump_to)

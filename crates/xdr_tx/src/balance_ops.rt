@@ -8,7 +8,10 @@ ghost use Rattle.xdr_tx.specs.Operations.{create_claimable_balance_op as create_
 use op_types::{ClaimClaimableBalanceOp, ClawbackClaimableBalanceOp, CreateClaimableBalanceOp};
 use std::alloc::{AllocError, Global};
 use xdr_core::{Builder, Cursor, ReadFault, XdrFault, read_list, write_list};
-use xdr_entries::{ClaimantFormat, MAX_CLAIMANTS, read_asset, read_claimable_balance_id, write_asset, write_claimable_balance_id};
+use xdr_entries::{
+    ClaimantFormat, MAX_CLAIMANTS, read_asset, read_claimable_balance_id, write_asset,
+    write_claimable_balance_id,
+};
 
 /// Reads what makes a claimable balance.
 #[tactic(auto, unfolding(crate::specs::Operations::create_claimable_balance_op))]
@@ -23,12 +26,19 @@ pub fn read_create_claimable_balance_op(
     let amount = ahead.i64()?;
     let claimants = read_list::<ClaimantFormat>(alloc, MAX_CLAIMANTS, &mut ahead)?;
     *cursor = ahead;
-    Ok(CreateClaimableBalanceOp { asset, amount, claimants })
+    Ok(CreateClaimableBalanceOp {
+        asset,
+        amount,
+        claimants,
+    })
 }
 
 /// Writes what makes a claimable balance.
 #[tactic(auto, unfolding(crate::specs::Operations::create_claimable_balance_op))]
-pub fn write_create_claimable_balance_op(value: &CreateClaimableBalanceOp, builder: &mut Builder) -> Result<(), AllocError>
+pub fn write_create_claimable_balance_op(
+    value: &CreateClaimableBalanceOp,
+    builder: &mut Builder,
+) -> Result<(), AllocError>
     requires { create_claimable_balance_op_format.within value.now }
     ensures { OnOk result (builder.new ≡ create_claimable_balance_op_format.onto builder.old value.now) }
 {
@@ -39,7 +49,9 @@ pub fn write_create_claimable_balance_op(value: &CreateClaimableBalanceOp, build
 
 /// Reads what claims a claimable balance.
 #[tactic(auto, unfolding(crate::specs::Operations::claim_claimable_balance_op))]
-pub fn read_claim_claimable_balance_op(cursor: &mut Cursor<'_>) -> Result<ClaimClaimableBalanceOp, XdrFault>
+pub fn read_claim_claimable_balance_op(
+    cursor: &mut Cursor<'_>,
+) -> Result<ClaimClaimableBalanceOp, XdrFault>
     ensures { Reads itself result cursor.old cursor.new (claim_claimable_balance_op_format.read cursor.old) }
 {
     let mut ahead = cursor.fork();
@@ -50,7 +62,10 @@ pub fn read_claim_claimable_balance_op(cursor: &mut Cursor<'_>) -> Result<ClaimC
 
 /// Writes what claims a claimable balance.
 #[tactic(auto, unfolding(crate::specs::Operations::claim_claimable_balance_op))]
-pub fn write_claim_claimable_balance_op(value: &ClaimClaimableBalanceOp, builder: &mut Builder) -> Result<(), AllocError>
+pub fn write_claim_claimable_balance_op(
+    value: &ClaimClaimableBalanceOp,
+    builder: &mut Builder,
+) -> Result<(), AllocError>
     ensures { OnOk result (builder.new ≡ claim_claimable_balance_op_format.onto builder.old value.now) }
 {
     write_claimable_balance_id(&value.balance_id, builder)
@@ -58,7 +73,9 @@ pub fn write_claim_claimable_balance_op(value: &ClaimClaimableBalanceOp, builder
 
 /// Reads what takes a claimable balance back.
 #[tactic(auto, unfolding(crate::specs::Operations::clawback_claimable_balance_op))]
-pub fn read_clawback_claimable_balance_op(cursor: &mut Cursor<'_>) -> Result<ClawbackClaimableBalanceOp, XdrFault>
+pub fn read_clawback_claimable_balance_op(
+    cursor: &mut Cursor<'_>,
+) -> Result<ClawbackClaimableBalanceOp, XdrFault>
     ensures { Reads itself result cursor.old cursor.new (clawback_claimable_balance_op_format.read cursor.old) }
 {
     let mut ahead = cursor.fork();
@@ -69,7 +86,10 @@ pub fn read_clawback_claimable_balance_op(cursor: &mut Cursor<'_>) -> Result<Cla
 
 /// Writes what takes a claimable balance back.
 #[tactic(auto, unfolding(crate::specs::Operations::clawback_claimable_balance_op))]
-pub fn write_clawback_claimable_balance_op(value: &ClawbackClaimableBalanceOp, builder: &mut Builder) -> Result<(), AllocError>
+pub fn write_clawback_claimable_balance_op(
+    value: &ClawbackClaimableBalanceOp,
+    builder: &mut Builder,
+) -> Result<(), AllocError>
     ensures { OnOk result (builder.new ≡ clawback_claimable_balance_op_format.onto builder.old value.now) }
 {
     write_claimable_balance_id(&value.balance_id, builder)

@@ -21,12 +21,21 @@ pub fn read_manage_sell_offer_op(cursor: &mut Cursor<'_>) -> Result<ManageSellOf
     let price = read_price(&mut ahead)?;
     let offer_id = ahead.i64()?;
     *cursor = ahead;
-    Ok(ManageSellOfferOp { selling, buying, amount, price, offer_id })
+    Ok(ManageSellOfferOp {
+        selling,
+        buying,
+        amount,
+        price,
+        offer_id,
+    })
 }
 
 /// Writes what makes, changes or removes an offer that sells.
 #[tactic(auto, unfolding(crate::specs::Operations::manage_sell_offer_op))]
-pub fn write_manage_sell_offer_op(value: &ManageSellOfferOp, builder: &mut Builder) -> Result<(), AllocError>
+pub fn write_manage_sell_offer_op(
+    value: &ManageSellOfferOp,
+    builder: &mut Builder,
+) -> Result<(), AllocError>
     ensures { OnOk result (builder.new ≡ manage_sell_offer_op_format.onto builder.old value.now) }
 {
     write_asset(&value.selling, builder)?;
@@ -38,7 +47,9 @@ pub fn write_manage_sell_offer_op(value: &ManageSellOfferOp, builder: &mut Build
 
 /// Reads what makes a passive offer.
 #[tactic(auto, unfolding(crate::specs::Operations::create_passive_sell_offer_op))]
-pub fn read_create_passive_sell_offer_op(cursor: &mut Cursor<'_>) -> Result<CreatePassiveSellOfferOp, XdrFault>
+pub fn read_create_passive_sell_offer_op(
+    cursor: &mut Cursor<'_>,
+) -> Result<CreatePassiveSellOfferOp, XdrFault>
     ensures { Reads itself result cursor.old cursor.new (create_passive_sell_offer_op_format.read cursor.old) }
 {
     let mut ahead = cursor.fork();
@@ -47,12 +58,20 @@ pub fn read_create_passive_sell_offer_op(cursor: &mut Cursor<'_>) -> Result<Crea
     let amount = ahead.i64()?;
     let price = read_price(&mut ahead)?;
     *cursor = ahead;
-    Ok(CreatePassiveSellOfferOp { selling, buying, amount, price })
+    Ok(CreatePassiveSellOfferOp {
+        selling,
+        buying,
+        amount,
+        price,
+    })
 }
 
 /// Writes what makes a passive offer.
 #[tactic(auto, unfolding(crate::specs::Operations::create_passive_sell_offer_op))]
-pub fn write_create_passive_sell_offer_op(value: &CreatePassiveSellOfferOp, builder: &mut Builder) -> Result<(), AllocError>
+pub fn write_create_passive_sell_offer_op(
+    value: &CreatePassiveSellOfferOp,
+    builder: &mut Builder,
+) -> Result<(), AllocError>
     ensures { OnOk result (builder.new ≡ create_passive_sell_offer_op_format.onto builder.old value.now) }
 {
     write_asset(&value.selling, builder)?;
@@ -73,12 +92,21 @@ pub fn read_manage_buy_offer_op(cursor: &mut Cursor<'_>) -> Result<ManageBuyOffe
     let price = read_price(&mut ahead)?;
     let offer_id = ahead.i64()?;
     *cursor = ahead;
-    Ok(ManageBuyOfferOp { selling, buying, buy_amount, price, offer_id })
+    Ok(ManageBuyOfferOp {
+        selling,
+        buying,
+        buy_amount,
+        price,
+        offer_id,
+    })
 }
 
 /// Writes what makes, changes or removes an offer that buys.
 #[tactic(auto, unfolding(crate::specs::Operations::manage_buy_offer_op))]
-pub fn write_manage_buy_offer_op(value: &ManageBuyOfferOp, builder: &mut Builder) -> Result<(), AllocError>
+pub fn write_manage_buy_offer_op(
+    value: &ManageBuyOfferOp,
+    builder: &mut Builder,
+) -> Result<(), AllocError>
     ensures { OnOk result (builder.new ≡ manage_buy_offer_op_format.onto builder.old value.now) }
 {
     write_asset(&value.selling, builder)?;

@@ -5,15 +5,38 @@ ghost use Rattle.xdr_core.specs.Place.{Place, Reads};
 ghost use Rattle.xdr_core.specs.ReadFault.{cause_of};
 ghost use Rattle.xdr_core.specs.Combinators.{pick};
 ghost use Rattle.xdr_core.specs.Xdr.{no_arm};
-ghost use Rattle.xdr_tx.specs.Operations.{later_body_arms, operation_body as body_format, operation as operation_format};
+ghost use Rattle.xdr_tx.specs.Operations.{second_body_arms, third_body_arms, last_body_arms, operation_body as body_format, operation as operation_format};
 
-use crate::account_ops::{read_account_merge_op, read_bump_sequence_op, read_create_account_op, read_manage_data_op, read_set_options_op, write_account_merge_op, write_bump_sequence_op, write_create_account_op, write_manage_data_op, write_set_options_op};
-use crate::balance_ops::{read_claim_claimable_balance_op, read_clawback_claimable_balance_op, read_create_claimable_balance_op, write_claim_claimable_balance_op, write_clawback_claimable_balance_op, write_create_claimable_balance_op};
-use crate::offer_ops::{read_create_passive_sell_offer_op, read_manage_buy_offer_op, read_manage_sell_offer_op, write_create_passive_sell_offer_op, write_manage_buy_offer_op, write_manage_sell_offer_op};
-use crate::payment_ops::{read_path_payment_strict_receive_op, read_path_payment_strict_send_op, read_payment_op, write_path_payment_strict_receive_op, write_path_payment_strict_send_op, write_payment_op};
-use crate::pool_ops::{read_liquidity_pool_deposit_op, read_liquidity_pool_withdraw_op, write_liquidity_pool_deposit_op, write_liquidity_pool_withdraw_op};
-use crate::sponsor_ops::{read_begin_sponsoring_future_reserves_op, read_revoke_sponsorship_op, write_begin_sponsoring_future_reserves_op, write_revoke_sponsorship_op};
-use crate::trust_ops::{read_allow_trust_op, read_change_trust_op, read_clawback_op, read_set_trust_line_flags_op, write_allow_trust_op, write_change_trust_op, write_clawback_op, write_set_trust_line_flags_op};
+use crate::account_ops::{
+    read_account_merge_op, read_bump_sequence_op, read_create_account_op, read_manage_data_op,
+    read_set_options_op, write_account_merge_op, write_bump_sequence_op, write_create_account_op,
+    write_manage_data_op, write_set_options_op,
+};
+use crate::balance_ops::{
+    read_claim_claimable_balance_op, read_clawback_claimable_balance_op,
+    read_create_claimable_balance_op, write_claim_claimable_balance_op,
+    write_clawback_claimable_balance_op, write_create_claimable_balance_op,
+};
+use crate::offer_ops::{
+    read_create_passive_sell_offer_op, read_manage_buy_offer_op, read_manage_sell_offer_op,
+    write_create_passive_sell_offer_op, write_manage_buy_offer_op, write_manage_sell_offer_op,
+};
+use crate::payment_ops::{
+    read_path_payment_strict_receive_op, read_path_payment_strict_send_op, read_payment_op,
+    write_path_payment_strict_receive_op, write_path_payment_strict_send_op, write_payment_op,
+};
+use crate::pool_ops::{
+    read_liquidity_pool_deposit_op, read_liquidity_pool_withdraw_op,
+    write_liquidity_pool_deposit_op, write_liquidity_pool_withdraw_op,
+};
+use crate::sponsor_ops::{
+    read_begin_sponsoring_future_reserves_op, read_revoke_sponsorship_op,
+    write_begin_sponsoring_future_reserves_op, write_revoke_sponsorship_op,
+};
+use crate::trust_ops::{
+    read_allow_trust_op, read_change_trust_op, read_clawback_op, read_set_trust_line_flags_op,
+    write_allow_trust_op, write_change_trust_op, write_clawback_op, write_set_trust_line_flags_op,
+};
 use op_types::{Operation, OperationBody};
 use std::alloc::{AllocError, Global};
 use xdr_core::{Builder, Cursor, Decode, Encode, ReadFault, XdrKind, read_option, write_option};
@@ -103,46 +126,104 @@ pub fn read_operation_body(
     let body = match ahead.i32()? {
         CREATE_ACCOUNT => OperationBody::CreateAccount(read_create_account_op(&mut ahead)?),
         PAYMENT => OperationBody::Payment(read_payment_op(&mut ahead)?),
-        PATH_PAYMENT_STRICT_RECEIVE => OperationBody::PathPaymentStrictReceive(read_path_payment_strict_receive_op(alloc, &mut ahead)?),
+        PATH_PAYMENT_STRICT_RECEIVE => OperationBody::PathPaymentStrictReceive(
+            read_path_payment_strict_receive_op(alloc, &mut ahead)?,
+        ),
         MANAGE_SELL_OFFER => OperationBody::ManageSellOffer(read_manage_sell_offer_op(&mut ahead)?),
-        CREATE_PASSIVE_SELL_OFFER => OperationBody::CreatePassiveSellOffer(read_create_passive_sell_offer_op(&mut ahead)?),
+        CREATE_PASSIVE_SELL_OFFER => OperationBody::CreatePassiveSellOffer(
+            read_create_passive_sell_offer_op(&mut ahead)?,
+        ),
         SET_OPTIONS => OperationBody::SetOptions(read_set_options_op(alloc, &mut ahead)?),
+        kind => read_second_body(alloc, cursor, kind, &mut ahead)?,
+    };
+    *cursor = ahead;
+    Ok(body)
+}
+
+/// Reads what an operation does whose type is 6 or above. `start` stands at the operation's type.
+#[tactic(auto, unfolding(crate::specs::Operations::second_body_arms))]
+fn read_second_body(
+    alloc: Global,
+    start: &Cursor<'_>,
+    kind: i32,
+    cursor: &mut Cursor<'_>,
+) -> Result<OperationBody, ReadFault>
+    ensures { Reads cause_of result cursor.old cursor.new (pick second_body_arms no_arm start.now (kind, cursor.old)) }
+{
+    let mut ahead = cursor.fork();
+    let body = match kind {
         CHANGE_TRUST => OperationBody::ChangeTrust(read_change_trust_op(&mut ahead)?),
         ALLOW_TRUST => OperationBody::AllowTrust(read_allow_trust_op(&mut ahead)?),
         ACCOUNT_MERGE => OperationBody::AccountMerge(read_account_merge_op(&mut ahead)?),
         INFLATION => OperationBody::Inflation,
         MANAGE_DATA => OperationBody::ManageData(read_manage_data_op(alloc, &mut ahead)?),
         BUMP_SEQUENCE => OperationBody::BumpSequence(read_bump_sequence_op(&mut ahead)?),
-        kind => read_later_body(alloc, cursor, kind, &mut ahead)?,
+        _ => read_third_body(alloc, start, kind, &mut ahead)?,
     };
     *cursor = ahead;
     Ok(body)
 }
 
 /// Reads what an operation does whose type is 12 or above. `start` stands at the operation's type.
-#[tactic(auto, unfolding(crate::specs::Operations::later_body_arms))]
-fn read_later_body(
+#[tactic(auto, unfolding(crate::specs::Operations::third_body_arms))]
+fn read_third_body(
     alloc: Global,
     start: &Cursor<'_>,
     kind: i32,
     cursor: &mut Cursor<'_>,
 ) -> Result<OperationBody, ReadFault>
-    ensures { Reads cause_of result cursor.old cursor.new (pick later_body_arms no_arm start.now (kind, cursor.old)) }
+    ensures { Reads cause_of result cursor.old cursor.new (pick third_body_arms no_arm start.now (kind, cursor.old)) }
 {
     let mut ahead = cursor.fork();
     let body = match kind {
         MANAGE_BUY_OFFER => OperationBody::ManageBuyOffer(read_manage_buy_offer_op(&mut ahead)?),
-        PATH_PAYMENT_STRICT_SEND => OperationBody::PathPaymentStrictSend(read_path_payment_strict_send_op(alloc, &mut ahead)?),
-        CREATE_CLAIMABLE_BALANCE => OperationBody::CreateClaimableBalance(read_create_claimable_balance_op(alloc, &mut ahead)?),
-        CLAIM_CLAIMABLE_BALANCE => OperationBody::ClaimClaimableBalance(read_claim_claimable_balance_op(&mut ahead)?),
-        BEGIN_SPONSORING_FUTURE_RESERVES => OperationBody::BeginSponsoringFutureReserves(read_begin_sponsoring_future_reserves_op(&mut ahead)?),
+        PATH_PAYMENT_STRICT_SEND => OperationBody::PathPaymentStrictSend(
+            read_path_payment_strict_send_op(alloc, &mut ahead)?,
+        ),
+        CREATE_CLAIMABLE_BALANCE => OperationBody::CreateClaimableBalance(
+            read_create_claimable_balance_op(alloc, &mut ahead)?,
+        ),
+        CLAIM_CLAIMABLE_BALANCE => OperationBody::ClaimClaimableBalance(
+            read_claim_claimable_balance_op(&mut ahead)?,
+        ),
+        BEGIN_SPONSORING_FUTURE_RESERVES => OperationBody::BeginSponsoringFutureReserves(
+            read_begin_sponsoring_future_reserves_op(&mut ahead)?,
+        ),
         END_SPONSORING_FUTURE_RESERVES => OperationBody::EndSponsoringFutureReserves,
-        REVOKE_SPONSORSHIP => OperationBody::RevokeSponsorship(read_revoke_sponsorship_op(alloc, &mut ahead)?),
+        _ => read_last_body(alloc, start, kind, &mut ahead)?,
+    };
+    *cursor = ahead;
+    Ok(body)
+}
+
+/// Reads what an operation does whose type is 18 or above. `start` stands at the operation's type.
+#[tactic(auto, unfolding(crate::specs::Operations::last_body_arms))]
+fn read_last_body(
+    alloc: Global,
+    start: &Cursor<'_>,
+    kind: i32,
+    cursor: &mut Cursor<'_>,
+) -> Result<OperationBody, ReadFault>
+    ensures { Reads cause_of result cursor.old cursor.new (pick last_body_arms no_arm start.now (kind, cursor.old)) }
+{
+    let mut ahead = cursor.fork();
+    let body = match kind {
+        REVOKE_SPONSORSHIP => OperationBody::RevokeSponsorship(read_revoke_sponsorship_op(
+            alloc, &mut ahead,
+        )?),
         CLAWBACK => OperationBody::Clawback(read_clawback_op(&mut ahead)?),
-        CLAWBACK_CLAIMABLE_BALANCE => OperationBody::ClawbackClaimableBalance(read_clawback_claimable_balance_op(&mut ahead)?),
-        SET_TRUST_LINE_FLAGS => OperationBody::SetTrustLineFlags(read_set_trust_line_flags_op(&mut ahead)?),
-        LIQUIDITY_POOL_DEPOSIT => OperationBody::LiquidityPoolDeposit(read_liquidity_pool_deposit_op(&mut ahead)?),
-        LIQUIDITY_POOL_WITHDRAW => OperationBody::LiquidityPoolWithdraw(read_liquidity_pool_withdraw_op(&mut ahead)?),
+        CLAWBACK_CLAIMABLE_BALANCE => OperationBody::ClawbackClaimableBalance(
+            read_clawback_claimable_balance_op(&mut ahead)?,
+        ),
+        SET_TRUST_LINE_FLAGS => OperationBody::SetTrustLineFlags(read_set_trust_line_flags_op(
+            &mut ahead,
+        )?),
+        LIQUIDITY_POOL_DEPOSIT => OperationBody::LiquidityPoolDeposit(
+            read_liquidity_pool_deposit_op(&mut ahead)?,
+        ),
+        LIQUIDITY_POOL_WITHDRAW => OperationBody::LiquidityPoolWithdraw(
+            read_liquidity_pool_withdraw_op(&mut ahead)?,
+        ),
         _ => return Err(ReadFault::Xdr(start.fault(XdrKind::BadEnum))),
     };
     *cursor = ahead;
@@ -151,10 +232,7 @@ fn read_later_body(
 
 /// Writes what an operation does.
 #[tactic(auto, unfolding(crate::specs::Operations::operation_body))]
-pub fn write_operation_body(
-    value: &OperationBody,
-    builder: &mut Builder,
-) -> Result<(), AllocError>
+pub fn write_operation_body(value: &OperationBody, builder: &mut Builder) -> Result<(), AllocError>
     requires { body_format.within value.now }
     ensures { OnOk result (builder.new ≡ body_format.onto builder.old value.now) }
 {

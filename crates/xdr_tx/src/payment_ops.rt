@@ -23,7 +23,11 @@ pub fn read_payment_op(cursor: &mut Cursor<'_>) -> Result<PaymentOp, XdrFault>
     let asset = read_asset(&mut ahead)?;
     let amount = ahead.i64()?;
     *cursor = ahead;
-    Ok(PaymentOp { destination, asset, amount })
+    Ok(PaymentOp {
+        destination,
+        asset,
+        amount,
+    })
 }
 
 /// Writes a payment.
@@ -52,12 +56,22 @@ pub fn read_path_payment_strict_receive_op(
     let dest_amount = ahead.i64()?;
     let path = read_list::<AssetFormat>(alloc, MAX_PATH_LEN, &mut ahead)?;
     *cursor = ahead;
-    Ok(PathPaymentStrictReceiveOp { send_asset, send_max, destination, dest_asset, dest_amount, path })
+    Ok(PathPaymentStrictReceiveOp {
+        send_asset,
+        send_max,
+        destination,
+        dest_asset,
+        dest_amount,
+        path,
+    })
 }
 
 /// Writes a payment along a path whose end is fixed.
 #[tactic(auto, unfolding(crate::specs::Operations::path_payment_strict_receive_op))]
-pub fn write_path_payment_strict_receive_op(value: &PathPaymentStrictReceiveOp, builder: &mut Builder) -> Result<(), AllocError>
+pub fn write_path_payment_strict_receive_op(
+    value: &PathPaymentStrictReceiveOp,
+    builder: &mut Builder,
+) -> Result<(), AllocError>
     requires { path_payment_strict_receive_op_format.within value.now }
     ensures { OnOk result (builder.new ≡ path_payment_strict_receive_op_format.onto builder.old value.now) }
 {
@@ -85,12 +99,22 @@ pub fn read_path_payment_strict_send_op(
     let dest_min = ahead.i64()?;
     let path = read_list::<AssetFormat>(alloc, MAX_PATH_LEN, &mut ahead)?;
     *cursor = ahead;
-    Ok(PathPaymentStrictSendOp { send_asset, send_amount, destination, dest_asset, dest_min, path })
+    Ok(PathPaymentStrictSendOp {
+        send_asset,
+        send_amount,
+        destination,
+        dest_asset,
+        dest_min,
+        path,
+    })
 }
 
 /// Writes a payment along a path whose front is fixed.
 #[tactic(auto, unfolding(crate::specs::Operations::path_payment_strict_send_op))]
-pub fn write_path_payment_strict_send_op(value: &PathPaymentStrictSendOp, builder: &mut Builder) -> Result<(), AllocError>
+pub fn write_path_payment_strict_send_op(
+    value: &PathPaymentStrictSendOp,
+    builder: &mut Builder,
+) -> Result<(), AllocError>
     requires { path_payment_strict_send_op_format.within value.now }
     ensures { OnOk result (builder.new ≡ path_payment_strict_send_op_format.onto builder.old value.now) }
 {

@@ -11,7 +11,9 @@ use xdr_entries::{read_hash, read_price, write_hash, write_price};
 
 /// Reads a deposit into a pool.
 #[tactic(auto, unfolding(crate::specs::Operations::liquidity_pool_deposit_op))]
-pub fn read_liquidity_pool_deposit_op(cursor: &mut Cursor<'_>) -> Result<LiquidityPoolDepositOp, XdrFault>
+pub fn read_liquidity_pool_deposit_op(
+    cursor: &mut Cursor<'_>,
+) -> Result<LiquidityPoolDepositOp, XdrFault>
     ensures { Reads itself result cursor.old cursor.new (liquidity_pool_deposit_op_format.read cursor.old) }
 {
     let mut ahead = cursor.fork();
@@ -21,12 +23,21 @@ pub fn read_liquidity_pool_deposit_op(cursor: &mut Cursor<'_>) -> Result<Liquidi
     let min_price = read_price(&mut ahead)?;
     let max_price = read_price(&mut ahead)?;
     *cursor = ahead;
-    Ok(LiquidityPoolDepositOp { pool_id, max_amount_a, max_amount_b, min_price, max_price })
+    Ok(LiquidityPoolDepositOp {
+        pool_id,
+        max_amount_a,
+        max_amount_b,
+        min_price,
+        max_price,
+    })
 }
 
 /// Writes a deposit into a pool.
 #[tactic(auto, unfolding(crate::specs::Operations::liquidity_pool_deposit_op))]
-pub fn write_liquidity_pool_deposit_op(value: &LiquidityPoolDepositOp, builder: &mut Builder) -> Result<(), AllocError>
+pub fn write_liquidity_pool_deposit_op(
+    value: &LiquidityPoolDepositOp,
+    builder: &mut Builder,
+) -> Result<(), AllocError>
     ensures { OnOk result (builder.new ≡ liquidity_pool_deposit_op_format.onto builder.old value.now) }
 {
     write_hash(&value.pool_id, builder)?;
@@ -38,7 +49,9 @@ pub fn write_liquidity_pool_deposit_op(value: &LiquidityPoolDepositOp, builder: 
 
 /// Reads a withdrawal from a pool.
 #[tactic(auto, unfolding(crate::specs::Operations::liquidity_pool_withdraw_op))]
-pub fn read_liquidity_pool_withdraw_op(cursor: &mut Cursor<'_>) -> Result<LiquidityPoolWithdrawOp, XdrFault>
+pub fn read_liquidity_pool_withdraw_op(
+    cursor: &mut Cursor<'_>,
+) -> Result<LiquidityPoolWithdrawOp, XdrFault>
     ensures { Reads itself result cursor.old cursor.new (liquidity_pool_withdraw_op_format.read cursor.old) }
 {
     let mut ahead = cursor.fork();
@@ -47,12 +60,20 @@ pub fn read_liquidity_pool_withdraw_op(cursor: &mut Cursor<'_>) -> Result<Liquid
     let min_amount_a = ahead.i64()?;
     let min_amount_b = ahead.i64()?;
     *cursor = ahead;
-    Ok(LiquidityPoolWithdrawOp { pool_id, amount, min_amount_a, min_amount_b })
+    Ok(LiquidityPoolWithdrawOp {
+        pool_id,
+        amount,
+        min_amount_a,
+        min_amount_b,
+    })
 }
 
 /// Writes a withdrawal from a pool.
 #[tactic(auto, unfolding(crate::specs::Operations::liquidity_pool_withdraw_op))]
-pub fn write_liquidity_pool_withdraw_op(value: &LiquidityPoolWithdrawOp, builder: &mut Builder) -> Result<(), AllocError>
+pub fn write_liquidity_pool_withdraw_op(
+    value: &LiquidityPoolWithdrawOp,
+    builder: &mut Builder,
+) -> Result<(), AllocError>
     ensures { OnOk result (builder.new ≡ liquidity_pool_withdraw_op_format.onto builder.old value.now) }
 {
     write_hash(&value.pool_id, builder)?;

@@ -8,7 +8,10 @@ ghost use Rattle.xdr_tx.specs.Operations.{begin_sponsoring_future_reserves_op as
 use op_types::{BeginSponsoringFutureReservesOp, RevokeSponsorshipOp};
 use std::alloc::{AllocError, Global};
 use xdr_core::{Builder, Cursor, ReadFault, XdrFault, XdrKind};
-use xdr_entries::{read_account_id, read_ledger_key, read_signer_key, write_account_id, write_ledger_key, write_signer_key};
+use xdr_entries::{
+    read_account_id, read_ledger_key, read_signer_key, write_account_id, write_ledger_key,
+    write_signer_key,
+};
 
 /// REVOKE_SPONSORSHIP_LEDGER_ENTRY (Stellar-transaction.x).
 const REVOKE_SPONSORSHIP_LEDGER_ENTRY: i32 = 0;
@@ -18,7 +21,9 @@ const REVOKE_SPONSORSHIP_SIGNER: i32 = 1;
 
 /// Reads what begins a sponsorship.
 #[tactic(auto, unfolding(crate::specs::Operations::begin_sponsoring_future_reserves_op))]
-pub fn read_begin_sponsoring_future_reserves_op(cursor: &mut Cursor<'_>) -> Result<BeginSponsoringFutureReservesOp, XdrFault>
+pub fn read_begin_sponsoring_future_reserves_op(
+    cursor: &mut Cursor<'_>,
+) -> Result<BeginSponsoringFutureReservesOp, XdrFault>
     ensures { Reads itself result cursor.old cursor.new (begin_sponsoring_future_reserves_op_format.read cursor.old) }
 {
     let mut ahead = cursor.fork();
@@ -29,7 +34,10 @@ pub fn read_begin_sponsoring_future_reserves_op(cursor: &mut Cursor<'_>) -> Resu
 
 /// Writes what begins a sponsorship.
 #[tactic(auto, unfolding(crate::specs::Operations::begin_sponsoring_future_reserves_op))]
-pub fn write_begin_sponsoring_future_reserves_op(value: &BeginSponsoringFutureReservesOp, builder: &mut Builder) -> Result<(), AllocError>
+pub fn write_begin_sponsoring_future_reserves_op(
+    value: &BeginSponsoringFutureReservesOp,
+    builder: &mut Builder,
+) -> Result<(), AllocError>
     ensures { OnOk result (builder.new ≡ begin_sponsoring_future_reserves_op_format.onto builder.old value.now) }
 {
     write_account_id(&value.sponsored_id, builder)

@@ -7,7 +7,10 @@ ghost use Rattle.xdr_tx.specs.Operations.{change_trust_op as change_trust_op_for
 use op_types::{AllowTrustOp, AssetCode, ChangeTrustOp, ClawbackOp, SetTrustLineFlagsOp};
 use std::alloc::AllocError;
 use xdr_core::{Builder, Cursor, XdrFault, XdrKind};
-use xdr_entries::{read_account_id, read_asset, read_change_trust_asset, read_muxed_account, write_account_id, write_asset, write_change_trust_asset, write_muxed_account};
+use xdr_entries::{
+    read_account_id, read_asset, read_change_trust_asset, read_muxed_account, write_account_id,
+    write_asset, write_change_trust_asset, write_muxed_account,
+};
 
 /// ASSET_TYPE_CREDIT_ALPHANUM4 (Stellar-ledger-entries.x).
 const ASSET_TYPE_CREDIT_ALPHANUM4: i32 = 1;
@@ -78,7 +81,11 @@ pub fn read_allow_trust_op(cursor: &mut Cursor<'_>) -> Result<AllowTrustOp, XdrF
     let asset = read_asset_code(&mut ahead)?;
     let authorize = ahead.u32()?;
     *cursor = ahead;
-    Ok(AllowTrustOp { trustor, asset, authorize })
+    Ok(AllowTrustOp {
+        trustor,
+        asset,
+        authorize,
+    })
 }
 
 /// Writes what says whether a trust line may be used.
@@ -93,7 +100,9 @@ pub fn write_allow_trust_op(value: &AllowTrustOp, builder: &mut Builder) -> Resu
 
 /// Reads what changes the flags of a trust line.
 #[tactic(auto, unfolding(crate::specs::Operations::set_trust_line_flags_op))]
-pub fn read_set_trust_line_flags_op(cursor: &mut Cursor<'_>) -> Result<SetTrustLineFlagsOp, XdrFault>
+pub fn read_set_trust_line_flags_op(
+    cursor: &mut Cursor<'_>,
+) -> Result<SetTrustLineFlagsOp, XdrFault>
     ensures { Reads itself result cursor.old cursor.new (set_trust_line_flags_op_format.read cursor.old) }
 {
     let mut ahead = cursor.fork();
@@ -102,12 +111,20 @@ pub fn read_set_trust_line_flags_op(cursor: &mut Cursor<'_>) -> Result<SetTrustL
     let clear_flags = ahead.u32()?;
     let set_flags = ahead.u32()?;
     *cursor = ahead;
-    Ok(SetTrustLineFlagsOp { trustor, asset, clear_flags, set_flags })
+    Ok(SetTrustLineFlagsOp {
+        trustor,
+        asset,
+        clear_flags,
+        set_flags,
+    })
 }
 
 /// Writes what changes the flags of a trust line.
 #[tactic(auto, unfolding(crate::specs::Operations::set_trust_line_flags_op))]
-pub fn write_set_trust_line_flags_op(value: &SetTrustLineFlagsOp, builder: &mut Builder) -> Result<(), AllocError>
+pub fn write_set_trust_line_flags_op(
+    value: &SetTrustLineFlagsOp,
+    builder: &mut Builder,
+) -> Result<(), AllocError>
     ensures { OnOk result (builder.new ≡ set_trust_line_flags_op_format.onto builder.old value.now) }
 {
     write_account_id(&value.trustor, builder)?;
@@ -126,7 +143,11 @@ pub fn read_clawback_op(cursor: &mut Cursor<'_>) -> Result<ClawbackOp, XdrFault>
     let from = read_muxed_account(&mut ahead)?;
     let amount = ahead.i64()?;
     *cursor = ahead;
-    Ok(ClawbackOp { asset, from, amount })
+    Ok(ClawbackOp {
+        asset,
+        from,
+        amount,
+    })
 }
 
 /// Writes what takes an asset back.

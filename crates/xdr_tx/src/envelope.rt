@@ -1,0 +1,251 @@
+//! Transactions with their signatures, and sets of them.
+
+ghost use Rattle.std.specs.Prelude.{◌≡◌, OnOk};
+ghost use Rattle.xdr_core.specs.Place.{Reads};
+ghost use Rattle.xdr_core.specs.ReadFault.{cause_of};
+ghost use Rattle.xdr_tx.specs.Transactions.{transaction_v0_envelope as transaction_v0_envelope_format, transaction_v1_envelope as transaction_v1_envelope_format, fee_bump_transaction as fee_bump_format, fee_bump_envelope as fee_bump_envelope_format, transaction_envelope as envelope_format, transaction_set as set_format};
+
+use crate::signature::{DecoratedSignatureFormat, MAX_SIGNATURES};
+use crate::transaction::{
+    read_transaction, read_transaction_v0, write_transaction, write_transaction_v0,
+};
+use op_types::{
+    FeeBumpTransaction, FeeBumpTransactionEnvelope, TransactionEnvelope, TransactionSet,
+    TransactionV0Envelope, TransactionV1Envelope,
+};
+use std::alloc::{AllocError, Global};
+use xdr_core::{Builder, Cursor, Decode, Encode, ReadFault, XdrKind, read_list, write_list};
+use xdr_entries::{read_hash, read_muxed_account, write_hash, write_muxed_account};
+
+/// ENVELOPE_TYPE_TX_V0 (Stellar-ledger-entries.x).
+const ENVELOPE_TYPE_TX_V0: i32 = 0;
+
+/// ENVELOPE_TYPE_TX (Stellar-ledger-entries.x).
+const ENVELOPE_TYPE_TX: i32 = 2;
+
+/// ENVELOPE_TYPE_TX_FEE_BUMP (Stellar-ledger-entries.x).
+const ENVELOPE_TYPE_TX_FEE_BUMP: i32 = 5;
+
+/// Reads a transaction of the first version and its signatures.
+#[tactic(auto, unfolding(crate::specs::Transactions::transaction_v0_envelope))]
+pub fn read_transaction_v0_envelope(
+    alloc: Global,
+    cursor: &mut Cursor<'_>,
+) -> Result<TransactionV0Envelope, ReadFault>
+    ensures { Reads cause_of result cursor.old cursor.new (transaction_v0_envelope_format.read cursor.old) }
+{
+    let mut ahead = cursor.fork();
+    let tx = read_transaction_v0(alloc, &mut ahead)?;
+    let signatures = read_list::<DecoratedSignatureFormat>(alloc, MAX_SIGNATURES, &mut ahead)?;
+    *cursor = ahead;
+    Ok(TransactionV0Envelope { tx, signatures })
+}
+
+/// Writes a transaction of the first version and its signatures.
+#[tactic(auto, unfolding(crate::specs::Transactions::transaction_v0_envelope))]
+pub fn write_transaction_v0_envelope(
+    value: &TransactionV0Envelope,
+    builder: &mut Builder,
+) -> Result<(), AllocError>
+    requires { transaction_v0_envelope_format.within value.now }
+    ensures { OnOk result (builder.new ≡ transaction_v0_envelope_format.onto builder.old value.now) }
+{
+    write_transaction_v0(&value.tx, builder)?;
+    write_list::<DecoratedSignatureFormat>(value.signatures.as_slice(), MAX_SIGNATURES, builder)
+}
+
+/// Reads a transaction and its signatures.
+#[tactic(auto, unfolding(crate::specs::Transactions::transaction_v1_envelope))]
+pub fn read_transaction_v1_envelope(
+    alloc: Global,
+    cursor: &mut Cursor<'_>,
+) -> Result<TransactionV1Envelope, ReadFault>
+    ensures { Reads cause_of result cursor.old cursor.new (transaction_v1_envelope_format.read cursor.old) }
+{
+    let mut ahead = cursor.fork();
+    let tx = read_transaction(alloc, &mut ahead)?;
+    let signatures = read_list::<DecoratedSignatureFormat>(alloc, MAX_SIGNATURES, &mut ahead)?;
+    *cursor = ahead;
+    Ok(TransactionV1Envelope { tx, signatures })
+}
+
+/// Writes a transaction and its signatures.
+#[tactic(auto, unfolding(crate::specs::Transactions::transaction_v1_envelope))]
+pub fn write_transaction_v1_envelope(
+    value: &TransactionV1Envelope,
+    builder: &mut Builder,
+) -> Result<(), AllocError>
+    requires { transaction_v1_envelope_format.within value.now }
+    ensures { OnOk result (builder.new ≡ transaction_v1_envelope_format.onto builder.old value.now) }
+{
+    write_transaction(&value.tx, builder)?;
+    write_list::<DecoratedSignatureFormat>(value.signatures.as_slice(), MAX_SIGNATURES, builder)
+}
+
+/// Reads a fee bump.
+#[tactic(auto, unfolding(crate::specs::Transactions::fee_bump_transaction))]
+pub fn read_fee_bump_transaction(
+    alloc: Global,
+    cursor: &mut Cursor<'_>,
+) -> Result<FeeBumpTransaction, ReadFault>
+    ensures { Reads cause_of result cursor.old cursor.new (fee_bump_format.read cursor.old) }
+{
+    let mut ahead = cursor.fork();
+    let fee_source = read_muxed_account(&mut ahead)?;
+    let fee = ahead.i64()?;
+    ahead.tag(ENVELOPE_TYPE_TX)?;
+    let inner_tx = read_transaction_v1_envelope(alloc, &mut ahead)?;
+    ahead.tag(0)?;
+    *cursor = ahead;
+    Ok(FeeBumpTransaction {
+        fee_source,
+        fee,
+        inner_tx,
+    })
+}
+
+/// Writes a fee bump.
+#[tactic(auto, unfolding(crate::specs::Transactions::fee_bump_transaction, xdr_core::specs::Combinators::constant))]
+pub fn write_fee_bump_transaction(
+    value: &FeeBumpTransaction,
+    builder: &mut Builder,
+) -> Result<(), AllocError>
+    requires { fee_bump_format.within value.now }
+    ensures { OnOk result (builder.new ≡ fee_bump_format.onto builder.old value.now) }
+{
+    write_muxed_account(&value.fee_source, builder)?;
+    builder.i64(value.fee)?;
+    builder.i32(ENVELOPE_TYPE_TX)?;
+    write_transaction_v1_envelope(&value.inner_tx, builder)?;
+    builder.i32(0)
+}
+
+/// Reads a fee bump and its signatures.
+#[tactic(auto, unfolding(crate::specs::Transactions::fee_bump_envelope))]
+pub fn read_fee_bump_envelope(
+    alloc: Global,
+    cursor: &mut Cursor<'_>,
+) -> Result<FeeBumpTransactionEnvelope, ReadFault>
+    ensures { Reads cause_of result cursor.old cursor.new (fee_bump_envelope_format.read cursor.old) }
+{
+    let mut ahead = cursor.fork();
+    let tx = read_fee_bump_transaction(alloc, &mut ahead)?;
+    let signatures = read_list::<DecoratedSignatureFormat>(alloc, MAX_SIGNATURES, &mut ahead)?;
+    *cursor = ahead;
+    Ok(FeeBumpTransactionEnvelope { tx, signatures })
+}
+
+/// Writes a fee bump and its signatures.
+#[tactic(auto, unfolding(crate::specs::Transactions::fee_bump_envelope))]
+pub fn write_fee_bump_envelope(
+    value: &FeeBumpTransactionEnvelope,
+    builder: &mut Builder,
+) -> Result<(), AllocError>
+    requires { fee_bump_envelope_format.within value.now }
+    ensures { OnOk result (builder.new ≡ fee_bump_envelope_format.onto builder.old value.now) }
+{
+    write_fee_bump_transaction(&value.tx, builder)?;
+    write_list::<DecoratedSignatureFormat>(value.signatures.as_slice(), MAX_SIGNATURES, builder)
+}
+
+/// Reads an envelope.
+#[tactic(auto, unfolding(crate::specs::Transactions::transaction_envelope))]
+pub fn read_transaction_envelope(
+    alloc: Global,
+    cursor: &mut Cursor<'_>,
+) -> Result<TransactionEnvelope, ReadFault>
+    ensures { Reads cause_of result cursor.old cursor.new (envelope_format.read cursor.old) }
+{
+    let mut ahead = cursor.fork();
+    let envelope = match ahead.i32()? {
+        ENVELOPE_TYPE_TX_V0 => {
+            TransactionEnvelope::V0(read_transaction_v0_envelope(alloc, &mut ahead)?)
+        }
+        ENVELOPE_TYPE_TX => {
+            TransactionEnvelope::V1(read_transaction_v1_envelope(alloc, &mut ahead)?)
+        }
+        ENVELOPE_TYPE_TX_FEE_BUMP => {
+            TransactionEnvelope::FeeBump(read_fee_bump_envelope(alloc, &mut ahead)?)
+        }
+        _ => return Err(ReadFault::Xdr(cursor.fault(XdrKind::BadEnum))),
+    };
+    *cursor = ahead;
+    Ok(envelope)
+}
+
+/// Writes an envelope.
+#[tactic(auto, unfolding(crate::specs::Transactions::transaction_envelope))]
+pub fn write_transaction_envelope(
+    value: &TransactionEnvelope,
+    builder: &mut Builder,
+) -> Result<(), AllocError>
+    requires { envelope_format.within value.now }
+    ensures { OnOk result (builder.new ≡ envelope_format.onto builder.old value.now) }
+{
+    match value {
+        TransactionEnvelope::V0(envelope) => {
+            builder.i32(ENVELOPE_TYPE_TX_V0)?;
+            write_transaction_v0_envelope(envelope, builder)
+        }
+        TransactionEnvelope::V1(envelope) => {
+            builder.i32(ENVELOPE_TYPE_TX)?;
+            write_transaction_v1_envelope(envelope, builder)
+        }
+        TransactionEnvelope::FeeBump(envelope) => {
+            builder.i32(ENVELOPE_TYPE_TX_FEE_BUMP)?;
+            write_fee_bump_envelope(envelope, builder)
+        }
+    }
+}
+
+/// Envelopes, as a format.
+pub enum TransactionEnvelopeFormat {}
+
+impl Decode for TransactionEnvelopeFormat {
+    type Value = TransactionEnvelope;
+
+    type Failure = ReadFault;
+
+    ghost format = { envelope_format };
+
+    fn decode(alloc: Global, cursor: &mut Cursor<'_>) -> Result<TransactionEnvelope, ReadFault> {
+        read_transaction_envelope(alloc, cursor)
+    }
+}
+
+impl Encode for TransactionEnvelopeFormat {
+    fn encode(value: &TransactionEnvelope, builder: &mut Builder) -> Result<(), AllocError> {
+        write_transaction_envelope(value, builder)
+    }
+}
+
+/// Reads a set of transactions.
+#[tactic(auto, unfolding(crate::specs::Transactions::transaction_set))]
+pub fn read_transaction_set(
+    alloc: Global,
+    cursor: &mut Cursor<'_>,
+) -> Result<TransactionSet, ReadFault>
+    ensures { Reads cause_of result cursor.old cursor.new (set_format.read cursor.old) }
+{
+    let mut ahead = cursor.fork();
+    let previous_ledger_hash = read_hash(&mut ahead)?;
+    let txs = read_list::<TransactionEnvelopeFormat>(alloc, u32::MAX, &mut ahead)?;
+    *cursor = ahead;
+    Ok(TransactionSet {
+        previous_ledger_hash,
+        txs,
+    })
+}
+
+/// Writes a set of transactions.
+#[tactic(auto, unfolding(crate::specs::Transactions::transaction_set))]
+pub fn write_transaction_set(
+    value: &TransactionSet,
+    builder: &mut Builder,
+) -> Result<(), AllocError>
+    requires { set_format.within value.now }
+    ensures { OnOk result (builder.new ≡ set_format.onto builder.old value.now) }
+{
+    write_hash(&value.previous_ledger_hash, builder)?;
+    write_list::<TransactionEnvelopeFormat>(value.txs.as_slice(), u32::MAX, builder)
+}

@@ -1,0 +1,98 @@
+//! Transactions without their signatures.
+
+ghost use Rattle.std.specs.Prelude.{◌≡◌, OnOk};
+ghost use Rattle.xdr_core.specs.Place.{Reads};
+ghost use Rattle.xdr_core.specs.ReadFault.{cause_of};
+ghost use Rattle.xdr_tx.specs.Transactions.{transaction as transaction_format, transaction_v0 as transaction_v0_format};
+
+use crate::memo::{read_memo, write_memo};
+use crate::operation::OperationFormat;
+use crate::time_bounds::TimeBoundsFormat;
+use op_types::{Transaction, TransactionV0};
+use std::alloc::{AllocError, Global};
+use xdr_core::{Builder, Cursor, ReadFault, read_list, read_option, write_list, write_option};
+use xdr_entries::{read_muxed_account, write_muxed_account};
+
+/// The most operations of a transaction (MAX_OPS_PER_TX in Stellar-transaction.x).
+const MAX_OPERATIONS: u32 = 100;
+
+/// Reads a transaction.
+#[tactic(auto, unfolding(crate::specs::Transactions::transaction))]
+pub fn read_transaction(alloc: Global, cursor: &mut Cursor<'_>) -> Result<Transaction, ReadFault>
+    ensures { Reads cause_of result cursor.old cursor.new (transaction_format.read cursor.old) }
+{
+    let mut ahead = cursor.fork();
+    let source_account = read_muxed_account(&mut ahead)?;
+    let fee = ahead.u32()?;
+    let seq_num = ahead.i64()?;
+    let time_bounds = read_option::<TimeBoundsFormat>(alloc, &mut ahead)?;
+    let memo = read_memo(alloc, &mut ahead)?;
+    let operations = read_list::<OperationFormat>(alloc, MAX_OPERATIONS, &mut ahead)?;
+    ahead.tag(0)?;
+    *cursor = ahead;
+    Ok(Transaction {
+        source_account,
+        fee,
+        seq_num,
+        time_bounds,
+        memo,
+        operations,
+    })
+}
+
+/// Writes a transaction.
+#[tactic(auto, unfolding(crate::specs::Transactions::transaction, xdr_core::specs::Combinators::constant))]
+pub fn write_transaction(value: &Transaction, builder: &mut Builder) -> Result<(), AllocError>
+    requires { transaction_format.within value.now }
+    ensures { OnOk result (builder.new ≡ transaction_format.onto builder.old value.now) }
+{
+    write_muxed_account(&value.source_account, builder)?;
+    builder.u32(value.fee)?;
+    builder.i64(value.seq_num)?;
+    write_option::<TimeBoundsFormat>(&value.time_bounds, builder)?;
+    write_memo(&value.memo, builder)?;
+    write_list::<OperationFormat>(value.operations.as_slice(), MAX_OPERATIONS, builder)?;
+    builder.i32(0)
+}
+
+/// Reads a transaction of the first version.
+#[tactic(auto, unfolding(crate::specs::Transactions::transaction_v0))]
+pub fn read_transaction_v0(
+    alloc: Global,
+    cursor: &mut Cursor<'_>,
+) -> Result<TransactionV0, ReadFault>
+    ensures { Reads cause_of result cursor.old cursor.new (transaction_v0_format.read cursor.old) }
+{
+    let mut ahead = cursor.fork();
+    let source_account_ed25519 = ahead.array::<32>()?;
+    let fee = ahead.u32()?;
+    let seq_num = ahead.i64()?;
+    let time_bounds = read_option::<TimeBoundsFormat>(alloc, &mut ahead)?;
+    let memo = read_memo(alloc, &mut ahead)?;
+    let operations = read_list::<OperationFormat>(alloc, MAX_OPERATIONS, &mut ahead)?;
+    ahead.tag(0)?;
+    *cursor = ahead;
+    Ok(TransactionV0 {
+        source_account_ed25519,
+        fee,
+        seq_num,
+        time_bounds,
+        memo,
+        operations,
+    })
+}
+
+/// Writes a transaction of the first version.
+#[tactic(auto, unfolding(crate::specs::Transactions::transaction_v0, xdr_core::specs::Combinators::constant))]
+pub fn write_transaction_v0(value: &TransactionV0, builder: &mut Builder) -> Result<(), AllocError>
+    requires { transaction_v0_format.within value.now }
+    ensures { OnOk result (builder.new ≡ transaction_v0_format.onto builder.old value.now) }
+{
+    builder.fixed(&value.source_account_ed25519)?;
+    builder.u32(value.fee)?;
+    builder.i64(value.seq_num)?;
+    write_option::<TimeBoundsFormat>(&value.time_bounds, builder)?;
+    write_memo(&value.memo, builder)?;
+    write_list::<OperationFormat>(value.operations.as_slice(), MAX_OPERATIONS, builder)?;
+    builder.i32(0)
+}

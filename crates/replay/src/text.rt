@@ -8,8 +8,8 @@ ghost use Rattle.set_rules.specs.Results.{outcome_code as code_of_outcome};
 ghost use Rattle.set_outcome.specs.Outcome.{tx_line, results_line, refused_text as text_of_refusal};
 
 use ledger_types::Hash;
-use set_types::{TransactionOutcome, TransactionResultPair};
 use set_rules::outcome_code;
+use set_types::{TransactionOutcome, TransactionResultPair};
 use std::alloc::{AllocError, Global};
 
 /// Puts the lower-case hexadecimal digits of a hash at the end of a text.

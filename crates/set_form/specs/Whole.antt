@@ -1,12 +1,11 @@
 -- A text that is an input of the form, all of it.
-use Rattle.std.specs.Prelude.{◌≡◌, ℕ, List, [], ◌∷◌, Result, Ok, Err}
-use Rattle.std.specs.Bool.{OnFalse}
+use Rattle.std.specs.Prelude.{◌≡◌, ℕ, List, [], ◌∷◌, IfSome, Result, Ok, Err}
 use Rattle.xdr_core.specs.declared.fault.XdrKind.TheVariants.{Trailing}
 use Rattle.xdr_core.specs.Place.{start_of, ◌>>=◌}
 use Rattle.set_form.specs.declared.fault.FormFault.{FormFault}
 use Rattle.set_form.specs.declared.fault.FormFault.TheVariants.{Xdr}
 use Rattle.set_form.specs.declared.input.SetInput.{SetInput}
-use Rattle.set_form.specs.Fault.{is_free}
+use Rattle.set_form.specs.Fault.{cause_of}
 use Rattle.set_form.specs.Grammar.{set_input}
 
 -- nothing may be left over
@@ -21,4 +20,4 @@ whole_input text = set_input.read (start_of text) >>= λ x. ended x.0 x.1.at x.1
 -- what a reader answered is what the text reads as, unless memory was refused
 abbrev pub Gives : {X : Type 0} → Result X FormFault → Result X FormFault → Type 0
 Gives (Ok x) reading = reading ≡ Ok x
-Gives (Err fault) reading = OnFalse (is_free fault) (reading ≡ Err fault)
+Gives (Err fault) reading = IfSome (cause_of fault) (λ f. reading ≡ Err f)

@@ -3,7 +3,7 @@
 ghost use Rattle.std.specs.Prelude.{◌≡◌, pos};
 ghost use Rattle.xdr_core.specs.Place.{Reads};
 ghost use Rattle.xdr_core.specs.Combinators.{constant};
-ghost use Rattle.set_form.specs.Fault.{is_free};
+ghost use Rattle.set_form.specs.Fault.{cause_of};
 ghost use Rattle.set_form.specs.Arms.{refused as refused_field, arm as arm_format, other_arm, absent as absent_field, present, one_operation, other_count};
 
 use crate::fault::FormFault;
@@ -24,7 +24,7 @@ pub fn refused(cursor: &Cursor<'_>, kind: XdrKind, is_known: bool) -> FormFault
 /// Reads the discriminant of a union's one built arm. `others` are its other arms in the protocol.
 #[tactic(auto, unfolding(xdr_core::specs::Combinators::constant))]
 pub fn read_arm(cursor: &mut Cursor<'_>, built: i32, others: &[i32]) -> Result<(), FormFault>
-    ensures { Reads is_free result cursor.old cursor.new ((arm_format built others.now).read cursor.old) }
+    ensures { Reads cause_of result cursor.old cursor.new ((arm_format built others.now).read cursor.old) }
 {
     let mut ahead = cursor.fork();
     let discriminant = ahead.i32()?;
@@ -38,7 +38,7 @@ pub fn read_arm(cursor: &mut Cursor<'_>, built: i32, others: &[i32]) -> Result<(
 /// Reads the flag of an optional field that isn't there.
 #[tactic(auto, unfolding(xdr_core::specs::Combinators::constant))]
 pub fn read_absent(cursor: &mut Cursor<'_>) -> Result<(), FormFault>
-    ensures { Reads is_free result cursor.old cursor.new (absent_field.read cursor.old) }
+    ensures { Reads cause_of result cursor.old cursor.new (absent_field.read cursor.old) }
 {
     let mut ahead = cursor.fork();
     let flag = ahead.i32()?;
@@ -52,7 +52,7 @@ pub fn read_absent(cursor: &mut Cursor<'_>) -> Result<(), FormFault>
 /// Reads the number of operations, which is one.
 #[tactic(auto, unfolding(xdr_core::specs::Combinators::constant))]
 pub fn read_one_operation(cursor: &mut Cursor<'_>) -> Result<(), FormFault>
-    ensures { Reads is_free result cursor.old cursor.new (one_operation.read cursor.old) }
+    ensures { Reads cause_of result cursor.old cursor.new (one_operation.read cursor.old) }
 {
     let mut ahead = cursor.fork();
     let count = ahead.i32()?;

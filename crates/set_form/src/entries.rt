@@ -2,7 +2,7 @@
 
 ghost use Rattle.std.specs.Prelude.{◌≡◌};
 ghost use Rattle.xdr_core.specs.Place.{Reads};
-ghost use Rattle.set_form.specs.Fault.{is_free};
+ghost use Rattle.set_form.specs.Fault.{cause_of};
 ghost use Rattle.set_form.specs.Grammar.{account_id as account_id_format, muxed_account as muxed_format, hash as hash_format, signer_key as signer_key_format, signer as signer_format, account_entry as account_format, ledger_entry as entry_format};
 
 use crate::arms::{read_arm, refused};
@@ -34,7 +34,7 @@ const MAX_SIGNERS: u32 = 20;
 /// Reads an account's id.
 #[tactic(auto, unfolding(crate::specs::Grammar::account_id))]
 pub fn read_account_id(cursor: &mut Cursor<'_>) -> Result<AccountId, FormFault>
-    ensures { Reads is_free result cursor.old cursor.new (account_id_format.read cursor.old) }
+    ensures { Reads cause_of result cursor.old cursor.new (account_id_format.read cursor.old) }
 {
     let mut ahead = cursor.fork();
     read_arm(&mut ahead, KEY_TYPE_ED25519, &[])?;
@@ -46,7 +46,7 @@ pub fn read_account_id(cursor: &mut Cursor<'_>) -> Result<AccountId, FormFault>
 /// Reads an account's id where an id of its own could stand beside it.
 #[tactic(auto, unfolding(crate::specs::Grammar::muxed_account))]
 pub fn read_muxed_account(cursor: &mut Cursor<'_>) -> Result<AccountId, FormFault>
-    ensures { Reads is_free result cursor.old cursor.new (muxed_format.read cursor.old) }
+    ensures { Reads cause_of result cursor.old cursor.new (muxed_format.read cursor.old) }
 {
     let mut ahead = cursor.fork();
     read_arm(&mut ahead, KEY_TYPE_ED25519, &[KEY_TYPE_MUXED_ED25519])?;
@@ -58,7 +58,7 @@ pub fn read_muxed_account(cursor: &mut Cursor<'_>) -> Result<AccountId, FormFaul
 /// Reads a hash.
 #[tactic(auto, unfolding(crate::specs::Grammar::hash))]
 pub fn read_hash(cursor: &mut Cursor<'_>) -> Result<Hash, FormFault>
-    ensures { Reads is_free result cursor.old cursor.new (hash_format.read cursor.old) }
+    ensures { Reads cause_of result cursor.old cursor.new (hash_format.read cursor.old) }
 {
     Ok(Hash(cursor.array::<32>()?))
 }
@@ -66,7 +66,7 @@ pub fn read_hash(cursor: &mut Cursor<'_>) -> Result<Hash, FormFault>
 /// Reads a signer's key.
 #[tactic(auto, unfolding(crate::specs::Grammar::signer_key))]
 pub fn read_signer_key(cursor: &mut Cursor<'_>) -> Result<SignerKey, FormFault>
-    ensures { Reads is_free result cursor.old cursor.new (signer_key_format.read cursor.old) }
+    ensures { Reads cause_of result cursor.old cursor.new (signer_key_format.read cursor.old) }
 {
     let mut ahead = cursor.fork();
     let key = match ahead.i32()? {
@@ -81,7 +81,7 @@ pub fn read_signer_key(cursor: &mut Cursor<'_>) -> Result<SignerKey, FormFault>
 /// Reads a signer.
 #[tactic(auto, unfolding(crate::specs::Grammar::signer))]
 pub fn read_signer(cursor: &mut Cursor<'_>) -> Result<Signer, FormFault>
-    ensures { Reads is_free result cursor.old cursor.new (signer_format.read cursor.old) }
+    ensures { Reads cause_of result cursor.old cursor.new (signer_format.read cursor.old) }
 {
     let mut ahead = cursor.fork();
     let key = read_signer_key(&mut ahead)?;
@@ -93,7 +93,7 @@ pub fn read_signer(cursor: &mut Cursor<'_>) -> Result<Signer, FormFault>
 /// Reads an account.
 #[tactic(auto, unfolding(crate::specs::Grammar::account_entry))]
 pub fn read_account_entry(alloc: Global, cursor: &mut Cursor<'_>) -> Result<AccountEntry, FormFault>
-    ensures { Reads is_free result cursor.old cursor.new (account_format.read cursor.old) }
+    ensures { Reads cause_of result cursor.old cursor.new (account_format.read cursor.old) }
 {
     let mut ahead = cursor.fork();
     let account_id = read_account_id(&mut ahead)?;
@@ -123,7 +123,7 @@ pub fn read_account_entry(alloc: Global, cursor: &mut Cursor<'_>) -> Result<Acco
 /// Reads an entry of the ledger, which is an account.
 #[tactic(auto, unfolding(crate::specs::Grammar::ledger_entry))]
 pub fn read_ledger_entry(alloc: Global, cursor: &mut Cursor<'_>) -> Result<LedgerEntry, FormFault>
-    ensures { Reads is_free result cursor.old cursor.new (entry_format.read cursor.old) }
+    ensures { Reads cause_of result cursor.old cursor.new (entry_format.read cursor.old) }
 {
     let mut ahead = cursor.fork();
     let last_modified_ledger_seq = ahead.u32()?;

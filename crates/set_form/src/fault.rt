@@ -1,7 +1,7 @@
 //! Why a text is no input of the form.
 
-ghost use Rattle.std.specs.Prelude.{◌≡◌, true};
-ghost use Rattle.set_form.specs.Fault.{is_free};
+ghost use Rattle.std.specs.Prelude.{◌≡◌};
+ghost use Rattle.set_form.specs.Fault.{cause_of};
 ghost use Rattle.set_form.specs.declared.fault.FormFault.TheVariants.{Xdr, NoMemory};
 
 use std::alloc::AllocError;
@@ -22,9 +22,11 @@ pub enum FormFault {
 }
 
 impl ReadFailure for FormFault {
+    type Fault = FormFault;
+
     ghost of_fault = { Xdr };
 
-    ghost is_free = { is_free };
+    ghost cause = { cause_of };
 
     fn from_fault(fault: XdrFault) -> FormFault {
         FormFault::Xdr(fault)

@@ -2,7 +2,7 @@
 
 ghost use Rattle.std.specs.Prelude.{◌≡◌, ◌<◌, ◌^◌, length, IfOk};
 ghost use Rattle.xdr_core.specs.Place.{Reads};
-ghost use Rattle.set_form.specs.Fault.{is_free};
+ghost use Rattle.set_form.specs.Fault.{cause_of};
 ghost use Rattle.set_form.specs.Grammar.{set_input};
 ghost use Rattle.set_form.specs.Whole.{Gives, whole_input};
 
@@ -36,7 +36,7 @@ pub struct SetInput {
 /// Reads the form at a place.
 #[tactic(auto, unfolding(crate::specs::Grammar::set_input))]
 fn read_fields(alloc: Global, cursor: &mut Cursor<'_>) -> Result<SetInput, FormFault>
-    ensures { Reads is_free result cursor.old cursor.new (set_input.read cursor.old) }
+    ensures { Reads cause_of result cursor.old cursor.new (set_input.read cursor.old) }
 {
     let mut ahead = cursor.fork();
     read_arm(&mut ahead, MAGIC, &[])?;

@@ -2,7 +2,7 @@
 
 ghost use Rattle.std.specs.Prelude.{◌≡◌, ◌++◌, OnOk};
 ghost use Rattle.xdr_core.specs.Place.{Reads};
-ghost use Rattle.set_form.specs.Fault.{is_free};
+ghost use Rattle.set_form.specs.Fault.{cause_of};
 ghost use Rattle.set_form.specs.Grammar.{decorated_signature as signature_format, operation as operation_format, transaction as transaction_format, transaction_envelope as envelope_format, transaction_set as set_format};
 
 use crate::arms::{read_absent, read_arm, read_one_operation};
@@ -47,7 +47,7 @@ pub fn read_decorated_signature(
     alloc: Global,
     cursor: &mut Cursor<'_>,
 ) -> Result<DecoratedSignature, FormFault>
-    ensures { Reads is_free result cursor.old cursor.new (signature_format.read cursor.old) }
+    ensures { Reads cause_of result cursor.old cursor.new (signature_format.read cursor.old) }
 {
     let mut ahead = cursor.fork();
     let hint = ahead.array::<4>()?;
@@ -59,7 +59,7 @@ pub fn read_decorated_signature(
 /// Reads an operation.
 #[tactic(auto, unfolding(crate::specs::Grammar::operation))]
 pub fn read_operation(cursor: &mut Cursor<'_>) -> Result<BumpSequenceOp, FormFault>
-    ensures { Reads is_free result cursor.old cursor.new (operation_format.read cursor.old) }
+    ensures { Reads cause_of result cursor.old cursor.new (operation_format.read cursor.old) }
 {
     let mut ahead = cursor.fork();
     read_absent(&mut ahead)?;
@@ -72,7 +72,7 @@ pub fn read_operation(cursor: &mut Cursor<'_>) -> Result<BumpSequenceOp, FormFau
 /// Reads a transaction.
 #[tactic(auto, unfolding(crate::specs::Grammar::transaction))]
 pub fn read_transaction(cursor: &mut Cursor<'_>) -> Result<Transaction, FormFault>
-    ensures { Reads is_free result cursor.old cursor.new (transaction_format.read cursor.old) }
+    ensures { Reads cause_of result cursor.old cursor.new (transaction_format.read cursor.old) }
 {
     let mut ahead = cursor.fork();
     let source_account = read_muxed_account(&mut ahead)?;
@@ -98,7 +98,7 @@ pub fn read_transaction_envelope(
     alloc: Global,
     cursor: &mut Cursor<'_>,
 ) -> Result<TransactionEnvelope, FormFault>
-    ensures { Reads is_free result cursor.old cursor.new (envelope_format.read cursor.old) }
+    ensures { Reads cause_of result cursor.old cursor.new (envelope_format.read cursor.old) }
 {
     let mut ahead = cursor.fork();
     read_arm(&mut ahead, ENVELOPE_TYPE_TX, &OTHER_ENVELOPES)?;
@@ -114,7 +114,7 @@ pub fn read_transaction_set(
     alloc: Global,
     cursor: &mut Cursor<'_>,
 ) -> Result<TransactionSet, FormFault>
-    ensures { Reads is_free result cursor.old cursor.new (set_format.read cursor.old) }
+    ensures { Reads cause_of result cursor.old cursor.new (set_format.read cursor.old) }
 {
     let mut ahead = cursor.fork();
     let previous_ledger_hash = read_hash(&mut ahead)?;

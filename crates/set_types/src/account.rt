@@ -2,8 +2,8 @@
 
 ghost use Rattle.std.specs.Prelude.{◌≡◌, IfOk};
 
-use ledger_types::{AccountId, Hash};
 use item_list::ItemList;
+use ledger_types::{AccountId, Hash};
 use std::alloc::AllocError;
 
 /// What a signature of a signer shows: the key that made it, or that it is the text with a hash. Keys are ordered

@@ -7,8 +7,8 @@ ghost use Rattle.set_rules.specs.Conditions.{rises, signer_key_cmp, is_own_key a
 ghost use Rattle.tx_apply.specs.Place.{IdsRise};
 
 use crate::accounts::has_account;
-use set_types::{AccountEntry, Signer, SignerKey, TransactionEnvelope};
 use set_rules::Terms;
+use set_types::{AccountEntry, Signer, SignerKey, TransactionEnvelope};
 use std::cmp::Ordering;
 
 /// AUTH_REVOCABLE_FLAG of an account.

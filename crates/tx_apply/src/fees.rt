@@ -6,8 +6,8 @@ ghost use Rattle.set_rules.specs.Fees.{fee_charged as charge_of, fee_of_source, 
 ghost use Rattle.tx_apply.specs.Place.{IdsRise};
 
 use crate::accounts::account_place;
-use set_types::{AccountEntry, TransactionEnvelope};
 use set_rules::fee_charged;
+use set_types::{AccountEntry, TransactionEnvelope};
 use std::alloc::{AllocError, Global};
 
 /// Charges an account for a transaction with this bid, and answers what it was charged.

@@ -5,8 +5,8 @@ ghost use Rattle.set_rules.specs.Results.{spell_operation, spell_operations, spe
 
 use hash_ids::hash;
 use ledger_types::Hash;
-use set_types::{OperationResult, TransactionOutcome, TransactionResult, TransactionResultPair};
 use set_rules::{bump_code, outcome_code};
+use set_types::{OperationResult, TransactionOutcome, TransactionResult, TransactionResultPair};
 use std::alloc::{AllocError, Global};
 use xdr_core::Builder;
 

@@ -8,9 +8,9 @@ use crate::fees::charge_all;
 use crate::transactions::apply_transaction;
 use hash_ids::tx_hash;
 use ledger_types::Hash;
-use set_types::{AccountEntry, TransactionEnvelope, TransactionResult, TransactionResultPair};
 use set_form::write_transaction;
 use set_rules::Terms;
+use set_types::{AccountEntry, TransactionEnvelope, TransactionResult, TransactionResultPair};
 use std::alloc::{AllocError, Global};
 use xdr_core::Builder;
 

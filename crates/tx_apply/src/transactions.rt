@@ -6,8 +6,11 @@ ghost use Rattle.tx_apply.specs.Place.{IdsRise};
 
 use crate::accounts::account_place;
 use crate::signatures::check_signatures;
-use set_types::{AccountEntry, BumpSequenceResult, OperationResult, Transaction, TransactionEnvelope, TransactionOutcome};
 use set_rules::{Terms, available};
+use set_types::{
+    AccountEntry, BumpSequenceResult, OperationResult, Transaction, TransactionEnvelope,
+    TransactionOutcome,
+};
 use std::alloc::{AllocError, Global};
 
 /// Where the low threshold stands among an account's thresholds.

@@ -2,6 +2,7 @@
 #![tactic(auto)]
 
 mod account;
+mod change;
 mod line;
 #[cfg(test)]
 mod tests;

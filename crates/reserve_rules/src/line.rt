@@ -1,15 +1,17 @@
 //! What trust lines can spend and take.
 
 ghost use Rattle.std.specs.Prelude.{◌≡◌, ◌+ℤ◌, ◌↔◌, true, false};
-ghost use Rattle.reserve_rules.specs.Reserve.{line_available_of, line_room_of, IsLineInRange, Passes};
+ghost use Rattle.reserve_rules.specs.Reserve.{line_available_of, line_room_of, line_liabilities, IsLineInRange, Passes};
 
-use ledger_types::TrustLineEntry;
+use crate::change::changed;
+use ledger_types::{Liabilities, TrustLineEntry};
 
 /// What can be spent of a trust line: its balance less what the account's offers would give.
 pub fn line_available(line: &TrustLineEntry) -> i64
     requires { IsLineInRange line.now }
     ensures { result ≡ line_available_of line.now }
 {
+    line.balance - liabilities(line).selling
 }
 
 /// What a trust line can take: its limit less its balance and what the account's offers would take.
@@ -17,6 +19,7 @@ pub fn line_room(line: &TrustLineEntry) -> i64
     requires { IsLineInRange line.now }
     ensures { result ≡ line_room_of line.now }
 {
+    line.limit - line.balance - liabilities(line).buying
 }
 
 /// Changes a trust line's balance. It answers false, and leaves the line, exactly where a credit passes what the line can take, or
@@ -27,4 +30,28 @@ pub fn line_add(line: &mut TrustLineEntry, delta: i64) -> bool
     ensures done { result ≡ true → line.new ≡ record line.old { balance = line.old.balance +ℤ delta } }
     ensures left { result ≡ false → line.new ≡ line.old }
 {
+    // The limit is an i64, so what the line holds and what it can take fit one together.
+    let _limit = line.limit;
+    let room = line_room(line);
+    let available = line_available(line);
+    match changed(line.balance, delta, room, available as i128) {
+        Some(balance) => {
+            line.balance = balance;
+            true
+        }
+        None => false,
+    }
+}
+
+/// What the account's offers would take and give of a trust line: nothing where that isn't stated.
+fn liabilities(line: &TrustLineEntry) -> Liabilities
+    ensures { result ≡ line_liabilities line.now }
+{
+    match line.ext {
+        Some(ext) => ext.liabilities,
+        None => Liabilities {
+            buying: 0,
+            selling: 0,
+        },
+    }
 }

@@ -19,6 +19,8 @@ mod offer;
 mod predicate;
 mod price;
 mod signer;
+#[cfg(test)]
+mod tests;
 mod trust_line;
 
 pub use account::{AccountEntry, AccountEntryExtensionV1, AccountEntryExtensionV2};

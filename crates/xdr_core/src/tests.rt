@@ -1,12 +1,9 @@
-//! Texts laid out by hand after RFC 4506.
+//! Texts laid out by hand after RFC 4506 and RFC 5531.
 
-ghost use Rattle.std.specs.Prelude.{true, false};
-ghost use Rattle.xdr_core.specs.Combinators.{lifted};
 ghost use Rattle.xdr_core.specs.Leaves.{u32 as u32_format};
-ghost use Rattle.xdr_core.specs.declared.tests.WordFailure.TheVariants.{Xdr, NoMemory};
 
 use super::*;
-use std::alloc::Global;
+use std::alloc::{AllocError, Global};
 use std::test::Fail;
 
 fn fault<T>(at: usize, kind: XdrKind) -> Result<T, XdrFault> {
@@ -134,25 +131,48 @@ fn fields_stand_one_behind_another(rt: HostRuntime) -> Result<(), Fail> {
     Ok(())
 }
 
-/// How reading words fails.
-#[derive(Clone, Copy, Debug, PartialEq, Eq)]
-enum WordFailure {
-    Xdr(XdrFault),
-    NoMemory,
+// The place behind a record, or of the mark where the read faults. The kind of a mark and its length are tested before what
+// follows.
+#[test]
+fn a_record_stands_behind_its_mark(rt: HostRuntime) {
+    for (text, want, place) in [
+        (b"word\x80\0\0\x02ab".as_slice(), Ok(b"ab".as_slice()), 10),
+        (b"word\x80\0\0\x04abcdef", Ok(b"abcd"), 12),
+        (b"word\x80\0\0\0", Ok(b""), 8),
+        (b"word\0\0\0\x02ab", fault(4, XdrKind::BadMark), 4),
+        (b"word\x7f\xff\xff\xff", fault(4, XdrKind::BadMark), 4),
+        (b"word\x80\0\0\x05", fault(4, XdrKind::TooLong), 4),
+        (b"word\xff\xff\xff\xff", fault(4, XdrKind::TooLong), 4),
+        (b"word\x80\0\0\x04abc", fault(11, XdrKind::Short), 4),
+        (b"word\x80\0\0", fault(7, XdrKind::Short), 4),
+    ] {
+        let mut cursor = Cursor::new(text);
+        assert!(rt; cursor.u32().is_ok());
+        assert_eq!(rt; cursor.mark(4), want, "{text:?}");
+        assert_eq!(rt; cursor.fault(XdrKind::BadMark).at, place, "{text:?}");
+    }
 }
 
-impl ReadFailure for WordFailure {
-    ghost of_fault = { Xdr };
+#[test]
+#[tactic(auto, unfolding(crate::specs::Leaves::mark))]
+fn a_record_is_written_behind_its_mark(rt: HostRuntime) -> Result<(), Fail> {
+    let mut builder = Builder::new(rt.alloc());
+    builder.mark(b"ab", 2)?;
+    builder.mark(b"", 0)?;
+    assert_eq!(rt; builder.as_slice(), b"\x80\0\0\x02ab\x80\0\0\0".as_slice());
+    Ok(())
+}
 
-    ghost is_free = { λ failure. elim failure [ Xdr fault ↦ false | NoMemory ↦ true ] };
-
-    fn from_fault(fault: XdrFault) -> WordFailure {
-        WordFailure::Xdr(fault)
-    }
-
-    fn no_memory() -> WordFailure {
-        WordFailure::NoMemory
-    }
+#[test]
+fn a_tag_is_one_number(rt: HostRuntime) {
+    let mut cursor = Cursor::new(b"\0\0\0\0\0\0\0\x01\xff\xff\xff\xff");
+    assert_eq!(rt; cursor.tag(0), Ok(()));
+    assert_eq!(rt; cursor.tag(0), fault(4, XdrKind::BadEnum));
+    assert_eq!(rt; cursor.tag(1), Ok(()));
+    assert_eq!(rt; cursor.end(), fault(8, XdrKind::Trailing));
+    assert_eq!(rt; cursor.tag(-1), Ok(()));
+    assert_eq!(rt; cursor.tag(0), fault(12, XdrKind::Short));
+    assert_eq!(rt; cursor.end(), Ok(()));
 }
 
 /// Words of 32 bits, as a format.
@@ -161,15 +181,18 @@ enum Word {}
 impl Decode for Word {
     type Value = u32;
 
-    type Failure = WordFailure;
+    type Failure = ReadFault;
 
-    ghost format = { lifted Xdr u32_format };
+    ghost format = { u32_format };
 
-    fn decode(_alloc: Global, cursor: &mut Cursor<'_>) -> Result<u32, WordFailure> {
-        match cursor.u32() {
-            Ok(word) => Ok(word),
-            Err(fault) => Err(WordFailure::Xdr(fault)),
-        }
+    fn decode(_alloc: Global, cursor: &mut Cursor<'_>) -> Result<u32, ReadFault> {
+        Ok(cursor.u32()?)
+    }
+}
+
+impl Encode for Word {
+    fn encode(value: &u32, builder: &mut Builder) -> Result<(), AllocError> {
+        builder.u32(*value)
     }
 }
 
@@ -197,7 +220,7 @@ fn a_list_stands_behind_its_length(rt: HostRuntime) {
             Err(fault) => {
                 for _ in 0..2 {
                     let failure = read_list::<Word>(rt.alloc(), max, &mut cursor).err();
-                    assert_eq!(rt; failure, Some(WordFailure::Xdr(fault)), "{text:?}");
+                    assert_eq!(rt; failure, Some(ReadFault::Xdr(fault)), "{text:?}");
                 }
             }
         }
@@ -212,7 +235,7 @@ fn an_option_stands_behind_its_flag(rt: HostRuntime) {
         (b"\0\0\0\x01", fault(4, XdrKind::Short)),
         (b"\0\0\0\x02\0\0\0\x07", fault(0, XdrKind::BadFlag)),
     ] {
-        let want = want.map_err(WordFailure::Xdr);
+        let want = want.map_err(ReadFault::Xdr);
         let mut cursor = Cursor::new(text);
         assert_eq!(rt;
             read_option::<Word>(rt.alloc(), &mut cursor),
@@ -228,4 +251,48 @@ fn an_option_stands_behind_its_flag(rt: HostRuntime) {
             ),
         }
     }
+}
+
+#[test]
+fn an_extension_stands_behind_its_discriminant(rt: HostRuntime) {
+    for (text, want, place) in [
+        (b"\0\0\0\0\0\0\0\x07".as_slice(), Ok(None), 4),
+        (b"\0\0\0\x01\0\0\0\x07", Ok(Some(7)), 8),
+        (b"\0\0\0\x02\0\0\0\x07", fault(0, XdrKind::BadEnum), 0),
+        (b"\0\0\0\x01\0\0", fault(6, XdrKind::Short), 0),
+    ] {
+        let mut cursor = Cursor::new(text);
+        assert_eq!(rt;
+            read_extension::<Word>(rt.alloc(), 1, &mut cursor),
+            want.map_err(ReadFault::Xdr),
+            "{text:?}"
+        );
+        assert_eq!(rt; cursor.fault(XdrKind::BadEnum).at, place, "{text:?}");
+    }
+}
+
+#[test]
+#[tactic(auto, unfolding(crate::specs::Combinators::option, crate::specs::Combinators::list, crate::specs::Combinators::extension, crate::specs::Leaves::u32))]
+fn what_is_written_is_what_is_read(rt: HostRuntime) -> Result<(), Fail> {
+    let mut builder = Builder::new(rt.alloc());
+    write_option::<Word>(&None, &mut builder)?;
+    write_option::<Word>(&Some(7), &mut builder)?;
+    assert_eq!(rt;
+        builder.as_slice(),
+        b"\0\0\0\0\0\0\0\x01\0\0\0\x07".as_slice()
+    );
+    let mut builder = Builder::new(rt.alloc());
+    write_extension::<Word>(&None, 2, &mut builder)?;
+    write_extension::<Word>(&Some(7), 2, &mut builder)?;
+    assert_eq!(rt;
+        builder.as_slice(),
+        b"\0\0\0\0\0\0\0\x02\0\0\0\x07".as_slice()
+    );
+    let mut builder = Builder::new(rt.alloc());
+    write_list::<Word>(&[7, 8], 2, &mut builder)?;
+    assert_eq!(rt;
+        builder.as_slice(),
+        b"\0\0\0\x02\0\0\0\x07\0\0\0\x08".as_slice()
+    );
+    Ok(())
 }

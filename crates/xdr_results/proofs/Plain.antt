@@ -1,5 +1,5 @@
 -- Which value a discriminant picks that has nothing behind it.
-use Rattle.std.proofs.Common.{◌≡◌, ℤ, Bool, true, false, cond, List, [], ◌∷◌, Option, Some, None, Ok, Err, refl}
+use Rattle.std.proofs.Common.{◌≡◌, ℤ, true, false, cond, List, [], ◌∷◌, Option, Some, None, Ok, Err, refl}
 use Rattle.std.specs.Prelude.{find}
 use Rattle.std.specs.Ordering.{int_eq}
 use Rattle.xdr_core.specs.declared.fault.XdrFault.{XdrFault}

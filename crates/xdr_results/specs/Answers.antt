@@ -1,11 +1,10 @@
 -- The formats of what operations answer (Stellar-transaction.x of protocol 18, over RFC 4506).
-use Rattle.std.specs.Prelude.{◌≡◌, ℕ, ℤ, pos, negsuc, List, [], ◌∷◌, ◌++◌, map, refl}
+use Rattle.std.specs.Prelude.{ℤ, pos, negsuc, List, [], ◌∷◌, refl}
 use Rattle.xdr_core.specs.declared.fault.XdrFault.{XdrFault}
 use Rattle.xdr_core.specs.Leaves.{i64, fixed}
 use Rattle.xdr_core.specs.Combinators.{◌⨾◌, Fields, struct_of, empty, Arm, Part, part}
 use Rattle.xdr_core.specs.Xdr.{Xdr, list_of, union_of}
 use Rattle.ledger_types.specs.declared.ids.AccountId.{AccountId}
-use Rattle.ledger_types.specs.declared.ids.ClaimableBalanceId.{ClaimableBalanceId}
 use Rattle.ledger_types.specs.declared.asset.Asset.{Asset}
 use Rattle.ledger_types.specs.declared.claim_atom.ClaimAtom.{ClaimAtom}
 use Rattle.ledger_types.specs.declared.claim_atom.ClaimAtom.TheVariants as atoms
@@ -16,9 +15,7 @@ use Rattle.op_types.specs.declared.offer_results.ManageOfferEffect.{ManageOfferE
 use Rattle.op_types.specs.declared.offer_results.ManageOfferEffect.TheVariants as effects
 use Rattle.op_types.specs.declared.account_results.InflationPayout.{InflationPayout}
 use Rattle.op_types.specs.declared.payment_results.CreateAccountResult.{CreateAccountResult}
-use Rattle.op_types.specs.declared.payment_results.CreateAccountResult.TheVariants as create_account
 use Rattle.op_types.specs.declared.payment_results.PaymentResult.{PaymentResult}
-use Rattle.op_types.specs.declared.payment_results.PaymentResult.TheVariants as payment
 use Rattle.op_types.specs.declared.payment_results.PathPaymentStrictReceiveResult.{PathPaymentStrictReceiveResult}
 use Rattle.op_types.specs.declared.payment_results.PathPaymentStrictReceiveResult.TheVariants as path_payment_strict_receive
 use Rattle.op_types.specs.declared.payment_results.PathPaymentStrictSendResult.{PathPaymentStrictSendResult}
@@ -26,39 +23,25 @@ use Rattle.op_types.specs.declared.payment_results.PathPaymentStrictSendResult.T
 use Rattle.op_types.specs.declared.offer_results.ManageOfferResult.{ManageOfferResult}
 use Rattle.op_types.specs.declared.offer_results.ManageOfferResult.TheVariants as manage_offer
 use Rattle.op_types.specs.declared.account_results.SetOptionsResult.{SetOptionsResult}
-use Rattle.op_types.specs.declared.account_results.SetOptionsResult.TheVariants as set_options
 use Rattle.op_types.specs.declared.trust_results.ChangeTrustResult.{ChangeTrustResult}
-use Rattle.op_types.specs.declared.trust_results.ChangeTrustResult.TheVariants as change_trust
 use Rattle.op_types.specs.declared.trust_results.AllowTrustResult.{AllowTrustResult}
-use Rattle.op_types.specs.declared.trust_results.AllowTrustResult.TheVariants as allow_trust
 use Rattle.op_types.specs.declared.account_results.AccountMergeResult.{AccountMergeResult}
 use Rattle.op_types.specs.declared.account_results.AccountMergeResult.TheVariants as account_merge
 use Rattle.op_types.specs.declared.account_results.InflationResult.{InflationResult}
 use Rattle.op_types.specs.declared.account_results.InflationResult.TheVariants as inflation
 use Rattle.op_types.specs.declared.account_results.ManageDataResult.{ManageDataResult}
-use Rattle.op_types.specs.declared.account_results.ManageDataResult.TheVariants as manage_data
 use Rattle.op_types.specs.declared.account_results.BumpSequenceResult.{BumpSequenceResult}
-use Rattle.op_types.specs.declared.account_results.BumpSequenceResult.TheVariants as bump_sequence
 use Rattle.op_types.specs.declared.balance_results.CreateClaimableBalanceResult.{CreateClaimableBalanceResult}
 use Rattle.op_types.specs.declared.balance_results.CreateClaimableBalanceResult.TheVariants as create_claimable_balance
 use Rattle.op_types.specs.declared.balance_results.ClaimClaimableBalanceResult.{ClaimClaimableBalanceResult}
-use Rattle.op_types.specs.declared.balance_results.ClaimClaimableBalanceResult.TheVariants as claim_claimable_balance
 use Rattle.op_types.specs.declared.sponsor_results.BeginSponsoringFutureReservesResult.{BeginSponsoringFutureReservesResult}
-use Rattle.op_types.specs.declared.sponsor_results.BeginSponsoringFutureReservesResult.TheVariants as begin_sponsoring_future_reserves
 use Rattle.op_types.specs.declared.sponsor_results.EndSponsoringFutureReservesResult.{EndSponsoringFutureReservesResult}
-use Rattle.op_types.specs.declared.sponsor_results.EndSponsoringFutureReservesResult.TheVariants as end_sponsoring_future_reserves
 use Rattle.op_types.specs.declared.sponsor_results.RevokeSponsorshipResult.{RevokeSponsorshipResult}
-use Rattle.op_types.specs.declared.sponsor_results.RevokeSponsorshipResult.TheVariants as revoke_sponsorship
 use Rattle.op_types.specs.declared.trust_results.ClawbackResult.{ClawbackResult}
-use Rattle.op_types.specs.declared.trust_results.ClawbackResult.TheVariants as clawback
 use Rattle.op_types.specs.declared.balance_results.ClawbackClaimableBalanceResult.{ClawbackClaimableBalanceResult}
-use Rattle.op_types.specs.declared.balance_results.ClawbackClaimableBalanceResult.TheVariants as clawback_claimable_balance
 use Rattle.op_types.specs.declared.trust_results.SetTrustLineFlagsResult.{SetTrustLineFlagsResult}
-use Rattle.op_types.specs.declared.trust_results.SetTrustLineFlagsResult.TheVariants as set_trust_line_flags
 use Rattle.op_types.specs.declared.pool_results.LiquidityPoolDepositResult.{LiquidityPoolDepositResult}
-use Rattle.op_types.specs.declared.pool_results.LiquidityPoolDepositResult.TheVariants as liquidity_pool_deposit
 use Rattle.op_types.specs.declared.pool_results.LiquidityPoolWithdrawResult.{LiquidityPoolWithdrawResult}
-use Rattle.op_types.specs.declared.pool_results.LiquidityPoolWithdrawResult.TheVariants as liquidity_pool_withdraw
 use Rattle.op_types.specs.Codes.{create_account_code, create_account_values, payment_code, payment_values, path_payment_strict_receive_code, path_payment_strict_receive_values, path_payment_strict_send_code, path_payment_strict_send_values, manage_offer_code, manage_offer_values, set_options_code, set_options_values, change_trust_code, change_trust_values, allow_trust_code, allow_trust_values, account_merge_code, account_merge_values, inflation_code, inflation_values, manage_data_code, manage_data_values, bump_sequence_code, bump_sequence_values, create_claimable_balance_code, create_claimable_balance_values, claim_claimable_balance_code, claim_claimable_balance_values, begin_sponsoring_future_reserves_code, begin_sponsoring_future_reserves_values, end_sponsoring_future_reserves_code, end_sponsoring_future_reserves_values, revoke_sponsorship_code, revoke_sponsorship_values, clawback_code, clawback_values, clawback_claimable_balance_code, clawback_claimable_balance_values, set_trust_line_flags_code, set_trust_line_flags_values, liquidity_pool_deposit_code, liquidity_pool_deposit_values, liquidity_pool_withdraw_code, liquidity_pool_withdraw_values}
 use Rattle.xdr_entries.specs.Basic.{arm, hash, account_id, claimable_balance_id, asset}
 use Rattle.xdr_entries.specs.Entries.{offer_entry}

@@ -1,7 +1,7 @@
 -- Values of a union that have nothing behind their discriminant.
 use Rattle.std.specs.Prelude.{ℤ, List, [], ◌∷◌}
 use Rattle.xdr_core.specs.declared.fault.XdrFault.{XdrFault}
-use Rattle.xdr_core.specs.Combinators.{empty, Arm, Part, part}
+use Rattle.xdr_core.specs.Combinators.{empty, Arm, part}
 use Rattle.xdr_core.specs.Xdr.{Xdr, union_of}
 
 -- the arm of one such value: its number, and nothing behind it

@@ -10,6 +10,7 @@ mod account_results;
 mod balance_results;
 mod claim_atom;
 mod coded;
+pub mod laws;
 mod offer_results;
 mod operation_result;
 mod payment_results;

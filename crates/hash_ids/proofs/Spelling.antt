@@ -1,5 +1,5 @@
 -- What was written is the spelling at the end of what stood there.
-use Rattle.std.proofs.Common.{◌≡◌, ℕ, ℤ, List, [], ◌++◌, refl, ap, ◌∙◌}
+use Rattle.std.proofs.Common.{◌≡◌, ℕ, ℤ, List, ◌++◌, refl}
 use Rattle.xdr_core.specs.Leaves.{u32, i32, i64}
 use Rattle.xdr_core.proofs.LeafLaws.{u32_lawful, i32_lawful, i64_lawful}
 use Rattle.ledger_types.specs.declared.ids.AccountId.{AccountId}

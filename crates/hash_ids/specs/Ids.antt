@@ -1,5 +1,5 @@
 -- Ids and hashes: SHA-256 (FIPS 180-4) of the bytes that the protocol names.
-use Rattle.std.specs.Prelude.{ℕ, ℤ, pos, List, ◌++◌, Vec}
+use Rattle.std.specs.Prelude.{ℕ, ℤ, pos, List, ◌++◌}
 use Rattle.std.specs.List.{flat_map}
 use Rattle.sha2.specs.Sha256.{sha256}
 use Rattle.xdr_core.specs.Leaves.{u32, i32, i64}

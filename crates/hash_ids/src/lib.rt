@@ -4,9 +4,9 @@
 mod digest;
 mod operation_id;
 mod pool;
-mod transaction;
 #[cfg(test)]
 mod tests;
+mod transaction;
 
 pub use digest::{full_hash, hash, header_hash, network_id};
 pub use operation_id::{balance_id, revoke_id};

@@ -19,12 +19,7 @@ const ENVELOPE_TYPE_POOL_REVOKE_OP_ID: i32 = 7;
 
 /// The id of the claimable balance that the operation at place `op`, counted from 0, of a transaction makes.
 #[tactic(auto, using(crate::proofs::Spelling::operation_written))]
-pub fn balance_id(
-    alloc: Global,
-    source: &AccountId,
-    seq: i64,
-    op: u32,
-) -> Result<Hash, AllocError>
+pub fn balance_id(alloc: Global, source: &AccountId, seq: i64, op: u32) -> Result<Hash, AllocError>
     ensures { IfOk result (λ id. id ≡ balance_id_of source.now seq op) }
 {
     let mut builder = Builder::new(alloc);
@@ -46,7 +41,13 @@ pub fn revoke_id(
     ensures { IfOk result (λ id. id ≡ revoke_id_of source.now seq op pool.now asset.now) }
 {
     let mut builder = Builder::new(alloc);
-    write_operation(ENVELOPE_TYPE_POOL_REVOKE_OP_ID, source, seq, op, &mut builder)?;
+    write_operation(
+        ENVELOPE_TYPE_POOL_REVOKE_OP_ID,
+        source,
+        seq,
+        op,
+        &mut builder,
+    )?;
     write_hash(pool, &mut builder)?;
     write_asset(asset, &mut builder)?;
     Ok(hash(builder.as_slice()))

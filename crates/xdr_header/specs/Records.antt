@@ -1,5 +1,5 @@
 -- The format of what closes one ledger.
-use Rattle.std.specs.Prelude.{◌≡◌, ℕ, refl}
+use Rattle.std.specs.Prelude.{ℕ, refl}
 use Rattle.xdr_core.specs.Leaves.{u32}
 use Rattle.xdr_core.specs.Combinators.{◌⨾◌, Fields, struct_of}
 use Rattle.xdr_core.specs.Xdr.{Xdr}

@@ -142,7 +142,10 @@ impl Decode for LedgerHeaderExtensionV1Format {
 
     ghost format = { v1_format };
 
-    fn decode(_alloc: Global, cursor: &mut Cursor<'_>) -> Result<LedgerHeaderExtensionV1, ReadFault> {
+    fn decode(
+        _alloc: Global,
+        cursor: &mut Cursor<'_>,
+    ) -> Result<LedgerHeaderExtensionV1, ReadFault> {
         Ok(read_ledger_header_extension_v1(cursor)?)
     }
 }

@@ -5,6 +5,7 @@
 mod closing;
 mod header;
 mod image;
+pub mod laws;
 mod record;
 mod starting;
 mod value;

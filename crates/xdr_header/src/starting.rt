@@ -1,6 +1,6 @@
 //! Start images.
 
-ghost use Rattle.std.specs.Prelude.{◌≡◌, ◌≤◌, OnOk};
+ghost use Rattle.std.specs.Prelude.{◌≡◌, ◌≤◌, length, IfOk, OnOk};
 ghost use Rattle.xdr_core.specs.Place.{Reads, ReadsBy, itself};
 ghost use Rattle.xdr_core.specs.ReadFault.{cause_of};
 ghost use Rattle.xdr_header.specs.Image.{file as file_format, files as files_format, start_image as image_format};
@@ -25,7 +25,8 @@ const MAX_FILES_LEN: u64 = 536870912;
 /// Reads at most `max` bytes behind their number, with no padding. A number above `max` is `TooLong`.
 #[tactic(auto, unfolding(crate::specs::Image::file))]
 fn read_file<'a>(max: u64, cursor: &mut Cursor<'a>) -> Result<&'a [u8], XdrFault>
-    ensures { ReadsBy (λ bytes. bytes.now) itself result cursor.old cursor.new ((file_format max).read cursor.old) }
+    ensures reads { ReadsBy (λ bytes. bytes.now) itself result cursor.old cursor.new ((file_format max).read cursor.old) }
+    ensures fits { IfOk result (λ bytes. length bytes.now ≤ max) }
 {
     let mut ahead = cursor.fork();
     let len = ahead.u64()?;
@@ -59,11 +60,7 @@ fn read_files(
 }
 
 /// Writes files one behind another, each behind its length.
-fn write_files(
-    files: &[ItemList<u8>],
-    left: u64,
-    builder: &mut Builder,
-) -> Result<(), AllocError>
+fn write_files(files: &[ItemList<u8>], left: u64, builder: &mut Builder) -> Result<(), AllocError>
     requires { (files_format FILES left).within files.now }
     ensures { OnOk result (builder.new ≡ (files_format FILES left).onto builder.old files.now) }
 {

@@ -69,10 +69,7 @@ pub fn write_ledger_close_value_signature(
 
 /// Reads what the network agreed upon.
 #[tactic(auto, unfolding(crate::specs::Header::stellar_value))]
-pub fn read_stellar_value(
-    alloc: Global,
-    cursor: &mut Cursor<'_>,
-) -> Result<StellarValue, ReadFault>
+pub fn read_stellar_value(alloc: Global, cursor: &mut Cursor<'_>) -> Result<StellarValue, ReadFault>
     ensures { Reads cause_of result cursor.old cursor.new (value_format.read cursor.old) }
 {
     let mut ahead = cursor.fork();
@@ -158,7 +155,10 @@ impl Decode for LedgerCloseValueSignatureFormat {
 
     ghost format = { signature_format };
 
-    fn decode(alloc: Global, cursor: &mut Cursor<'_>) -> Result<LedgerCloseValueSignature, ReadFault> {
+    fn decode(
+        alloc: Global,
+        cursor: &mut Cursor<'_>,
+    ) -> Result<LedgerCloseValueSignature, ReadFault> {
         read_ledger_close_value_signature(alloc, cursor)
     }
 }

@@ -1,5 +1,5 @@
 -- The laws of operations: what is read is spelled so, what is spelled so is read, and writing puts the spelling at the end.
-use Rattle.std.proofs.Common.{◌≡◌, pos, ◌<◌, refl}
+use Rattle.std.proofs.Common.{pos, refl}
 use Rattle.xdr_core.specs.Format.{Lawful}
 use Rattle.xdr_core.specs.Xdr.{as_it_is, no_arm}
 use Rattle.xdr_core.proofs.Combining.{◌&◌, struct_law, option_law}

@@ -1,5 +1,5 @@
 -- The laws of the formats of operations: what is read is spelled so, what is spelled so is read, and writing puts the spelling at the end.
-use Rattle.std.proofs.Common.{◌≡◌, pos, ◌<◌, refl, arith}
+use Rattle.std.proofs.Common.{pos, refl, arith}
 use Rattle.xdr_core.specs.Format.{Lawful}
 use Rattle.xdr_core.specs.Xdr.{as_it_is, no_arm}
 use Rattle.xdr_core.proofs.LeafLaws.{u32_lawful, i64_lawful}

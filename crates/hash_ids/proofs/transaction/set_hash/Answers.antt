@@ -1,4 +1,4 @@
-use Rattle.std.proofs.Common.{Ok, sym, ap, ◌≡◌, ◌++◌, ◌∙◌, List, ℕ, Result, length, take, arith}
+use Rattle.std.proofs.Common.{Ok, sym, ap, ◌≡◌, ◌++◌, ◌∙◌, List, ℕ, Result, take}
 use Rattle.std.specs.List.{flat_map}
 use Rattle.std.specs.declared.alloc.AllocError.{AllocError}
 use Rattle.std.proofs.lemmas.List.{take_all}

@@ -8,7 +8,7 @@ use Rattle.xdr_core.specs.declared.fault.XdrFault.{XdrFault}
 use Rattle.xdr_core.specs.Place.{Place, Reading, with_fault, ◌>>=◌}
 use Rattle.xdr_core.specs.Format.{Format, IsBytes, Takes, Spells, Lawful}
 use Rattle.xdr_core.specs.Leaves.{i32, flag, count}
-use Rattle.xdr_core.specs.Combinators.{lifted, ◌⨾◌, Fields, struct_of, constant_of, constant, marked, closed, option_of, spell_option, onto_option, option, many_at, list}
+use Rattle.xdr_core.specs.Combinators.{lifted, ◌⨾◌, Fields, struct_of, constant_of, constant, marked, closed, option_of, spell_option, onto_option, option, many_at, list, times}
 use Rattle.xdr_core.proofs.Steps.{bind_ok, with_fault_ok, wanted_ok, ok_is, Takes-then, place_of_two}
 use Rattle.std.proofs.lemmas.List.{append-nil}
 use Rattle.xdr_core.proofs.LeafLaws.{i32_lawful, i32_within}
@@ -217,4 +217,13 @@ list_law {F} {A} as_fault max {f} lt law = record {
       ∙ ap (λ (k : ℕ). Ok (vs, record { at = k; rest = rest })) (place_of_two at ((count max).spell (length vs)) (flat_map f.spell vs) rest _ refl);
   appends = λ out vs.
       many_appends f law ((count max).onto out (length vs)) vs ∙ ap (λ (t : List ℕ). t ++ flat_map f.spell vs) ((count_lawful max lt).appends out (length vs)) ∙ append_assoc out ((count max).spell (length vs)) (flat_map f.spell vs);
+}
+
+pub times_law : {F A : Type 0} (n : ℕ) {f : Format F A} → Lawful f → Lawful (times n f)
+unfolding times
+times_law n {f} law = record {
+  takes = λ p q vs fits e. let t = many_takes f law n p q vs fits e in record { taken = t.0; within = (t.1, t.2); sized = t.3 };
+  again = λ at vs rest within sized.
+      subst (λ (k : ℕ). many_at f k (record { at = at; rest = flat_map f.spell vs ++ rest }) ≡ Ok (vs, record { at = at + length (flat_map f.spell vs); rest = rest })) within.0 (many_again f law at vs rest within.1 sized);
+  appends = λ out vs. many_appends f law out vs;
 }

@@ -14,7 +14,7 @@ use Rattle.xdr_core.proofs.LeafLaws.{number_takes, number_again}
 use Rattle.xdr_core.proofs.Opaque.{bytes_again}
 
 -- n bytes as they are
-bytes_takes : (n : ℕ) (p q : Place) (v : List ℕ) → IsBytes p.rest → bytes_at n p ≡ Ok (v, q) → Takes p q v × (length v ≡ n) × IsBytes v
+pub bytes_takes : (n : ℕ) (p q : Place) (v : List ℕ) → IsBytes p.rest → bytes_at n p ≡ Ok (v, q) → Takes p q v × (length v ≡ n) × IsBytes v
 bytes_takes n p q v fits e =
     let g = guard_ok (ltb (length p.rest) n) (short_at p) (take n p.rest, onward n p) (v, q) e in
     let le : n ≤ length p.rest = ltb-false _ _ g.0 in

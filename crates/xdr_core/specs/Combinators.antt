@@ -143,6 +143,16 @@ list as_fault max f = record {
   sized = λ vs. AllByRecursion f.sized vs;
 }
 
+-- n values one behind another, where both sides know n (RFC 4506, 4.12)
+unfoldable pub times : {F A : Type 0} → ℕ → Format F A → Format F (List A)
+times n f = record {
+  spell = λ vs. flat_map f.spell vs;
+  onto = λ out vs. fold f.onto out vs;
+  read = many_at f n;
+  within = λ vs. (length vs ≡ n) × AllByRecursion f.within vs;
+  sized = λ vs. AllByRecursion f.sized vs;
+}
+
 -- ---- unions (RFC 4506, 4.15)
 
 -- an arm: its discriminant, the format of what stands behind it, and the value that this makes

@@ -74,7 +74,7 @@ impl<'a> Cursor<'a> {
     }
 
     /// The next `n` bytes as they are, with no padding.
-    fn bytes(&mut self, n: usize) -> Result<&'a [u8], XdrFault>
+    pub fn bytes(&mut self, n: usize) -> Result<&'a [u8], XdrFault>
         ensures reads { ReadsBy (λ bytes. bytes.now) itself result self.old self.new (bytes_at n self.old) }
         ensures len { IfOk result (λ bytes. length bytes.now ≡ n) }
     {

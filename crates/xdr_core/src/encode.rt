@@ -54,7 +54,7 @@ pub fn write_extension<E: Encode>(
 }
 
 /// Writes values one behind another.
-fn write_many<E: Encode>(values: &[E::Value], builder: &mut Builder) -> Result<(), AllocError>
+pub fn write_many<E: Encode>(values: &[E::Value], builder: &mut Builder) -> Result<(), AllocError>
     requires { AllByRecursion E.format.within values.now }
     ensures { OnOk result (builder.new ≡ fold E.format.onto builder.old values.now) }
 {

@@ -1,5 +1,5 @@
 -- The formats of operations (Stellar-transaction.x of protocol 18, over RFC 4506).
-use Rattle.std.specs.Prelude.{◌≡◌, ℕ, ℤ, pos, List, [], ◌∷◌, Option, refl}
+use Rattle.std.specs.Prelude.{ℕ, ℤ, pos, List, [], ◌∷◌, Option, refl}
 use Rattle.xdr_core.specs.declared.fault.XdrFault.{XdrFault}
 use Rattle.xdr_core.specs.Leaves.{u32, i64, fixed, var}
 use Rattle.xdr_core.specs.Combinators.{◌⨾◌, Fields, struct_of, empty, Arm, Part, part}
@@ -9,12 +9,10 @@ use Rattle.ledger_types.specs.declared.ids.MuxedAccount.{MuxedAccount}
 use Rattle.ledger_types.specs.declared.ids.Hash.{Hash}
 use Rattle.ledger_types.specs.declared.ids.ClaimableBalanceId.{ClaimableBalanceId}
 use Rattle.ledger_types.specs.declared.signer.Signer.{Signer}
-use Rattle.ledger_types.specs.declared.signer.SignerKey.{SignerKey}
 use Rattle.ledger_types.specs.declared.asset.Asset.{Asset}
 use Rattle.ledger_types.specs.declared.asset.ChangeTrustAsset.{ChangeTrustAsset}
 use Rattle.ledger_types.specs.declared.price.Price.{Price}
 use Rattle.ledger_types.specs.declared.claimable_balance.Claimant.{Claimant}
-use Rattle.ledger_types.specs.declared.key.LedgerKey.{LedgerKey}
 use Rattle.op_types.specs.declared.trust_ops.AssetCode.{AssetCode}
 use Rattle.op_types.specs.declared.trust_ops.AssetCode.TheVariants as asset_codes
 use Rattle.op_types.specs.declared.account_ops.CreateAccountOp.{CreateAccountOp}

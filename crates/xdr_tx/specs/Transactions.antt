@@ -1,6 +1,6 @@
 -- The formats of transactions, their envelopes and sets of them (Stellar-transaction.x and Stellar-ledger.x of protocol 18, over
 -- RFC 4506).
-use Rattle.std.specs.Prelude.{◌≡◌, ℕ, ℤ, pos, List, [], ◌∷◌, Option, refl}
+use Rattle.std.specs.Prelude.{ℕ, ℤ, pos, List, [], ◌∷◌, Option, refl}
 use Rattle.xdr_core.specs.declared.fault.XdrFault.{XdrFault}
 use Rattle.xdr_core.specs.Leaves.{u32, u64, i64, fixed, var}
 use Rattle.xdr_core.specs.Combinators.{◌⨾◌, Fields, struct_of, marked, closed, empty, Arm, Part, part}

@@ -9,6 +9,7 @@ mod account_ops;
 mod balance_ops;
 mod envelope;
 mod fields;
+pub mod laws;
 mod memo;
 mod offer_ops;
 mod operation;

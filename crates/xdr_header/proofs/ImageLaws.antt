@@ -1,0 +1,97 @@
+-- The laws of the formats of files and images.
+use Rattle.std.proofs.Common.{◌≡◌, ℕ, zero, suc, ◌+◌, ◌-◌, ◌^◌, ◌<◌, ◌≤◌, pos, ltb, List, [], ◌∷◌, ◌++◌, length, Ok, refl, sym, ap, subst, ◌∙◌, append_assoc, arith}
+use Rattle.std.proofs.lemmas.Bool.{ltb-false, le-ltb}
+use Rattle.std.proofs.lemmas.List.{append-nil}
+use Rattle.xdr_core.specs.declared.fault.XdrFault.{XdrFault}
+use Rattle.xdr_core.specs.declared.fault.XdrKind.TheVariants.{TooLong}
+use Rattle.xdr_core.specs.Place.{Place, Reading, fault_at, ◌>>=◌}
+use Rattle.xdr_core.specs.Format.{Takes, Spells, Lawful}
+use Rattle.xdr_core.specs.Leaves.{u64, bytes_at}
+use Rattle.xdr_core.specs.Xdr.{Xdr}
+use Rattle.xdr_core.proofs.Steps.{bind_ok, guarded_ok, ok_is, Takes-then, place_of_two}
+use Rattle.xdr_core.proofs.LeafLaws.{u64_lawful}
+use Rattle.xdr_core.proofs.Opaque.{bytes_again}
+use Rattle.xdr_core.proofs.Marks.{bytes_takes, mark_lawful}
+use Rattle.xdr_core.proofs.Combining.{◌&◌, struct_law, marked_law}
+use Rattle.xdr_core.proofs.Discriminants.{tag_law}
+use Rattle.xdr_header.specs.Image.{file_at, file, no_files, front_and, spell_front, onto_front, files, image_fields, start_image}
+
+-- a number of 64 bits has a spelling
+u64_within : (v : ℕ) → u64.within v
+unfolding u64
+u64_within v = tt
+
+u64_sized : (v : ℕ) → v < 2 ^ 64 → u64.sized v
+unfolding u64
+u64_sized v lt = omega arith
+
+pub file_lawful : (max : ℕ) → max < 2 ^ 64 → Lawful (file max)
+unfolding file
+file_lawful max lt = record {
+  takes = λ p q v fits e.
+      let n = bind_ok (u64.read p) (file_at max p) (v, q) e in
+      let s = u64_lawful.takes p n.0.1 n.0.0 fits n.1 in
+      let g = guarded_ok (ltb max n.0.0) (fault_at p TooLong) (bytes_at n.0.0 n.0.1) (v, q) n.2 in
+      let t = bytes_takes n.0.0 n.0.1 q v s.taken.rest g.1 in
+      record {
+        taken = subst (λ (k : ℕ). Takes p q (u64.spell k ++ v)) (sym t.1) (Takes-then p n.0.1 q (u64.spell n.0.0) v s.taken t.0);
+        within = subst (λ (k : ℕ). k ≤ max) (sym t.1) (ltb-false _ _ g.0);
+        sized = t.2;
+      };
+  again = λ at v rest within sized.
+      let text : List ℕ = u64.spell (length v) in
+      let p : Place = record { at = at; rest = text ++ (v ++ rest) } in
+      ap (λ (t : List ℕ). (file max).read (record { at = at; rest = t })) (append_assoc text v rest)
+      ∙ ap (λ (r : Reading XdrFault ℕ). r >>= file_at max p) (u64_lawful.again at (length v) (v ++ rest) (u64_within (length v)) (u64_sized (length v) (omega arith)))
+      ∙ rw (le-ltb max (length v) within) (bytes_again (length v) (at + length text) v rest refl)
+      ∙ ap (λ (k : ℕ). Ok (v, record { at = k; rest = rest })) (place_of_two at text v rest _ refl);
+  appends = λ out v. ap (λ (t : List ℕ). t ++ v) (u64_lawful.appends out (length v)) ∙ append_assoc out (u64.spell (length v)) v;
+}
+
+no_files_lawful : Lawful no_files
+no_files_lawful = record {
+  takes = λ p q v fits e.
+      subst (λ (x : List (List ℕ) × Place). Spells no_files p x.1 x.0) (ok_is {F = XdrFault} ([], p) (v, q) e)
+      (record { taken = record { parts = refl; at = omega arith; rest = fits }; within = refl; sized = tt });
+  again = λ at v rest within sized. rw within (ap (λ (k : ℕ). Ok ([], record { at = k; rest = rest })) (omega arith));
+  appends = λ out v. sym (append-nil out);
+}
+
+front_again : (first : Xdr (List ℕ)) (others : List ℕ → Xdr (List (List ℕ))) → Lawful first → ((v : List ℕ) → Lawful (others v)) → (at : ℕ) (vs : List (List ℕ)) (rest : List ℕ) → (front_and first others).within vs → (front_and first others).sized vs
+    → (front_and first others).read (record { at = at; rest = spell_front first others vs ++ rest }) ≡ Ok (vs, record { at = at + length (spell_front first others vs); rest = rest })
+front_again first others law laws at [] rest within sized = absurd within
+front_again first others law laws at (v ∷ vs) rest within sized =
+    ap (λ (t : List ℕ). (front_and first others).read (record { at = at; rest = t })) (append_assoc (first.spell v) ((others v).spell vs) rest)
+    ∙ ap (λ (r : Reading XdrFault (List ℕ)). r >>= λ x. (others x.0).read x.1 >>= λ xs. Ok (x.0 ∷ xs.0, xs.1)) (law.again at v ((others v).spell vs ++ rest) within.0 sized.0)
+    ∙ ap (λ (r : Reading XdrFault (List (List ℕ))). r >>= λ xs. Ok (v ∷ xs.0, xs.1)) ((laws v).again (at + length (first.spell v)) vs rest within.1 sized.1)
+    ∙ ap (λ (k : ℕ). Ok (v ∷ vs, record { at = k; rest = rest })) (place_of_two at (first.spell v) ((others v).spell vs) rest _ refl)
+
+front_appends : (first : Xdr (List ℕ)) (others : List ℕ → Xdr (List (List ℕ))) → Lawful first → ((v : List ℕ) → Lawful (others v)) → (out : List ℕ) (vs : List (List ℕ)) → onto_front first others out vs ≡ out ++ spell_front first others vs
+front_appends first others law laws out [] = sym (append-nil out)
+front_appends first others law laws out (v ∷ vs) =
+    (laws v).appends (first.onto out v) vs ∙ ap (λ (t : List ℕ). t ++ (others v).spell vs) (law.appends out v) ∙ append_assoc out (first.spell v) ((others v).spell vs)
+
+front_law : (first : Xdr (List ℕ)) (others : List ℕ → Xdr (List (List ℕ))) → Lawful first → ((v : List ℕ) → Lawful (others v)) → Lawful (front_and first others)
+front_law first others law laws = record {
+  takes = λ p q vs fits e.
+      let a = bind_ok (first.read p) (λ x. (others x.0).read x.1 >>= λ xs. Ok (x.0 ∷ xs.0, xs.1)) (vs, q) e in
+      let b = bind_ok ((others a.0.0).read a.0.1) (λ xs. Ok (a.0.0 ∷ xs.0, xs.1)) (vs, q) a.2 in
+      let s = law.takes p a.0.1 a.0.0 fits a.1 in
+      let t = (laws a.0.0).takes a.0.1 b.0.1 b.0.0 s.taken.rest b.1 in
+      subst (λ (x : List (List ℕ) × Place). Spells (front_and first others) p x.1 x.0) {x = (a.0.0 ∷ b.0.0, b.0.1)} (ok_is {F = XdrFault} (a.0.0 ∷ b.0.0, b.0.1) (vs, q) b.2) (record {
+        taken = Takes-then p a.0.1 b.0.1 (first.spell a.0.0) ((others a.0.0).spell b.0.0) s.taken t.taken;
+        within = (s.within, t.within);
+        sized = (s.sized, t.sized);
+      });
+  again = λ at vs rest within sized. front_again first others law laws at vs rest within sized;
+  appends = λ out vs. front_appends first others law laws out vs;
+}
+
+pub files_lawful : (n left : ℕ) → left < 2 ^ 64 → Lawful (files n left)
+unfolding files
+files_lawful zero left lt = no_files_lawful
+files_lawful (suc n) left lt = front_law (file left) (λ v. files n (left - length v)) (file_lawful left lt) (λ v. files_lawful n (left - length v) (omega arith))
+
+pub start_image_lawful : Lawful start_image
+unfolding start_image
+start_image_lawful = struct_law image_fields (marked_law (tag_law (pos 0x534C4931) tt) (mark_lawful 16777216 (omega arith) & files_lawful 22 536870912 (omega arith)))

@@ -1,0 +1,4 @@
+pub mod Files
+pub mod HeaderLaws
+pub mod ImageLaws
+pub mod AllLaws

@@ -1,0 +1,232 @@
+-- The formats of what operations and transactions answer, and of the results of a set (Stellar-transaction.x and Stellar-ledger.x of
+-- protocol 18, over RFC 4506).
+use Rattle.std.specs.Prelude.{ℤ, pos, negsuc, List, [], ◌∷◌, refl}
+use Rattle.xdr_core.specs.declared.fault.XdrFault.{XdrFault}
+use Rattle.xdr_core.specs.Leaves.{i64}
+use Rattle.xdr_core.specs.Combinators.{◌⨾◌, Fields, struct_of, closed, Arm, Part, part}
+use Rattle.xdr_core.specs.Xdr.{Xdr, tag, list_of, union_of}
+use Rattle.ledger_types.specs.declared.ids.Hash.{Hash}
+use Rattle.op_types.specs.declared.operation_result.OperationResultTr.{OperationResultTr}
+use Rattle.op_types.specs.declared.operation_result.OperationResultTr.TheVariants as run
+use Rattle.op_types.specs.declared.operation_result.OperationResult.{OperationResult}
+use Rattle.op_types.specs.declared.operation_result.OperationResult.TheVariants as operation
+use Rattle.op_types.specs.declared.transaction_result.InnerTransactionOutcome.{InnerTransactionOutcome}
+use Rattle.op_types.specs.declared.transaction_result.InnerTransactionResult.{InnerTransactionResult}
+use Rattle.op_types.specs.declared.transaction_result.InnerTransactionResultPair.{InnerTransactionResultPair}
+use Rattle.op_types.specs.declared.transaction_result.TransactionOutcome.{TransactionOutcome}
+use Rattle.op_types.specs.declared.transaction_result.TransactionResult.{TransactionResult}
+use Rattle.op_types.specs.declared.transaction_result.TransactionResultPair.{TransactionResultPair}
+use Rattle.op_types.specs.declared.transaction_result.TransactionResultSet.{TransactionResultSet}
+use Rattle.op_types.specs.declared.transaction_result.InnerTransactionOutcome.TheVariants as inner
+use Rattle.op_types.specs.declared.transaction_result.TransactionOutcome.TheVariants as outcome
+use Rattle.op_types.specs.Codes.{operation_code, operation_values, inner_code, inner_values, outcome_code, outcome_values}
+use Rattle.xdr_entries.specs.Basic.{arm, hash}
+use Rattle.xdr_results.specs.Coded.{plain, plain_arms}
+use Rattle.xdr_results.specs.Answers.{create_account_result, payment_result, path_payment_strict_receive_result, path_payment_strict_send_result, manage_offer_result, set_options_result, change_trust_result, allow_trust_result, account_merge_result, inflation_result, manage_data_result, bump_sequence_result, create_claimable_balance_result, claim_claimable_balance_result, begin_sponsoring_future_reserves_result, end_sponsoring_future_reserves_result, revoke_sponsorship_result, clawback_result, clawback_claimable_balance_result, set_trust_line_flags_result, liquidity_pool_deposit_result, liquidity_pool_withdraw_result}
+
+-- ---- operations
+
+abbrev pub create_account_answer : Arm XdrFault OperationResultTr
+create_account_answer = arm (pos 0) create_account_result run.CreateAccount
+
+abbrev pub payment_answer : Arm XdrFault OperationResultTr
+payment_answer = arm (pos 1) payment_result run.Payment
+
+abbrev pub path_payment_strict_receive_answer : Arm XdrFault OperationResultTr
+path_payment_strict_receive_answer = arm (pos 2) path_payment_strict_receive_result run.PathPaymentStrictReceive
+
+abbrev pub manage_sell_offer_answer : Arm XdrFault OperationResultTr
+manage_sell_offer_answer = arm (pos 3) manage_offer_result run.ManageSellOffer
+
+abbrev pub create_passive_sell_offer_answer : Arm XdrFault OperationResultTr
+create_passive_sell_offer_answer = arm (pos 4) manage_offer_result run.CreatePassiveSellOffer
+
+abbrev pub set_options_answer : Arm XdrFault OperationResultTr
+set_options_answer = arm (pos 5) set_options_result run.SetOptions
+
+abbrev pub change_trust_answer : Arm XdrFault OperationResultTr
+change_trust_answer = arm (pos 6) change_trust_result run.ChangeTrust
+
+abbrev pub allow_trust_answer : Arm XdrFault OperationResultTr
+allow_trust_answer = arm (pos 7) allow_trust_result run.AllowTrust
+
+abbrev pub account_merge_answer : Arm XdrFault OperationResultTr
+account_merge_answer = arm (pos 8) account_merge_result run.AccountMerge
+
+abbrev pub inflation_answer : Arm XdrFault OperationResultTr
+inflation_answer = arm (pos 9) inflation_result run.Inflation
+
+abbrev pub manage_data_answer : Arm XdrFault OperationResultTr
+manage_data_answer = arm (pos 10) manage_data_result run.ManageData
+
+abbrev pub bump_sequence_answer : Arm XdrFault OperationResultTr
+bump_sequence_answer = arm (pos 11) bump_sequence_result run.BumpSequence
+
+abbrev pub manage_buy_offer_answer : Arm XdrFault OperationResultTr
+manage_buy_offer_answer = arm (pos 12) manage_offer_result run.ManageBuyOffer
+
+abbrev pub path_payment_strict_send_answer : Arm XdrFault OperationResultTr
+path_payment_strict_send_answer = arm (pos 13) path_payment_strict_send_result run.PathPaymentStrictSend
+
+abbrev pub create_claimable_balance_answer : Arm XdrFault OperationResultTr
+create_claimable_balance_answer = arm (pos 14) create_claimable_balance_result run.CreateClaimableBalance
+
+abbrev pub claim_claimable_balance_answer : Arm XdrFault OperationResultTr
+claim_claimable_balance_answer = arm (pos 15) claim_claimable_balance_result run.ClaimClaimableBalance
+
+abbrev pub begin_sponsoring_future_reserves_answer : Arm XdrFault OperationResultTr
+begin_sponsoring_future_reserves_answer = arm (pos 16) begin_sponsoring_future_reserves_result run.BeginSponsoringFutureReserves
+
+abbrev pub end_sponsoring_future_reserves_answer : Arm XdrFault OperationResultTr
+end_sponsoring_future_reserves_answer = arm (pos 17) end_sponsoring_future_reserves_result run.EndSponsoringFutureReserves
+
+abbrev pub revoke_sponsorship_answer : Arm XdrFault OperationResultTr
+revoke_sponsorship_answer = arm (pos 18) revoke_sponsorship_result run.RevokeSponsorship
+
+abbrev pub clawback_answer : Arm XdrFault OperationResultTr
+clawback_answer = arm (pos 19) clawback_result run.Clawback
+
+abbrev pub clawback_claimable_balance_answer : Arm XdrFault OperationResultTr
+clawback_claimable_balance_answer = arm (pos 20) clawback_claimable_balance_result run.ClawbackClaimableBalance
+
+abbrev pub set_trust_line_flags_answer : Arm XdrFault OperationResultTr
+set_trust_line_flags_answer = arm (pos 21) set_trust_line_flags_result run.SetTrustLineFlags
+
+abbrev pub liquidity_pool_deposit_answer : Arm XdrFault OperationResultTr
+liquidity_pool_deposit_answer = arm (pos 22) liquidity_pool_deposit_result run.LiquidityPoolDeposit
+
+abbrev pub liquidity_pool_withdraw_answer : Arm XdrFault OperationResultTr
+liquidity_pool_withdraw_answer = arm (pos 23) liquidity_pool_withdraw_result run.LiquidityPoolWithdraw
+
+-- the types from 18 on
+unfoldable pub last_run_arms : List (Arm XdrFault OperationResultTr)
+last_run_arms = revoke_sponsorship_answer ∷ clawback_answer ∷ clawback_claimable_balance_answer ∷ set_trust_line_flags_answer ∷ liquidity_pool_deposit_answer ∷ liquidity_pool_withdraw_answer ∷ []
+
+-- the types from 12 on
+unfoldable pub third_run_arms : List (Arm XdrFault OperationResultTr)
+third_run_arms = manage_buy_offer_answer ∷ path_payment_strict_send_answer ∷ create_claimable_balance_answer ∷ claim_claimable_balance_answer ∷ begin_sponsoring_future_reserves_answer ∷ end_sponsoring_future_reserves_answer ∷ last_run_arms
+
+-- the types from 6 on
+unfoldable pub second_run_arms : List (Arm XdrFault OperationResultTr)
+second_run_arms = change_trust_answer ∷ allow_trust_answer ∷ account_merge_answer ∷ inflation_answer ∷ manage_data_answer ∷ bump_sequence_answer ∷ third_run_arms
+
+abbrev pub run_arms : List (Arm XdrFault OperationResultTr)
+run_arms = create_account_answer ∷ payment_answer ∷ path_payment_strict_receive_answer ∷ manage_sell_offer_answer ∷ create_passive_sell_offer_answer ∷ set_options_answer ∷ second_run_arms
+
+abbrev pub run_part : OperationResultTr → Part XdrFault OperationResultTr
+run_part (run.CreateAccount answer) = part create_account_answer answer
+run_part (run.Payment answer) = part payment_answer answer
+run_part (run.PathPaymentStrictReceive answer) = part path_payment_strict_receive_answer answer
+run_part (run.ManageSellOffer answer) = part manage_sell_offer_answer answer
+run_part (run.CreatePassiveSellOffer answer) = part create_passive_sell_offer_answer answer
+run_part (run.SetOptions answer) = part set_options_answer answer
+run_part (run.ChangeTrust answer) = part change_trust_answer answer
+run_part (run.AllowTrust answer) = part allow_trust_answer answer
+run_part (run.AccountMerge answer) = part account_merge_answer answer
+run_part (run.Inflation answer) = part inflation_answer answer
+run_part (run.ManageData answer) = part manage_data_answer answer
+run_part (run.BumpSequence answer) = part bump_sequence_answer answer
+run_part (run.ManageBuyOffer answer) = part manage_buy_offer_answer answer
+run_part (run.PathPaymentStrictSend answer) = part path_payment_strict_send_answer answer
+run_part (run.CreateClaimableBalance answer) = part create_claimable_balance_answer answer
+run_part (run.ClaimClaimableBalance answer) = part claim_claimable_balance_answer answer
+run_part (run.BeginSponsoringFutureReserves answer) = part begin_sponsoring_future_reserves_answer answer
+run_part (run.EndSponsoringFutureReserves answer) = part end_sponsoring_future_reserves_answer answer
+run_part (run.RevokeSponsorship answer) = part revoke_sponsorship_answer answer
+run_part (run.Clawback answer) = part clawback_answer answer
+run_part (run.ClawbackClaimableBalance answer) = part clawback_claimable_balance_answer answer
+run_part (run.SetTrustLineFlags answer) = part set_trust_line_flags_answer answer
+run_part (run.LiquidityPoolDeposit answer) = part liquidity_pool_deposit_answer answer
+run_part (run.LiquidityPoolWithdraw answer) = part liquidity_pool_withdraw_answer answer
+
+unfoldable pub operation_result_tr : Xdr OperationResultTr
+operation_result_tr = union_of run_part run_arms
+
+abbrev pub operation_inner : Arm XdrFault OperationResult
+operation_inner = arm (pos 0) operation_result_tr operation.Inner
+
+abbrev pub operation_arms : List (Arm XdrFault OperationResult)
+operation_arms = operation_inner ∷ plain_arms operation_code operation_values
+
+abbrev pub operation_part : OperationResult → Part XdrFault OperationResult
+operation_part (operation.Inner answer) = part operation_inner answer
+operation_part answer = part (plain operation_code answer) tt
+
+unfoldable pub operation_result : Xdr OperationResult
+operation_result = union_of operation_part operation_arms
+
+-- ---- the inner transaction of a fee bump
+
+abbrev pub inner_success : Arm XdrFault InnerTransactionOutcome
+inner_success = arm (pos 0) (list_of 4294967295 operation_result) inner.Success
+
+abbrev pub inner_failed : Arm XdrFault InnerTransactionOutcome
+inner_failed = arm (negsuc 0) (list_of 4294967295 operation_result) inner.Failed
+
+abbrev pub inner_arms : List (Arm XdrFault InnerTransactionOutcome)
+inner_arms = inner_success ∷ inner_failed ∷ plain_arms inner_code inner_values
+
+abbrev pub inner_part : InnerTransactionOutcome → Part XdrFault InnerTransactionOutcome
+inner_part (inner.Success results) = part inner_success results
+inner_part (inner.Failed results) = part inner_failed results
+inner_part ended = part (plain inner_code ended) tt
+
+unfoldable pub inner_transaction_outcome : Xdr InnerTransactionOutcome
+inner_transaction_outcome = union_of inner_part inner_arms
+
+abbrev pub inner_result_fields : Fields (ℤ × InnerTransactionOutcome) InnerTransactionResult
+inner_result_fields = record { to = λ v. record { fee_charged = v.0; outcome = v.1 }; from = λ r. (r.fee_charged, r.outcome); there = λ _. refl; back = λ _. refl }
+
+unfoldable pub inner_transaction_result : Xdr InnerTransactionResult
+inner_transaction_result = struct_of inner_result_fields (i64 ⨾ closed inner_transaction_outcome (tag (pos 0)))
+
+abbrev pub inner_pair_fields : Fields (Hash × InnerTransactionResult) InnerTransactionResultPair
+inner_pair_fields = record { to = λ v. record { transaction_hash = v.0; result = v.1 }; from = λ p. (p.transaction_hash, p.result); there = λ _. refl; back = λ _. refl }
+
+unfoldable pub inner_transaction_result_pair : Xdr InnerTransactionResultPair
+inner_transaction_result_pair = struct_of inner_pair_fields (hash ⨾ inner_transaction_result)
+
+-- ---- transactions
+
+abbrev pub outcome_success : Arm XdrFault TransactionOutcome
+outcome_success = arm (pos 0) (list_of 4294967295 operation_result) outcome.Success
+
+abbrev pub outcome_failed : Arm XdrFault TransactionOutcome
+outcome_failed = arm (negsuc 0) (list_of 4294967295 operation_result) outcome.Failed
+
+abbrev pub outcome_inner_success : Arm XdrFault TransactionOutcome
+outcome_inner_success = arm (pos 1) inner_transaction_result_pair outcome.FeeBumpInnerSuccess
+
+abbrev pub outcome_inner_failed : Arm XdrFault TransactionOutcome
+outcome_inner_failed = arm (negsuc 12) inner_transaction_result_pair outcome.FeeBumpInnerFailed
+
+abbrev pub outcome_arms : List (Arm XdrFault TransactionOutcome)
+outcome_arms = outcome_success ∷ outcome_failed ∷ outcome_inner_success ∷ outcome_inner_failed ∷ plain_arms outcome_code outcome_values
+
+abbrev pub outcome_part : TransactionOutcome → Part XdrFault TransactionOutcome
+outcome_part (outcome.Success results) = part outcome_success results
+outcome_part (outcome.Failed results) = part outcome_failed results
+outcome_part (outcome.FeeBumpInnerSuccess pair) = part outcome_inner_success pair
+outcome_part (outcome.FeeBumpInnerFailed pair) = part outcome_inner_failed pair
+outcome_part ended = part (plain outcome_code ended) tt
+
+unfoldable pub transaction_outcome : Xdr TransactionOutcome
+transaction_outcome = union_of outcome_part outcome_arms
+
+abbrev pub result_fields : Fields (ℤ × TransactionOutcome) TransactionResult
+result_fields = record { to = λ v. record { fee_charged = v.0; outcome = v.1 }; from = λ r. (r.fee_charged, r.outcome); there = λ _. refl; back = λ _. refl }
+
+unfoldable pub transaction_result : Xdr TransactionResult
+transaction_result = struct_of result_fields (i64 ⨾ closed transaction_outcome (tag (pos 0)))
+
+abbrev pub pair_fields : Fields (Hash × TransactionResult) TransactionResultPair
+pair_fields = record { to = λ v. record { transaction_hash = v.0; result = v.1 }; from = λ p. (p.transaction_hash, p.result); there = λ _. refl; back = λ _. refl }
+
+unfoldable pub transaction_result_pair : Xdr TransactionResultPair
+transaction_result_pair = struct_of pair_fields (hash ⨾ transaction_result)
+
+abbrev pub result_set_fields : Fields (List TransactionResultPair) TransactionResultSet
+result_set_fields = record { to = λ results. record { results = results }; from = λ s. s.results; there = λ _. refl; back = λ _. refl }
+
+unfoldable pub transaction_result_set : Xdr TransactionResultSet
+transaction_result_set = struct_of result_set_fields (list_of 4294967295 transaction_result_pair)

@@ -1,0 +1,405 @@
+//! What operations answer.
+
+ghost use Rattle.std.specs.Prelude.{◌≡◌, OnOk};
+ghost use Rattle.xdr_core.specs.Place.{Reads};
+ghost use Rattle.xdr_core.specs.ReadFault.{cause_of};
+ghost use Rattle.xdr_core.specs.Combinators.{pick};
+ghost use Rattle.xdr_core.specs.Xdr.{no_arm};
+ghost use Rattle.xdr_results.specs.Results.{second_run_arms, third_run_arms, last_run_arms, operation_result_tr as operation_result_tr_format, operation_result as operation_result_format};
+
+use crate::account_results::{
+    read_account_merge_result, read_bump_sequence_result, read_inflation_result,
+    read_manage_data_result, read_set_options_result, write_account_merge_result,
+    write_bump_sequence_result, write_inflation_result, write_manage_data_result,
+    write_set_options_result,
+};
+use crate::balance_results::{
+    read_claim_claimable_balance_result, read_clawback_claimable_balance_result,
+    read_create_claimable_balance_result, write_claim_claimable_balance_result,
+    write_clawback_claimable_balance_result, write_create_claimable_balance_result,
+};
+use crate::coded::plain_value;
+use crate::offer_results::{read_manage_offer_result, write_manage_offer_result};
+use crate::payment_results::{
+    read_create_account_result, read_path_payment_strict_receive_result,
+    read_path_payment_strict_send_result, read_payment_result, write_create_account_result,
+    write_path_payment_strict_receive_result, write_path_payment_strict_send_result,
+    write_payment_result,
+};
+use crate::pool_results::{
+    read_liquidity_pool_deposit_result, read_liquidity_pool_withdraw_result,
+    write_liquidity_pool_deposit_result, write_liquidity_pool_withdraw_result,
+};
+use crate::sponsor_results::{
+    read_begin_sponsoring_future_reserves_result, read_end_sponsoring_future_reserves_result,
+    read_revoke_sponsorship_result, write_begin_sponsoring_future_reserves_result,
+    write_end_sponsoring_future_reserves_result, write_revoke_sponsorship_result,
+};
+use crate::trust_results::{
+    read_allow_trust_result, read_change_trust_result, read_clawback_result,
+    read_set_trust_line_flags_result, write_allow_trust_result, write_change_trust_result,
+    write_clawback_result, write_set_trust_line_flags_result,
+};
+use op_types::{Coded, OperationResult, OperationResultTr};
+use std::alloc::{AllocError, Global};
+use xdr_core::{Builder, Cursor, Decode, Encode, ReadFault, XdrKind};
+
+/// opINNER (Stellar-transaction.x).
+const OP_INNER: i32 = 0;
+
+/// CREATE_ACCOUNT (OperationType in Stellar-transaction.x).
+const CREATE_ACCOUNT: i32 = 0;
+
+/// PAYMENT (OperationType in Stellar-transaction.x).
+const PAYMENT: i32 = 1;
+
+/// PATH_PAYMENT_STRICT_RECEIVE (OperationType in Stellar-transaction.x).
+const PATH_PAYMENT_STRICT_RECEIVE: i32 = 2;
+
+/// MANAGE_SELL_OFFER (OperationType in Stellar-transaction.x).
+const MANAGE_SELL_OFFER: i32 = 3;
+
+/// CREATE_PASSIVE_SELL_OFFER (OperationType in Stellar-transaction.x).
+const CREATE_PASSIVE_SELL_OFFER: i32 = 4;
+
+/// SET_OPTIONS (OperationType in Stellar-transaction.x).
+const SET_OPTIONS: i32 = 5;
+
+/// CHANGE_TRUST (OperationType in Stellar-transaction.x).
+const CHANGE_TRUST: i32 = 6;
+
+/// ALLOW_TRUST (OperationType in Stellar-transaction.x).
+const ALLOW_TRUST: i32 = 7;
+
+/// ACCOUNT_MERGE (OperationType in Stellar-transaction.x).
+const ACCOUNT_MERGE: i32 = 8;
+
+/// INFLATION (OperationType in Stellar-transaction.x).
+const INFLATION: i32 = 9;
+
+/// MANAGE_DATA (OperationType in Stellar-transaction.x).
+const MANAGE_DATA: i32 = 10;
+
+/// BUMP_SEQUENCE (OperationType in Stellar-transaction.x).
+const BUMP_SEQUENCE: i32 = 11;
+
+/// MANAGE_BUY_OFFER (OperationType in Stellar-transaction.x).
+const MANAGE_BUY_OFFER: i32 = 12;
+
+/// PATH_PAYMENT_STRICT_SEND (OperationType in Stellar-transaction.x).
+const PATH_PAYMENT_STRICT_SEND: i32 = 13;
+
+/// CREATE_CLAIMABLE_BALANCE (OperationType in Stellar-transaction.x).
+const CREATE_CLAIMABLE_BALANCE: i32 = 14;
+
+/// CLAIM_CLAIMABLE_BALANCE (OperationType in Stellar-transaction.x).
+const CLAIM_CLAIMABLE_BALANCE: i32 = 15;
+
+/// BEGIN_SPONSORING_FUTURE_RESERVES (OperationType in Stellar-transaction.x).
+const BEGIN_SPONSORING_FUTURE_RESERVES: i32 = 16;
+
+/// END_SPONSORING_FUTURE_RESERVES (OperationType in Stellar-transaction.x).
+const END_SPONSORING_FUTURE_RESERVES: i32 = 17;
+
+/// REVOKE_SPONSORSHIP (OperationType in Stellar-transaction.x).
+const REVOKE_SPONSORSHIP: i32 = 18;
+
+/// CLAWBACK (OperationType in Stellar-transaction.x).
+const CLAWBACK: i32 = 19;
+
+/// CLAWBACK_CLAIMABLE_BALANCE (OperationType in Stellar-transaction.x).
+const CLAWBACK_CLAIMABLE_BALANCE: i32 = 20;
+
+/// SET_TRUST_LINE_FLAGS (OperationType in Stellar-transaction.x).
+const SET_TRUST_LINE_FLAGS: i32 = 21;
+
+/// LIQUIDITY_POOL_DEPOSIT (OperationType in Stellar-transaction.x).
+const LIQUIDITY_POOL_DEPOSIT: i32 = 22;
+
+/// LIQUIDITY_POOL_WITHDRAW (OperationType in Stellar-transaction.x).
+const LIQUIDITY_POOL_WITHDRAW: i32 = 23;
+
+/// Reads what an operation answers that was run.
+#[tactic(auto, unfolding(crate::specs::Results::operation_result_tr))]
+pub fn read_operation_result_tr(
+    alloc: Global,
+    cursor: &mut Cursor<'_>,
+) -> Result<OperationResultTr, ReadFault>
+    ensures { Reads cause_of result cursor.old cursor.new (operation_result_tr_format.read cursor.old) }
+{
+    let mut ahead = cursor.fork();
+    let answer = match ahead.i32()? {
+        CREATE_ACCOUNT => OperationResultTr::CreateAccount(read_create_account_result(&mut ahead)?),
+        PAYMENT => OperationResultTr::Payment(read_payment_result(&mut ahead)?),
+        PATH_PAYMENT_STRICT_RECEIVE => OperationResultTr::PathPaymentStrictReceive(
+            read_path_payment_strict_receive_result(alloc, &mut ahead)?,
+        ),
+        MANAGE_SELL_OFFER => OperationResultTr::ManageSellOffer(read_manage_offer_result(
+            alloc, &mut ahead,
+        )?),
+        CREATE_PASSIVE_SELL_OFFER => OperationResultTr::CreatePassiveSellOffer(
+            read_manage_offer_result(alloc, &mut ahead)?,
+        ),
+        SET_OPTIONS => OperationResultTr::SetOptions(read_set_options_result(&mut ahead)?),
+        kind => read_second_run(alloc, cursor, kind, &mut ahead)?,
+    };
+    *cursor = ahead;
+    Ok(answer)
+}
+
+/// Reads what an operation answers whose type is 6 or above. `start` stands at the operation's type.
+#[tactic(auto, unfolding(crate::specs::Results::second_run_arms))]
+fn read_second_run(
+    alloc: Global,
+    start: &Cursor<'_>,
+    kind: i32,
+    cursor: &mut Cursor<'_>,
+) -> Result<OperationResultTr, ReadFault>
+    ensures { Reads cause_of result cursor.old cursor.new (pick second_run_arms no_arm start.now (kind, cursor.old)) }
+{
+    let mut ahead = cursor.fork();
+    let answer = match kind {
+        CHANGE_TRUST => OperationResultTr::ChangeTrust(read_change_trust_result(&mut ahead)?),
+        ALLOW_TRUST => OperationResultTr::AllowTrust(read_allow_trust_result(&mut ahead)?),
+        ACCOUNT_MERGE => OperationResultTr::AccountMerge(read_account_merge_result(&mut ahead)?),
+        INFLATION => OperationResultTr::Inflation(read_inflation_result(alloc, &mut ahead)?),
+        MANAGE_DATA => OperationResultTr::ManageData(read_manage_data_result(&mut ahead)?),
+        BUMP_SEQUENCE => OperationResultTr::BumpSequence(read_bump_sequence_result(&mut ahead)?),
+        _ => read_third_run(alloc, start, kind, &mut ahead)?,
+    };
+    *cursor = ahead;
+    Ok(answer)
+}
+
+/// Reads what an operation answers whose type is 12 or above. `start` stands at the operation's type.
+#[tactic(auto, unfolding(crate::specs::Results::third_run_arms))]
+fn read_third_run(
+    alloc: Global,
+    start: &Cursor<'_>,
+    kind: i32,
+    cursor: &mut Cursor<'_>,
+) -> Result<OperationResultTr, ReadFault>
+    ensures { Reads cause_of result cursor.old cursor.new (pick third_run_arms no_arm start.now (kind, cursor.old)) }
+{
+    let mut ahead = cursor.fork();
+    let answer = match kind {
+        MANAGE_BUY_OFFER => OperationResultTr::ManageBuyOffer(read_manage_offer_result(
+            alloc, &mut ahead,
+        )?),
+        PATH_PAYMENT_STRICT_SEND => OperationResultTr::PathPaymentStrictSend(
+            read_path_payment_strict_send_result(alloc, &mut ahead)?,
+        ),
+        CREATE_CLAIMABLE_BALANCE => OperationResultTr::CreateClaimableBalance(
+            read_create_claimable_balance_result(&mut ahead)?,
+        ),
+        CLAIM_CLAIMABLE_BALANCE => OperationResultTr::ClaimClaimableBalance(
+            read_claim_claimable_balance_result(&mut ahead)?,
+        ),
+        BEGIN_SPONSORING_FUTURE_RESERVES => OperationResultTr::BeginSponsoringFutureReserves(
+            read_begin_sponsoring_future_reserves_result(&mut ahead)?,
+        ),
+        END_SPONSORING_FUTURE_RESERVES => OperationResultTr::EndSponsoringFutureReserves(
+            read_end_sponsoring_future_reserves_result(&mut ahead)?,
+        ),
+        _ => read_last_run(alloc, start, kind, &mut ahead)?,
+    };
+    *cursor = ahead;
+    Ok(answer)
+}
+
+/// Reads what an operation answers whose type is 18 or above. `start` stands at the operation's type.
+#[tactic(auto, unfolding(crate::specs::Results::last_run_arms))]
+fn read_last_run(
+    alloc: Global,
+    start: &Cursor<'_>,
+    kind: i32,
+    cursor: &mut Cursor<'_>,
+) -> Result<OperationResultTr, ReadFault>
+    ensures { Reads cause_of result cursor.old cursor.new (pick last_run_arms no_arm start.now (kind, cursor.old)) }
+{
+    let mut ahead = cursor.fork();
+    let answer = match kind {
+        REVOKE_SPONSORSHIP => OperationResultTr::RevokeSponsorship(read_revoke_sponsorship_result(
+            &mut ahead,
+        )?),
+        CLAWBACK => OperationResultTr::Clawback(read_clawback_result(&mut ahead)?),
+        CLAWBACK_CLAIMABLE_BALANCE => OperationResultTr::ClawbackClaimableBalance(
+            read_clawback_claimable_balance_result(&mut ahead)?,
+        ),
+        SET_TRUST_LINE_FLAGS => OperationResultTr::SetTrustLineFlags(
+            read_set_trust_line_flags_result(&mut ahead)?,
+        ),
+        LIQUIDITY_POOL_DEPOSIT => OperationResultTr::LiquidityPoolDeposit(
+            read_liquidity_pool_deposit_result(&mut ahead)?,
+        ),
+        LIQUIDITY_POOL_WITHDRAW => OperationResultTr::LiquidityPoolWithdraw(
+            read_liquidity_pool_withdraw_result(&mut ahead)?,
+        ),
+        _ => return Err(ReadFault::Xdr(start.fault(XdrKind::BadEnum))),
+    };
+    *cursor = ahead;
+    Ok(answer)
+}
+
+/// Writes what an operation answers that was run.
+#[tactic(auto, unfolding(crate::specs::Results::operation_result_tr))]
+pub fn write_operation_result_tr(
+    value: &OperationResultTr,
+    builder: &mut Builder,
+) -> Result<(), AllocError>
+    requires { operation_result_tr_format.within value.now }
+    ensures { OnOk result (builder.new ≡ operation_result_tr_format.onto builder.old value.now) }
+{
+    match value {
+        OperationResultTr::CreateAccount(answer) => {
+            builder.i32(CREATE_ACCOUNT)?;
+            write_create_account_result(answer, builder)
+        }
+        OperationResultTr::Payment(answer) => {
+            builder.i32(PAYMENT)?;
+            write_payment_result(answer, builder)
+        }
+        OperationResultTr::PathPaymentStrictReceive(answer) => {
+            builder.i32(PATH_PAYMENT_STRICT_RECEIVE)?;
+            write_path_payment_strict_receive_result(answer, builder)
+        }
+        OperationResultTr::ManageSellOffer(answer) => {
+            builder.i32(MANAGE_SELL_OFFER)?;
+            write_manage_offer_result(answer, builder)
+        }
+        OperationResultTr::CreatePassiveSellOffer(answer) => {
+            builder.i32(CREATE_PASSIVE_SELL_OFFER)?;
+            write_manage_offer_result(answer, builder)
+        }
+        OperationResultTr::SetOptions(answer) => {
+            builder.i32(SET_OPTIONS)?;
+            write_set_options_result(answer, builder)
+        }
+        OperationResultTr::ChangeTrust(answer) => {
+            builder.i32(CHANGE_TRUST)?;
+            write_change_trust_result(answer, builder)
+        }
+        OperationResultTr::AllowTrust(answer) => {
+            builder.i32(ALLOW_TRUST)?;
+            write_allow_trust_result(answer, builder)
+        }
+        OperationResultTr::AccountMerge(answer) => {
+            builder.i32(ACCOUNT_MERGE)?;
+            write_account_merge_result(answer, builder)
+        }
+        OperationResultTr::Inflation(answer) => {
+            builder.i32(INFLATION)?;
+            write_inflation_result(answer, builder)
+        }
+        OperationResultTr::ManageData(answer) => {
+            builder.i32(MANAGE_DATA)?;
+            write_manage_data_result(answer, builder)
+        }
+        OperationResultTr::BumpSequence(answer) => {
+            builder.i32(BUMP_SEQUENCE)?;
+            write_bump_sequence_result(answer, builder)
+        }
+        OperationResultTr::ManageBuyOffer(answer) => {
+            builder.i32(MANAGE_BUY_OFFER)?;
+            write_manage_offer_result(answer, builder)
+        }
+        OperationResultTr::PathPaymentStrictSend(answer) => {
+            builder.i32(PATH_PAYMENT_STRICT_SEND)?;
+            write_path_payment_strict_send_result(answer, builder)
+        }
+        OperationResultTr::CreateClaimableBalance(answer) => {
+            builder.i32(CREATE_CLAIMABLE_BALANCE)?;
+            write_create_claimable_balance_result(answer, builder)
+        }
+        OperationResultTr::ClaimClaimableBalance(answer) => {
+            builder.i32(CLAIM_CLAIMABLE_BALANCE)?;
+            write_claim_claimable_balance_result(answer, builder)
+        }
+        OperationResultTr::BeginSponsoringFutureReserves(answer) => {
+            builder.i32(BEGIN_SPONSORING_FUTURE_RESERVES)?;
+            write_begin_sponsoring_future_reserves_result(answer, builder)
+        }
+        OperationResultTr::EndSponsoringFutureReserves(answer) => {
+            builder.i32(END_SPONSORING_FUTURE_RESERVES)?;
+            write_end_sponsoring_future_reserves_result(answer, builder)
+        }
+        OperationResultTr::RevokeSponsorship(answer) => {
+            builder.i32(REVOKE_SPONSORSHIP)?;
+            write_revoke_sponsorship_result(answer, builder)
+        }
+        OperationResultTr::Clawback(answer) => {
+            builder.i32(CLAWBACK)?;
+            write_clawback_result(answer, builder)
+        }
+        OperationResultTr::ClawbackClaimableBalance(answer) => {
+            builder.i32(CLAWBACK_CLAIMABLE_BALANCE)?;
+            write_clawback_claimable_balance_result(answer, builder)
+        }
+        OperationResultTr::SetTrustLineFlags(answer) => {
+            builder.i32(SET_TRUST_LINE_FLAGS)?;
+            write_set_trust_line_flags_result(answer, builder)
+        }
+        OperationResultTr::LiquidityPoolDeposit(answer) => {
+            builder.i32(LIQUIDITY_POOL_DEPOSIT)?;
+            write_liquidity_pool_deposit_result(answer, builder)
+        }
+        OperationResultTr::LiquidityPoolWithdraw(answer) => {
+            builder.i32(LIQUIDITY_POOL_WITHDRAW)?;
+            write_liquidity_pool_withdraw_result(answer, builder)
+        }
+    }
+}
+
+/// Reads what an operation answers.
+#[tactic(auto, unfolding(crate::specs::Results::operation_result))]
+pub fn read_operation_result(
+    alloc: Global,
+    cursor: &mut Cursor<'_>,
+) -> Result<OperationResult, ReadFault>
+    ensures { Reads cause_of result cursor.old cursor.new (operation_result_format.read cursor.old) }
+{
+    let mut ahead = cursor.fork();
+    let answer = match ahead.i32()? {
+        OP_INNER => OperationResult::Inner(read_operation_result_tr(alloc, &mut ahead)?),
+        code => plain_value(code, cursor)?,
+    };
+    *cursor = ahead;
+    Ok(answer)
+}
+
+/// Writes what an operation answers.
+#[tactic(auto, unfolding(crate::specs::Results::operation_result))]
+pub fn write_operation_result(
+    value: &OperationResult,
+    builder: &mut Builder,
+) -> Result<(), AllocError>
+    requires { operation_result_format.within value.now }
+    ensures { OnOk result (builder.new ≡ operation_result_format.onto builder.old value.now) }
+{
+    builder.i32(value.code())?;
+    match value {
+        OperationResult::Inner(inner) => write_operation_result_tr(inner, builder),
+        _ => Ok(()),
+    }
+}
+
+/// What operations answer, as a format.
+pub enum OperationResultFormat {}
+
+impl Decode for OperationResultFormat {
+    type Value = OperationResult;
+
+    type Failure = ReadFault;
+
+    ghost format = { operation_result_format };
+
+    fn decode(alloc: Global, cursor: &mut Cursor<'_>) -> Result<OperationResult, ReadFault> {
+        read_operation_result(alloc, cursor)
+    }
+}
+
+impl Encode for OperationResultFormat {
+    fn encode(value: &OperationResult, builder: &mut Builder) -> Result<(), AllocError> {
+        write_operation_result(value, builder)
+    }
+}

@@ -1,0 +1,4 @@
+pub mod OperationLaws
+pub mod BodyLaws
+pub mod TransactionLaws
+pub mod AllLaws

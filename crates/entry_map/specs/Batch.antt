@@ -1,18 +1,18 @@
 -- What changed between two maps.
-use Rattle.std.specs.Prelude.{◌≡◌, ◌≢◌, ◌↔◌, Option, Some, None, List, [], ◌∷◌, All, Contains, map}
-use Rattle.std.specs.declared.cmp.Ordering.TheVariants.{Less}
+use Rattle.std.specs.Prelude.{◌≡◌, ◌≢◌, ◌↔◌, Option, Some, None, Contains, map}
 use Rattle.std.specs.FinMap.{get}
 use Rattle.ledger_types.specs.declared.key.LedgerKey.{LedgerKey}
 use Rattle.ledger_types.specs.declared.entry.LedgerEntry.{LedgerEntry}
-use Rattle.ledger_types.specs.KeyOrder.{key_cmp}
+use Rattle.ledger_types.specs.declared.entry.LedgerEntryBody.{LedgerEntryBody}
+use Rattle.ledger_types.specs.declared.entry.LedgerEntryExtensionV1.{LedgerEntryExtensionV1}
 use Rattle.ledger_types.specs.Keys.{key_of}
 use Rattle.entry_map.specs.declared.batch.Batch.{Batch}
 use Rattle.entry_map.specs.EntryMap.{EntryMap}
+pub use Rattle.entry_map.specs.KeyMaps.{AreRising}
 
--- each key is above those before it
-abbrev pub AreRising : List LedgerKey → Type 0
-AreRising [] = Unit {0}
-AreRising (k ∷ ks) = All (λ q. key_cmp k q ≡ Less) ks × AreRising ks
+-- what of an entry counts as its state: not the ledger of its last change
+abbrev pub parts_of : LedgerEntry → LedgerEntryBody × Option LedgerEntryExtensionV1
+parts_of e = (e.body, e.ext)
 
 -- an entry that was not there
 abbrev pub IsNew : EntryMap → EntryMap → LedgerEntry → Type 0
@@ -20,7 +20,7 @@ IsNew before after e = (get after (key_of e) ≡ Some e) × (get before (key_of 
 
 -- an entry whose body or extension is another than it was
 abbrev pub IsChanged : EntryMap → EntryMap → LedgerEntry → Type 0
-IsChanged before after e = (get after (key_of e) ≡ Some e) × ((old : LedgerEntry) × (get before (key_of e) ≡ Some old) × ((old.body, old.ext) ≢ (e.body, e.ext)))
+IsChanged before after e = (get after (key_of e) ≡ Some e) × ((old : LedgerEntry) × (get before (key_of e) ≡ Some old) × (parts_of old ≢ parts_of e))
 
 -- a key that has no entry any more
 abbrev pub IsGone : EntryMap → EntryMap → LedgerKey → Type 0

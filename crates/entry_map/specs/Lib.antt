@@ -1,3 +1,6 @@
 pub mod EntryMap
+pub mod KeyMaps
+pub mod Layers
 pub mod Batch
+pub mod Noting
 pub mod Undo

@@ -4,45 +4,89 @@ ghost use Rattle.std.specs.Prelude.{◌≡◌, IfOk, OnOk};
 ghost use Rattle.std.specs.FinMap.{get};
 ghost use Rattle.entry_map.specs.EntryMap.{IsNextAfter, put, erase};
 ghost use Rattle.entry_map.specs.Batch.{IsBatch};
-ghost use Rattle.entry_map.specs.Undo.{Undo, started, with_current, IsOpen, opened, undone, kept};
+ghost use Rattle.entry_map.specs.Undo.{started, with_current, IsOpen, opened, undone, kept};
+
+use crate::base::Base;
+use crate::batch::Batch;
+use crate::changes::changes_of;
+use crate::layer::Layer;
+use crate::lookup::entry_at;
+use crate::walk::entry_after;
+use ledger_types::{LedgerEntry, LedgerKey};
+use std::alloc::{AllocError, Global};
+use std::marker::Model;
+use std::mem;
 
 /// A map of entries with undo: layers of changes over a base, which stays as it is. Contracts see the map, the maps that are kept
 /// for undoing, and the base's map. After a call that memory was refused to it may only be dropped.
+#[derive(Drop)]
+pub struct Entries<'a, B: Base> {
+    alloc: Global,
+    base: &'a B,
+    // The changes under the newest open child, the oldest first.
+    lower: Vec<Layer>,
+    top: Layer,
+}
+
+impl<'a, B: Base> Model for Entries<'a, B> {
+    ghost use Rattle.entry_map.specs.Undo.{Undo, undo_code};
+    ghost use Rattle.entry_map.specs.Layers.{undo_of};
+
+    ghost Value = { Undo };
+
+    ghost coded = { undo_code };
+
+    ghost view = { λ e. undo_of (B.entries e.base.now) e.lower.items e.top };
+}
+
 impl<'a, B: Base> Entries<'a, B> {
     /// The base's map, with nothing to undo.
     pub fn new(alloc: Global, base: &'a B) -> Result<Self, AllocError>
         ensures { IfOk result (λ entries. entries ≡ started (B.entries base.now)) }
     {
+        Ok(Entries {
+            alloc,
+            base,
+            lower: Vec::new(alloc),
+            top: Layer::new(alloc),
+        })
     }
 
     /// The entry with a key.
     pub fn get(&self, key: &LedgerKey) -> Result<Option<LedgerEntry>, AllocError>
         ensures { IfOk result (λ entry. entry ≡ get self.now.current key.now) }
     {
+        entry_at(self.base, self.lower.as_slice(), &self.top, key)
     }
 
     /// The entry with the least key above a key.
     pub fn next_after(&self, key: &LedgerKey) -> Result<Option<LedgerEntry>, AllocError>
         ensures { IfOk result (IsNextAfter self.now.current key.now) }
     {
+        entry_after(self.base, self.lower.as_slice(), &self.top, key)
     }
 
     /// Puts an entry under its key, in place of what stood there.
     pub fn put(&mut self, entry: LedgerEntry) -> Result<(), AllocError>
         ensures { OnOk result (self.new ≡ with_current self.old (put self.old.current entry)) }
     {
+        self.top.put(entry)
     }
 
     /// Removes what stands under a key, if anything does.
     pub fn erase(&mut self, key: &LedgerKey) -> Result<(), AllocError>
         ensures { OnOk result (self.new ≡ with_current self.old (erase self.old.current key.now)) }
     {
+        self.top.erase(key)
     }
 
     /// Opens a child, whose changes can be undone together.
     pub fn child(&mut self) -> Result<(), AllocError>
         ensures { OnOk result (self.new ≡ opened self.old) }
     {
+        let top = mem::replace(&mut self.top, Layer::new(self.alloc));
+        self.lower.push(top)?;
+        Ok(())
     }
 
     /// Keeps the changes of the newest child.
@@ -50,6 +94,11 @@ impl<'a, B: Base> Entries<'a, B> {
         requires { IsOpen self.old }
         ensures { OnOk result (self.new ≡ kept self.old) }
     {
+        if let Some(below) = self.lower.pop() {
+            let top = mem::replace(&mut self.top, below);
+            self.top.absorb(top)?;
+        }
+        Ok(())
     }
 
     /// Undoes the changes of the newest child. It takes no memory.
@@ -57,11 +106,15 @@ impl<'a, B: Base> Entries<'a, B> {
         requires { IsOpen self.old }
         ensures { self.new ≡ undone self.old }
     {
+        if let Some(below) = self.lower.pop() {
+            self.top = below;
+        }
     }
 
     /// What changed against the base.
     pub fn changes(&self) -> Result<Batch, AllocError>
         ensures { IfOk result (IsBatch self.now.base self.now.current) }
     {
+        changes_of(self.alloc, self.base, self.lower.as_slice(), &self.top)
     }
 }

@@ -18,6 +18,7 @@ mod liquidity_pool;
 mod offer;
 mod predicate;
 mod price;
+mod same;
 mod signer;
 #[cfg(test)]
 mod tests;

@@ -1,0 +1,271 @@
+-- Going over the known keys in their order.
+use Rattle.std.proofs.Common.{◌≡◌, ◌≢◌, ℕ, ◌+◌, ◌-◌, ◌<◌, ◌≤◌, length, get_or, take, drop, refl, sym, ap, subst, ◌∙◌, arith, Bool, true, false, cond, ◌||◌, List, [], ◌∷◌, Option, Some, None, is_some}
+use Rattle.std.specs.declared.cmp.Ordering.{Ordering}
+use Rattle.std.specs.declared.cmp.Ordering.TheVariants.{Less, Equal, Greater}
+use Rattle.std.specs.Option.{unwrap_or, option_or}
+use Rattle.std.specs.Ordering.{is_lt, is_gt, ordering_reverse, eq_by_cmp}
+use Rattle.std.specs.Cmp.{upto, tied_itself}
+use Rattle.std.specs.List.{list_any}
+use Rattle.std.specs.FinMap.{get, contains_key, keys, contains_key-keys}
+use Rattle.ledger_types.specs.declared.key.LedgerKey.{LedgerKey}
+use Rattle.ledger_types.specs.declared.entry.LedgerEntry.{LedgerEntry}
+use Rattle.ledger_types.specs.Keys.{key_of}
+use Rattle.ledger_types.specs.KeyOrder.{key_cmp}
+use Rattle.ledger_types.proofs.KeyOrdering.{keys_total, keys_exact}
+use Rattle.entry_map.specs.EntryMap.{EntryMap, IsLeastAbove, IsNextAfter}
+use Rattle.entry_map.specs.Layers.{LayerMap, under, under_one, change_of, newest_change, is_changed, is_known, IsLeastKey, IsNextKey, lesser_of}
+use Rattle.entry_map.proofs.KeyMaps.{same_keys}
+use Rattle.std.proofs.lemmas.Grind.{common_steps}
+use Rattle.entry_map.proofs.Under.{get-current}
+
+-- ---- the order
+
+-- a is at most b
+abbrev UpTo : LedgerKey → LedgerKey → Type 0
+UpTo a b = is_gt (key_cmp a b) ≡ false
+
+not_gt : (o : Ordering) → o ≢ Greater → is_gt o ≡ false
+not_gt Less h = refl
+not_gt Equal h = refl
+not_gt Greater h = absurd (h refl)
+
+not_greater : (o : Ordering) → is_gt o ≡ false → o ≢ Greater
+not_greater o h e = cc (ap is_gt e)
+
+turned : (o : Ordering) → o ≢ Less → is_gt (ordering_reverse o) ≡ false
+turned Less h = absurd (h refl)
+turned Equal h = refl
+turned Greater h = refl
+
+unless_less : (a b : LedgerKey) → key_cmp a b ≢ Less → UpTo b a
+unless_less a b h = ap is_gt (keys_total.antisymm b a) ∙ turned (key_cmp a b) h
+
+is_less : (o : Ordering) → is_lt o ≡ true → o ≡ Less
+is_less Less h = refl
+is_less Equal h = cc
+is_less Greater h = cc
+
+less_is : (o : Ordering) → o ≢ Less → is_lt o ≡ false
+less_is Less h = absurd (h refl)
+less_is Equal h = refl
+less_is Greater h = refl
+
+by_order : (P : Type 0) (o : Ordering) → (o ≡ Less → P) → (o ≢ Less → P) → P
+by_order P Less f g = f refl
+by_order P Equal f g = g (λ e. cc)
+by_order P Greater f g = g (λ e. cc)
+
+up_to_less : (a b c : LedgerKey) → UpTo a b → key_cmp b c ≡ Less → key_cmp a c ≡ Less
+up_to_less a b c low above =
+    elim (key_cmp a b) as (λ o. key_cmp a b ≡ o → is_gt o ≡ false → key_cmp a c ≡ Less) [
+      | Less ↦ λ e h. keys_total.trans a b c e above
+      | Equal ↦ λ e h. keys_total.congr a b c e ∙ above
+      | Greater ↦ λ e h. cc
+    ] refl low
+
+-- ---- the lesser of two next keys
+
+or_false : (a b : Bool) → a ≡ false → b ≡ false → (a || b) ≡ false
+or_false a b p q = ap (λ x. x || b) p ∙ q
+
+or_left : (a b : Bool) → a ≡ true → (a || b) ≡ true
+or_left a b p = ap (λ x. x || b) p
+
+or_right : (a b : Bool) → b ≡ true → (a || b) ≡ true
+or_right true b q = refl
+or_right false b q = q
+
+either : (P : Type 0) (a b : Bool) → (a || b) ≡ true → (a ≡ true → P) → (b ≡ true → P) → P
+either P true b h f g = f refl
+either P false b h f g = g h
+
+cannot_be : {P : Type 0} (a : Bool) → a ≡ false → a ≡ true → P
+cannot_be a p q = absurd (cc (p, q))
+
+pub next_either : (p r : LedgerKey → Bool) (k : LedgerKey) (a b : Option LedgerKey) → IsNextKey p k a → IsNextKey r k b → IsNextKey (λ q. p q || r q) k (lesser_of a b)
+next_either p r k None None one other = λ q above. or_false (p q) (r q) (one q above) (other q above)
+next_either p r k None (Some y) one other = record {
+  there = or_right (p y) (r y) other.there;
+  above = other.above;
+  least_of = λ q above passes. either (key_cmp y q ≢ Greater) (p q) (r q) passes (λ h. cannot_be (p q) (one q above) h) (λ h. other.least_of q above h);
+}
+next_either p r k (Some x) None one other = record {
+  there = or_left (p x) (r x) one.there;
+  above = one.above;
+  least_of = λ q above passes. either (key_cmp x q ≢ Greater) (p q) (r q) passes (λ h. one.least_of q above h) (λ h. cannot_be (r q) (other q above) h);
+}
+next_either p r k (Some x) (Some y) one other =
+    elim (is_lt (key_cmp y x)) as (λ t. is_lt (key_cmp y x) ≡ t → IsNextKey (λ q. p q || r q) k (cond t (Some y) (Some x))) [
+      | true ↦ λ e. record {
+        there = or_right (p y) (r y) other.there;
+        above = other.above;
+        least_of = λ q above passes. either (key_cmp y q ≢ Greater) (p q) (r q) passes
+            (λ h. not_greater _ (upto keys_total y x q (ap is_gt (is_less _ e)) (not_gt _ (one.least_of q above h))))
+            (λ h. other.least_of q above h);
+      }
+      | false ↦ λ e. record {
+        there = or_left (p x) (r x) one.there;
+        above = one.above;
+        least_of = λ q above passes. either (key_cmp x q ≢ Greater) (p q) (r q) passes
+            (λ h. one.least_of q above h)
+            (λ h. not_greater _ (upto keys_total x y q (unless_less y x (λ less. cannot_be _ e (ap is_lt less))) (not_gt _ (other.least_of q above h))));
+      }
+    ] refl
+
+-- ---- known keys
+
+is_some-or : {X : Type 0} (a b : Option X) → is_some (option_or a b) ≡ (is_some b || is_some a)
+is_some-or None None = refl
+is_some-or None (Some y) = refl
+is_some-or (Some x) None = refl
+is_some-or (Some x) (Some y) = refl
+
+is_some-change_of : (ls : List LayerMap) (q : LedgerKey) → is_some (change_of ls q) ≡ is_changed ls q
+is_some-change_of [] q = refl
+is_some-change_of (l ∷ ls) q = is_some-or (change_of ls q) (get l q) ∙ ap (λ b. contains_key l q || b) (is_some-change_of ls q)
+
+none_of : {X : Type 0} (o : Option X) → is_some o ≡ false → o ≡ None
+none_of None h = refl
+none_of (Some x) h = cc
+
+turned_or : (a b : Bool) → (a || b) ≡ (b || a)
+turned_or true true = refl
+turned_or true false = refl
+turned_or false true = refl
+turned_or false false = refl
+
+is_some-newest : (ls : List LayerMap) (top : LayerMap) (q : LedgerKey) → is_some (newest_change ls top q) ≡ (contains_key top q || is_changed ls q)
+is_some-newest ls top q = is_some-or (get top q) (change_of ls q) ∙ ap (λ b. b || contains_key top q) (is_some-change_of ls q) ∙ turned_or (is_changed ls q) (contains_key top q)
+
+both_false : (a b : Bool) → (a || b) ≡ false → (a ≡ false) × (b ≡ false)
+both_false true b h = cc
+both_false false b h = (refl, h)
+
+-- a key that no layer changed is as in the base
+pub unchanged : (m : EntryMap) (ls : List LayerMap) (top : LayerMap) (q : LedgerKey) → (contains_key top q || is_changed ls q) ≡ false → get (under_one (under m ls) top) q ≡ get m q
+unchanged m ls top q h = get-current m ls top q ∙ ap (λ o. unwrap_or o (get m q)) (none_of (newest_change ls top q) (is_some-newest ls top q ∙ h))
+
+unknown : (m : EntryMap) (ls : List LayerMap) (top : LayerMap) (q : LedgerKey) → is_known m ls top q ≡ false → get (under_one (under m ls) top) q ≡ None
+unknown m ls top q h = let parts = both_false (contains_key m q) (contains_key top q || is_changed ls q) h in unchanged m ls top q parts.1 ∙ none_of (get m q) parts.0
+
+-- ---- the walk
+
+-- nothing stands above k and up to at
+pub record IsSeenTo (m : EntryMap) (k at : LedgerKey) : Type 0 where
+  pub ahead : is_gt (key_cmp k at) ≡ false
+  pub none : (q : LedgerKey) → key_cmp k q ≡ Less → key_cmp at q ≢ Less → get m q ≡ None
+
+pub seen_first : (m : EntryMap) (k at : LedgerKey) → at ≡ k → IsSeenTo m k at
+seen_first m k at same = record {
+  ahead = ap (λ x. is_gt (key_cmp k x)) same ∙ ap is_gt (tied_itself keys_total k);
+  none = λ q above here. absurd (here (ap (λ x. key_cmp x q) same ∙ above));
+}
+
+module _ (m : EntryMap) (ls : List LayerMap) (top : LayerMap) where
+  abbrev known : LedgerKey → Bool
+  known = is_known m ls top
+
+  abbrev current : EntryMap
+  current = under_one (under m ls) top
+
+  none_before : (at least : LedgerKey) → IsLeastKey known at least → (q : LedgerKey) → key_cmp at q ≡ Less → key_cmp q least ≡ Less → get current q ≡ None
+  none_before at least next q above before =
+      elim (known q) as (λ b. known q ≡ b → get current q ≡ None) [
+        | true ↦ λ e. absurd (next.least_of q above e (keys_total.antisymm least q ∙ ap ordering_reverse before))
+        | false ↦ λ e. unknown m ls top q e
+      ] refl
+
+  pub seen_next : (k at least : LedgerKey) → IsSeenTo current k at → IsLeastKey known at least → get current least ≡ None → IsSeenTo current k least
+  seen_next k at least seen next gone = record {
+    ahead = ap is_gt (up_to_less k at least seen.ahead next.above);
+    none = λ q above here. by_order (get current q ≡ None) (key_cmp at q)
+        (λ later. elim (key_cmp q least) as (λ o. key_cmp q least ≡ o → get current q ≡ None) [
+          | Less ↦ λ before. none_before at least next q later before
+          | Equal ↦ λ tied. ap (get current) (keys_exact q least tied) ∙ gone
+          | Greater ↦ λ after. absurd (here (keys_total.antisymm least q ∙ ap ordering_reverse after))
+        ] refl)
+        (λ early. seen.none q above early);
+  }
+
+  pub found_next : (k at least : LedgerKey) (e : LedgerEntry) → IsSeenTo current k at → IsLeastKey known at least → get current least ≡ Some e → key_of e ≡ least → IsLeastAbove current k e
+  found_next k at least e seen next there own =
+      subst (λ x. (get current x ≡ Some e) × (key_cmp k x ≡ Less) × ((q : LedgerKey) → key_cmp k q ≡ Less → get current q ≢ None → key_cmp x q ≢ Greater) → IsLeastAbove current k e) own
+      (λ h. record { there = h.0; above = h.1; least = h.2 }) (
+        there,
+        up_to_less k at least seen.ahead next.above,
+        λ q above some before. some (by_order (get current q ≡ None) (key_cmp at q)
+            (λ later. none_before at least next q later (keys_total.antisymm q least ∙ ap ordering_reverse before))
+            (λ early. seen.none q above early)),
+      )
+
+  pub ended : (k at : LedgerKey) → IsSeenTo current k at → IsNextKey known at None → IsNextAfter current k None
+  ended k at seen next q above = by_order (get current q ≡ None) (key_cmp at q) (λ later. unknown m ls top q (next q later)) (λ early. seen.none q above early)
+
+-- ---- how many known keys are left
+
+abbrev pub count_above : LedgerKey → List LedgerKey → ℕ
+count_above k [] = 0
+count_above k (q ∷ qs) = cond (is_lt (key_cmp k q)) 1 0 + count_above k qs
+
+abbrev pub changed_above : LedgerKey → List LayerMap → ℕ
+changed_above k [] = 0
+changed_above k (l ∷ ls) = count_above k (keys l) + changed_above k ls
+
+abbrev pub known_above : EntryMap → List LayerMap → LayerMap → LedgerKey → ℕ
+known_above m ls top k = count_above k (keys m) + (count_above k (keys top) + changed_above k ls)
+
+module _ (a b : LedgerKey) (less : key_cmp a b ≡ Less) where
+  counts : (q : LedgerKey) → cond (is_lt (key_cmp b q)) 1 0 ≤ cond (is_lt (key_cmp a q)) 1 0
+  counts q =
+      elim (is_lt (key_cmp b q)) as (λ t. is_lt (key_cmp b q) ≡ t → cond t 1 0 ≤ cond (is_lt (key_cmp a q)) 1 0) [
+        | true ↦ λ e. subst (λ t. 1 ≤ cond t 1 0) (sym (ap is_lt (keys_total.trans a b q less (is_less _ e)))) (omega arith)
+        | false ↦ λ e. omega arith
+      ] refl
+
+  fewer : (ks : List LedgerKey) → count_above b ks ≤ count_above a ks
+  fewer [] = omega arith
+  fewer (k ∷ ks) = omega (arith, counts k, fewer ks)
+
+  counts_itself : (q : LedgerKey) → eq_by_cmp key_cmp b q ≡ true → cond (is_lt (key_cmp b q)) 1 0 < cond (is_lt (key_cmp a q)) 1 0
+  counts_itself q tied = let same : b ≡ q = same_keys b q tied in
+      subst (λ x. cond (is_lt (key_cmp b x)) 1 0 < cond (is_lt (key_cmp a x)) 1 0) same
+      (subst (λ t. cond (is_lt (key_cmp b b)) 1 0 < cond t 1 0) (sym (ap is_lt less)) (subst (λ t. cond t 1 0 < 1) (sym (ap is_lt (tied_itself keys_total b))) (omega arith)))
+
+  falls : (ks : List LedgerKey) → list_any (eq_by_cmp key_cmp b) ks ≡ true → count_above b ks < count_above a ks
+  falls [] h = cc
+  falls (k ∷ ks) h = either (count_above b (k ∷ ks) < count_above a (k ∷ ks)) (eq_by_cmp key_cmp b k) (list_any (eq_by_cmp key_cmp b) ks) h
+      (λ here. omega (arith, counts_itself k here, fewer ks))
+      (λ later. omega (arith, counts k, falls ks later))
+
+  fewer_changed : (ls : List LayerMap) → changed_above b ls ≤ changed_above a ls
+  fewer_changed [] = omega arith
+  fewer_changed (l ∷ ls) = omega (arith, fewer (keys l), fewer_changed ls)
+
+  changed_falls : (ls : List LayerMap) → is_changed ls b ≡ true → changed_above b ls < changed_above a ls
+  changed_falls [] h = cc
+  changed_falls (l ∷ ls) h = either (changed_above b (l ∷ ls) < changed_above a (l ∷ ls)) (contains_key l b) (is_changed ls b) h
+      (λ here. omega (arith, falls (keys l) (sym (contains_key-keys l b) ∙ here), fewer_changed ls))
+      (λ later. omega (arith, fewer (keys l), changed_falls ls later))
+
+pub known_falls : (m : EntryMap) (ls : List LayerMap) (top : LayerMap) (at least : LedgerKey) → IsLeastKey (is_known m ls top) at least → known_above m ls top least < known_above m ls top at
+known_falls m ls top at least next =
+    let less = next.above in
+    either (known_above m ls top least < known_above m ls top at) (contains_key m least) (contains_key top least || is_changed ls least) next.there
+    (λ here. omega (arith, falls at least less (keys m) (sym (contains_key-keys m least) ∙ here), fewer at least less (keys top), fewer_changed at least less ls))
+    (λ later. either (known_above m ls top least < known_above m ls top at) (contains_key top least) (is_changed ls least) later
+    (λ here. omega (arith, fewer at least less (keys m), falls at least less (keys top) (sym (contains_key-keys top least) ∙ here), fewer_changed at least less ls))
+    (λ last. omega (arith, fewer at least less (keys m), fewer at least less (keys top), changed_falls at least less ls last)))
+
+-- ---- as the code finds it
+
+pub next_of_three : (p r s : LedgerKey → Bool) (k : LedgerKey) (a b c a' bc out : Option LedgerKey) → IsNextKey p k a → IsNextKey r k b → IsNextKey s k c
+    → bc ≡ lesser_of b c → a' ≡ a → out ≡ lesser_of a' bc → IsNextKey (λ q. p q || (r q || s q)) k out
+next_of_three p r s k a b c a' bc out one two three is_bc is_a is =
+    subst (IsNextKey (λ q. p q || (r q || s q)) k) (sym (is ∙ ap (λ x. lesser_of x bc) is_a ∙ ap (lesser_of a) is_bc))
+    (next_either p (λ q. r q || s q) k a (lesser_of b c) one (next_either r s k b c two three))
+
+pub next_is : (p : LedgerKey → Bool) (k : LedgerKey) (o p' : Option LedgerKey) → o ≡ p' → IsNextKey p k o → IsNextKey p k p'
+next_is p k o p' is next = subst (IsNextKey p k) is next
+
+pub first_and_rest : {X : Type 0} (xs : List X) (x : X) → 1 ≤ length xs → x ≡ get_or xs 0 x → xs ≡ x ∷ take (length xs - 1) (drop 1 xs)
+first_and_rest xs x h e = grind (arith, common_steps)

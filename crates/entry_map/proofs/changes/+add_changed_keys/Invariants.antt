@@ -1,0 +1,5 @@
+use Rattle.std.proofs.Common.{length}
+use Rattle.entry_map.proofs.changes.+add_changed_keys.Given as goal
+
+abbrev pub decreases-add_changed_keys : goal.decreases-add_changed_keys
+decreases-add_changed_keys l = length l.layers.now

@@ -1,0 +1,11 @@
+use Rattle.std.proofs.Common.{◌≡◌, ◌||◌}
+use Rattle.std.specs.List.{list_any}
+use Rattle.std.specs.Ordering.{eq_by_cmp}
+use Rattle.std.specs.FinMap.{contains_key}
+use Rattle.ledger_types.specs.declared.key.LedgerKey.{LedgerKey}
+use Rattle.ledger_types.specs.KeyOrder.{key_cmp}
+use Rattle.entry_map.proofs.key_map.KeyMap.add_keys_to.Given as goal
+
+-- with the keys that are left, all are there
+abbrev pub invariant-loop-key : goal.invariant-loop-key
+invariant-loop-key g l = (q : LedgerKey) → (contains_key l.keys q || list_any (eq_by_cmp key_cmp q) l.key-iterator) ≡ (contains_key l.initial.keys q || contains_key l.self q)

@@ -1,0 +1,6 @@
+use Rattle.std.proofs.Common.{subst}
+use Rattle.entry_map.specs.Layers.{IsKeyedLayer}
+use Rattle.entry_map.proofs.layer.Layer.get.Goals as goal
+
+pub returns-clause-keyed : goal.returns-clause-keyed
+returns-clause-keyed c = subst IsKeyedLayer c.self.view_is c.self.invariant

@@ -1,0 +1,5 @@
+use Rattle.std.proofs.Common.{length}
+use Rattle.entry_map.proofs.lookup.+change_in.Given as goal
+
+abbrev pub decreases-change_in : goal.decreases-change_in
+decreases-change_in l = length l.layers.now

@@ -1,0 +1,200 @@
+//! What no contract says: that calls succeed where there is memory, and what a map with undo has after changes that were made by
+//! hand.
+
+ghost use Rattle.std.specs.Prelude.{◌≡◌, pos, IfOk, map};
+ghost use Rattle.std.specs.List.{IsDistinct};
+ghost use Rattle.std.specs.Ordering.{eq_by_cmp};
+ghost use Rattle.ledger_types.specs.Keys.{key_of};
+ghost use Rattle.ledger_types.specs.KeyOrder.{key_cmp};
+ghost use Rattle.ledger_types.specs.declared.key.LedgerKey.TheVariants.{Offer};
+
+use crate::{Batch, Entries, MapBase};
+use ledger_types::{AccountId, Asset, LedgerEntry, LedgerEntryBody, LedgerKey, OfferEntry, Price};
+use std::alloc::{AllocError, Global};
+use std::process::Abort;
+use std::test::Fail;
+
+/// An offer of an account.
+fn offer(seller_id: AccountId, number: u8, amount: i64, last_modified: u32) -> LedgerEntry
+    ensures { key_of result ≡ Offer seller_id (pos number) }
+{
+    LedgerEntry {
+        last_modified_ledger_seq: last_modified,
+        body: LedgerEntryBody::Offer(OfferEntry {
+            seller_id,
+            offer_id: i64::from(number),
+            selling: Asset::Native,
+            buying: Asset::Native,
+            amount,
+            price: Price { n: 1, d: 1 },
+            flags: 0,
+        }),
+        ext: None,
+    }
+}
+
+/// The key of an offer.
+fn key(seller_id: AccountId, number: u8) -> LedgerKey {
+    LedgerKey::Offer {
+        seller_id,
+        offer_id: i64::from(number),
+    }
+}
+
+/// The first offers of an account, each of a hundred times its number, from 0 on.
+fn first_offers(
+    alloc: Global,
+    seller_id: AccountId,
+    count: u8,
+) -> Result<Vec<LedgerEntry>, AllocError>
+    ensures { IfOk result (λ offers. IsDistinct (eq_by_cmp key_cmp) (map key_of offers.items)) }
+{
+    let mut offers = Vec::new(alloc);
+    for number in 0..count {
+        offers.push(offer(seller_id, number, 100 * i64::from(number), 1))?;
+    }
+    Ok(offers)
+}
+
+/// The number and the amount of an offer.
+fn shown(entry: &LedgerEntry) -> Option<(i64, i64)> {
+    match &entry.body {
+        LedgerEntryBody::Offer(offer) => Some((offer.offer_id, offer.amount)),
+        _ => None,
+    }
+}
+
+/// The number and the amount of an offer, if there is one.
+fn shown_if(entry: &Option<LedgerEntry>) -> Option<(i64, i64)> {
+    match entry {
+        Some(entry) => shown(entry),
+        None => None,
+    }
+}
+
+/// The first of some offers whose number is at least a number.
+fn first_from(offers: &[(i64, i64)], number: i64) -> Option<(i64, i64)> {
+    for offer in offers {
+        if offer.0 >= number {
+            return Some(*offer);
+        }
+    }
+    None
+}
+
+/// The changes of the lowest layer: an offer is erased, one is changed, and one is put.
+fn change_first(entries: &mut Entries<'_, MapBase>, seller: AccountId) -> Result<(), AllocError> {
+    entries.erase(&key(seller, 3))?;
+    entries.put(offer(seller, 5, 55, 2))?;
+    entries.put(offer(seller, 11, 1100, 2))
+}
+
+/// The changes of the middle layer: the changed offer is erased, the erased one is put otherwise, and one is put.
+fn change_second(entries: &mut Entries<'_, MapBase>, seller: AccountId) -> Result<(), AllocError> {
+    entries.erase(&key(seller, 5))?;
+    entries.put(offer(seller, 3, 33, 3))?;
+    entries.put(offer(seller, 12, 1200, 3))
+}
+
+/// The changes of the upper layer: an offer is put back as it was, and two are erased, one of which no base has.
+fn change_third(entries: &mut Entries<'_, MapBase>, seller: AccountId) -> Result<(), AllocError> {
+    entries.put(offer(seller, 5, 500, 4))?;
+    entries.erase(&key(seller, 12))?;
+    entries.erase(&key(seller, 1))
+}
+
+/// The changes of three layers.
+fn change(entries: &mut Entries<'_, MapBase>, seller: AccountId) -> Result<(), AllocError> {
+    change_first(entries, seller)?;
+    entries.child()?;
+    change_second(entries, seller)?;
+    entries.child()?;
+    change_third(entries, seller)
+}
+
+/// Looks up offers by their numbers, and what comes after each.
+fn check_map(
+    rt: &impl Abort,
+    entries: &Entries<'_, MapBase>,
+    seller: AccountId,
+    offers: &[(i64, i64)],
+) -> Result<(), AllocError> {
+    for number in 0..16u8 {
+        let found = shown_if(&entries.get(&key(seller, number))?);
+        let next = shown_if(&entries.next_after(&key(seller, number))?);
+        let from = first_from(offers, i64::from(number));
+        let after = first_from(offers, i64::from(number) + 1);
+        assert_eq!(rt; next, after, "after {number}");
+        assert_eq!(rt;
+            found,
+            if from == after { None } else { from },
+            "at {number}"
+        );
+    }
+    Ok(())
+}
+
+/// The one new offer, the one changed offer and the number of the one that is gone.
+fn check_changes(rt: &impl Abort, batch: &Batch) {
+    match batch.init.as_slice() {
+        [new] => assert_eq!(rt; shown(new), Some((11, 1100))),
+        _ => panic!(rt; "not one new offer"),
+    }
+    match batch.live.as_slice() {
+        [changed] => assert_eq!(rt; shown(changed), Some((3, 33))),
+        _ => panic!(rt; "not one changed offer"),
+    }
+    match batch.dead.as_slice() {
+        [LedgerKey::Offer { offer_id, .. }] => assert_eq!(rt; *offer_id, 1),
+        _ => panic!(rt; "not one offer that is gone"),
+    }
+}
+
+#[test]
+fn three_layers_are_as_a_plain_list(rt: HostRuntime) -> Result<(), Fail> {
+    let seller = AccountId([7; 32]);
+    let base = MapBase::from_entries(first_offers(rt.alloc(), seller, 10)?)?;
+    let mut entries = Entries::new(rt.alloc(), &base)?;
+    change(&mut entries, seller)?;
+    let offers = [
+        (0, 0),
+        (2, 200),
+        (3, 33),
+        (4, 400),
+        (5, 500),
+        (6, 600),
+        (7, 700),
+        (8, 800),
+        (9, 900),
+        (11, 1100),
+    ];
+    check_map(&rt, &entries, seller, &offers)?;
+    check_changes(&rt, &entries.changes()?);
+    Ok(())
+}
+
+#[test]
+fn a_dropped_child_leaves_no_trace(rt: HostRuntime) -> Result<(), Fail> {
+    let seller = AccountId([7; 32]);
+    let base = MapBase::from_entries(first_offers(rt.alloc(), seller, 3)?)?;
+    let mut entries = Entries::new(rt.alloc(), &base)?;
+    entries.child()?;
+    entries.erase(&key(seller, 1))?;
+    entries.drop_child();
+    assert_eq!(rt; shown_if(&entries.get(&key(seller, 1))?), Some((1, 100)));
+    let batch = entries.changes()?;
+    assert!(rt; batch.init.is_empty() && batch.live.is_empty() && batch.dead.is_empty());
+    Ok(())
+}
+
+#[test]
+fn a_kept_child_stays(rt: HostRuntime) -> Result<(), Fail> {
+    let seller = AccountId([7; 32]);
+    let base = MapBase::from_entries(first_offers(rt.alloc(), seller, 1)?)?;
+    let mut entries = Entries::new(rt.alloc(), &base)?;
+    entries.child()?;
+    entries.put(offer(seller, 1, 100, 1))?;
+    entries.commit()?;
+    assert_eq!(rt; shown_if(&entries.get(&key(seller, 1))?), Some((1, 100)));
+    Ok(())
+}

@@ -1,4 +1,4 @@
-//! The codecs of whole types, as formats.
+//! The codecs of whole types, as formats. Where a type has copies, a copy of what was read is answered.
 
 ghost use Rattle.xdr_entries.specs.Basic.{price, signer_key, trust_line_asset};
 ghost use Rattle.xdr_entries.specs.Entries.{ledger_entry};
@@ -41,7 +41,10 @@ impl Decode for CloseRecordFormat {
     ghost format = { close_record };
 
     fn decode(alloc: Global, cursor: &mut Cursor<'_>) -> Result<CloseRecord, ReadFault> {
-        read_close_record(alloc, cursor)
+        let mut ahead = cursor.fork();
+        let value = read_close_record(alloc, &mut ahead)?.copy()?;
+        *cursor = ahead;
+        Ok(value)
     }
 }
 
@@ -62,7 +65,10 @@ impl Decode for LedgerEntryFormat {
     ghost format = { ledger_entry };
 
     fn decode(alloc: Global, cursor: &mut Cursor<'_>) -> Result<LedgerEntry, ReadFault> {
-        read_ledger_entry(alloc, cursor)
+        let mut ahead = cursor.fork();
+        let value = read_ledger_entry(alloc, &mut ahead)?.copy()?;
+        *cursor = ahead;
+        Ok(value)
     }
 }
 
@@ -83,7 +89,10 @@ impl Decode for LedgerHeaderFormat {
     ghost format = { ledger_header };
 
     fn decode(alloc: Global, cursor: &mut Cursor<'_>) -> Result<LedgerHeader, ReadFault> {
-        read_ledger_header(alloc, cursor)
+        let mut ahead = cursor.fork();
+        let value = read_ledger_header(alloc, &mut ahead)?.copy()?;
+        *cursor = ahead;
+        Ok(value)
     }
 }
 
@@ -104,7 +113,10 @@ impl Decode for LedgerKeyFormat {
     ghost format = { ledger_key };
 
     fn decode(alloc: Global, cursor: &mut Cursor<'_>) -> Result<LedgerKey, ReadFault> {
-        read_ledger_key(alloc, cursor)
+        let mut ahead = cursor.fork();
+        let value = read_ledger_key(alloc, &mut ahead)?.copy()?;
+        *cursor = ahead;
+        Ok(value)
     }
 }
 
@@ -146,7 +158,10 @@ impl Decode for MemoFormat {
     ghost format = { memo };
 
     fn decode(alloc: Global, cursor: &mut Cursor<'_>) -> Result<Memo, ReadFault> {
-        read_memo(alloc, cursor)
+        let mut ahead = cursor.fork();
+        let value = read_memo(alloc, &mut ahead)?.copy()?;
+        *cursor = ahead;
+        Ok(value)
     }
 }
 
@@ -167,7 +182,10 @@ impl Decode for PredicateFormat {
     ghost format = { claim_predicate };
 
     fn decode(alloc: Global, cursor: &mut Cursor<'_>) -> Result<ClaimPredicate, ReadFault> {
-        read_claim_predicate(alloc, cursor)
+        let mut ahead = cursor.fork();
+        let value = read_claim_predicate(alloc, &mut ahead)?.copy()?;
+        *cursor = ahead;
+        Ok(value)
     }
 }
 
@@ -230,7 +248,10 @@ impl Decode for StellarValueFormat {
     ghost format = { stellar_value };
 
     fn decode(alloc: Global, cursor: &mut Cursor<'_>) -> Result<StellarValue, ReadFault> {
-        read_stellar_value(alloc, cursor)
+        let mut ahead = cursor.fork();
+        let value = read_stellar_value(alloc, &mut ahead)?.copy()?;
+        *cursor = ahead;
+        Ok(value)
     }
 }
 
@@ -251,7 +272,10 @@ impl Decode for TransactionSetFormat {
     ghost format = { transaction_set };
 
     fn decode(alloc: Global, cursor: &mut Cursor<'_>) -> Result<TransactionSet, ReadFault> {
-        read_transaction_set(alloc, cursor)
+        let mut ahead = cursor.fork();
+        let value = read_transaction_set(alloc, &mut ahead)?.copy()?;
+        *cursor = ahead;
+        Ok(value)
     }
 }
 
@@ -293,7 +317,10 @@ impl Decode for ResultSetFormat {
     ghost format = { transaction_result_set };
 
     fn decode(alloc: Global, cursor: &mut Cursor<'_>) -> Result<TransactionResultSet, ReadFault> {
-        read_transaction_result_set(alloc, cursor)
+        let mut ahead = cursor.fork();
+        let value = read_transaction_result_set(alloc, &mut ahead)?.copy()?;
+        *cursor = ahead;
+        Ok(value)
     }
 }
 
@@ -314,7 +341,10 @@ impl Decode for ImageFormat {
     ghost format = { start_image };
 
     fn decode(alloc: Global, cursor: &mut Cursor<'_>) -> Result<StartImage, ReadFault> {
-        read_start_image(alloc, cursor)
+        let mut ahead = cursor.fork();
+        let value = read_start_image(alloc, &mut ahead)?.copy()?;
+        *cursor = ahead;
+        Ok(value)
     }
 }
 
@@ -335,7 +365,10 @@ impl Decode for BucketEntryFormat {
     ghost format = { bucket_entry };
 
     fn decode(alloc: Global, cursor: &mut Cursor<'_>) -> Result<BucketEntry, ReadFault> {
-        read_bucket_entry(alloc, cursor)
+        let mut ahead = cursor.fork();
+        let value = read_bucket_entry(alloc, &mut ahead)?.copy()?;
+        *cursor = ahead;
+        Ok(value)
     }
 }
 

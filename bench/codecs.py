@@ -1,0 +1,155 @@
+#!/usr/bin/env python3
+"""Times the reading and writing of ledger entries and of transaction sets.
+
+    bench/codecs.py [PROGRAM]
+
+PROGRAM is the built program, crates/speed/out/speed of this repository where none is given.
+
+The entries are accounts, trust lines, offers and data entries in turn, whose keys look random, the
+same in each run of this script: at least 64 MB (1 MB is 1,000,000 bytes) of them. The sets have
+1,000, 10,000 and 100,000 transactions, of one payment and one signature each.
+
+Each run is made 3 times, or 20 times for an input below 4 MB, and the best time counts. The time of a run with an empty input is
+taken off, so that starting the program is not counted; reading the file is. A line of the program
+must tell as many values as the script made, and where they are written again, as many bytes.
+
+The script prints MB a second, and the ratio of the time to that of sha256sum over the same bytes.
+
+Exit status: 0 where all is well, 1 where 100,000 transactions take more than 15 times as long to
+read as 10,000, 2 where a run fails or prints another line. Python 3.9 or later, its standard library, and
+sha256sum.
+"""
+
+import os
+import random
+import struct
+import subprocess
+import sys
+import tempfile
+import time
+
+TOP = os.path.dirname(os.path.dirname(os.path.abspath(__file__)))
+LEAST_BYTES = 64_000_000
+SETS = (1_000, 10_000, 100_000)
+GREATEST_RATIO = 15
+SMALL = 4_000_000
+
+
+def stop(why):
+    print(f"{os.path.basename(sys.argv[0])}: {why}", file=sys.stderr)
+    sys.exit(2)
+
+
+def u32(number):
+    return struct.pack(">I", number)
+
+
+def i64(number):
+    return struct.pack(">q", number)
+
+
+def opaque(text):
+    return u32(len(text)) + text + bytes(-len(text) % 4)
+
+
+def account_id(rng):
+    return u32(0) + rng.randbytes(32)
+
+
+def asset(rng):
+    return u32(1) + b"USD\0" + account_id(rng)
+
+
+def account(rng):
+    head = account_id(rng) + i64(rng.randrange(1 << 62)) + i64(rng.randrange(1 << 62)) + u32(3)
+    return u32(0) + head + u32(0) + u32(0) + opaque(b"example.org") + bytes([1, 0, 0, 0]) + u32(0) + u32(0)
+
+
+def trust_line(rng):
+    return u32(1) + account_id(rng) + asset(rng) + i64(rng.randrange(1 << 62)) + i64((1 << 63) - 1) + u32(1) + u32(0)
+
+
+def offer(rng):
+    head = account_id(rng) + i64(rng.randrange(1, 1 << 40)) + u32(0) + asset(rng)
+    return u32(2) + head + i64(rng.randrange(1 << 40)) + u32(3) + u32(2) + u32(0) + u32(0)
+
+
+def data(rng):
+    return u32(3) + account_id(rng) + opaque(b"name") + opaque(rng.randbytes(32)) + u32(0)
+
+
+def entries():
+    rng, texts, length = random.Random(1), [], 0
+    makers = (account, trust_line, offer, data)
+    while length < LEAST_BYTES:
+        text = u32(rng.randrange(1 << 31)) + makers[len(texts) % len(makers)](rng) + u32(0)
+        texts.append(text)
+        length += len(text)
+    return len(texts), b"".join(texts)
+
+
+def transaction(rng):
+    payment = u32(0) + u32(1) + u32(0) + rng.randbytes(32) + u32(0) + i64(rng.randrange(1, 1 << 40))
+    body = u32(0) + rng.randbytes(32) + u32(100) + i64(rng.randrange(1 << 62)) + u32(0) + u32(0)
+    return u32(2) + body + u32(1) + payment + u32(0) + u32(1) + rng.randbytes(4) + opaque(rng.randbytes(64))
+
+
+def transaction_set(count):
+    rng = random.Random(count)
+    return rng.randbytes(32) + u32(count) + b"".join(transaction(rng) for _ in range(count))
+
+
+def seconds_of(words, wanted=None):
+    best = None
+    for _ in range(20 if os.path.getsize(words[-1]) < SMALL else 3):
+        begin = time.perf_counter()
+        ran = subprocess.run(words, capture_output=True, check=False)
+        took = time.perf_counter() - begin
+        if ran.returncode or (wanted is not None and ran.stdout.decode() != wanted):
+            stop(f"{' '.join(words)}: status {ran.returncode}, {ran.stdout[:200]!r}")
+        best = took if best is None else min(best, took)
+    return best
+
+
+def main():
+    program = sys.argv[1] if len(sys.argv) > 1 else f"{TOP}/crates/speed/out/speed"
+    with tempfile.TemporaryDirectory() as folder:
+        path = f"{folder}/input"
+
+        def write(text):
+            with open(path, "wb") as out:
+                out.write(text)
+
+        def measure(command, count, text, start):
+            hashed = seconds_of(["sha256sum", path])
+            took = []
+            for again in ("", "-again"):
+                written = len(text) if again else 0
+                line = f"{command}{again}: {count} values, {written} bytes written\n"
+                seconds = max(seconds_of([program, command + again, path], line) - start, 1e-9)
+                took.append(seconds)
+                what = "read and written" if again else "read"
+                print(
+                    f"{command}: {count:7} values {len(text):9} bytes {what:16} {seconds:7.3f} s"
+                    f"  {len(text) / seconds / 1e6:6.0f} MB/s  {seconds / hashed:5.2f} times sha256sum"
+                )
+            return took[0]
+
+        write(b"")
+        start = seconds_of([program, "entries", path])
+        count, text = entries()
+        write(text)
+        measure("entries", count, text, start)
+        times = []
+        for count in SETS:
+            text = transaction_set(count)
+            write(text)
+            # (a set is one value, and its values are counted as its transactions)
+            times.append(measure("set", count, text, start))
+        ratio = times[2] / times[1]
+        print(f"100,000 transactions take {ratio:.1f} times as long as 10,000, at most {GREATEST_RATIO}")
+        sys.exit(ratio > GREATEST_RATIO)
+
+
+if __name__ == "__main__":
+    main()

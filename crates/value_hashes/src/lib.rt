@@ -2,6 +2,8 @@
 //! header and of its results, each SHA-256 (FIPS 180-4) of the one spelling.
 #![tactic(auto)]
 
+#[cfg(test)]
+mod end_tests;
 mod envelope;
 mod ledger;
 #[cfg(test)]

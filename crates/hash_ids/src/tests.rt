@@ -1,5 +1,4 @@
-//! Ids that the networks publish, ids that Stellar's JavaScript library makes, and hashes that another SHA-256 makes of preimages
-//! laid out by hand.
+//! Ids that the networks publish, and hashes that another SHA-256 makes of preimages laid out by hand.
 
 use super::*;
 use ledger_types::{AccountId, Asset, Hash};
@@ -59,7 +58,7 @@ const EUROS: Asset = Asset::Alphanum12 {
     issuer: SOURCE,
 };
 
-// The JavaScript library's, of the source's first operation at the sequence number 1235: 00000006, the source behind 00000000,
+// Of the source's first operation at the sequence number 1235: 00000006, the source behind 00000000,
 // 00000000000004d3 and 00000000.
 const BALANCE: Hash = Hash([
     0x53, 0x6a, 0xf3, 0x5c, 0x66, 0x6a, 0x28, 0xd2, 0x67, 0x75, 0x00, 0x83, 0x21, 0x65, 0x5e, 0x9e,
@@ -73,7 +72,7 @@ const REVOCATION: Hash = Hash([
     0x17, 0xe6, 0x74, 0x15, 0xa5, 0x3c, 0x54, 0x86, 0x32, 0xad, 0x80, 0xc6, 0x78, 0x38, 0x6c, 0x39,
 ]);
 
-// The JavaScript library's, of pesos and dollars.
+// Of pesos and dollars, each its arm, code and issuer behind 00000000, behind 00000000, and then 0000001e.
 const POOL: Hash = Hash([
     0xdd, 0x7b, 0x1a, 0xb8, 0x31, 0xc2, 0x73, 0x31, 0x0d, 0xdb, 0xec, 0x6f, 0x97, 0x87, 0x0a, 0xa8,
     0x3c, 0x2f, 0xbd, 0x78, 0xce, 0x22, 0xad, 0xed, 0x37, 0xec, 0xbf, 0x4f, 0x33, 0x80, 0xfa, 0xc7,

@@ -1,7 +1,8 @@
 //! Layers of changes over a base.
 
-ghost use Rattle.std.specs.Prelude.{◌≡◌, IfOk, OnOk};
+ghost use Rattle.std.specs.Prelude.{◌≡◌, IfOk, IfSome, OnOk};
 ghost use Rattle.std.specs.FinMap.{get};
+ghost use Rattle.ledger_types.specs.Keys.{key_of};
 ghost use Rattle.entry_map.specs.EntryMap.{IsNextAfter, put, erase};
 ghost use Rattle.entry_map.specs.Batch.{IsBatch};
 ghost use Rattle.entry_map.specs.Undo.{started, with_current, IsOpen, opened, undone, kept};
@@ -54,7 +55,8 @@ impl<'a, B: Base> Entries<'a, B> {
 
     /// The entry with a key.
     pub fn get(&self, key: &LedgerKey) -> Result<Option<LedgerEntry>, AllocError>
-        ensures { IfOk result (λ entry. entry ≡ get self.now.current key.now) }
+        ensures found { IfOk result (λ entry. entry ≡ get self.now.current key.now) }
+        ensures keyed { IfOk result (λ entry. IfSome entry (λ e. key_of e ≡ key.now)) }
     {
         entry_at(self.base, self.lower.as_slice(), &self.top, key)
     }

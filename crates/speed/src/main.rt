@@ -1,16 +1,23 @@
-//! What the scripts in bench/ time: values read from a file, and written again.
+//! What the scripts in bench/ time: values read from a file and written again, and entries put over a base and got.
 //!
 //!     speed entries FILE            reads the ledger entries of a file, one behind another
 //!     speed entries-again FILE      reads them, and writes them again
 //!     speed set FILE                reads the transaction set of a file
 //!     speed set-again FILE          reads it, and writes it again
 //!
-//! Each prints how many values were read and how many bytes were written.
+//! Each of these prints how many values were read and how many bytes were written.
+//!
+//!     speed map COUNT               makes a base of so many offers, puts as many over it, and gets as many
+//!     speed map-base COUNT          makes the base alone
+//!
+//! Both print how many offers were put, how many were found, and the sum of the amounts of those.
 #![tactic(auto)]
 
 mod codecs;
+mod entries;
 
 use codecs::{Done, pass_entries, pass_set};
+use entries::{Tally, pass_offers};
 use std::rt::Files;
 use std::{env, fs, io};
 
@@ -38,11 +45,37 @@ fn report<R: Files + Print + AllocGlobal>(rt: &R, command: &str, path: &str) -> 
     println!(rt; "{command}: {values} values, {written} bytes written")
 }
 
+/// Passes offers, as many as a word says.
+fn run_offers<R: AllocGlobal>(rt: &R, count: &str, over: bool) -> Option<Tally> {
+    let count = count.parse().ok()?;
+    pass_offers(rt.alloc(), count, over).ok()
+}
+
+/// Passes offers and prints what was done.
+fn report_offers<R: Print + AllocGlobal>(
+    rt: &R,
+    command: &str,
+    count: &str,
+    over: bool,
+) -> io::Result<()> {
+    let Some(tally) = run_offers(rt, count, over) else {
+        return println!(rt; "{command}: nothing was done");
+    };
+    let puts = tally.puts;
+    let found = tally.found;
+    let amounts = tally.amounts;
+    println!(rt; "{command}: {puts} puts, {found} found, amounts {amounts}")
+}
+
 fn main(rt: HostRuntime) -> io::Result<()> {
     let mut words = env::args(&rt)?;
     let _program = words.next();
-    let (Some(command), Some(path)) = (words.next(), words.next()) else {
+    let (Some(command), Some(word)) = (words.next(), words.next()) else {
         return println!(rt; "no command");
     };
-    report(&rt, command.as_str(), path.as_str())
+    match command.as_str().as_bytes() {
+        b"map" => report_offers(&rt, command.as_str(), word.as_str(), true),
+        b"map-base" => report_offers(&rt, command.as_str(), word.as_str(), false),
+        _ => report(&rt, command.as_str(), word.as_str()),
+    }
 }

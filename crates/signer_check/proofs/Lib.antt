@@ -1,0 +1,4 @@
+pub mod Needs
+pub mod Own
+pub mod Places
+pub mod Turns

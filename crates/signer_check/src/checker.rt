@@ -1,0 +1,71 @@
+//! Checks of a transaction's signatures.
+
+ghost use Rattle.std.specs.Prelude.{◌≡◌, ◌≤◌, ◌↔◌, IsTrue, true, length, map, All, IfOk};
+ghost use Rattle.signer_check.specs.Weight.{held, succeeds, after_check};
+
+use crate::held::HeldSignature;
+use crate::reaching::reach;
+use item_list::ItemList;
+use ledger_types::{AccountEntry, Hash};
+use op_types::DecoratedSignature;
+use std::alloc::{AllocError, Global};
+use std::mem;
+
+/// The signatures of a transaction, and which of them the checks so far used (SignatureChecker in stellar-core).
+#[derive(Debug, Drop)]
+pub struct Checker {
+    /// The hash of the transaction.
+    hash: Hash,
+    /// Its signatures, in their order.
+    signatures: ItemList<HeldSignature>,
+}
+
+impl Checker {
+    /// The signatures of the transaction with this hash, of which none is used. It takes all the memory that checks need.
+    pub fn new(
+        alloc: Global,
+        hash: &Hash,
+        signatures: &[DecoratedSignature],
+    ) -> Result<Checker, AllocError>
+        ensures { IfOk result (λ checker. checker ≡ record { hash = hash.now; signatures = map held signatures.now }) }
+    {
+        let mut all = ItemList::new(alloc);
+        for signature in signatures {
+            all.push(HeldSignature::of(signature))?;
+        }
+        Ok(Checker {
+            hash: *hash,
+            signatures: all,
+        })
+    }
+
+    /// Whether the signatures reach a weight for an account: pre-authorised signers count first, and then the hash-x signers by the
+    /// signatures in their order, each signer once and with at most 255. The check ends as soon as a signer that counts brings the sum
+    /// to `needed`, so a need of 0 takes one signer. It takes no memory.
+    pub fn check(&mut self, account: &AccountEntry, needed: u32) -> bool
+        requires { length account.now.signers ≤ 20 }
+        ensures succeeds { result ≡ succeeds self.old.hash self.old.signatures account.now needed }
+        ensures used { self.new ≡ record self.old { signatures = after_check self.old.hash self.old.signatures account.now needed } }
+    {
+        let alloc = self.signatures.allocator();
+        let mut signatures = mem::replace(&mut self.signatures, ItemList::new(alloc)).into_vec();
+        let has_reached = reach(
+            &self.hash,
+            &mut signatures,
+            account.signers.as_slice(),
+            needed,
+        );
+        self.signatures = ItemList::from_vec(signatures);
+        has_reached
+    }
+
+    /// Whether each signature was used by some check. It takes no memory.
+    pub fn all_used(&self) -> bool
+        ensures { IsTrue result ↔ All (λ signature. signature.is_used ≡ true) self.now.signatures }
+    {
+        self.signatures
+            .as_slice()
+            .iter()
+            .all(|signature| signature.is_used)
+    }
+}

@@ -1,0 +1,13 @@
+//! Which signatures of a transaction count for an account, and what they weigh.
+#![tactic(auto)]
+
+mod checker;
+mod counting;
+mod held;
+mod matching;
+mod missing;
+mod reaching;
+#[cfg(test)]
+mod tests;
+
+pub use checker::Checker;

@@ -1,0 +1,98 @@
+-- Adding a signer keeps counts equal to their sums.
+use Rattle.std.proofs.Common.{◌≡◌, ◌≢◌, inl, inr, refl, sym, ap, subst, ◌∙◌, ℕ, ◌+◌, ◌<◌, ◌≤◌, Bool, true, false, cond, List, length, get_or, Option, Some, None, Ok, Contains, slice_set, nat_lt, arith}
+use Rattle.std.specs.Prelude.{if◌then◌else◌}
+use Rattle.std.specs.List.{sum_by, count_by, insert, remove, position, position_or_len}
+use Rattle.std.specs.FinMap.{get}
+use Rattle.std.proofs.lemmas.List.{length-set}
+use Rattle.std.proofs.lemmas.List.Edits.{length-insert, length-remove}
+use Rattle.std.proofs.lemmas.List.Sums.{sum_by-insert, sum_by-remove, sum_by-set, get_or-le-sum_by, prefix_len-le-length}
+use borrow.Author.Tests.{ltb-true}
+use Rattle.ledger_types.specs.declared.ids.AccountId.{AccountId}
+use Rattle.ledger_types.specs.declared.signer.Signer.{Signer}
+use Rattle.ledger_types.specs.declared.signer.SignerKey.{SignerKey}
+use Rattle.ledger_types.specs.declared.account.AccountEntry.{AccountEntry}
+use Rattle.ledger_types.specs.declared.entry.LedgerEntry.{LedgerEntry}
+use Rattle.ledger_types.specs.declared.entry.LedgerEntryBody.TheVariants as body
+use Rattle.ledger_types.specs.declared.key.LedgerKey.TheVariants as key
+use Rattle.entry_map.specs.EntryMap.{EntryMap}
+use Rattle.sponsor_rules.specs.declared.context.Ctx.{Ctx}
+use Rattle.sponsor_rules.specs.declared.count.Count.{Count}
+use Rattle.sponsor_rules.specs.declared.count.Count.TheVariants.{SubEntries, Sponsoring, Sponsored}
+use Rattle.sponsor_rules.specs.Accounts.{account_in, account_at, with_account, Stands}
+use Rattle.sponsor_rules.specs.Counts.{count_in, owner_of, raise, lower, subentry_counted, subentry_released, sponsor_paying, sponsor_released}
+use Rattle.sponsor_rules.specs.Payers.{open_sponsor, other_than, payer_of, payer_by, subentry_tests, move_tests}
+use Rattle.sponsor_rules.specs.Signers.{found_at, place_for, place_of, signer_sponsor, with_signer, without_signer, with_signer_sponsor, adding_signer, signer_in, removing_found, moving_found, moved_signer}
+use Rattle.sponsor_laws.specs.Sums.{is_this, is_there, signer_sponsors, total, counted_for}
+use Rattle.sponsor_laws.specs.Laws.{IsApart, PayerStands, AddingSignerKeeps, RemovingSignerKeeps, MovingSignerKeeps}
+use Rattle.sponsor_laws.proofs.Accounts.{share, own_part, counted_split, is_itself, as_many}
+use Rattle.sponsor_laws.proofs.Even.{IsEven, even, kept_of, account_body, account_entry, same_id, all_few, all_fit}
+use Rattle.sponsor_laws.proofs.Shifts.{Shift, at_one, plus, no_shift, IsShiftedAccount, unshifted}
+use Rattle.sponsor_laws.proofs.Changes.{shifted_raise, shifted_lower}
+use Rattle.sponsor_laws.proofs.Paying.{HasEnough, shared, shifted_paying, shifted_released}
+use Rattle.sponsor_laws.proofs.Parts.{enough, in_total}
+use Rattle.sponsor_laws.proofs.Bounds.{done_by, have_passed, has_few, has_room, few_more, both_more, pays_more, HasRoom}
+use Rattle.sponsor_laws.proofs.Moving.{other_is, room_of}
+use Rattle.sponsor_laws.proofs.Edits.{IsEdited, edited, named_stands, signed, own_signed, signed_more, signed_other}
+use Rattle.sponsor_laws.proofs.SignerLists.{counts_edited, sponsors_inserted, sponsors_removed, sponsors_set, sponsor_at_place}
+use Rattle.sponsor_laws.proofs.SignedAccounts.{there_is, IsHeld, held_by, own_id, own_stands, as_many_sponsors, signer_stands, own_sum, own_of, own_share, place_within, sum-without, sum-with, counts_subentry, counts_sponsored, sponsor_enough, place_within_signers}
+
+-- a subentry more of the owner, which the sponsor pays, if there is one
+abbrev signer_shift : AccountId → Option AccountId → Shift
+signer_shift id s = plus (plus no_shift (at_one SubEntries 1 id)) (shared 1 (Some id) s)
+
+module _ (old : EntryMap) (h : IsEven old) (id : AccountId) (a : AccountEntry) (held : IsHeld old id a) where
+  own : a.account_id ≡ id
+  own = own_id old h id a held
+
+  -- an account has the extension, once something is paid for it
+  paid_for : (s : Option AccountId) (b : AccountEntry) → IsShiftedAccount (signer_shift id s) no_shift a b → s ≢ None → 1 ≤ count_in Sponsored b
+  paid_for s b shifted some =
+      let moved = shifted.counts Sponsored in
+      let one : ◌≡◌ {A = ℕ} (cond (is_there s) 1 0) 1 = ap (λ t. cond t 1 0) (there_is s some) in
+      let mine = own_share old h id a held s in
+      omega arith
+
+  with_signer_edits : (signer : Signer) (s : Option AccountId) → ((x : AccountId) → s ≡ Some x → Stands old x) → (b : AccountEntry) → IsShiftedAccount (signer_shift id s) no_shift a b
+      → IsEdited (signer_shift id s) no_shift old a (with_signer signer s b)
+  with_signer_edits signer s payer b shifted =
+      let place = place_for signer.key b.signers in
+      let c = with_signer signer s b in
+      let within : place ≤ length b.signers = prefix_len-le-length _ b.signers in
+      let sponsors : signer_sponsors c ≡ insert (signer_sponsors a) place s = sponsors_inserted place signer s b (paid_for s b shifted) ∙ ap (λ xs. insert xs place s) shifted.parts.sponsors in
+      let sums = λ (g : Option AccountId → ℕ). ap (sum_by g) sponsors ∙ sum_by-insert g (signer_sponsors a) place s in
+      let same_length = ap length shifted.parts.signers in
+      let longer = length-insert b.signers place signer within in
+      let all = as_many_sponsors old h id a held in
+      record {
+        id = shifted.parts.id;
+        counts = λ count. ap (λ n. n + 0) (counts_edited (λ xs. insert xs place s) count b (insert b.signers place signer)) ∙ shifted.counts count;
+        items = (let more = length-insert (signer_sponsors a) place s (omega arith) in let new = ap length sponsors in omega arith);
+        parts = λ count i.
+            let before = own_of old h id a held count i a own in
+            let after = own_of old h id a held count i c (shifted.parts.id ∙ own) in
+            let more = signed_more count i id (length a.signers) (length c.signers) (signer_sponsors a) (signer_sponsors c) s (omega arith) sums in
+            omega arith;
+        names = λ i. named_stands old (signer_sponsors a) (signer_sponsors c) s i (let sum = sums (λ o. cond (is_this i o) 1 0) in omega arith) (payer i) (signer_stands old h id a held i);
+      }
+
+  signer_added : (ctx : Ctx) (signer : Signer) (new : EntryMap) → Stands old (payer_of ctx id) → IsApart ctx id → adding_signer ctx id signer old ≡ Ok new → IsEven new
+  signer_added ctx signer new payer_stands apart done =
+      let s = open_sponsor ctx id in
+      let m = subentry_counted 1 id s old in
+      let after = with_account m id (with_signer signer s) in
+      let tests = have_passed ctx old id 1 after new done in
+      let stands = own_stands old h id a held in
+      let first = shifted_raise no_shift no_shift SubEntries 1 id old old h.own (unshifted old h.own) in
+      let second = shifted_paying (plus no_shift (at_one SubEntries 1 id)) no_shift 1 old (raise SubEntries 1 id old) h.own first id s in
+      let payer_is : (x : AccountId) → s ≡ Some x → payer_of ctx id ≡ x = λ x pays. ap (payer_by id) pays in
+      subst IsEven (done_by (subentry_tests ctx old id 1) after new done) (edited (signer_shift id s) no_shift id (with_signer signer s) old m h second held.entry a held.there held.is
+      (with_signer_edits signer s (λ x pays. subst (Stands old) (payer_is x pays) payer_stands))
+      (λ i. let le = few_more old id i 1 h (has_few old id 1 h stands tests.not_full) in omega arith)
+      (λ i. let le = both_more old i id s 1 h (has_room old id 1 h stands tests.owner) (λ x pays. (
+        subst (λ y. HasRoom old y 1) (payer_is x pays) (has_room old (payer_of ctx id) 1 h payer_stands tests.payer),
+        apart x pays,
+      )) in omega arith))
+
+pub adding_signer_keeps : AddingSignerKeeps
+adding_signer_keeps ctx id signer old new kept stands payer_stands apart done =
+    kept_of new (signer_added old (even old kept) id stands.0 (held_by old id stands.0 stands.1) ctx signer new payer_stands apart done)

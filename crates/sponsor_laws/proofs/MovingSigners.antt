@@ -1,0 +1,112 @@
+-- Moving a signer to another payer keeps counts equal to their sums.
+use Rattle.std.proofs.Common.{◌≡◌, ◌≢◌, inl, inr, refl, sym, ap, subst, ◌∙◌, ℕ, ◌+◌, ◌<◌, ◌≤◌, Bool, true, false, cond, List, length, get_or, Option, Some, None, Ok, Contains, slice_set, nat_lt, arith}
+use Rattle.std.specs.Prelude.{if◌then◌else◌}
+use Rattle.std.specs.List.{sum_by, count_by, insert, remove, position, position_or_len}
+use Rattle.std.specs.FinMap.{get}
+use Rattle.std.proofs.lemmas.List.{length-set}
+use Rattle.std.proofs.lemmas.List.Edits.{length-insert, length-remove}
+use Rattle.std.proofs.lemmas.List.Sums.{sum_by-insert, sum_by-remove, sum_by-set, get_or-le-sum_by, prefix_len-le-length}
+use borrow.Author.Tests.{ltb-true}
+use Rattle.ledger_types.specs.declared.ids.AccountId.{AccountId}
+use Rattle.ledger_types.specs.declared.signer.Signer.{Signer}
+use Rattle.ledger_types.specs.declared.signer.SignerKey.{SignerKey}
+use Rattle.ledger_types.specs.declared.account.AccountEntry.{AccountEntry}
+use Rattle.ledger_types.specs.declared.entry.LedgerEntry.{LedgerEntry}
+use Rattle.ledger_types.specs.declared.entry.LedgerEntryBody.TheVariants as body
+use Rattle.ledger_types.specs.declared.key.LedgerKey.TheVariants as key
+use Rattle.entry_map.specs.EntryMap.{EntryMap}
+use Rattle.sponsor_rules.specs.declared.context.Ctx.{Ctx}
+use Rattle.sponsor_rules.specs.declared.count.Count.{Count}
+use Rattle.sponsor_rules.specs.declared.count.Count.TheVariants.{SubEntries, Sponsoring, Sponsored}
+use Rattle.sponsor_rules.specs.Accounts.{account_in, account_at, with_account, Stands}
+use Rattle.sponsor_rules.specs.Counts.{count_in, owner_of, raise, lower, subentry_counted, subentry_released, sponsor_paying, sponsor_released}
+use Rattle.sponsor_rules.specs.Payers.{open_sponsor, other_than, payer_of, payer_by, subentry_tests, move_tests}
+use Rattle.sponsor_rules.specs.Signers.{found_at, place_for, place_of, signer_sponsor, with_signer, without_signer, with_signer_sponsor, adding_signer, signer_in, removing_found, moving_found, moved_signer}
+use Rattle.sponsor_laws.specs.Sums.{is_this, is_there, signer_sponsors, total, counted_for}
+use Rattle.sponsor_laws.specs.Laws.{IsApart, PayerStands, AddingSignerKeeps, RemovingSignerKeeps, MovingSignerKeeps}
+use Rattle.sponsor_laws.proofs.Accounts.{share, own_part, counted_split, is_itself, as_many}
+use Rattle.sponsor_laws.proofs.Even.{IsEven, even, kept_of, account_body, account_entry, same_id, all_few, all_fit}
+use Rattle.sponsor_laws.proofs.Shifts.{Shift, at_one, plus, no_shift, IsShiftedAccount, unshifted}
+use Rattle.sponsor_laws.proofs.Changes.{shifted_raise, shifted_lower}
+use Rattle.sponsor_laws.proofs.Paying.{HasEnough, shared, shifted_paying, shifted_released}
+use Rattle.sponsor_laws.proofs.Parts.{enough, in_total}
+use Rattle.sponsor_laws.proofs.Bounds.{done_by, have_passed, has_few, has_room, few_more, both_more, pays_more, HasRoom}
+use Rattle.sponsor_laws.proofs.Moving.{other_is, room_of}
+use Rattle.sponsor_laws.proofs.Edits.{IsEdited, edited, named_stands, signed, own_signed, signed_more, signed_other}
+use Rattle.sponsor_laws.proofs.SignerLists.{counts_edited, sponsors_inserted, sponsors_removed, sponsors_set, sponsor_at_place}
+use Rattle.sponsor_laws.proofs.SignedAccounts.{there_is, IsHeld, held_by, own_id, own_stands, as_many_sponsors, signer_stands, own_sum, own_of, own_share, place_within, sum-without, sum-with, counts_subentry, counts_sponsored, sponsor_enough, place_within_signers}
+
+module _ (old : EntryMap) (h : IsEven old) (id : AccountId) (a : AccountEntry) (held : IsHeld old id a) (place : ℕ) (within : place < length a.signers) where
+  own : a.account_id ≡ id
+  own = own_id old h id a held
+
+  -- what the new sponsor pays, and what the old one no longer does
+  abbrev comes : Option AccountId → Shift
+  comes t = plus no_shift (shared 1 (Some id) t)
+
+  abbrev goes : Shift
+  goes = plus no_shift (shared 1 (Some id) (signer_sponsor a place))
+
+  -- an account has the extension, once something is paid for it
+  paid_for : (t : Option AccountId) (b : AccountEntry) → IsShiftedAccount (comes t) goes a b → t ≢ None → 1 ≤ count_in Sponsored b
+  paid_for t b shifted some =
+      let moved = shifted.counts Sponsored in
+      let one : ◌≡◌ {A = ℕ} (cond (is_there t) 1 0) 1 = ap (λ x. cond x 1 0) (there_is t some) in
+      let new = own_share old h id a held t in
+      let was = own_share old h id a held (signer_sponsor a place) in
+      let sum = own_sum old h id a held Sponsored in
+      let le = in_total old (key.Account id) held.entry Sponsored id held.there in
+      let part = counts_sponsored old h id a held place within in
+      omega arith
+
+  with_sponsor_edits : (t : Option AccountId) → ((x : AccountId) → t ≡ Some x → Stands old x) → (b : AccountEntry) → IsShiftedAccount (comes t) goes a b
+      → IsEdited (comes t) goes old a (with_signer_sponsor place t b)
+  with_sponsor_edits t payer b shifted =
+      let c = with_signer_sponsor place t b in
+      let sponsors : signer_sponsors c ≡ slice_set (signer_sponsors a) place t = sponsors_set place t b (paid_for t b shifted) ∙ ap (λ xs. slice_set xs place t) shifted.parts.sponsors in
+      let same_length : length c.signers ≡ length a.signers = ap length shifted.parts.signers in
+      let sums = sum-with old h id a held place within (signer_sponsors c) t sponsors in
+      record {
+        id = shifted.parts.id;
+        counts = λ count. ap (λ n. n + goes count a.account_id) (counts_edited (λ xs. slice_set xs place t) count b b.signers) ∙ shifted.counts count;
+        items = ap length sponsors ∙ length-set (signer_sponsors a) place t ∙ as_many_sponsors old h id a held ∙ sym same_length;
+        parts = λ count i.
+            let before = own_of old h id a held count i a own in
+            let after = own_of old h id a held count i c (shifted.parts.id ∙ own) in
+            let as_long : signed count i id (length c.signers) (signer_sponsors c) ≡ signed count i id (length a.signers) (signer_sponsors c) = ap (λ n. signed count i id n (signer_sponsors c)) same_length in
+            let other = signed_other count i id (length a.signers) (signer_sponsors a) (signer_sponsors c) (signer_sponsor a place) t sums in
+            omega arith;
+        names = λ i. named_stands old (signer_sponsors a) (signer_sponsors c) t i (let sum = sums (λ o. cond (is_this i o) 1 0) in omega arith) (payer i) (signer_stands old h id a held i);
+      }
+
+  moved_between : (t : Option AccountId) → ((x : AccountId) → t ≡ Some x → Stands old x) → ((x : AccountId) → t ≡ Some x → HasRoom old x 1)
+      → IsEven (with_account (sponsor_paying 1 id t (sponsor_released 1 id (signer_sponsor a place) old)) id (with_signer_sponsor place t))
+  moved_between t payer room =
+      let s = signer_sponsor a place in
+      let first = shifted_released no_shift no_shift 1 old old h.own (unshifted old h.own) id s (sponsor_enough old h id a held place within no_shift refl (λ i. refl)) in
+      let second = shifted_paying no_shift goes 1 old (sponsor_released 1 id s old) h.own first id t in
+      edited (comes t) goes id (with_signer_sponsor place t) old (sponsor_paying 1 id t (sponsor_released 1 id s old)) h second held.entry a held.there held.is (with_sponsor_edits t payer)
+      (λ i. let le = all_few old i h in omega arith)
+      (λ i. let le = pays_more old i t 1 h room in omega arith)
+
+  signer_moved : (s t : Option AccountId) → signer_sponsor a place ≡ s → ((x : AccountId) → t ≡ Some x → Stands old x) → ((x : AccountId) → t ≡ Some x → HasRoom old x 1) → IsEven (moved_signer id place s t old)
+  signer_moved None None same payer room = h
+  signer_moved s t same payer room = subst (λ x. IsEven (with_account (sponsor_paying 1 id t (sponsor_released 1 id x old)) id (with_signer_sponsor place t))) same (moved_between t payer room)
+
+module _ (old : EntryMap) (h : IsEven old) (id : AccountId) (key : SignerKey) (ctx : Ctx) (payer : Option AccountId) (new : EntryMap) (payer_stands : PayerStands payer old) where
+  moved_at : (a : AccountEntry) (o : Option ℕ) → account_at old id ≡ Some a → place_of key a.signers ≡ o → moving_found ctx id payer old (found_at a o) ≡ Ok new → IsEven new
+  moved_at a None stands found done = subst IsEven (cc) h
+  moved_at a (Some place) stands found done =
+      let s = signer_sponsor a place in
+      let t = other_than id payer in
+      let after = moved_signer id place s t old in
+      let payer_is = λ (x : AccountId) (is : t ≡ Some x). payer_stands x (other_is id payer x is) in
+      let within = place_within_signers key a.signers place found in
+      subst IsEven (done_by (move_tests ctx old id t 1) after new done) (signer_moved old h id a (held_by old id a stands) place within s t refl payer_is (room_of old h ctx id t 1 after new payer_is done))
+
+  moved_from : (o : Option AccountEntry) → account_at old id ≡ o → moving_found ctx id payer old (signer_in key o) ≡ Ok new → IsEven new
+  moved_from None stands done = subst IsEven (cc) h
+  moved_from (Some a) stands done = moved_at a (place_of key a.signers) stands refl done
+
+pub moving_signer_keeps : MovingSignerKeeps
+moving_signer_keeps ctx id key payer old new kept payer_stands done = kept_of new (moved_from old (even old kept) id key ctx payer new payer_stands (account_at old id) refl done)

@@ -1,0 +1,5 @@
+use Rattle.sponsor_laws.proofs.entries.zero_sponsors_nothing.Goals as goal
+use Rattle.sponsor_laws.proofs.Sponsoring.{zero_sponsors}
+
+pub returns : goal.returns
+returns c = zero_sponsors

@@ -1,0 +1,112 @@
+-- That adding, removing and moving keep the counts of accounts equal to their sums, and owners and sponsors standing.
+use Rattle.std.specs.Prelude.{◌≡◌, ◌≢◌, [], Option, Some, None, Ok}
+use Rattle.std.specs.FinMap.{get}
+use Rattle.ledger_types.specs.declared.ids.AccountId.{AccountId}
+use Rattle.ledger_types.specs.declared.account.AccountEntry.{AccountEntry}
+use Rattle.ledger_types.specs.declared.signer.Signer.{Signer}
+use Rattle.ledger_types.specs.declared.signer.SignerKey.{SignerKey}
+use Rattle.ledger_types.specs.declared.claimable_balance.ClaimableBalanceEntry.{ClaimableBalanceEntry}
+use Rattle.ledger_types.specs.declared.liquidity_pool.LiquidityPoolEntry.{LiquidityPoolEntry}
+use Rattle.ledger_types.specs.declared.entry.LedgerEntry.{LedgerEntry}
+use Rattle.ledger_types.specs.declared.entry.LedgerEntryBody.{LedgerEntryBody}
+use Rattle.ledger_types.specs.declared.entry.LedgerEntryBody.TheVariants as body
+use Rattle.ledger_types.specs.declared.key.LedgerKey.{LedgerKey}
+use Rattle.ledger_types.specs.Keys.{key_of}
+use Rattle.entry_map.specs.EntryMap.{EntryMap}
+use Rattle.sponsor_rules.specs.declared.context.Ctx.{Ctx}
+use Rattle.sponsor_rules.specs.declared.count.Count.{Count}
+use Rattle.sponsor_rules.specs.declared.count.Count.TheVariants.{SubEntries, Sponsoring}
+use Rattle.sponsor_rules.specs.Accounts.{account_in, account_at, Stands}
+use Rattle.sponsor_rules.specs.Counts.{count_in, owner_of}
+use Rattle.sponsor_rules.specs.Entries.{sponsor_of, adding, removing, moving}
+use Rattle.sponsor_rules.specs.Payers.{open_sponsor, payer_of}
+use Rattle.sponsor_rules.specs.Signers.{adding_signer, removing_signer, moving_signer}
+use Rattle.sponsor_laws.specs.Sums.{AreCounted, HasItems, AllHaveItems, SponsorsNothing}
+
+-- counts equal their sums, owners and sponsors stand, and each signer has an item for its sponsor
+pub record AreKept (m : EntryMap) : Type 0 where
+  pub counted : AreCounted m
+  pub items : AllHaveItems m
+
+-- ---- adding
+
+-- no account sponsors itself
+abbrev pub IsApart : Ctx → AccountId → Type 0
+IsApart ctx owner = (sponsor : AccountId) → open_sponsor ctx owner ≡ Some sponsor → sponsor ≢ owner
+
+-- an account that is added: its counts are 0, it has no signers, and so no sponsors of signers
+pub record IsNewAccount (account : AccountEntry) : Type 0 where
+  pub counts : (count : Count) → count_in count account ≡ 0
+  pub signers : account.signers ≡ []
+  pub items : HasItems account
+
+-- Who has to stand before a thing is added: the owner of a line, an offer or data, and the payer, unless that is the account that is
+-- added. For a pool nobody has to.
+abbrev pub HaveToStand : Ctx → AccountId → LedgerEntryBody → EntryMap → Type 0
+HaveToStand ctx owner (body.Account account) m = (sponsor : AccountId) → open_sponsor ctx owner ≡ Some sponsor → Stands m sponsor
+HaveToStand ctx owner (body.LiquidityPool pool) m = Unit {0}
+HaveToStand ctx owner (body.ClaimableBalance balance) m = Stands m (payer_of ctx owner)
+HaveToStand ctx owner (body.TrustLine line) m = Stands m owner × Stands m (payer_of ctx owner)
+HaveToStand ctx owner (body.Offer offer) m = Stands m owner × Stands m (payer_of ctx owner)
+HaveToStand ctx owner (body.Data data_entry) m = Stands m owner × Stands m (payer_of ctx owner)
+
+-- an entry that may be added: nothing stands under its key, it is the owner's, and it has no sponsor yet
+pub record IsAddable (ctx : Ctx) (owner : AccountId) (entry : LedgerEntry) (m : EntryMap) : Type 0 where
+  pub free : get m (key_of entry) ≡ None
+  pub owned : (id : AccountId) → owner_of entry.body ≡ Some id → id ≡ owner
+  pub unsponsored : sponsor_of entry ≡ None
+  pub new_account : (account : AccountEntry) → account_in entry.body ≡ Some account → IsNewAccount account
+  pub standing : HaveToStand ctx owner entry.body m
+  pub apart : IsApart ctx owner
+
+abbrev pub AddingKeeps : Type 0
+AddingKeeps = (ctx : Ctx) (owner : AccountId) (entry : LedgerEntry) (old new : EntryMap) → AreKept old → IsAddable ctx owner entry old → adding ctx owner entry old ≡ Ok new → AreKept new
+
+-- ---- removing
+
+-- an account that may be removed has no subentries and sponsors nothing
+pub record IsBare (m : EntryMap) (account : AccountEntry) : Type 0 where
+  pub subentries : count_in SubEntries account ≡ 0
+  pub sponsors : SponsorsNothing m account.account_id
+
+abbrev pub IsRemovable : LedgerKey → EntryMap → Type 0
+IsRemovable key m = (entry : LedgerEntry) (account : AccountEntry) → get m key ≡ Some entry → account_in entry.body ≡ Some account → IsBare m account
+
+abbrev pub RemovingKeeps : Type 0
+RemovingKeeps = (key : LedgerKey) (old : EntryMap) → AreKept old → IsRemovable key old → AreKept (removing key old)
+
+-- ---- moving
+
+abbrev pub PayerStands : Option AccountId → EntryMap → Type 0
+PayerStands payer m = (id : AccountId) → payer ≡ Some id → Stands m id
+
+abbrev pub MovingKeeps : Type 0
+MovingKeeps = (ctx : Ctx) (key : LedgerKey) (payer : Option AccountId) (old new : EntryMap) → AreKept old → PayerStands payer old → moving ctx key payer old ≡ Ok new → AreKept new
+
+-- ---- signers
+
+abbrev pub AddingSignerKeeps : Type 0
+AddingSignerKeeps =
+    (ctx : Ctx) (id : AccountId) (signer : Signer) (old new : EntryMap) → AreKept old → Stands old id → Stands old (payer_of ctx id) → IsApart ctx id
+    → adding_signer ctx id signer old ≡ Ok new → AreKept new
+
+abbrev pub RemovingSignerKeeps : Type 0
+RemovingSignerKeeps = (id : AccountId) (key : SignerKey) (old : EntryMap) → AreKept old → AreKept (removing_signer id key old)
+
+abbrev pub MovingSignerKeeps : Type 0
+MovingSignerKeeps =
+    (ctx : Ctx) (id : AccountId) (key : SignerKey) (payer : Option AccountId) (old new : EntryMap) → AreKept old → PayerStands payer old
+    → moving_signer ctx id key payer old ≡ Ok new → AreKept new
+
+-- ---- sponsoring nothing
+
+-- each entry that has a sponsor counts: claimable balances have claimants, and pools have no sponsor
+pub record SponsoredEntriesCount (m : EntryMap) : Type 0 where
+  pub claimants : (key : LedgerKey) (entry : LedgerEntry) (balance : ClaimableBalanceEntry) → get m key ≡ Some entry → entry.body ≡ body.ClaimableBalance balance → balance.claimants ≢ []
+  pub pools : (key : LedgerKey) (entry : LedgerEntry) (pool : LiquidityPoolEntry) → get m key ≡ Some entry → entry.body ≡ body.LiquidityPool pool → sponsor_of entry ≡ None
+
+-- an account that pays no reserve for others is nobody's sponsor
+abbrev pub ZeroSponsorsNothing : Type 0
+ZeroSponsorsNothing =
+    (id : AccountId) (account : AccountEntry) (m : EntryMap) → AreKept m → SponsoredEntriesCount m → account_at m id ≡ Some account → count_in Sponsoring account ≡ 0
+    → SponsorsNothing m id

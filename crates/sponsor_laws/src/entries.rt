@@ -1,0 +1,26 @@
+//! Laws of entries that are added, removed and moved.
+
+ghost use Rattle.sponsor_laws.specs.Laws.{AddingKeeps, RemovingKeeps, MovingKeeps, ZeroSponsorsNothing};
+
+/// Adding an entry keeps each count equal to its sum, and owners and sponsors standing. The entry is the owner's and has no sponsor yet,
+/// those who pay stand, and an account that is added has nothing.
+pub fn adding_keeps_sums()
+    ensures { AddingKeeps }
+{}
+
+/// Removing an entry keeps each count equal to its sum, and owners and sponsors standing. An account that is removed has no subentries
+/// and sponsors nothing.
+pub fn removing_keeps_sums()
+    ensures { RemovingKeeps }
+{}
+
+/// Moving an entry to a payer that stands, or to its owner, keeps each count equal to its sum, and owners and sponsors standing.
+pub fn moving_keeps_sums()
+    ensures { MovingKeeps }
+{}
+
+/// An account whose count of reserves that it pays for others is 0 is the sponsor of no entry and of no signer, where claimable balances
+/// have claimants and pools have no sponsor.
+pub fn zero_sponsors_nothing()
+    ensures { ZeroSponsorsNothing }
+{}

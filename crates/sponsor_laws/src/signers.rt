@@ -1,0 +1,18 @@
+//! Laws of signers that are added, removed and moved.
+
+ghost use Rattle.sponsor_laws.specs.Laws.{AddingSignerKeeps, RemovingSignerKeeps, MovingSignerKeeps};
+
+/// Adding a signer to an account that stands keeps each count equal to its sum, and owners and sponsors standing.
+pub fn adding_signers_keeps_sums()
+    ensures { AddingSignerKeeps }
+{}
+
+/// Removing a signer keeps each count equal to its sum, and owners and sponsors standing.
+pub fn removing_signers_keeps_sums()
+    ensures { RemovingSignerKeeps }
+{}
+
+/// Moving a signer to a payer that stands, or to its account, keeps each count equal to its sum, and owners and sponsors standing.
+pub fn moving_signers_keeps_sums()
+    ensures { MovingSignerKeeps }
+{}

@@ -1,0 +1,37 @@
+//! What an operation is applied in.
+
+use item_list::ItemList;
+use ledger_types::AccountId;
+
+/// A sponsorship that is open: `sponsor` pays the reserves of what `sponsored` adds (CAP-0033). No account is sponsored twice or by
+/// itself.
+#[derive(Clone, Copy, Debug, PartialEq, Eq)]
+pub struct Sponsorship {
+    pub sponsored: AccountId,
+    pub sponsor: AccountId,
+}
+
+/// What an operation is applied in: the header's terms, the transaction and the operation that it belongs to, and the sponsorships
+/// that are open.
+#[derive(Debug, PartialEq, Eq, Drop)]
+pub struct Ctx {
+    /// The header's `ledger_seq`.
+    pub seq: u32,
+    /// The header's `ledger_version`.
+    pub version: u32,
+    /// The header's: in stroops, for each thing that an account keeps on the ledger.
+    pub base_reserve: u32,
+    /// The header's.
+    pub flags: u32,
+    /// In seconds since 1970-01-01T00:00:00Z.
+    pub close_time: u64,
+    pub tx_source: AccountId,
+    /// The transaction's sequence number.
+    pub tx_seq: i64,
+    /// The place of the operation in its transaction, from 0.
+    pub op_index: u32,
+    pub op_source: AccountId,
+    /// The greatest offer id so far.
+    pub id_pool: u64,
+    pub sponsorships: ItemList<Sponsorship>,
+}

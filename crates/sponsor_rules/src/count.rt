@@ -1,0 +1,12 @@
+//! The counts that an account's reserve comes from.
+
+/// A count of an account (CAP-0033).
+#[derive(Clone, Copy, Debug, PartialEq, Eq)]
+pub enum Count {
+    /// `num_sub_entries`: how many trust lines, offers, data and signers it has.
+    SubEntries,
+    /// `num_sponsoring`: how many reserves it pays for others.
+    Sponsoring,
+    /// `num_sponsored`: how many of its reserves others pay.
+    Sponsored,
+}

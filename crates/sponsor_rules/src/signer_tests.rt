@@ -1,0 +1,149 @@
+//! Signers: their counts after they are added, moved and removed, their order, and who is recorded as paying for them.
+
+use crate::accounts::find_account;
+use crate::signer_place::signer_sponsor;
+use crate::sponsor::{open_sponsor, payer};
+use crate::testing::{
+    Counts, NOTHING, OTHER, OWNER, SPONSOR, account, counts_of, ctx, is_payer_ready, is_ready,
+    no_entries, sponsored,
+};
+use crate::{AddFault, Ctx, add_signer, move_signer, remove_preauth, remove_signer};
+use entry_map::{Entries, MapBase};
+use item_list::ItemList;
+use ledger_types::{AccountEntry, AccountId, Hash, Signer, SignerKey};
+use std::alloc::{AllocError, Global};
+use std::process::Abort;
+use std::test::Fail;
+
+const LOW: SignerKey = SignerKey::HashX(Hash([5; 32]));
+
+const HIGH: SignerKey = SignerKey::HashX(Hash([6; 32]));
+
+const TRANSACTION: Hash = Hash([7; 32]);
+
+/// Adds a signer to the owner, where that may be asked for.
+fn add(entries: &mut Entries<'_, MapBase>, ctx: &Ctx, key: SignerKey) -> Result<(), AddFault> {
+    let payer = payer(&OWNER, open_sponsor(ctx, &OWNER));
+    if !is_ready(entries, &OWNER)? || !is_ready(entries, &payer)? {
+        return Err(AddFault::NoMemory);
+    }
+    add_signer(entries, ctx, &OWNER, Signer { key, weight: 1 })
+}
+
+/// Moves the owner's lower signer, where that may be asked for.
+fn move_to(
+    entries: &mut Entries<'_, MapBase>,
+    ctx: &Ctx,
+    payer: Option<AccountId>,
+) -> Result<(), AddFault> {
+    if !is_ready(entries, &OWNER)? || !is_payer_ready(entries, payer)? {
+        return Err(AddFault::NoMemory);
+    }
+    move_signer(entries, ctx, &OWNER, &LOW, payer)
+}
+
+/// The keys of the owner's signers and who pays for each, as the extension says.
+fn signers_of(
+    alloc: Global,
+    entries: &Entries<'_, MapBase>,
+) -> Result<Vec<(SignerKey, Option<AccountId>)>, AllocError> {
+    let Some(slot) = find_account(entries, &OWNER)? else {
+        return Ok(Vec::new(alloc));
+    };
+    listed(alloc, &slot.account)
+}
+
+fn listed(
+    alloc: Global,
+    account: &AccountEntry,
+) -> Result<Vec<(SignerKey, Option<AccountId>)>, AllocError> {
+    let mut all = Vec::new(alloc);
+    for (i, signer) in account.signers.as_slice().iter().enumerate() {
+        all.push((signer.key, signer_sponsor(account, i)))?;
+    }
+    Ok(all)
+}
+
+/// Compares the signers with their sponsors, and the counts of the owner, of the sponsor and of the other payer.
+fn check(
+    rt: &(impl Abort + AllocGlobal),
+    entries: &Entries<'_, MapBase>,
+    signers: &[(SignerKey, Option<AccountId>)],
+    counts: [Counts; 3],
+) -> Result<(), AllocError> {
+    let all = signers_of(rt.alloc(), entries)?;
+    assert_eq!(rt; all.as_slice(), signers);
+    assert_eq!(rt; counts_of(entries, &OWNER)?, counts[0]);
+    assert_eq!(rt; counts_of(entries, &SPONSOR)?, counts[1]);
+    assert_eq!(rt; counts_of(entries, &OTHER)?, counts[2]);
+    Ok(())
+}
+
+fn put_accounts(alloc: Global, entries: &mut Entries<'_, MapBase>) -> Result<(), AllocError> {
+    for id in [OWNER, SPONSOR, OTHER] {
+        entries.put(account(alloc, id, 100_000_000, 0, None))?;
+    }
+    Ok(())
+}
+
+#[test]
+fn signers_stand_in_the_order_of_their_keys_with_their_sponsors(
+    rt: HostRuntime,
+) -> Result<(), Fail> {
+    let base = no_entries(rt.alloc())?;
+    let mut entries = Entries::new(rt.alloc(), &base)?;
+    put_accounts(rt.alloc(), &mut entries)?;
+    let alone = ctx(ItemList::new(rt.alloc()));
+    assert_eq!(rt; add(&mut entries, &alone, HIGH), Ok(()));
+    check(
+        &rt,
+        &entries,
+        &[(HIGH, None)],
+        [(1, 0, 0), NOTHING, NOTHING],
+    )?;
+    assert_eq!(rt; add(&mut entries, &sponsored(rt.alloc())?, LOW), Ok(()));
+    let paid = [(LOW, Some(SPONSOR)), (HIGH, None)];
+    check(&rt, &entries, &paid, [(2, 0, 1), (0, 1, 0), NOTHING])?;
+    remove_signer(&mut entries, &alone, &OWNER, &LOW)?;
+    check(
+        &rt,
+        &entries,
+        &[(HIGH, None)],
+        [(1, 0, 0), NOTHING, NOTHING],
+    )?;
+    Ok(())
+}
+
+#[test]
+fn a_signer_moves_to_another_payer_and_back_to_its_account(rt: HostRuntime) -> Result<(), Fail> {
+    let base = no_entries(rt.alloc())?;
+    let mut entries = Entries::new(rt.alloc(), &base)?;
+    put_accounts(rt.alloc(), &mut entries)?;
+    let alone = ctx(ItemList::new(rt.alloc()));
+    assert_eq!(rt; add(&mut entries, &alone, LOW), Ok(()));
+    assert_eq!(rt; move_to(&mut entries, &alone, Some(OTHER)), Ok(()));
+    let paid = [(LOW, Some(OTHER))];
+    check(&rt, &entries, &paid, [(1, 0, 1), NOTHING, (0, 1, 0)])?;
+    assert_eq!(rt; move_to(&mut entries, &alone, Some(SPONSOR)), Ok(()));
+    let paid = [(LOW, Some(SPONSOR))];
+    check(&rt, &entries, &paid, [(1, 0, 1), (0, 1, 0), NOTHING])?;
+    assert_eq!(rt; move_to(&mut entries, &alone, None), Ok(()));
+    check(&rt, &entries, &[(LOW, None)], [(1, 0, 0), NOTHING, NOTHING])?;
+    Ok(())
+}
+
+#[test]
+fn a_preauthorised_signer_goes_with_its_transaction(rt: HostRuntime) -> Result<(), Fail> {
+    let base = no_entries(rt.alloc())?;
+    let mut entries = Entries::new(rt.alloc(), &base)?;
+    put_accounts(rt.alloc(), &mut entries)?;
+    let ctx = sponsored(rt.alloc())?;
+    let key = SignerKey::PreAuthTx(TRANSACTION);
+    assert_eq!(rt; add(&mut entries, &ctx, key), Ok(()));
+    let paid = [(key, Some(SPONSOR))];
+    remove_preauth(&mut entries, &ctx, &OWNER, &Hash([8; 32]))?;
+    check(&rt, &entries, &paid, [(1, 0, 1), (0, 1, 0), NOTHING])?;
+    remove_preauth(&mut entries, &ctx, &OWNER, &TRANSACTION)?;
+    check(&rt, &entries, &[], [NOTHING, NOTHING, NOTHING])?;
+    Ok(())
+}

@@ -1,0 +1,90 @@
+//! Things to add.
+
+use crate::testing::{NEW, OTHER, OWNER, account, entry};
+use item_list::ItemList;
+use ledger_types::{
+    AccountId, Asset, ClaimPredicate, ClaimableBalanceEntry, ClaimableBalanceId, Claimant,
+    DataEntry, Hash, LedgerEntry, LedgerEntryBody, OfferEntry, Price, TrustLineAsset,
+    TrustLineEntry,
+};
+use std::alloc::{AllocError, Global};
+
+/// A thing to add.
+#[derive(Clone, Copy, Debug)]
+pub enum Thing {
+    Account,
+    Line,
+    ShareLine,
+    Offer,
+    Data,
+    Balance,
+}
+
+pub fn line(asset: TrustLineAsset) -> LedgerEntry {
+    entry(LedgerEntryBody::TrustLine(TrustLineEntry {
+        account_id: OWNER,
+        asset,
+        balance: 0,
+        limit: 1,
+        flags: 1,
+        ext: None,
+    }))
+}
+
+pub fn offer() -> LedgerEntry {
+    entry(LedgerEntryBody::Offer(OfferEntry {
+        seller_id: OWNER,
+        offer_id: 1,
+        selling: Asset::Native,
+        buying: Asset::Alphanum4 {
+            code: *b"USD\0",
+            issuer: OTHER,
+        },
+        amount: 1,
+        price: Price { n: 1, d: 1 },
+        flags: 0,
+    }))
+}
+
+pub fn data(alloc: Global) -> Result<LedgerEntry, AllocError> {
+    Ok(entry(LedgerEntryBody::Data(DataEntry {
+        account_id: OWNER,
+        data_name: ItemList::from_slice(alloc, b"name".as_slice())?,
+        data_value: ItemList::new(alloc),
+    })))
+}
+
+pub fn claimant(destination: AccountId) -> Claimant {
+    Claimant {
+        destination,
+        predicate: ClaimPredicate::Unconditional,
+    }
+}
+
+/// A balance for two claimants.
+pub fn balance(alloc: Global) -> Result<LedgerEntry, AllocError> {
+    let mut claimants = ItemList::new(alloc);
+    claimants.push(claimant(OTHER))?;
+    claimants.push(claimant(NEW))?;
+    Ok(entry(LedgerEntryBody::ClaimableBalance(ClaimableBalanceEntry {
+        balance_id: ClaimableBalanceId(Hash([9; 32])),
+        claimants,
+        asset: Asset::Native,
+        amount: 1,
+        ext: None,
+    })))
+}
+
+pub fn made(alloc: Global, thing: Thing) -> Result<LedgerEntry, AllocError> {
+    match thing {
+        Thing::Account => Ok(account(alloc, NEW, 20_000_000, 0, None)),
+        Thing::Line => Ok(line(TrustLineAsset::Alphanum4 {
+            code: *b"USD\0",
+            issuer: OTHER,
+        })),
+        Thing::ShareLine => Ok(line(TrustLineAsset::PoolShare(Hash([8; 32])))),
+        Thing::Offer => Ok(offer()),
+        Thing::Data => data(alloc),
+        Thing::Balance => balance(alloc),
+    }
+}

@@ -16,8 +16,9 @@ as many puts and offers found as there are, and the sum of the amounts of what w
 
 The script prints the times and the ratio of those of puts and gets.
 
-Exit status: 0 where all is well, 1 where 100,000 puts and gets take more than 20 times as long as 10,000 (10 times as many, and room
-for a logarithm and for the processor's caches), 2 where a run fails or prints another line. Python 3.9 or later and its standard
+Exit status: 0 where all is well, 1 where 100,000 puts and gets take more than 40 times as long as 10,000, 2 where a run fails or
+prints another line. Ten times as many calls take ten times as long; the deeper tree, and a base of some 100 MB that no cache of the
+processor holds, about double that again. A cost that grew with the map would make it 100. Python 3.9 or later and its standard
 library.
 """
 
@@ -29,7 +30,7 @@ import time
 TOP = os.path.dirname(os.path.dirname(os.path.abspath(__file__)))
 COUNTS = (10_000, 100_000)
 RUNS = 15
-GREATEST_RATIO = 20
+GREATEST_RATIO = 40
 
 
 def stop(why):

@@ -1,40 +1,28 @@
 -- Adding a signer keeps counts equal to their sums.
-use Rattle.std.proofs.Common.{◌≡◌, ◌≢◌, inl, inr, refl, sym, ap, subst, ◌∙◌, ℕ, ◌+◌, ◌<◌, ◌≤◌, Bool, true, false, cond, List, length, get_or, Option, Some, None, Ok, Contains, slice_set, nat_lt, arith}
-use Rattle.std.specs.Prelude.{if◌then◌else◌}
-use Rattle.std.specs.List.{sum_by, count_by, insert, remove, position, position_or_len}
-use Rattle.std.specs.FinMap.{get}
-use Rattle.std.proofs.lemmas.List.{length-set}
-use Rattle.std.proofs.lemmas.List.Edits.{length-insert, length-remove}
-use Rattle.std.proofs.lemmas.List.Sums.{sum_by-insert, sum_by-remove, sum_by-set, get_or-le-sum_by, prefix_len-le-length}
-use borrow.Author.Tests.{ltb-true}
+use Rattle.std.proofs.Common.{◌≡◌, ◌≢◌, ap, subst, ◌∙◌, ℕ, ◌+◌, ◌≤◌, cond, length, Option, Some, None, Ok, arith}
+use Rattle.std.specs.List.{sum_by, insert}
+use Rattle.std.proofs.lemmas.List.Edits.{length-insert}
+use Rattle.std.proofs.lemmas.List.Sums.{sum_by-insert, prefix_len-le-length}
 use Rattle.ledger_types.specs.declared.ids.AccountId.{AccountId}
 use Rattle.ledger_types.specs.declared.signer.Signer.{Signer}
-use Rattle.ledger_types.specs.declared.signer.SignerKey.{SignerKey}
 use Rattle.ledger_types.specs.declared.account.AccountEntry.{AccountEntry}
-use Rattle.ledger_types.specs.declared.entry.LedgerEntry.{LedgerEntry}
-use Rattle.ledger_types.specs.declared.entry.LedgerEntryBody.TheVariants as body
-use Rattle.ledger_types.specs.declared.key.LedgerKey.TheVariants as key
 use Rattle.entry_map.specs.EntryMap.{EntryMap}
 use Rattle.sponsor_rules.specs.declared.context.Ctx.{Ctx}
-use Rattle.sponsor_rules.specs.declared.count.Count.{Count}
-use Rattle.sponsor_rules.specs.declared.count.Count.TheVariants.{SubEntries, Sponsoring, Sponsored}
-use Rattle.sponsor_rules.specs.Accounts.{account_in, account_at, with_account, Stands}
-use Rattle.sponsor_rules.specs.Counts.{count_in, owner_of, raise, lower, subentry_counted, subentry_released, sponsor_paying, sponsor_released}
-use Rattle.sponsor_rules.specs.Payers.{open_sponsor, other_than, payer_of, payer_by, subentry_tests, move_tests}
-use Rattle.sponsor_rules.specs.Signers.{found_at, place_for, place_of, signer_sponsor, with_signer, without_signer, with_signer_sponsor, adding_signer, signer_in, removing_found, moving_found, moved_signer}
-use Rattle.sponsor_laws.specs.Sums.{is_this, is_there, signer_sponsors, total, counted_for}
-use Rattle.sponsor_laws.specs.Laws.{IsApart, PayerStands, AddingSignerKeeps, RemovingSignerKeeps, MovingSignerKeeps}
-use Rattle.sponsor_laws.proofs.Accounts.{share, own_part, counted_split, is_itself, as_many}
-use Rattle.sponsor_laws.proofs.Even.{IsEven, even, kept_of, account_body, account_entry, same_id, all_few, all_fit}
+use Rattle.sponsor_rules.specs.declared.count.Count.TheVariants.{SubEntries, Sponsored}
+use Rattle.sponsor_rules.specs.Accounts.{with_account, Stands}
+use Rattle.sponsor_rules.specs.Counts.{count_in, raise, subentry_counted}
+use Rattle.sponsor_rules.specs.Payers.{open_sponsor, payer_of, payer_by, subentry_tests}
+use Rattle.sponsor_rules.specs.Signers.{place_for, with_signer, adding_signer}
+use Rattle.sponsor_laws.specs.Sums.{is_this, is_there, signer_sponsors}
+use Rattle.sponsor_laws.specs.Laws.{IsApart, AddingSignerKeeps}
+use Rattle.sponsor_laws.proofs.Even.{IsEven, even, kept_of}
 use Rattle.sponsor_laws.proofs.Shifts.{Shift, at_one, plus, no_shift, IsShiftedAccount, unshifted}
-use Rattle.sponsor_laws.proofs.Changes.{shifted_raise, shifted_lower}
-use Rattle.sponsor_laws.proofs.Paying.{HasEnough, shared, shifted_paying, shifted_released}
-use Rattle.sponsor_laws.proofs.Parts.{enough, in_total}
-use Rattle.sponsor_laws.proofs.Bounds.{done_by, have_passed, has_few, has_room, few_more, both_more, pays_more, HasRoom}
-use Rattle.sponsor_laws.proofs.Moving.{other_is, room_of}
-use Rattle.sponsor_laws.proofs.Edits.{IsEdited, edited, named_stands, signed, own_signed, signed_more, signed_other}
-use Rattle.sponsor_laws.proofs.SignerLists.{counts_edited, sponsors_inserted, sponsors_removed, sponsors_set, sponsor_at_place}
-use Rattle.sponsor_laws.proofs.SignedAccounts.{there_is, IsHeld, held_by, own_id, own_stands, as_many_sponsors, signer_stands, own_sum, own_of, own_share, place_within, sum-without, sum-with, counts_subentry, counts_sponsored, sponsor_enough, place_within_signers}
+use Rattle.sponsor_laws.proofs.Changes.{shifted_raise}
+use Rattle.sponsor_laws.proofs.Paying.{shared, shifted_paying}
+use Rattle.sponsor_laws.proofs.Bounds.{done_by, have_passed, has_few, has_room, few_more, both_more, HasRoom}
+use Rattle.sponsor_laws.proofs.Edits.{IsEdited, edited, named_stands, signed_more}
+use Rattle.sponsor_laws.proofs.SignerLists.{counts_edited, sponsors_inserted}
+use Rattle.sponsor_laws.proofs.SignedAccounts.{there_is, IsHeld, held_by, own_id, own_stands, as_many_sponsors, signer_stands, own_of, own_share}
 
 -- a subentry more of the owner, which the sponsor pays, if there is one
 abbrev signer_shift : AccountId → Option AccountId → Shift

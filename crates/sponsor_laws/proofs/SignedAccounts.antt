@@ -1,11 +1,9 @@
 -- An account that stands in a ledger, with its signers.
-use Rattle.std.proofs.Common.{◌≡◌, ◌≢◌, inl, inr, refl, sym, ap, subst, ◌∙◌, ℕ, ◌+◌, ◌<◌, ◌≤◌, Bool, true, false, cond, List, length, get_or, Option, Some, None, Ok, Contains, slice_set, nat_lt, arith}
+use Rattle.std.proofs.Common.{◌≡◌, ◌≢◌, inl, inr, refl, ap, subst, ◌∙◌, ℕ, ◌+◌, ◌<◌, ◌≤◌, Bool, true, false, cond, List, length, get_or, Option, Some, None, Contains, slice_set, nat_lt, arith}
 use Rattle.std.specs.Prelude.{if◌then◌else◌}
-use Rattle.std.specs.List.{sum_by, count_by, insert, remove, position, position_or_len}
+use Rattle.std.specs.List.{sum_by, count_by, remove, position, position_or_len}
 use Rattle.std.specs.FinMap.{get}
-use Rattle.std.proofs.lemmas.List.{length-set}
-use Rattle.std.proofs.lemmas.List.Edits.{length-insert, length-remove}
-use Rattle.std.proofs.lemmas.List.Sums.{sum_by-insert, sum_by-remove, sum_by-set, get_or-le-sum_by, prefix_len-le-length}
+use Rattle.std.proofs.lemmas.List.Sums.{sum_by-remove, sum_by-set, get_or-le-sum_by}
 use borrow.Author.Tests.{ltb-true}
 use Rattle.ledger_types.specs.declared.ids.AccountId.{AccountId}
 use Rattle.ledger_types.specs.declared.signer.Signer.{Signer}
@@ -15,25 +13,19 @@ use Rattle.ledger_types.specs.declared.entry.LedgerEntry.{LedgerEntry}
 use Rattle.ledger_types.specs.declared.entry.LedgerEntryBody.TheVariants as body
 use Rattle.ledger_types.specs.declared.key.LedgerKey.TheVariants as key
 use Rattle.entry_map.specs.EntryMap.{EntryMap}
-use Rattle.sponsor_rules.specs.declared.context.Ctx.{Ctx}
 use Rattle.sponsor_rules.specs.declared.count.Count.{Count}
 use Rattle.sponsor_rules.specs.declared.count.Count.TheVariants.{SubEntries, Sponsoring, Sponsored}
-use Rattle.sponsor_rules.specs.Accounts.{account_in, account_at, with_account, Stands}
-use Rattle.sponsor_rules.specs.Counts.{count_in, owner_of, raise, lower, subentry_counted, subentry_released, sponsor_paying, sponsor_released}
-use Rattle.sponsor_rules.specs.Payers.{open_sponsor, other_than, payer_of, payer_by, subentry_tests, move_tests}
-use Rattle.sponsor_rules.specs.Signers.{found_at, place_for, place_of, signer_sponsor, with_signer, without_signer, with_signer_sponsor, adding_signer, signer_in, removing_found, moving_found, moved_signer}
+use Rattle.sponsor_rules.specs.Accounts.{account_in, account_at, Stands}
+use Rattle.sponsor_rules.specs.Counts.{count_in, owner_of}
+use Rattle.sponsor_rules.specs.Signers.{place_of, signer_sponsor}
 use Rattle.sponsor_laws.specs.Sums.{is_this, is_there, signer_sponsors, total, counted_for}
-use Rattle.sponsor_laws.specs.Laws.{IsApart, PayerStands, AddingSignerKeeps, RemovingSignerKeeps, MovingSignerKeeps}
 use Rattle.sponsor_laws.proofs.Accounts.{share, own_part, counted_split, is_itself, as_many}
-use Rattle.sponsor_laws.proofs.Even.{IsEven, even, kept_of, account_body, account_entry, same_id, all_few, all_fit}
-use Rattle.sponsor_laws.proofs.Shifts.{Shift, at_one, plus, no_shift, IsShiftedAccount, unshifted}
-use Rattle.sponsor_laws.proofs.Changes.{shifted_raise, shifted_lower}
-use Rattle.sponsor_laws.proofs.Paying.{HasEnough, shared, shifted_paying, shifted_released}
-use Rattle.sponsor_laws.proofs.Parts.{enough, in_total}
-use Rattle.sponsor_laws.proofs.Bounds.{done_by, have_passed, has_few, has_room, few_more, both_more, pays_more, HasRoom}
-use Rattle.sponsor_laws.proofs.Moving.{other_is, room_of}
-use Rattle.sponsor_laws.proofs.Edits.{IsEdited, edited, named_stands, signed, own_signed, signed_more, signed_other}
-use Rattle.sponsor_laws.proofs.SignerLists.{counts_edited, sponsors_inserted, sponsors_removed, sponsors_set, sponsor_at_place}
+use Rattle.sponsor_laws.proofs.Even.{IsEven, account_body, account_entry, same_id}
+use Rattle.sponsor_laws.proofs.Shifts.{Shift, no_shift}
+use Rattle.sponsor_laws.proofs.Paying.{HasEnough}
+use Rattle.sponsor_laws.proofs.Parts.{enough}
+use Rattle.sponsor_laws.proofs.Edits.{signed, own_signed}
+use Rattle.sponsor_laws.proofs.SignerLists.{sponsor_at_place}
 
 pub there_is : (o : Option AccountId) → o ≢ None → is_there o ≡ true
 there_is None some = absurd (some refl)
@@ -109,7 +101,7 @@ module _ (old : EntryMap) (h : IsEven old) (id : AccountId) (a : AccountEntry) (
     counts_sponsored =
         let split = counted_split Sponsored id held.entry in
         let part : own_part Sponsored id held.entry.body ≡ count_by is_there (signer_sponsors a) =
-            ap (own_part Sponsored id) held.is ∙ own_of Sponsored id a own_id ∙ ap (λ t. if t then count_by is_there (signer_sponsors a) else 0) (is_itself id) in
+        ap (own_part Sponsored id) held.is ∙ own_of Sponsored id a own_id ∙ ap (λ t. if t then count_by is_there (signer_sponsors a) else 0) (is_itself id) in
         let le = counts_at is_there in
         omega arith
 

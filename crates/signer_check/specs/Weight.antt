@@ -117,6 +117,6 @@ used_for (c ∷ cs) signatures = used_for cs (used_by c.signature signatures)
 abbrev pub succeeds : Hash → List HeldSignature → AccountEntry → ℕ → Bool
 succeeds hash signatures account need = reaches need 0 (counted hash signatures (signers_of account))
 
--- the signatures after the check: those are used too that made a signer count before the need was reached or with which it was
+-- The signatures after the check. A signature is used if it was before, or if it made a signer count up to the one that reached the need.
 abbrev pub after_check : Hash → List HeldSignature → AccountEntry → ℕ → List HeldSignature
 after_check hash signatures account need = used_for (until_reached need 0 (counted hash signatures (signers_of account))) signatures

@@ -4,12 +4,12 @@ ghost use Rattle.std.specs.Prelude.{◌≡◌, ◌≤◌, ◌↔◌, IsTrue, tru
 ghost use Rattle.signer_check.specs.Weight.{held, succeeds, after_check};
 
 use crate::held::HeldSignature;
-use crate::reaching::reach;
+use crate::reaching::reach_in;
 use item_list::ItemList;
 use ledger_types::{AccountEntry, Hash};
 use op_types::DecoratedSignature;
 use std::alloc::{AllocError, Global};
-use std::mem;
+use std::marker::Model;
 
 /// The signatures of a transaction, and which of them the checks so far used (SignatureChecker in stellar-core).
 #[derive(Debug, Drop)]
@@ -18,6 +18,16 @@ pub struct Checker {
     hash: Hash,
     /// Its signatures, in their order.
     signatures: ItemList<HeldSignature>,
+}
+
+impl Model for Checker {
+    ghost use Rattle.signer_check.specs.Checks.{Checks, checks_code};
+
+    ghost Value = { Checks };
+
+    ghost coded = { checks_code };
+
+    ghost view = { λ checker. record { hash = checker.hash; signatures = checker.signatures } };
 }
 
 impl Checker {
@@ -47,16 +57,12 @@ impl Checker {
         ensures succeeds { result ≡ succeeds self.old.hash self.old.signatures account.now needed }
         ensures used { self.new ≡ record self.old { signatures = after_check self.old.hash self.old.signatures account.now needed } }
     {
-        let alloc = self.signatures.allocator();
-        let mut signatures = mem::replace(&mut self.signatures, ItemList::new(alloc)).into_vec();
-        let has_reached = reach(
+        reach_in(
             &self.hash,
-            &mut signatures,
+            &mut self.signatures,
             account.signers.as_slice(),
             needed,
-        );
-        self.signatures = ItemList::from_vec(signatures);
-        has_reached
+        )
     }
 
     /// Whether each signature was used by some check. It takes no memory.

@@ -11,3 +11,4 @@ mod reaching;
 mod tests;
 
 pub use checker::Checker;
+pub use held::HeldSignature;

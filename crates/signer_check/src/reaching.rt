@@ -6,7 +6,9 @@ ghost use Rattle.signer_check.specs.Weight.{counted as all_counted, counted_by_s
 use crate::counting::{MAX_SIGNERS, count_signer};
 use crate::held::HeldSignature;
 use crate::missing::{missing_after_hash, missing_with};
+use item_list::ItemList;
 use ledger_types::{Hash, Signer};
+use std::mem;
 
 /// Whether the signers that the signatures count, in their order, reach a weight. A signature that counts a signer up to there is
 /// used from then on.
@@ -31,7 +33,7 @@ fn reach_by_signatures(signatures: &mut [HeldSignature], signers: &[Signer], nee
 
 /// Whether the signers that count reach a weight: the pre-authorised ones first, and then those that the signatures count, by which
 /// these are used.
-pub fn reach(hash: &Hash, signatures: &mut [HeldSignature], signers: &[Signer], needed: u32) -> bool
+fn reach(hash: &Hash, signatures: &mut [HeldSignature], signers: &[Signer], needed: u32) -> bool
     requires { length signers.now ≤ MAX_SIGNERS }
     ensures reached { result ≡ reaches needed 0 (all_counted hash.now signatures.old signers.now) }
     ensures used { signatures.new ≡ used_for (until_reached needed 0 (all_counted hash.now signatures.old signers.now)) signatures.old }
@@ -40,4 +42,22 @@ pub fn reach(hash: &Hash, signatures: &mut [HeldSignature], signers: &[Signer], 
         None => true,
         Some(missing) => reach_by_signatures(signatures, signers, missing),
     }
+}
+
+/// The same over a list of signatures.
+pub fn reach_in(
+    hash: &Hash,
+    signatures: &mut ItemList<HeldSignature>,
+    signers: &[Signer],
+    needed: u32,
+) -> bool
+    requires { length signers.now ≤ MAX_SIGNERS }
+    ensures reached { result ≡ reaches needed 0 (all_counted hash.now signatures.old signers.now) }
+    ensures used { signatures.new ≡ used_for (until_reached needed 0 (all_counted hash.now signatures.old signers.now)) signatures.old }
+{
+    let alloc = signatures.allocator();
+    let mut all = mem::replace(signatures, ItemList::new(alloc)).into_vec();
+    let has_reached = reach(hash, &mut all, signers, needed);
+    *signatures = ItemList::from_vec(all);
+    has_reached
 }

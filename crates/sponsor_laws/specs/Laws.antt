@@ -30,7 +30,7 @@ pub record AreKept (m : EntryMap) : Type 0 where
 
 -- ---- adding
 
--- no account sponsors itself
+-- an account's open sponsor is another account
 abbrev pub IsApart : Ctx → AccountId → Type 0
 IsApart ctx owner = (sponsor : AccountId) → open_sponsor ctx owner ≡ Some sponsor → sponsor ≢ owner
 

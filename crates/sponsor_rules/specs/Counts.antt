@@ -1,4 +1,5 @@
--- The counts that an account's reserve comes from (CAP-0033; SponsorshipUtils in stellar-core).
+-- The counts that an account's reserve comes from (CAP-0033, CAP-0023 for claimable balances, CAP-0038 for pool shares; SponsorshipUtils in
+-- stellar-core).
 use Rattle.std.specs.Prelude.{ℕ, ◌+◌, ◌-◌, nat_eq, Option, Some, None, List, map, length, if◌then◌else◌}
 use Rattle.ledger_types.specs.declared.ids.AccountId.{AccountId}
 use Rattle.ledger_types.specs.declared.signer.Signer.{Signer}
@@ -30,7 +31,7 @@ multiplicity (body.Data entry) = 1
 multiplicity (body.ClaimableBalance balance) = length balance.claimants
 multiplicity (body.LiquidityPool pool) = 0
 
--- whose a thing is: an account is its own, and nobody's are claimable balances and pools
+-- whose a thing is: an account is its own, and claimable balances and pools name no owner
 abbrev pub owner_of : LedgerEntryBody → Option AccountId
 owner_of (body.Account account) = Some account.account_id
 owner_of (body.TrustLine line) = Some line.account_id

@@ -15,7 +15,7 @@ use Rattle.sponsor_rules.specs.declared.context.Ctx.{Ctx}
 use Rattle.sponsor_rules.specs.declared.fault.AddFault.{AddFault}
 use Rattle.sponsor_rules.specs.declared.fault.AddFault.TheVariants.{LowReserve}
 use Rattle.sponsor_rules.specs.Counts.{line_multiplicity, raised, raise, sponsor_paying, sponsor_released, subentry_counted, subentry_released, payer_released}
-use Rattle.sponsor_rules.specs.Payers.{open_sponsor, payer_of, other_than, unless_first, payer_tests, subentry_tests, move_tests}
+use Rattle.sponsor_rules.specs.Payers.{open_sponsor, payer_of, other_than, unless_first, payer_tests, subentry_tests, move_tests, IsReady, IsReadyIf, IsReadyAccount}
 
 -- ---- the sponsor of an entry
 
@@ -63,6 +63,16 @@ adding_by ctx owner entry (body.Data data_entry) m = adding_subentry ctx entry o
 
 abbrev pub adding : Ctx → AccountId → LedgerEntry → EntryMap → Result EntryMap AddFault
 adding ctx owner entry m = adding_by ctx owner entry entry.body m
+
+-- Who has to be ready before an entry is added: an account that is added and who pays for it, the owner and the payer of a line, an offer
+-- or data, and the payer of a claimable balance. A pool has none.
+abbrev pub AreReady : Ctx → AccountId → LedgerEntryBody → EntryMap → Type 0
+AreReady ctx owner (body.Account account) m = IsReadyAccount account × IsReadyIf m (open_sponsor ctx owner)
+AreReady ctx owner (body.ClaimableBalance balance) m = IsReady m (payer_of ctx owner)
+AreReady ctx owner (body.LiquidityPool pool) m = Unit {0}
+AreReady ctx owner (body.TrustLine line) m = IsReady m owner × IsReady m (payer_of ctx owner)
+AreReady ctx owner (body.Offer offer) m = IsReady m owner × IsReady m (payer_of ctx owner)
+AreReady ctx owner (body.Data data_entry) m = IsReady m owner × IsReady m (payer_of ctx owner)
 
 -- ---- removing
 

@@ -39,7 +39,7 @@ other_than owner (Some payer) = if is_account payer owner then None else Some pa
 
 -- ---- the tests of a payer
 
--- no account has more than 1000 subentries (MAX_SUBENTRIES in stellar-core)
+-- no account has more than 1000 subentries
 abbrev pub is_full : EntryMap → AccountId → ℕ → Bool
 is_full m owner k = nat_lt 1000 (count_at m owner SubEntries + k)
 
@@ -97,5 +97,11 @@ pub record IsReadyAccount (account : AccountEntry) : Type 0 where
   pub range : IsInRange account
   pub sponsored : num_sponsored account ≤ 4294967293
 
+-- an account that stands is so
 abbrev pub IsReady : EntryMap → AccountId → Type 0
 IsReady m id = (account : AccountEntry) → account_at m id ≡ Some account → IsReadyAccount account
+
+-- the same of an account that may be missing
+abbrev pub IsReadyIf : EntryMap → Option AccountId → Type 0
+IsReadyIf m None = Unit {0}
+IsReadyIf m (Some id) = IsReady m id

@@ -1,15 +1,13 @@
 //! Adding entries.
 
 ghost use Rattle.std.specs.Prelude.{◌≡◌, ◌≤◌, Some, IfOk};
-ghost use Rattle.ledger_types.specs.declared.account.AccountEntry.{AccountEntry as AnAccount};
 ghost use Rattle.ledger_types.specs.declared.entry.LedgerEntryBody.TheVariants.{Account};
 ghost use Rattle.sponsor_rules.specs.declared.count.Count.TheVariants.{Sponsored};
 ghost use Rattle.sponsor_rules.specs.Slots.{entry_of};
-ghost use Rattle.sponsor_rules.specs.Accounts.{account_in};
 ghost use Rattle.sponsor_rules.specs.Answers.{Answers};
 ghost use Rattle.sponsor_rules.specs.Counts.{line_multiplicity as multiplicity_of, raised};
-ghost use Rattle.sponsor_rules.specs.Entries.{sponsored_by as sponsored_entry, with_sponsor, adding, adding_account, adding_balance, adding_subentry};
-ghost use Rattle.sponsor_rules.specs.Payers.{IsReady, IsReadyAccount, payer_of, open_sponsor as sponsor_by};
+ghost use Rattle.sponsor_rules.specs.Entries.{sponsored_by as sponsored_entry, with_sponsor, AreReady, adding, adding_account, adding_balance, adding_subentry};
+ghost use Rattle.sponsor_rules.specs.Payers.{IsReady, IsReadyIf, IsReadyAccount, payer_of, open_sponsor as sponsor_by};
 
 use crate::accounts::{AccountSlot, put_account, taken_apart};
 use crate::context::Ctx;
@@ -25,17 +23,15 @@ use ledger_types::{
 use std::alloc::AllocError;
 
 /// Adds an entry, for which its owner or that account's open sponsor pays: the counts change, and a sponsor is recorded in the entry.
-/// The owner of a claimable balance is the account that makes it. A pool is put without payer. Where it answers one of the first three
-/// faults, nothing has changed.
+/// The `owner` of a claimable balance is the account that makes it. A pool is put without payer. Where it answers one of the first
+/// three faults, nothing has changed.
 pub fn add_entry<B: Base>(
     entries: &mut Entries<'_, B>,
     ctx: &Ctx,
     owner: &AccountId,
     entry: LedgerEntry,
 ) -> Result<(), AddFault>
-    requires owner { IsReady entries.old.current owner.now }
-    requires payer { IsReady entries.old.current (payer_of ctx.now owner.now) }
-    requires added { (account : AnAccount) → account_in entry.body ≡ Some account → IsReadyAccount account }
+    requires { AreReady ctx.now owner.now entry.body entries.old.current }
     ensures { Answers result entries.old entries.new (adding ctx.now owner.now entry entries.old.current) }
 {
     match &entry.body {
@@ -130,7 +126,7 @@ fn add_account<B: Base>(
     owner: &AccountId,
     slot: AccountSlot,
 ) -> Result<(), AddFault>
-    requires payer { IsReady entries.old.current (payer_of ctx.now owner.now) }
+    requires sponsor { IsReadyIf entries.old.current (sponsor_by ctx.now owner.now) }
     requires added { IsReadyAccount slot.account }
     ensures { Answers result entries.old entries.new (adding_account ctx.now (entry_of slot) slot.account (sponsor_by ctx.now owner.now) entries.old.current) }
 {

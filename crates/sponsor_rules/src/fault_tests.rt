@@ -8,7 +8,7 @@ use crate::things::{Thing, made};
 use crate::{AddFault, Ctx};
 use entry_map::{Entries, MapBase};
 use item_list::ItemList;
-use ledger_types::LedgerEntry;
+use ledger_types::{AccountId, LedgerEntry};
 use std::alloc::{AllocError, Global};
 use std::test::Fail;
 
@@ -51,10 +51,11 @@ fn put_accounts(
     Ok(())
 }
 
-/// Adds a thing of the owner's.
+/// Adds a thing of an account's.
 fn added(
     alloc: Global,
     ctx: &Ctx,
+    id: &AccountId,
     thing: LedgerEntry,
     owner: Means,
     sponsor: Means,
@@ -62,7 +63,7 @@ fn added(
     let base = no_entries(alloc)?;
     let mut entries = Entries::new(alloc, &base)?;
     put_accounts(alloc, &mut entries, owner, sponsor)?;
-    add(&mut entries, ctx, &OWNER, thing)
+    add(&mut entries, ctx, id, thing)
 }
 
 #[test]
@@ -71,6 +72,8 @@ fn an_owner_without_sponsor_pays_for_its_data(rt: HostRuntime) -> Result<(), Fai
     for (balance, sub_entries, sponsoring, answer) in [
         // 1000 subentries are the most, whatever else is short.
         (0, 1000, u32::MAX, Err(AddFault::TooManySubentries)),
+        (10_000_000_000, 1000, 0, Err(AddFault::TooManySubentries)),
+        (5_010_000_000, 999, 0, Ok(())),
         (0, 999, 4_294_966_296, Err(AddFault::TooManySponsoring)),
         (0, 999, 4_294_966_295, Err(AddFault::LowReserve)),
         (15_000_000, 1, 0, Err(AddFault::LowReserve)),
@@ -84,7 +87,7 @@ fn an_owner_without_sponsor_pays_for_its_data(rt: HostRuntime) -> Result<(), Fai
         };
         let data = made(rt.alloc(), Thing::Data)?;
         assert_eq!(rt;
-            added(rt.alloc(), &alone, data, owner, NONE),
+            added(rt.alloc(), &alone, &OWNER, data, owner, NONE),
             answer,
             "{owner:?}"
         );
@@ -111,6 +114,11 @@ fn a_sponsor_pays_for_its_owners_data(rt: HostRuntime) -> Result<(), Fail> {
             means_of(0, 0, u32::MAX),
             Err(AddFault::TooManySponsoring),
         ),
+        (
+            NONE,
+            means_of(0, 0, u32::MAX - 1),
+            Err(AddFault::LowReserve),
+        ),
         (NONE, means_of(14_999_999, 0, 0), Err(AddFault::LowReserve)),
         (NONE, means_of(15_000_000, 0, 0), Ok(())),
         (NONE, means_of(24_999_999, 1, 1), Err(AddFault::LowReserve)),
@@ -118,7 +126,7 @@ fn a_sponsor_pays_for_its_owners_data(rt: HostRuntime) -> Result<(), Fail> {
     ] {
         let data = made(rt.alloc(), Thing::Data)?;
         assert_eq!(rt;
-            added(rt.alloc(), &ctx, data, owner, sponsor),
+            added(rt.alloc(), &ctx, &OWNER, data, owner, sponsor),
             answer,
             "{owner:?} {sponsor:?}"
         );
@@ -139,12 +147,13 @@ fn a_share_line_takes_two_subentries_and_two_reserves(rt: HostRuntime) -> Result
     let alone = ctx(ItemList::new(rt.alloc()));
     for (owner, answer) in [
         (means_of(0, 999, 0), Err(AddFault::TooManySubentries)),
+        (means_of(5_010_000_000, 998, 0), Ok(())),
         (means_of(19_999_999, 0, 0), Err(AddFault::LowReserve)),
         (means_of(20_000_000, 0, 0), Ok(())),
     ] {
         let line = made(rt.alloc(), Thing::ShareLine)?;
         assert_eq!(rt;
-            added(rt.alloc(), &alone, line, owner, NONE),
+            added(rt.alloc(), &alone, &OWNER, line, owner, NONE),
             answer,
             "{owner:?}"
         );
@@ -158,11 +167,31 @@ fn a_new_account_without_sponsor_pays_out_of_its_own_balance(rt: HostRuntime) {
     for (balance, answer) in [(9_999_999, Err(AddFault::LowReserve)), (10_000_000, Ok(()))] {
         let new = account(rt.alloc(), NEW, balance, 0, None);
         assert_eq!(rt;
-            added(rt.alloc(), &alone, new, NONE, NONE),
+            added(rt.alloc(), &alone, &NEW, new, NONE, NONE),
             answer,
             "{balance}"
         );
     }
+}
+
+#[test]
+fn a_sponsor_pays_as_often_as_a_thing_counts(rt: HostRuntime) -> Result<(), Fail> {
+    let ctx = sponsored(rt.alloc())?;
+    for (thing, id, enough, short) in [
+        (Thing::Account, NEW, 20_000_000, 19_999_999),
+        (Thing::Line, OWNER, 15_000_000, 14_999_999),
+        (Thing::ShareLine, OWNER, 20_000_000, 19_999_999),
+        (Thing::Offer, OWNER, 15_000_000, 14_999_999),
+        (Thing::Balance, OWNER, 20_000_000, 19_999_999),
+    ] {
+        let new = made(rt.alloc(), thing)?;
+        let answer = added(rt.alloc(), &ctx, &id, new, NONE, means_of(enough, 0, 0));
+        assert_eq!(rt; answer, Ok(()), "{thing:?}");
+        let new = made(rt.alloc(), thing)?;
+        let answer = added(rt.alloc(), &ctx, &id, new, NONE, means_of(short, 0, 0));
+        assert_eq!(rt; answer, Err(AddFault::LowReserve), "{thing:?}");
+    }
+    Ok(())
 }
 
 /// Data that the sponsor pays for is moved to another payer, or to the owner.
@@ -193,6 +222,12 @@ fn the_new_payer_alone_is_tested_where_something_moves(rt: HostRuntime) {
             means_of(0, 0, u32::MAX),
             true,
             Err(AddFault::TooManySponsoring),
+        ),
+        (
+            NONE,
+            means_of(0, 0, u32::MAX - 1),
+            true,
+            Err(AddFault::LowReserve),
         ),
         (NONE, means_of(15_000_000, 0, 0), true, Ok(())),
         // The sponsor pays for the data, so the owner keeps 10,000,000 until it moves.

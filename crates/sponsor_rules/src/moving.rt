@@ -24,8 +24,8 @@ use ledger_types::{AccountId, LedgerEntryBody, LedgerEntryExtensionV1, LedgerKey
 use std::alloc::AllocError;
 
 /// Moves the entry with a key to another payer, or to its owner where none is given: the counts of those that pay for it change, and
-/// the new sponsor is recorded. A claimable balance moves only to a payer that is given, and a pool to none; they stay as they are, as
-/// does all where there is no such entry. Where it answers one of the faults that aren't want of memory, nothing has changed.
+/// the new sponsor is recorded. A claimable balance stays as it is where no payer is given; a pool always does. Nothing changes where
+/// there is no such entry. Where it answers one of the faults that aren't want of memory, nothing has changed.
 pub fn move_entry<B: Base>(
     entries: &mut Entries<'_, B>,
     ctx: &Ctx,

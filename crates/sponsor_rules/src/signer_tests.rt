@@ -144,6 +144,30 @@ fn a_preauthorised_signer_goes_with_its_transaction(rt: HostRuntime) -> Result<(
     remove_preauth(&mut entries, &ctx, &OWNER, &Hash([8; 32]))?;
     check(&rt, &entries, &paid, [(1, 0, 1), (0, 1, 0), NOTHING])?;
     remove_preauth(&mut entries, &ctx, &OWNER, &TRANSACTION)?;
-    check(&rt, &entries, &[], [NOTHING, NOTHING, NOTHING])?;
+    check(&rt, &entries, &[], [NOTHING; 3])?;
     Ok(())
+}
+
+/// Adds a signer to an owner with so many lumens, in stroops, and so many subentries.
+fn added(alloc: Global, balance: i64, sub_entries: u32) -> Result<(), AddFault> {
+    let base = no_entries(alloc)?;
+    let mut entries = Entries::new(alloc, &base)?;
+    entries.put(account(alloc, OWNER, balance, sub_entries, None))?;
+    add(&mut entries, &ctx(ItemList::new(alloc)), LOW)
+}
+
+#[test]
+fn a_signer_is_a_subentry_and_takes_a_reserve(rt: HostRuntime) {
+    for (balance, sub_entries, answer) in [
+        (10_000_000_000, 1000, Err(AddFault::TooManySubentries)),
+        (5_010_000_000, 999, Ok(())),
+        (14_999_999, 0, Err(AddFault::LowReserve)),
+        (15_000_000, 0, Ok(())),
+    ] {
+        assert_eq!(rt;
+            added(rt.alloc(), balance, sub_entries),
+            answer,
+            "{balance}"
+        );
+    }
 }

@@ -15,7 +15,7 @@ use ledger_types::AccountId;
 use reserve_rules::available;
 use std::alloc::AllocError;
 
-/// No account has more subentries (MAX_SUBENTRIES in stellar-core).
+/// No account has more subentries.
 const MAX_SUBENTRIES: u128 = 1000;
 
 /// Whether two ids name the same account.

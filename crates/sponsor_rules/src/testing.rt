@@ -188,6 +188,7 @@ pub fn is_payer_ready(
 }
 
 /// Adds an entry, where that may be asked for.
+#[tactic(auto, using(crate::proofs::Readiness::all_ready))]
 pub fn add(
     entries: &mut Entries<'_, MapBase>,
     ctx: &Ctx,

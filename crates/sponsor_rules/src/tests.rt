@@ -153,3 +153,8 @@ fn a_claimable_balance_counts_once_a_claimant_for_its_payer_alone(rt: HostRuntim
         ],
     );
 }
+
+#[test]
+fn a_pool_counts_for_nobody(rt: HostRuntime) {
+    check(&rt, Thing::Pool, &OWNER, &[[NOTHING; 3]; 6]);
+}

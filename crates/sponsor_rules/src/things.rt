@@ -4,10 +4,15 @@ use crate::testing::{NEW, OTHER, OWNER, account, entry};
 use item_list::ItemList;
 use ledger_types::{
     AccountId, Asset, ClaimPredicate, ClaimableBalanceEntry, ClaimableBalanceId, Claimant,
-    DataEntry, Hash, LedgerEntry, LedgerEntryBody, OfferEntry, Price, TrustLineAsset,
-    TrustLineEntry,
+    DataEntry, Hash, LedgerEntry, LedgerEntryBody, LiquidityPoolEntry, OfferEntry, PoolParams,
+    Price, TrustLineAsset, TrustLineEntry,
 };
 use std::alloc::{AllocError, Global};
+
+const DOLLARS: Asset = Asset::Alphanum4 {
+    code: *b"USD\0",
+    issuer: OTHER,
+};
 
 /// A thing to add.
 #[derive(Clone, Copy, Debug)]
@@ -18,6 +23,7 @@ pub enum Thing {
     Offer,
     Data,
     Balance,
+    Pool,
 }
 
 pub fn line(asset: TrustLineAsset) -> LedgerEntry {
@@ -36,10 +42,7 @@ pub fn offer() -> LedgerEntry {
         seller_id: OWNER,
         offer_id: 1,
         selling: Asset::Native,
-        buying: Asset::Alphanum4 {
-            code: *b"USD\0",
-            issuer: OTHER,
-        },
+        buying: DOLLARS,
         amount: 1,
         price: Price { n: 1, d: 1 },
         flags: 0,
@@ -59,6 +62,22 @@ pub fn claimant(destination: AccountId) -> Claimant {
         destination,
         predicate: ClaimPredicate::Unconditional,
     }
+}
+
+/// An empty pool.
+pub fn pool() -> LedgerEntry {
+    entry(LedgerEntryBody::LiquidityPool(LiquidityPoolEntry {
+        pool_id: Hash([8; 32]),
+        params: PoolParams {
+            asset_a: Asset::Native,
+            asset_b: DOLLARS,
+            fee: 30,
+        },
+        reserve_a: 0,
+        reserve_b: 0,
+        total_pool_shares: 0,
+        pool_shares_trust_line_count: 0,
+    }))
 }
 
 /// A balance for two claimants.
@@ -86,5 +105,6 @@ pub fn made(alloc: Global, thing: Thing) -> Result<LedgerEntry, AllocError> {
         Thing::Offer => Ok(offer()),
         Thing::Data => data(alloc),
         Thing::Balance => balance(alloc),
+        Thing::Pool => Ok(pool()),
     }
 }

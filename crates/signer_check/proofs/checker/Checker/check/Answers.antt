@@ -1,37 +1,27 @@
-use Rattle.std.proofs.Common.{◌≡◌, ◌≤◌, List, [], ◌++◌, length, take, sym, ap, ◌∙◌, arith}
-use Rattle.std.proofs.lemmas.List.{take_at, drop_all}
+use Rattle.std.proofs.Common.{rules, ◌≡◌, List, sym, ap, ◌∙◌}
 use Rattle.ledger_types.specs.declared.signer.Signer.{Signer}
-use Rattle.signer_check.specs.declared.checker.Checker.{Checker}
-use Rattle.signer_check.specs.declared.held.HeldSignature.{HeldSignature}
+use Rattle.signer_check.specs.Checks.{Checks}
 use Rattle.signer_check.specs.Weight.{Counted, counted, reaches, until_reached, used_for}
 use Rattle.signer_check.proofs.Own.{own_never_counts}
 use Rattle.signer_check.proofs.checker.Checker.check.Goals as goal
 
 pub returns-clause-succeeds : goal.returns-clause-succeeds
 returns-clause-succeeds c =
-    let hash = c.args.self.now.hash in
-    let same : c.deref_mut.result.now ≡ c.args.self.now.signatures = cc in
-    let signers : c.as_slice.result.now ≡ c.args.account.now.signers = cc in
-    c.reach-has_reached.ensures.reached
-    ∙ ap (λ (all : List HeldSignature). reaches c.args.needed 0 (counted hash all c.as_slice.result.now)) same
-    ∙ ap (λ (l : List Signer). reaches c.args.needed 0 (counted hash c.args.self.now.signatures l)) signers
-    ∙ ap (reaches c.args.needed 0) (sym (own_never_counts hash c.args.self.now.signatures c.args.account.now))
+    let seen : Checks = record { hash = c.self.inside.hash; signatures = c.self.inside.signatures } in
+    let same : seen ≡ c.args.self.now = search rules in
+    let signers : c.as_slice.result.now ≡ c.args.account.now.signers = search rules in
+    c.reach_in.ensures.reached
+    ∙ ap (λ (l : List Signer). reaches c.args.needed 0 (counted seen.hash seen.signatures l)) signers
+    ∙ ap (λ (v : Checks). reaches c.args.needed 0 (counted v.hash v.signatures c.args.account.now.signers)) same
+    ∙ ap (reaches c.args.needed 0) (sym (own_never_counts c.args.self.now.hash c.args.self.now.signatures c.args.account.now))
 
 pub returns-clause-used : goal.returns-clause-used
 returns-clause-used c =
-    let hash = c.args.self.now.hash in
-    let old = c.args.self.now.signatures in
-    let new = c.reach-has_reached.new.signatures in
-    let vec = c.into_vec-signatures.result in
-    let same : c.deref_mut.result.now ≡ old = cc in
-    let signers : c.as_slice.result.now ≡ c.args.account.now.signers = cc in
-    let full : length vec.items ≤ length new = omega arith in
-    let all : length new ≡ vec.len = omega arith in
-    let back : c.from_vec.result ≡ new =
-    c.from_vec.ensures ∙ ap (λ (l : List HeldSignature). take vec.len (new ++ l)) (drop_all (length new) vec.items full) ∙ take_at new [] vec.len all in
-    ap (λ (l : List HeldSignature). let checker : Checker = record { hash = hash; signatures = l } in checker) (
-    back
-    ∙ c.reach-has_reached.ensures.used
-    ∙ ap (λ (l : List HeldSignature). used_for (until_reached c.args.needed 0 (counted hash l c.as_slice.result.now)) l) same
-    ∙ ap (λ (l : List Signer). used_for (until_reached c.args.needed 0 (counted hash old l)) old) signers
-    ∙ ap (λ (cs : List Counted). used_for (until_reached c.args.needed 0 cs) old) (sym (own_never_counts hash old c.args.account.now)))
+    let seen : Checks = record { hash = c.self.inside.hash; signatures = c.self.inside.signatures } in
+    let same : seen ≡ c.args.self.now = search rules in
+    let signers : c.as_slice.result.now ≡ c.args.account.now.signers = search rules in
+    let after = λ (v : Checks) (cs : List Counted). let checks : Checks = record { hash = v.hash; signatures = used_for (until_reached c.args.needed 0 cs) v.signatures } in checks in
+    ap (λ l. let checks : Checks = record { hash = seen.hash; signatures = l } in checks) c.reach_in.ensures.used
+    ∙ ap (λ (l : List Signer). after seen (counted seen.hash seen.signatures l)) signers
+    ∙ ap (λ (v : Checks). after v (counted v.hash v.signatures c.args.account.now.signers)) same
+    ∙ ap (after c.args.self.now) (sym (own_never_counts c.args.self.now.hash c.args.self.now.signatures c.args.account.now))

@@ -148,7 +148,7 @@ subentries_none : (id : AccountId) (b : LedgerEntryBody) → is_this id (owner_o
 subentries_none id (body.Account account) h = ap (λ t. if t then length account.signers else 0) h
 subentries_none id other h = ap (λ t. if t then multiplicity other else 0) h
 
-sponsored_none : (id : AccountId) (b : LedgerEntryBody) → is_this id (owner_of b) ≡ false → sponsored_signers id b ≡ 0
+pub sponsored_none : (id : AccountId) (b : LedgerEntryBody) → is_this id (owner_of b) ≡ false → sponsored_signers id b ≡ 0
 sponsored_none id (body.Account account) h = ap (λ t. if t then count_by is_there (signer_sponsors account) else 0) h
 sponsored_none id other h = refl
 

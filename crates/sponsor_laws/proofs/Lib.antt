@@ -17,3 +17,4 @@ pub mod AddingSigners
 pub mod RemovingSigners
 pub mod MovingSigners
 pub mod Sponsoring
+pub mod Sponsored

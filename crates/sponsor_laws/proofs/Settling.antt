@@ -140,6 +140,13 @@ erase_total m k e count id there = sum_in-remove keys_total (counted_for count i
 pub none_left : (m : EntryMap) (k : LedgerKey) → get (erase m k) k ≡ None
 none_left m k = erase_get m k k ∙ ap (λ b. cond b None (get m k)) (same_itself k)
 
+-- what is left stood before, under another key
+pub left_over : (m : EntryMap) (k x : LedgerKey) (e : LedgerEntry) → get (erase m k) x ≡ Some e → (x ≢ k) × (get m x ≡ Some e)
+left_over m k x e there = elim (eq_by_cmp key_cmp x k) as (λ b. eq_by_cmp key_cmp x k ≡ b → cond b None (get m x) ≡ Some e → (x ≢ k) × (get m x ≡ Some e)) [
+  | true ↦ λ tied is. absurd (cc)
+  | false ↦ λ apart is. (λ same. let none : get (erase m k) x ≡ None = ap (get (erase m k)) same ∙ none_left m k in absurd (cc), is)
+] refl (sym (erase_get m k x) ∙ there)
+
 pub stands_erased : (m : EntryMap) (k : LedgerKey) (id : AccountId) → key.Account id ≢ k → Stands m id → Stands (erase m k) id
 stands_erased m k id apart stands =
     let entry = account_entry m id stands.0 stands.1 in

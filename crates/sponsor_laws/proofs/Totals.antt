@@ -1,5 +1,5 @@
--- Sums over the entries of a map, after an entry is put or taken away.
-use Rattle.std.proofs.Common.{◌≡◌, refl, sym, ap, subst, ◌∙◌, ℕ, ◌+◌, Bool, true, false, cond, ◌&&◌, T, List, [], ◌∷◌, Option, Some, None, arith}
+-- Sums over the entries of a map, after an entry is put or taken away, and beside another sum.
+use Rattle.std.proofs.Common.{◌≡◌, refl, sym, ap, subst, ◌∙◌, ℕ, ◌+◌, ◌≤◌, Bool, true, false, cond, ◌&&◌, T, List, [], ◌∷◌, Option, Some, None, arith}
 use Rattle.std.specs.declared.cmp.Ordering.{Ordering}
 use Rattle.std.specs.declared.cmp.Ordering.TheVariants.{Less, Equal, Greater}
 use Rattle.std.specs.Ordering.{eq_by_cmp, is_eq, is_lt}
@@ -33,6 +33,9 @@ put_later new old first after before part v now was rest = omega arith
 
 no_more : (all first rest : ℕ) → all ≡ first + rest → first ≡ 0 → rest ≡ 0 → all ≡ 0
 no_more all first rest is none nothing = omega arith
+
+no_higher : (low low_first low_rest high high_first high_rest : ℕ) → low ≡ low_first + low_rest → high ≡ high_first + high_rest → low_first ≤ high_first → low_rest ≤ high_rest → low ≤ high
+no_higher low low_first low_rest high high_first high_rest low_is high_is first rest = omega arith
 
 -- what stands at a key, or 0
 abbrev pub part_of : {X : Type 0} → (X → ℕ) → Option X → ℕ
@@ -68,15 +71,27 @@ module _ {K X : Type 0} {R : K → K → Ordering} (o : IsTotalOrder R) (f : X �
   below_tied x y [] p h = tt
   below_tied x y (e ∷ es) p h = subst (λ r. T (is_lt r && below_all R x es)) (sym (o.congr x y e.0 p)) (both_true _ _ (first_of_both _ _ h) (below_tied x y es p (second_of_both _ _ h)))
 
+  found_first : (e : K × X) (es : List (K × X)) → find R e.0 (e ∷ es) ≡ Some e.1
+  found_first e es = ap (λ r. cond (is_eq r) (Some e.1) (find R e.0 es)) (tied_itself o e.0)
+
+  found_later : (e : K × X) (es : List (K × X)) (k : K) (x : X) → T (below_all R e.0 es) → find R k es ≡ Some x → find R k (e ∷ es) ≡ Some x
+  found_later e es k x h there = elim (R k e.0) as (λ r. R k e.0 ≡ r → cond (is_eq r) (Some e.1) (find R k es) ≡ Some x) [
+    | Less ↦ λ p. there
+    | Equal ↦ λ p. absurd (let missing = not_below k es (below_tied k e.0 es p h) in cc)
+    | Greater ↦ λ p. there
+  ] refl
+
   sum_of-none : (es : List (K × X)) → T (is_sorted R es) → ((k : K) (x : X) → find R k es ≡ Some x → f x ≡ 0) → sum_of es ≡ 0
   sum_of-none [] h none = refl
   sum_of-none (e ∷ es) h none = no_more _ _ _ (sum_by-cons (λ (x : K × X). f x.1) e es)
-      (none e.0 e.1 (ap (λ r. cond (is_eq r) (Some e.1) (find R e.0 es)) (tied_itself o e.0)))
-      (sum_of-none es (second_of_both _ _ h) (λ k x there. elim (R k e.0) as (λ r. R k e.0 ≡ r → f x ≡ 0) [
-        | Less ↦ λ p. none k x (ap (λ r. cond (is_eq r) (Some e.1) (find R k es)) p ∙ there)
-        | Equal ↦ λ p. absurd (let missing = not_below k es (below_tied k e.0 es p (first_of_both _ _ h)) in cc)
-        | Greater ↦ λ p. none k x (ap (λ r. cond (is_eq r) (Some e.1) (find R k es)) p ∙ there)
-      ] refl))
+      (none e.0 e.1 (found_first e es))
+      (sum_of-none es (second_of_both _ _ h) (λ k x there. none k x (found_later e es k x (first_of_both _ _ h) there)))
+
+  sum_of-at_most : (g : X → ℕ) (es : List (K × X)) → T (is_sorted R es) → ((k : K) (x : X) → find R k es ≡ Some x → f x ≤ g x) → sum_of es ≤ sum_by (λ e. g e.1) es
+  sum_of-at_most g [] h le = omega arith
+  sum_of-at_most g (e ∷ es) h le = no_higher _ _ _ _ _ _ (sum_by-cons (λ (x : K × X). f x.1) e es) (sum_by-cons (λ (x : K × X). g x.1) e es)
+      (le e.0 e.1 (found_first e es))
+      (sum_of-at_most g es (second_of_both _ _ h) (λ k x there. le k x (found_later e es k x (first_of_both _ _ h) there)))
 
 -- ---- maps
 
@@ -93,6 +108,9 @@ module _ {K X : Type 0} {R : K → K → Ordering} (o : IsTotalOrder R) (f : X �
 
   pub sum_in-none : (m : FinMap R X) → ((k : K) (x : X) → get m k ≡ Some x → f x ≡ 0) → sum_in m ≡ 0
   sum_in-none m none = sum_of-none o f (entries m) (entries_sorted m) (λ k x there. none k x (get-entries m k ∙ there))
+
+  pub sum_in-at_most : (g : X → ℕ) (m : FinMap R X) → ((k : K) (x : X) → get m k ≡ Some x → f x ≤ g x) → sum_in m ≤ sum_by (λ e. g e.1) (entries m)
+  sum_in-at_most g m le = sum_of-at_most o f g (entries m) (entries_sorted m) (λ k x there. le k x (get-entries m k ∙ there))
 
   taken_back : (b : Bool) (x y : Option X) → (b ≡ true → x ≡ y) → cond b x (cond b None y) ≡ y
   taken_back true x y h = h refl

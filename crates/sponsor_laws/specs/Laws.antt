@@ -1,5 +1,6 @@
--- That adding, removing and moving keep the counts of accounts equal to their sums, and owners and sponsors standing.
-use Rattle.std.specs.Prelude.{◌≡◌, ◌≢◌, [], Option, Some, None, Ok}
+-- That adding, removing and moving keep the counts of accounts equal to their sums, and owners and sponsors standing; and what these
+-- sums say of the counts.
+use Rattle.std.specs.Prelude.{◌≡◌, ◌≢◌, ◌+◌, ◌≤◌, [], Option, Some, None, Ok}
 use Rattle.std.specs.FinMap.{get}
 use Rattle.ledger_types.specs.declared.ids.AccountId.{AccountId}
 use Rattle.ledger_types.specs.declared.account.AccountEntry.{AccountEntry}
@@ -15,7 +16,7 @@ use Rattle.ledger_types.specs.Keys.{key_of}
 use Rattle.entry_map.specs.EntryMap.{EntryMap}
 use Rattle.sponsor_rules.specs.declared.context.Ctx.{Ctx}
 use Rattle.sponsor_rules.specs.declared.count.Count.{Count}
-use Rattle.sponsor_rules.specs.declared.count.Count.TheVariants.{SubEntries, Sponsoring}
+use Rattle.sponsor_rules.specs.declared.count.Count.TheVariants.{SubEntries, Sponsoring, Sponsored}
 use Rattle.sponsor_rules.specs.Accounts.{account_in, account_at, Stands}
 use Rattle.sponsor_rules.specs.Counts.{count_in, owner_of}
 use Rattle.sponsor_rules.specs.Entries.{sponsor_of, adding, removing, moving}
@@ -110,3 +111,12 @@ abbrev pub ZeroSponsorsNothing : Type 0
 ZeroSponsorsNothing =
     (id : AccountId) (account : AccountEntry) (m : EntryMap) → AreKept m → SponsoredEntriesCount m → account_at m id ≡ Some account → count_in Sponsoring account ≡ 0
     → SponsorsNothing m id
+
+-- ---- what others pay
+
+-- The reserves of an account that others pay are at most its own two and one for each of its subentries, so its minimum balance is not
+-- below 0.
+abbrev pub SponsoredAtMost : Type 0
+SponsoredAtMost =
+    (id : AccountId) (account : AccountEntry) (m : EntryMap) → AreKept m → account_at m id ≡ Some account
+    → count_in Sponsored account ≤ 2 + count_in SubEntries account

@@ -1,6 +1,6 @@
 //! Laws of entries that are added, removed and moved.
 
-ghost use Rattle.sponsor_laws.specs.Laws.{AddingKeeps, RemovingKeeps, MovingKeeps, ZeroSponsorsNothing};
+ghost use Rattle.sponsor_laws.specs.Laws.{AddingKeeps, RemovingKeeps, MovingKeeps};
 
 /// Adding an entry keeps each count equal to its sum, and owners and sponsors standing. Nothing stands under its key yet; it is the
 /// owner's and has no sponsor; its owner and its payer stand, unless they are the account that is added; the owner's open sponsor is
@@ -19,10 +19,4 @@ pub fn removing_keeps_sums()
 /// of signers' sponsors has one item a signer, before and afterwards.
 pub fn moving_keeps_sums()
     ensures { MovingKeeps }
-{}
-
-/// An account whose count of reserves that it pays for others is 0 is the sponsor of no entry and of no signer, where claimable balances
-/// have claimants and pools have no sponsor.
-pub fn zero_sponsors_nothing()
-    ensures { ZeroSponsorsNothing }
 {}

@@ -21,6 +21,8 @@ const HIGH: SignerKey = SignerKey::HashX(Hash([6; 32]));
 
 const TRANSACTION: Hash = Hash([7; 32]);
 
+const ANOTHER: Hash = Hash([8; 32]);
+
 /// Adds a signer to the owner, where that may be asked for.
 fn add(entries: &mut Entries<'_, MapBase>, ctx: &Ctx, key: SignerKey) -> Result<(), AddFault> {
     let payer = payer(&OWNER, open_sponsor(ctx, &OWNER));
@@ -86,6 +88,24 @@ fn put_accounts(alloc: Global, entries: &mut Entries<'_, MapBase>) -> Result<(),
     Ok(())
 }
 
+fn add_in_order(
+    rt: &(impl Abort + AllocGlobal),
+    entries: &mut Entries<'_, MapBase>,
+    alone: &Ctx,
+    sponsored: &Ctx,
+) -> Result<(), AllocError> {
+    let one = [(HIGH, None)];
+    let two = [(LOW, Some(SPONSOR)), (HIGH, None)];
+    assert_eq!(rt; add(entries, alone, HIGH), Ok(()));
+    check(rt, entries, &one, [(1, 0, 0), NOTHING, NOTHING])?;
+    assert_eq!(rt; add(entries, sponsored, LOW), Ok(()));
+    check(rt, entries, &two, [(2, 0, 1), (0, 1, 0), NOTHING])?;
+    remove_signer(entries, alone, &OWNER, &LOW)?;
+    check(rt, entries, &one, [(1, 0, 0), NOTHING, NOTHING])?;
+    remove_signer(entries, alone, &OWNER, &HIGH)?;
+    check(rt, entries, &[], [NOTHING; 3])
+}
+
 #[test]
 fn signers_stand_in_the_order_of_their_keys_with_their_sponsors(
     rt: HostRuntime,
@@ -94,24 +114,25 @@ fn signers_stand_in_the_order_of_their_keys_with_their_sponsors(
     let mut entries = Entries::new(rt.alloc(), &base)?;
     put_accounts(rt.alloc(), &mut entries)?;
     let alone = ctx(ItemList::new(rt.alloc()));
-    assert_eq!(rt; add(&mut entries, &alone, HIGH), Ok(()));
-    check(
-        &rt,
-        &entries,
-        &[(HIGH, None)],
-        [(1, 0, 0), NOTHING, NOTHING],
-    )?;
-    assert_eq!(rt; add(&mut entries, &sponsored(rt.alloc())?, LOW), Ok(()));
-    let paid = [(LOW, Some(SPONSOR)), (HIGH, None)];
-    check(&rt, &entries, &paid, [(2, 0, 1), (0, 1, 0), NOTHING])?;
-    remove_signer(&mut entries, &alone, &OWNER, &LOW)?;
-    check(
-        &rt,
-        &entries,
-        &[(HIGH, None)],
-        [(1, 0, 0), NOTHING, NOTHING],
-    )?;
+    add_in_order(&rt, &mut entries, &alone, &sponsored(rt.alloc())?)?;
     Ok(())
+}
+
+fn move_round(
+    rt: &(impl Abort + AllocGlobal),
+    entries: &mut Entries<'_, MapBase>,
+    alone: &Ctx,
+) -> Result<(), AllocError> {
+    assert_eq!(rt; add(entries, alone, LOW), Ok(()));
+    assert_eq!(rt; move_to(entries, alone, Some(OTHER)), Ok(()));
+    let paid = [(LOW, Some(OTHER))];
+    check(rt, entries, &paid, [(1, 0, 1), NOTHING, (0, 1, 0)])?;
+    assert_eq!(rt; move_to(entries, alone, Some(SPONSOR)), Ok(()));
+    let paid = [(LOW, Some(SPONSOR))];
+    check(rt, entries, &paid, [(1, 0, 1), (0, 1, 0), NOTHING])?;
+    assert_eq!(rt; move_to(entries, alone, None), Ok(()));
+    let paid = [(LOW, None)];
+    check(rt, entries, &paid, [(1, 0, 0), NOTHING, NOTHING])
 }
 
 #[test]
@@ -119,17 +140,22 @@ fn a_signer_moves_to_another_payer_and_back_to_its_account(rt: HostRuntime) -> R
     let base = no_entries(rt.alloc())?;
     let mut entries = Entries::new(rt.alloc(), &base)?;
     put_accounts(rt.alloc(), &mut entries)?;
-    let alone = ctx(ItemList::new(rt.alloc()));
-    assert_eq!(rt; add(&mut entries, &alone, LOW), Ok(()));
-    assert_eq!(rt; move_to(&mut entries, &alone, Some(OTHER)), Ok(()));
-    let paid = [(LOW, Some(OTHER))];
-    check(&rt, &entries, &paid, [(1, 0, 1), NOTHING, (0, 1, 0)])?;
-    assert_eq!(rt; move_to(&mut entries, &alone, Some(SPONSOR)), Ok(()));
-    let paid = [(LOW, Some(SPONSOR))];
-    check(&rt, &entries, &paid, [(1, 0, 1), (0, 1, 0), NOTHING])?;
-    assert_eq!(rt; move_to(&mut entries, &alone, None), Ok(()));
-    check(&rt, &entries, &[(LOW, None)], [(1, 0, 0), NOTHING, NOTHING])?;
+    move_round(&rt, &mut entries, &ctx(ItemList::new(rt.alloc())))?;
     Ok(())
+}
+
+fn come_and_go(
+    rt: &(impl Abort + AllocGlobal),
+    entries: &mut Entries<'_, MapBase>,
+    ctx: &Ctx,
+) -> Result<(), AllocError> {
+    let key = SignerKey::PreAuthTx(TRANSACTION);
+    let paid = [(key, Some(SPONSOR))];
+    assert_eq!(rt; add(entries, ctx, key), Ok(()));
+    remove_preauth(entries, ctx, &OWNER, &ANOTHER)?;
+    check(rt, entries, &paid, [(1, 0, 1), (0, 1, 0), NOTHING])?;
+    remove_preauth(entries, ctx, &OWNER, &TRANSACTION)?;
+    check(rt, entries, &[], [NOTHING; 3])
 }
 
 #[test]
@@ -137,14 +163,7 @@ fn a_preauthorised_signer_goes_with_its_transaction(rt: HostRuntime) -> Result<(
     let base = no_entries(rt.alloc())?;
     let mut entries = Entries::new(rt.alloc(), &base)?;
     put_accounts(rt.alloc(), &mut entries)?;
-    let ctx = sponsored(rt.alloc())?;
-    let key = SignerKey::PreAuthTx(TRANSACTION);
-    assert_eq!(rt; add(&mut entries, &ctx, key), Ok(()));
-    let paid = [(key, Some(SPONSOR))];
-    remove_preauth(&mut entries, &ctx, &OWNER, &Hash([8; 32]))?;
-    check(&rt, &entries, &paid, [(1, 0, 1), (0, 1, 0), NOTHING])?;
-    remove_preauth(&mut entries, &ctx, &OWNER, &TRANSACTION)?;
-    check(&rt, &entries, &[], [NOTHING; 3])?;
+    come_and_go(&rt, &mut entries, &sponsored(rt.alloc())?)?;
     Ok(())
 }
 

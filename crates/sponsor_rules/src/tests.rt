@@ -5,10 +5,10 @@ use crate::testing::{
     sponsored,
 };
 use crate::things::{Thing, made};
-use crate::{AddFault, remove_entry};
+use crate::{AddFault, Ctx, remove_entry};
 use entry_map::{Entries, MapBase};
 use item_list::ItemList;
-use ledger_types::AccountId;
+use ledger_types::{AccountId, LedgerKey};
 use std::alloc::{AllocError, Global};
 use std::process::Abort;
 
@@ -32,20 +32,27 @@ fn put_accounts(alloc: Global, entries: &mut Entries<'_, MapBase>) -> Result<(),
     Ok(())
 }
 
+/// What a thing goes through: whose it is, its key, and what operations are applied in, without and with open sponsorships.
+#[derive(Clone, Copy)]
+struct Story<'a> {
+    thing: Thing,
+    owner: &'a AccountId,
+    key: &'a LedgerKey,
+    alone: &'a Ctx,
+    sponsored: &'a Ctx,
+}
+
 /// A thing is added without sponsor, and removed.
 fn come_and_go(
     alloc: Global,
     entries: &mut Entries<'_, MapBase>,
-    thing: Thing,
-    owner: &AccountId,
+    story: &Story<'_>,
     told: &mut Vec<Counts>,
 ) -> Result<(), AddFault> {
-    let alone = ctx(ItemList::new(alloc));
-    add(entries, &alone, owner, made(alloc, thing)?)?;
-    note(entries, owner, told)?;
-    let key = made(alloc, thing)?.key()?;
-    remove_entry(entries, &alone, &key)?;
-    note(entries, owner, told)?;
+    add(entries, story.alone, story.owner, made(alloc, story.thing)?)?;
+    note(entries, story.owner, told)?;
+    remove_entry(entries, story.alone, story.key)?;
+    note(entries, story.owner, told)?;
     Ok(())
 }
 
@@ -53,36 +60,53 @@ fn come_and_go(
 fn go_round(
     alloc: Global,
     entries: &mut Entries<'_, MapBase>,
-    thing: Thing,
-    owner: &AccountId,
+    story: &Story<'_>,
     told: &mut Vec<Counts>,
 ) -> Result<(), AddFault> {
-    let ctx = sponsored(alloc)?;
-    add(entries, &ctx, owner, made(alloc, thing)?)?;
-    note(entries, owner, told)?;
-    let key = made(alloc, thing)?.key()?;
-    move_to(entries, &ctx, &key, Some(OTHER))?;
-    note(entries, owner, told)?;
-    move_to(entries, &ctx, &key, None)?;
-    note(entries, owner, told)?;
-    remove_entry(entries, &ctx, &key)?;
-    note(entries, owner, told)?;
+    add(
+        entries,
+        story.sponsored,
+        story.owner,
+        made(alloc, story.thing)?,
+    )?;
+    note(entries, story.owner, told)?;
+    move_to(entries, story.sponsored, story.key, Some(OTHER))?;
+    note(entries, story.owner, told)?;
+    move_to(entries, story.sponsored, story.key, None)?;
+    note(entries, story.owner, told)?;
+    remove_entry(entries, story.sponsored, story.key)?;
+    note(entries, story.owner, told)?;
     Ok(())
 }
 
-fn story(alloc: Global, thing: Thing, owner: &AccountId) -> Result<Vec<Counts>, AddFault> {
+fn tell(
+    alloc: Global,
+    entries: &mut Entries<'_, MapBase>,
+    story: &Story<'_>,
+) -> Result<Vec<Counts>, AddFault> {
+    put_accounts(alloc, entries)?;
+    let mut told = Vec::new(alloc);
+    come_and_go(alloc, entries, story, &mut told)?;
+    go_round(alloc, entries, story, &mut told)?;
+    Ok(told)
+}
+
+fn told_of(alloc: Global, thing: Thing, owner: &AccountId) -> Result<Vec<Counts>, AddFault> {
     let base = no_entries(alloc)?;
     let mut entries = Entries::new(alloc, &base)?;
-    put_accounts(alloc, &mut entries)?;
-    let mut told = Vec::new(alloc);
-    come_and_go(alloc, &mut entries, thing, owner, &mut told)?;
-    go_round(alloc, &mut entries, thing, owner, &mut told)?;
-    Ok(told)
+    let story = Story {
+        thing,
+        owner,
+        key: &made(alloc, thing)?.key()?,
+        alone: &ctx(ItemList::new(alloc)),
+        sponsored: &sponsored(alloc)?,
+    };
+    tell(alloc, &mut entries, &story)
 }
 
 /// Compares what happened with the counts after each step, of the owner, of the sponsor and of the other payer.
 fn check(rt: &(impl Abort + AllocGlobal), thing: Thing, owner: &AccountId, steps: &[[Counts; 3]]) {
-    match story(rt.alloc(), thing, owner) {
+    match told_of(rt.alloc(), thing, owner) {
         Ok(told) => {
             assert_eq!(rt; told.len(), 3 * steps.len());
             for (i, step) in steps.iter().enumerate() {

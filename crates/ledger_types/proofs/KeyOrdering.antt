@@ -11,12 +11,16 @@ use Rattle.ledger_types.specs.declared.asset.Asset.{Asset}
 use Rattle.ledger_types.specs.declared.asset.Asset.TheVariants as asset
 use Rattle.ledger_types.specs.declared.asset.TrustLineAsset.{TrustLineAsset}
 use Rattle.ledger_types.specs.declared.asset.TrustLineAsset.TheVariants as line
+use Rattle.ledger_types.specs.declared.signer.SignerKey.{SignerKey}
+use Rattle.ledger_types.specs.declared.signer.SignerKey.TheVariants as signer
 use Rattle.ledger_types.specs.declared.key.LedgerKey.{LedgerKey}
 use Rattle.ledger_types.specs.declared.key.LedgerKey.TheVariants as key
-use Rattle.ledger_types.specs.KeyOrder.{account_cmp, hash_cmp, asset_cmp, line_cmp, key_cmp}
+use Rattle.ledger_types.specs.KeyOrder.{account_cmp, hash_cmp, asset_cmp, line_cmp, signer_key_cmp, key_cmp}
 use Rattle.ledger_types.specs.contracts.asset.AssetOrd.TheImpl as assets
 use Rattle.ledger_types.specs.contracts.asset.AssetOrd.TheImpl.Laws as asset_ord
 use Rattle.ledger_types.specs.contracts.asset.TrustLineAssetOrd.TheImpl as lines
+use Rattle.ledger_types.specs.contracts.signer.SignerKeyOrd.TheImpl as signers
+use Rattle.ledger_types.specs.contracts.signer.SignerKeyOrd.TheImpl.Laws as signer_ord
 use Rattle.ledger_types.specs.contracts.key.LedgerKeyOrd.TheImpl as keys
 use Rattle.ledger_types.specs.contracts.key.LedgerKeyOrd.TheImpl.Laws as key_ord
 
@@ -55,7 +59,7 @@ assets_exact (asset.Alphanum4 c i) (asset.Alphanum4 c' i') h = let p = both_equa
 assets_exact (asset.Alphanum12 c i) (asset.Alphanum12 c' i') h = let p = both_equal _ _ h in λ k. asset.Alphanum12 (exact_bytes c c' p.0 k) (exact_accounts i i' p.1 k)
 assets_exact a b h = absurd (cc)
 
-lines_compared : (a b : TrustLineAsset) → (lines.cmp-value).it a b ≡ line_cmp a b
+pub lines_compared : (a b : TrustLineAsset) → (lines.cmp-value).it a b ≡ line_cmp a b
 lines_compared line.Native line.Native = refl
 lines_compared line.Native (line.Alphanum4 c' i') = refl
 lines_compared line.Native (line.Alphanum12 c' i') = refl
@@ -79,6 +83,28 @@ exact_lines (line.Alphanum4 c i) (line.Alphanum4 c' i') h = let p = both_equal _
 exact_lines (line.Alphanum12 c i) (line.Alphanum12 c' i') h = let p = both_equal _ _ h in λ k. line.Alphanum12 (exact_bytes c c' p.0 k) (exact_accounts i i' p.1 k)
 exact_lines (line.PoolShare p) (line.PoolShare p') h = ap line.PoolShare (exact_hashes p p' h)
 exact_lines a b h = absurd (cc)
+
+-- ---- signers' keys
+
+pub signer_keys_compared : (a b : SignerKey) → (signers.cmp-value).it a b ≡ signer_key_cmp a b
+signer_keys_compared (signer.Ed25519 k) (signer.Ed25519 k') = refl
+signer_keys_compared (signer.Ed25519 k) (signer.PreAuthTx h') = refl
+signer_keys_compared (signer.Ed25519 k) (signer.HashX h') = refl
+signer_keys_compared (signer.PreAuthTx h) (signer.Ed25519 k') = refl
+signer_keys_compared (signer.PreAuthTx h) (signer.PreAuthTx h') = refl
+signer_keys_compared (signer.PreAuthTx h) (signer.HashX h') = refl
+signer_keys_compared (signer.HashX h) (signer.Ed25519 k') = refl
+signer_keys_compared (signer.HashX h) (signer.PreAuthTx h') = refl
+signer_keys_compared (signer.HashX h) (signer.HashX h') = refl
+
+pub signer_keys_total : IsTotalOrder signer_key_cmp
+signer_keys_total = subst IsTotalOrder (λ i a b. signer_keys_compared a b i) signer_ord.total-law
+
+pub signer_keys_exact : (a b : SignerKey) → signer_key_cmp a b ≡ Equal → a ≡ b
+signer_keys_exact (signer.Ed25519 k) (signer.Ed25519 k') h = ap signer.Ed25519 (exact_bytes k k' h)
+signer_keys_exact (signer.PreAuthTx p) (signer.PreAuthTx q) h = ap signer.PreAuthTx (exact_hashes p q h)
+signer_keys_exact (signer.HashX p) (signer.HashX q) h = ap signer.HashX (exact_hashes p q h)
+signer_keys_exact a b h = absurd (cc)
 
 -- ---- keys
 
@@ -133,5 +159,7 @@ keys_exact (key.LiquidityPool a) (key.LiquidityPool b) h = ap key.LiquidityPool 
 keys_exact a b h = absurd (cc)
 
 pub ruleset asset_laws = (assets_compared, assets_total, assets_exact)
+
+pub ruleset signer_key_laws = (signer_keys_compared, signer_keys_total, signer_keys_exact)
 
 pub ruleset key_laws = (keys_compared, keys_total, keys_exact)

@@ -1,5 +1,5 @@
--- The order of keys and assets, by cases: by type, and then by fields in their order. Bytes are compared one by one, and where
--- one text begins another, the shorter one comes first.
+-- The order of keys, assets and signers' keys, by cases: by type, and then by fields in their order. Bytes are compared one by
+-- one, and where one text begins another, the shorter one comes first.
 use Rattle.std.specs.Prelude.{ℕ, List}
 use Rattle.std.specs.declared.cmp.Ordering.{Ordering}
 use Rattle.std.specs.Ordering.{nat_cmp, int_cmp, ordering_then}
@@ -10,6 +10,8 @@ use Rattle.ledger_types.specs.declared.asset.Asset.{Asset}
 use Rattle.ledger_types.specs.declared.asset.Asset.TheVariants as asset
 use Rattle.ledger_types.specs.declared.asset.TrustLineAsset.{TrustLineAsset}
 use Rattle.ledger_types.specs.declared.asset.TrustLineAsset.TheVariants as line
+use Rattle.ledger_types.specs.declared.signer.SignerKey.{SignerKey}
+use Rattle.ledger_types.specs.declared.signer.SignerKey.TheVariants as signer
 use Rattle.ledger_types.specs.declared.key.LedgerKey.{LedgerKey}
 use Rattle.ledger_types.specs.declared.key.LedgerKey.TheVariants as key
 
@@ -45,6 +47,19 @@ line_cmp (line.Alphanum4 c i) (line.Alphanum4 d j) = ordering_then (bytes_cmp c 
 line_cmp (line.Alphanum12 c i) (line.Alphanum12 d j) = ordering_then (bytes_cmp c d) (account_cmp i j)
 line_cmp (line.PoolShare p) (line.PoolShare q) = hash_cmp p q
 line_cmp a b = nat_cmp (line_kind a) (line_kind b)
+
+-- ---- signers' keys
+
+abbrev pub signer_key_kind : SignerKey → ℕ
+signer_key_kind (signer.Ed25519 key) = 0
+signer_key_kind (signer.PreAuthTx hash) = 1
+signer_key_kind (signer.HashX hash) = 2
+
+abbrev pub signer_key_cmp : SignerKey → SignerKey → Ordering
+signer_key_cmp (signer.Ed25519 a) (signer.Ed25519 b) = bytes_cmp a b
+signer_key_cmp (signer.PreAuthTx a) (signer.PreAuthTx b) = hash_cmp a b
+signer_key_cmp (signer.HashX a) (signer.HashX b) = hash_cmp a b
+signer_key_cmp a b = nat_cmp (signer_key_kind a) (signer_key_kind b)
 
 -- ---- keys
 

@@ -9,7 +9,7 @@ use item_list::ItemList;
 use std::alloc::AllocError;
 
 /// What sponsorship adds to an account (AccountEntryExtensionV2 in Stellar-ledger-entries.x; CAP-0033).
-#[derive(Clone, Debug, PartialEq, Eq, Drop)]
+#[derive(Drop)]
 pub struct AccountEntryExtensionV2 {
     /// How many reserves of this account another one pays.
     pub num_sponsored: u32,
@@ -19,16 +19,58 @@ pub struct AccountEntryExtensionV2 {
     pub signer_sponsoring_ids: ItemList<Option<AccountId>>,
 }
 
+impl AccountEntryExtensionV2 {
+    /// The same extension once more.
+    pub fn copy(&self) -> Result<AccountEntryExtensionV2, AllocError>
+        ensures { IfOk result (λ ext. ext ≡ self.now) }
+    {
+        Ok(AccountEntryExtensionV2 {
+            num_sponsored: self.num_sponsored,
+            num_sponsoring: self.num_sponsoring,
+            signer_sponsoring_ids: self.signer_sponsoring_ids.copy()?,
+        })
+    }
+}
+
 /// What liabilities add to an account (AccountEntryExtensionV1 in Stellar-ledger-entries.x; CAP-0003).
-#[derive(Clone, Debug, PartialEq, Eq, Drop)]
+#[derive(Drop)]
 pub struct AccountEntryExtensionV1 {
     pub liabilities: Liabilities,
     /// Arm 2, or none, arm 0.
     pub ext: Option<AccountEntryExtensionV2>,
 }
 
+impl AccountEntryExtensionV1 {
+    /// The same extension once more.
+    pub fn copy(&self) -> Result<AccountEntryExtensionV1, AllocError>
+        ensures { IfOk result (λ ext. ext ≡ self.now) }
+    {
+        match &self.ext {
+            None => Ok(AccountEntryExtensionV1 {
+                liabilities: self.liabilities,
+                ext: None,
+            }),
+            Some(ext) => Ok(AccountEntryExtensionV1 {
+                liabilities: self.liabilities,
+                ext: Some(ext.copy()?),
+            }),
+        }
+    }
+}
+
+/// The same extension once more, or none.
+fn copied(
+    ext: &Option<AccountEntryExtensionV1>,
+) -> Result<Option<AccountEntryExtensionV1>, AllocError>
+    ensures { IfOk result (λ copy. copy ≡ ext.now) }
+{
+    match ext {
+        None => Ok(None),
+        Some(ext) => Ok(Some(ext.copy()?)),
+    }
+}
+
 /// An account (AccountEntry in Stellar-ledger-entries.x).
-#[derive(Clone, Debug, PartialEq, Eq)]
 pub struct AccountEntry {
     pub account_id: AccountId,
     /// In stroops, of which a lumen has 10,000,000. At least 0 in a valid account.
@@ -75,6 +117,20 @@ impl AccountEntry {
     pub fn copy(&self) -> Result<AccountEntry, AllocError>
         ensures { IfOk result (λ account. account ≡ self.now) }
     {
-        self.clone()
+        let home_domain = self.home_domain.copy()?;
+        let signers = self.signers.copy()?;
+        let ext = copied(&self.ext)?;
+        Ok(AccountEntry {
+            account_id: self.account_id,
+            balance: self.balance,
+            seq_num: self.seq_num,
+            num_sub_entries: self.num_sub_entries,
+            inflation_dest: self.inflation_dest,
+            flags: self.flags,
+            home_domain,
+            thresholds: self.thresholds,
+            signers,
+            ext,
+        })
     }
 }

@@ -29,7 +29,7 @@ pub enum TrustLineAsset {
 
 /// What decides a pool's id: its two assets and its fee (LiquidityPoolParameters in Stellar-ledger-entries.x, whose one arm is
 /// LIQUIDITY_POOL_CONSTANT_PRODUCT, 0; CAP-0038).
-#[derive(Clone, Copy, Debug, PartialEq, Eq)]
+#[derive(Clone, Copy, PartialEq, Eq)]
 pub struct PoolParams {
     /// Below `asset_b` in a valid pool.
     pub asset_a: Asset,
@@ -40,7 +40,7 @@ pub struct PoolParams {
 
 /// What a trust line is asked for: an asset, or the shares of the pool with these parameters (ChangeTrustAsset in
 /// Stellar-transaction.x; CAP-0038).
-#[derive(Clone, Copy, Debug, PartialEq, Eq)]
+#[derive(Clone, Copy, PartialEq, Eq)]
 pub enum ChangeTrustAsset {
     /// ASSET_TYPE_NATIVE, 0.
     Native,

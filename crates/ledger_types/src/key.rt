@@ -9,7 +9,7 @@ use std::alloc::AllocError;
 
 /// What names an entry (LedgerKey in Stellar-ledger-entries.x). Keys are ordered by type and then by fields, names by their
 /// bytes.
-#[derive(Clone, Debug, PartialEq, Eq, PartialOrd, Ord, Drop)]
+#[derive(Debug, PartialEq, Eq, PartialOrd, Ord, Drop)]
 pub enum LedgerKey {
     /// ACCOUNT, 0.
     Account {
@@ -45,6 +45,34 @@ impl LedgerKey {
     pub fn copy(&self) -> Result<LedgerKey, AllocError>
         ensures { IfOk result (λ key. key ≡ self.now) }
     {
-        self.clone()
+        match self {
+            LedgerKey::Account { account_id } => Ok(LedgerKey::Account {
+                account_id: *account_id,
+            }),
+            LedgerKey::TrustLine { account_id, asset } => Ok(LedgerKey::TrustLine {
+                account_id: *account_id,
+                asset: *asset,
+            }),
+            LedgerKey::Offer {
+                seller_id,
+                offer_id,
+            } => Ok(LedgerKey::Offer {
+                seller_id: *seller_id,
+                offer_id: *offer_id,
+            }),
+            LedgerKey::Data {
+                account_id,
+                data_name,
+            } => Ok(LedgerKey::Data {
+                account_id: *account_id,
+                data_name: data_name.copy()?,
+            }),
+            LedgerKey::ClaimableBalance { balance_id } => Ok(LedgerKey::ClaimableBalance {
+                balance_id: *balance_id,
+            }),
+            LedgerKey::LiquidityPool { pool_id } => Ok(LedgerKey::LiquidityPool {
+                pool_id: *pool_id,
+            }),
+        }
     }
 }

@@ -6,7 +6,7 @@ use item_list::{Boxed, ItemList};
 use std::alloc::{AllocError, Global};
 
 /// When a claimant may claim (ClaimPredicate in Stellar-ledger-entries.x; CAP-0023).
-#[derive(Debug, PartialEq, Eq, Drop)]
+#[derive(Drop)]
 pub enum ClaimPredicate {
     /// CLAIM_PREDICATE_UNCONDITIONAL, 0: always.
     Unconditional,

@@ -7,7 +7,7 @@ use ledger_types::{AccountId, MuxedAccount, Signer};
 use std::alloc::AllocError;
 
 /// Makes an account (CreateAccountOp in Stellar-transaction.x).
-#[derive(Clone, Copy, Debug, PartialEq, Eq)]
+#[derive(Clone, Copy)]
 pub struct CreateAccountOp {
     /// The new account.
     pub destination: AccountId,
@@ -16,7 +16,7 @@ pub struct CreateAccountOp {
 }
 
 /// Changes what an account is and who signs for it (SetOptionsOp in Stellar-transaction.x).
-#[derive(Debug, PartialEq, Eq, Drop)]
+#[derive(Drop)]
 pub struct SetOptionsOp {
     pub inflation_dest: Option<AccountId>,
     pub clear_flags: Option<u32>,
@@ -56,13 +56,13 @@ impl SetOptionsOp {
 }
 
 /// Removes the source and gives its lumens away (AccountMergeOp in Stellar-transaction.x).
-#[derive(Clone, Copy, Debug, PartialEq, Eq)]
+#[derive(Clone, Copy)]
 pub struct AccountMergeOp {
     pub destination: MuxedAccount,
 }
 
 /// Makes, changes or removes data (ManageDataOp in Stellar-transaction.x).
-#[derive(Clone, Debug, PartialEq, Eq, Drop)]
+#[derive(Drop)]
 pub struct ManageDataOp {
     /// At most 64 bytes.
     pub data_name: ItemList<u8>,
@@ -75,12 +75,22 @@ impl ManageDataOp {
     pub fn copy(&self) -> Result<ManageDataOp, AllocError>
         ensures { IfOk result (λ op. op ≡ self.now) }
     {
-        self.clone()
+        let data_name = self.data_name.copy()?;
+        match &self.data_value {
+            None => Ok(ManageDataOp {
+                data_name,
+                data_value: None,
+            }),
+            Some(value) => Ok(ManageDataOp {
+                data_name,
+                data_value: Some(value.copy()?),
+            }),
+        }
     }
 }
 
 /// Raises the source's sequence number to `bump_to`, where that is above it (BumpSequenceOp in Stellar-transaction.x).
-#[derive(Clone, Copy, Debug, PartialEq, Eq)]
+#[derive(Clone, Copy)]
 pub struct BumpSequenceOp {
     pub bump_to: i64,
 }

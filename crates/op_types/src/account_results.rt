@@ -9,14 +9,14 @@ use ledger_types::AccountId;
 use std::alloc::AllocError;
 
 /// What an account got of inflation (InflationPayout in Stellar-transaction.x). Protocol 18 pays none.
-#[derive(Clone, Copy, Debug, PartialEq, Eq)]
+#[derive(Clone, Copy)]
 pub struct InflationPayout {
     pub destination: AccountId,
     pub amount: i64,
 }
 
 /// What SET_OPTIONS answers (SetOptionsResult in Stellar-transaction.x).
-#[derive(Clone, Copy, Debug, PartialEq, Eq)]
+#[derive(Clone, Copy)]
 pub enum SetOptionsResult {
     /// SET_OPTIONS_SUCCESS, 0.
     Success,
@@ -82,7 +82,7 @@ impl Coded for SetOptionsResult {
 }
 
 /// What ACCOUNT_MERGE answers (AccountMergeResult in Stellar-transaction.x).
-#[derive(Clone, Copy, Debug, PartialEq, Eq)]
+#[derive(Clone, Copy)]
 pub enum AccountMergeResult {
     /// ACCOUNT_MERGE_SUCCESS, 0.
     Success(i64),
@@ -135,7 +135,7 @@ impl Coded for AccountMergeResult {
 }
 
 /// What INFLATION answers (InflationResult in Stellar-transaction.x).
-#[derive(Clone, Debug, PartialEq, Eq, Drop)]
+#[derive(Drop)]
 pub enum InflationResult {
     /// INFLATION_SUCCESS, 0.
     Success(ItemList<InflationPayout>),
@@ -148,7 +148,10 @@ impl InflationResult {
     pub fn copy(&self) -> Result<InflationResult, AllocError>
         ensures { IfOk result (λ answer. answer ≡ self.now) }
     {
-        self.clone()
+        match self {
+            InflationResult::Success(payouts) => Ok(InflationResult::Success(payouts.copy()?)),
+            InflationResult::NotTime => Ok(InflationResult::NotTime),
+        }
     }
 }
 
@@ -173,7 +176,7 @@ impl Coded for InflationResult {
 }
 
 /// What MANAGE_DATA answers (ManageDataResult in Stellar-transaction.x).
-#[derive(Clone, Copy, Debug, PartialEq, Eq)]
+#[derive(Clone, Copy)]
 pub enum ManageDataResult {
     /// MANAGE_DATA_SUCCESS, 0.
     Success,
@@ -215,7 +218,7 @@ impl Coded for ManageDataResult {
 }
 
 /// What BUMP_SEQUENCE answers (BumpSequenceResult in Stellar-transaction.x).
-#[derive(Clone, Copy, Debug, PartialEq, Eq)]
+#[derive(Clone, Copy)]
 pub enum BumpSequenceResult {
     /// BUMP_SEQUENCE_SUCCESS, 0.
     Success,

@@ -7,7 +7,7 @@ use ledger_types::{Asset, ClaimableBalanceId, Claimant};
 use std::alloc::AllocError;
 
 /// Makes a claimable balance (CreateClaimableBalanceOp in Stellar-transaction.x; CAP-0023).
-#[derive(Clone, Debug, PartialEq, Eq, Drop)]
+#[derive(Drop)]
 pub struct CreateClaimableBalanceOp {
     pub asset: Asset,
     pub amount: i64,
@@ -20,18 +20,22 @@ impl CreateClaimableBalanceOp {
     pub fn copy(&self) -> Result<CreateClaimableBalanceOp, AllocError>
         ensures { IfOk result (λ op. op ≡ self.now) }
     {
-        self.clone()
+        Ok(CreateClaimableBalanceOp {
+            asset: self.asset,
+            amount: self.amount,
+            claimants: self.claimants.clone()?,
+        })
     }
 }
 
 /// Claims a claimable balance (ClaimClaimableBalanceOp in Stellar-transaction.x; CAP-0023).
-#[derive(Clone, Copy, Debug, PartialEq, Eq)]
+#[derive(Clone, Copy)]
 pub struct ClaimClaimableBalanceOp {
     pub balance_id: ClaimableBalanceId,
 }
 
 /// Takes a claimable balance back whose asset the source issues (ClawbackClaimableBalanceOp in Stellar-transaction.x; CAP-0035).
-#[derive(Clone, Copy, Debug, PartialEq, Eq)]
+#[derive(Clone, Copy)]
 pub struct ClawbackClaimableBalanceOp {
     pub balance_id: ClaimableBalanceId,
 }

@@ -6,7 +6,7 @@ use crate::coded::Coded;
 use ledger_types::ClaimableBalanceId;
 
 /// What CREATE_CLAIMABLE_BALANCE answers (CreateClaimableBalanceResult in Stellar-transaction.x).
-#[derive(Clone, Copy, Debug, PartialEq, Eq)]
+#[derive(Clone, Copy)]
 pub enum CreateClaimableBalanceResult {
     /// CREATE_CLAIMABLE_BALANCE_SUCCESS, 0.
     Success(ClaimableBalanceId),
@@ -51,7 +51,7 @@ impl Coded for CreateClaimableBalanceResult {
 }
 
 /// What CLAIM_CLAIMABLE_BALANCE answers (ClaimClaimableBalanceResult in Stellar-transaction.x).
-#[derive(Clone, Copy, Debug, PartialEq, Eq)]
+#[derive(Clone, Copy)]
 pub enum ClaimClaimableBalanceResult {
     /// CLAIM_CLAIMABLE_BALANCE_SUCCESS, 0.
     Success,
@@ -97,7 +97,7 @@ impl Coded for ClaimClaimableBalanceResult {
 }
 
 /// What CLAWBACK_CLAIMABLE_BALANCE answers (ClawbackClaimableBalanceResult in Stellar-transaction.x).
-#[derive(Clone, Copy, Debug, PartialEq, Eq)]
+#[derive(Clone, Copy)]
 pub enum ClawbackClaimableBalanceResult {
     /// CLAWBACK_CLAIMABLE_BALANCE_SUCCESS, 0.
     Success,

@@ -3,7 +3,7 @@
 use ledger_types::{Asset, Price};
 
 /// Makes, changes or removes an offer that sells a fixed amount (ManageSellOfferOp in Stellar-transaction.x).
-#[derive(Clone, Copy, Debug, PartialEq, Eq)]
+#[derive(Clone, Copy)]
 pub struct ManageSellOfferOp {
     pub selling: Asset,
     pub buying: Asset,
@@ -16,7 +16,7 @@ pub struct ManageSellOfferOp {
 }
 
 /// Makes an offer that takes no offer of an equal price (CreatePassiveSellOfferOp in Stellar-transaction.x).
-#[derive(Clone, Copy, Debug, PartialEq, Eq)]
+#[derive(Clone, Copy)]
 pub struct CreatePassiveSellOfferOp {
     pub selling: Asset,
     pub buying: Asset,
@@ -27,7 +27,7 @@ pub struct CreatePassiveSellOfferOp {
 }
 
 /// Makes, changes or removes an offer that buys a fixed amount (ManageBuyOfferOp in Stellar-transaction.x).
-#[derive(Clone, Copy, Debug, PartialEq, Eq)]
+#[derive(Clone, Copy)]
 pub struct ManageBuyOfferOp {
     pub selling: Asset,
     pub buying: Asset,

@@ -9,7 +9,7 @@ use ledger_types::{ClaimAtom, OfferEntry};
 use std::alloc::AllocError;
 
 /// What became of an offer (the union in ManageOfferSuccessResult in Stellar-transaction.x).
-#[derive(Clone, Copy, Debug, PartialEq, Eq)]
+#[derive(Clone, Copy)]
 pub enum ManageOfferEffect {
     /// MANAGE_OFFER_CREATED, 0.
     Created(OfferEntry),
@@ -20,14 +20,34 @@ pub enum ManageOfferEffect {
 }
 
 /// What an offer took, and what is left of it (ManageOfferSuccessResult in Stellar-transaction.x).
-#[derive(Clone, Debug, PartialEq, Eq, Drop)]
+#[derive(Drop)]
 pub struct ManageOfferSuccess {
     pub offers_claimed: ItemList<ClaimAtom>,
     pub offer: ManageOfferEffect,
 }
 
+impl ManageOfferSuccess {
+    /// The same once more.
+    pub fn copy(&self) -> Result<ManageOfferSuccess, AllocError>
+        ensures { IfOk result (λ success. success ≡ self.now) }
+    {
+        Ok(ManageOfferSuccess {
+            offers_claimed: self.offers_claimed.copy()?,
+            offer: self.offer,
+        })
+    }
+}
+
+impl Clone for ManageOfferSuccess {
+    ghost is_clone = { λ success copy. copy ≡ success };
+
+    fn clone(&self) -> Result<ManageOfferSuccess, AllocError> {
+        self.copy()
+    }
+}
+
 /// What MANAGE_SELL_OFFER, CREATE_PASSIVE_SELL_OFFER and MANAGE_BUY_OFFER answer (ManageSellOfferResult and ManageBuyOfferResult in Stellar-transaction.x, whose codes are the same).
-#[derive(Clone, Debug, PartialEq, Eq, Drop)]
+#[derive(Clone, Drop)]
 pub enum ManageOfferResult {
     /// MANAGE_SELL_OFFER_SUCCESS, 0.
     Success(ManageOfferSuccess),

@@ -17,7 +17,7 @@ use ledger_types::MuxedAccount;
 use std::alloc::AllocError;
 
 /// What an operation does (the union `body` of Operation in Stellar-transaction.x), under its type.
-#[derive(Debug, PartialEq, Eq, Drop)]
+#[derive(Drop)]
 pub enum OperationBody {
     /// CREATE_ACCOUNT, 0.
     CreateAccount(CreateAccountOp),
@@ -77,27 +77,27 @@ impl OperationBody {
         match self {
             OperationBody::CreateAccount(op) => Ok(OperationBody::CreateAccount(*op)),
             OperationBody::Payment(op) => Ok(OperationBody::Payment(*op)),
-            OperationBody::PathPaymentStrictReceive(op) => Ok(
-                OperationBody::PathPaymentStrictReceive(op.copy()?),
-            ),
+            OperationBody::PathPaymentStrictReceive(op) => op
+                .copy()
+                .map(OperationBody::PathPaymentStrictReceive),
             OperationBody::ManageSellOffer(op) => Ok(OperationBody::ManageSellOffer(*op)),
             OperationBody::CreatePassiveSellOffer(op) => Ok(OperationBody::CreatePassiveSellOffer(
                 *op,
             )),
-            OperationBody::SetOptions(op) => Ok(OperationBody::SetOptions(op.copy()?)),
+            OperationBody::SetOptions(op) => op.copy().map(OperationBody::SetOptions),
             OperationBody::ChangeTrust(op) => Ok(OperationBody::ChangeTrust(*op)),
             OperationBody::AllowTrust(op) => Ok(OperationBody::AllowTrust(*op)),
             OperationBody::AccountMerge(op) => Ok(OperationBody::AccountMerge(*op)),
             OperationBody::Inflation => Ok(OperationBody::Inflation),
-            OperationBody::ManageData(op) => Ok(OperationBody::ManageData(op.copy()?)),
+            OperationBody::ManageData(op) => op.copy().map(OperationBody::ManageData),
             OperationBody::BumpSequence(op) => Ok(OperationBody::BumpSequence(*op)),
             OperationBody::ManageBuyOffer(op) => Ok(OperationBody::ManageBuyOffer(*op)),
-            OperationBody::PathPaymentStrictSend(op) => Ok(OperationBody::PathPaymentStrictSend(
-                op.copy()?,
-            )),
-            OperationBody::CreateClaimableBalance(op) => Ok(OperationBody::CreateClaimableBalance(
-                op.copy()?,
-            )),
+            OperationBody::PathPaymentStrictSend(op) => op
+                .copy()
+                .map(OperationBody::PathPaymentStrictSend),
+            OperationBody::CreateClaimableBalance(op) => op
+                .copy()
+                .map(OperationBody::CreateClaimableBalance),
             OperationBody::ClaimClaimableBalance(op) => Ok(OperationBody::ClaimClaimableBalance(
                 *op,
             )),
@@ -107,9 +107,7 @@ impl OperationBody {
             OperationBody::EndSponsoringFutureReserves => Ok(
                 OperationBody::EndSponsoringFutureReserves,
             ),
-            OperationBody::RevokeSponsorship(op) => Ok(OperationBody::RevokeSponsorship(
-                op.copy()?,
-            )),
+            OperationBody::RevokeSponsorship(op) => op.copy().map(OperationBody::RevokeSponsorship),
             OperationBody::Clawback(op) => Ok(OperationBody::Clawback(*op)),
             OperationBody::ClawbackClaimableBalance(op) => Ok(
                 OperationBody::ClawbackClaimableBalance(*op),
@@ -124,7 +122,6 @@ impl OperationBody {
 }
 
 /// An operation (Operation in Stellar-transaction.x).
-#[derive(Debug, PartialEq, Eq)]
 pub struct Operation {
     /// Whose operation it is; none stands for the transaction's source.
     pub source_account: Option<MuxedAccount>,

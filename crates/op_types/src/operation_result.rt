@@ -24,7 +24,7 @@ use crate::trust_results::{
 use std::alloc::AllocError;
 
 /// What an operation answers that was run (OperationResultTr in Stellar-transaction.x), under its type.
-#[derive(Debug, PartialEq, Eq, Drop)]
+#[derive(Drop)]
 pub enum OperationResultTr {
     /// CREATE_ACCOUNT, 0.
     CreateAccount(CreateAccountResult),
@@ -86,30 +86,28 @@ impl OperationResultTr {
                 *answer,
             )),
             OperationResultTr::Payment(answer) => Ok(OperationResultTr::Payment(*answer)),
-            OperationResultTr::PathPaymentStrictReceive(answer) => Ok(
-                OperationResultTr::PathPaymentStrictReceive(answer.copy()?),
-            ),
-            OperationResultTr::ManageSellOffer(answer) => Ok(OperationResultTr::ManageSellOffer(
-                answer.copy()?,
-            )),
-            OperationResultTr::CreatePassiveSellOffer(answer) => Ok(
-                OperationResultTr::CreatePassiveSellOffer(answer.copy()?),
-            ),
+            OperationResultTr::PathPaymentStrictReceive(answer) => answer
+                .copy()
+                .map(OperationResultTr::PathPaymentStrictReceive),
+            OperationResultTr::ManageSellOffer(answer) => answer
+                .copy()
+                .map(OperationResultTr::ManageSellOffer),
+            OperationResultTr::CreatePassiveSellOffer(answer) => answer
+                .copy()
+                .map(OperationResultTr::CreatePassiveSellOffer),
             OperationResultTr::SetOptions(answer) => Ok(OperationResultTr::SetOptions(*answer)),
             OperationResultTr::ChangeTrust(answer) => Ok(OperationResultTr::ChangeTrust(*answer)),
             OperationResultTr::AllowTrust(answer) => Ok(OperationResultTr::AllowTrust(*answer)),
             OperationResultTr::AccountMerge(answer) => Ok(OperationResultTr::AccountMerge(*answer)),
-            OperationResultTr::Inflation(answer) => Ok(OperationResultTr::Inflation(
-                answer.copy()?,
-            )),
+            OperationResultTr::Inflation(answer) => answer.copy().map(OperationResultTr::Inflation),
             OperationResultTr::ManageData(answer) => Ok(OperationResultTr::ManageData(*answer)),
             OperationResultTr::BumpSequence(answer) => Ok(OperationResultTr::BumpSequence(*answer)),
-            OperationResultTr::ManageBuyOffer(answer) => Ok(OperationResultTr::ManageBuyOffer(
-                answer.copy()?,
-            )),
-            OperationResultTr::PathPaymentStrictSend(answer) => Ok(
-                OperationResultTr::PathPaymentStrictSend(answer.copy()?),
-            ),
+            OperationResultTr::ManageBuyOffer(answer) => answer
+                .copy()
+                .map(OperationResultTr::ManageBuyOffer),
+            OperationResultTr::PathPaymentStrictSend(answer) => answer
+                .copy()
+                .map(OperationResultTr::PathPaymentStrictSend),
             OperationResultTr::CreateClaimableBalance(answer) => Ok(
                 OperationResultTr::CreateClaimableBalance(*answer),
             ),
@@ -143,7 +141,7 @@ impl OperationResultTr {
 }
 
 /// What an operation answers (OperationResult in Stellar-transaction.x).
-#[derive(Debug, PartialEq, Eq, Drop)]
+#[derive(Drop)]
 pub enum OperationResult {
     /// opINNER, 0: the operation was run.
     Inner(OperationResultTr),

@@ -7,7 +7,7 @@ use ledger_types::{Asset, MuxedAccount};
 use std::alloc::AllocError;
 
 /// Sends an amount of an asset (PaymentOp in Stellar-transaction.x).
-#[derive(Clone, Copy, Debug, PartialEq, Eq)]
+#[derive(Clone, Copy)]
 pub struct PaymentOp {
     pub destination: MuxedAccount,
     pub asset: Asset,
@@ -15,7 +15,7 @@ pub struct PaymentOp {
 }
 
 /// Sends whatever is needed of one asset so that the destination gets a fixed amount of another (PathPaymentStrictReceiveOp in Stellar-transaction.x).
-#[derive(Clone, Debug, PartialEq, Eq, Drop)]
+#[derive(Drop)]
 pub struct PathPaymentStrictReceiveOp {
     pub send_asset: Asset,
     /// The most that is sent.
@@ -33,12 +33,19 @@ impl PathPaymentStrictReceiveOp {
     pub fn copy(&self) -> Result<PathPaymentStrictReceiveOp, AllocError>
         ensures { IfOk result (λ op. op ≡ self.now) }
     {
-        self.clone()
+        Ok(PathPaymentStrictReceiveOp {
+            send_asset: self.send_asset,
+            send_max: self.send_max,
+            destination: self.destination,
+            dest_asset: self.dest_asset,
+            dest_amount: self.dest_amount,
+            path: self.path.copy()?,
+        })
     }
 }
 
 /// Sends a fixed amount of one asset, of which the destination gets what comes of another (PathPaymentStrictSendOp in Stellar-transaction.x).
-#[derive(Clone, Debug, PartialEq, Eq, Drop)]
+#[derive(Drop)]
 pub struct PathPaymentStrictSendOp {
     pub send_asset: Asset,
     /// What is sent.
@@ -56,6 +63,13 @@ impl PathPaymentStrictSendOp {
     pub fn copy(&self) -> Result<PathPaymentStrictSendOp, AllocError>
         ensures { IfOk result (λ op. op ≡ self.now) }
     {
-        self.clone()
+        Ok(PathPaymentStrictSendOp {
+            send_asset: self.send_asset,
+            send_amount: self.send_amount,
+            destination: self.destination,
+            dest_asset: self.dest_asset,
+            dest_min: self.dest_min,
+            path: self.path.copy()?,
+        })
     }
 }

@@ -9,7 +9,7 @@ use ledger_types::{AccountId, Asset, ClaimAtom};
 use std::alloc::AllocError;
 
 /// What a payment along a path moved (PathPaymentStrictReceiveResult and PathPaymentStrictSendResult in Stellar-transaction.x).
-#[derive(Clone, Debug, PartialEq, Eq, Drop)]
+#[derive(Drop)]
 pub struct PathPaymentSuccess {
     /// What was traded, in the direction from what was sent to what arrived.
     pub offers: ItemList<ClaimAtom>,
@@ -17,8 +17,28 @@ pub struct PathPaymentSuccess {
     pub last: SimplePaymentResult,
 }
 
+impl PathPaymentSuccess {
+    /// The same once more.
+    pub fn copy(&self) -> Result<PathPaymentSuccess, AllocError>
+        ensures { IfOk result (λ success. success ≡ self.now) }
+    {
+        Ok(PathPaymentSuccess {
+            offers: self.offers.copy()?,
+            last: self.last,
+        })
+    }
+}
+
+impl Clone for PathPaymentSuccess {
+    ghost is_clone = { λ success copy. copy ≡ success };
+
+    fn clone(&self) -> Result<PathPaymentSuccess, AllocError> {
+        self.copy()
+    }
+}
+
 /// What arrived at the end of a path (SimplePaymentResult in Stellar-transaction.x).
-#[derive(Clone, Copy, Debug, PartialEq, Eq)]
+#[derive(Clone, Copy)]
 pub struct SimplePaymentResult {
     pub destination: AccountId,
     pub asset: Asset,
@@ -26,7 +46,7 @@ pub struct SimplePaymentResult {
 }
 
 /// What CREATE_ACCOUNT answers (CreateAccountResult in Stellar-transaction.x).
-#[derive(Clone, Copy, Debug, PartialEq, Eq)]
+#[derive(Clone, Copy)]
 pub enum CreateAccountResult {
     /// CREATE_ACCOUNT_SUCCESS, 0.
     Success,
@@ -68,7 +88,7 @@ impl Coded for CreateAccountResult {
 }
 
 /// What PAYMENT answers (PaymentResult in Stellar-transaction.x).
-#[derive(Clone, Copy, Debug, PartialEq, Eq)]
+#[derive(Clone, Copy)]
 pub enum PaymentResult {
     /// PAYMENT_SUCCESS, 0.
     Success,
@@ -130,7 +150,7 @@ impl Coded for PaymentResult {
 }
 
 /// What PATH_PAYMENT_STRICT_RECEIVE answers (PathPaymentStrictReceiveResult in Stellar-transaction.x).
-#[derive(Clone, Debug, PartialEq, Eq, Drop)]
+#[derive(Clone, Drop)]
 pub enum PathPaymentStrictReceiveResult {
     /// PATH_PAYMENT_STRICT_RECEIVE_SUCCESS, 0.
     Success(PathPaymentSuccess),
@@ -211,7 +231,7 @@ impl Coded for PathPaymentStrictReceiveResult {
 }
 
 /// What PATH_PAYMENT_STRICT_SEND answers (PathPaymentStrictSendResult in Stellar-transaction.x).
-#[derive(Clone, Debug, PartialEq, Eq, Drop)]
+#[derive(Clone, Drop)]
 pub enum PathPaymentStrictSendResult {
     /// PATH_PAYMENT_STRICT_SEND_SUCCESS, 0.
     Success(PathPaymentSuccess),

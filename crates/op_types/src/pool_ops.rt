@@ -3,7 +3,7 @@
 use ledger_types::{Hash, Price};
 
 /// Puts two assets into a pool (LiquidityPoolDepositOp in Stellar-transaction.x; CAP-0038).
-#[derive(Clone, Copy, Debug, PartialEq, Eq)]
+#[derive(Clone, Copy)]
 pub struct LiquidityPoolDepositOp {
     pub pool_id: Hash,
     pub max_amount_a: i64,
@@ -15,7 +15,7 @@ pub struct LiquidityPoolDepositOp {
 }
 
 /// Takes two assets out of a pool (LiquidityPoolWithdrawOp in Stellar-transaction.x; CAP-0038).
-#[derive(Clone, Copy, Debug, PartialEq, Eq)]
+#[derive(Clone, Copy)]
 pub struct LiquidityPoolWithdrawOp {
     pub pool_id: Hash,
     /// In shares.

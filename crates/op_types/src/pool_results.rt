@@ -5,7 +5,7 @@ ghost use Rattle.op_types.specs.Codes.{liquidity_pool_deposit_code, liquidity_po
 use crate::coded::Coded;
 
 /// What LIQUIDITY_POOL_DEPOSIT answers (LiquidityPoolDepositResult in Stellar-transaction.x).
-#[derive(Clone, Copy, Debug, PartialEq, Eq)]
+#[derive(Clone, Copy)]
 pub enum LiquidityPoolDepositResult {
     /// LIQUIDITY_POOL_DEPOSIT_SUCCESS, 0.
     Success,
@@ -59,7 +59,7 @@ impl Coded for LiquidityPoolDepositResult {
 }
 
 /// What LIQUIDITY_POOL_WITHDRAW answers (LiquidityPoolWithdrawResult in Stellar-transaction.x).
-#[derive(Clone, Copy, Debug, PartialEq, Eq)]
+#[derive(Clone, Copy)]
 pub enum LiquidityPoolWithdrawResult {
     /// LIQUIDITY_POOL_WITHDRAW_SUCCESS, 0.
     Success,

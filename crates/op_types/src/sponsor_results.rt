@@ -5,7 +5,7 @@ ghost use Rattle.op_types.specs.Codes.{begin_sponsoring_future_reserves_code, be
 use crate::coded::Coded;
 
 /// What BEGIN_SPONSORING_FUTURE_RESERVES answers (BeginSponsoringFutureReservesResult in Stellar-transaction.x).
-#[derive(Clone, Copy, Debug, PartialEq, Eq)]
+#[derive(Clone, Copy)]
 pub enum BeginSponsoringFutureReservesResult {
     /// BEGIN_SPONSORING_FUTURE_RESERVES_SUCCESS, 0.
     Success,
@@ -43,7 +43,7 @@ impl Coded for BeginSponsoringFutureReservesResult {
 }
 
 /// What END_SPONSORING_FUTURE_RESERVES answers (EndSponsoringFutureReservesResult in Stellar-transaction.x).
-#[derive(Clone, Copy, Debug, PartialEq, Eq)]
+#[derive(Clone, Copy)]
 pub enum EndSponsoringFutureReservesResult {
     /// END_SPONSORING_FUTURE_RESERVES_SUCCESS, 0.
     Success,
@@ -73,7 +73,7 @@ impl Coded for EndSponsoringFutureReservesResult {
 }
 
 /// What REVOKE_SPONSORSHIP answers (RevokeSponsorshipResult in Stellar-transaction.x).
-#[derive(Clone, Copy, Debug, PartialEq, Eq)]
+#[derive(Clone, Copy)]
 pub enum RevokeSponsorshipResult {
     /// REVOKE_SPONSORSHIP_SUCCESS, 0.
     Success,

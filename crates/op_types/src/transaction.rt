@@ -8,7 +8,7 @@ use ledger_types::{Hash, MuxedAccount};
 use std::alloc::AllocError;
 
 /// What a sender says to the receiver, or to itself (Memo in Stellar-transaction.x).
-#[derive(Clone, Debug, PartialEq, Eq, Drop)]
+#[derive(Drop)]
 pub enum Memo {
     /// MEMO_NONE, 0.
     None,
@@ -27,12 +27,18 @@ impl Memo {
     pub fn copy(&self) -> Result<Memo, AllocError>
         ensures { IfOk result (λ memo. memo ≡ self.now) }
     {
-        self.clone()
+        match self {
+            Memo::None => Ok(Memo::None),
+            Memo::Text(text) => Ok(Memo::Text(text.copy()?)),
+            Memo::Id(id) => Ok(Memo::Id(*id)),
+            Memo::Hash(hash) => Ok(Memo::Hash(*hash)),
+            Memo::Return(hash) => Ok(Memo::Return(*hash)),
+        }
     }
 }
 
 /// When a transaction may close (TimeBounds in Stellar-transaction.x). Times are in seconds since 1970-01-01T00:00:00Z.
-#[derive(Clone, Copy, Debug, PartialEq, Eq)]
+#[derive(Clone, Copy)]
 pub struct TimeBounds {
     pub min_time: u64,
     /// 0 is no bound.
@@ -40,7 +46,7 @@ pub struct TimeBounds {
 }
 
 /// A signature, with a hint of who made it (DecoratedSignature in Stellar-transaction.x).
-#[derive(Clone, Debug, PartialEq, Eq, Drop)]
+#[derive(Drop)]
 pub struct DecoratedSignature {
     /// The last four bytes of the signer's key.
     pub hint: [u8; 4],
@@ -53,12 +59,23 @@ impl DecoratedSignature {
     pub fn copy(&self) -> Result<DecoratedSignature, AllocError>
         ensures { IfOk result (λ signature. signature ≡ self.now) }
     {
-        self.clone()
+        Ok(DecoratedSignature {
+            hint: self.hint,
+            signature: self.signature.copy()?,
+        })
+    }
+}
+
+impl Clone for DecoratedSignature {
+    ghost is_clone = { λ signature copy. copy ≡ signature };
+
+    fn clone(&self) -> Result<DecoratedSignature, AllocError> {
+        self.copy()
     }
 }
 
 /// A transaction (Transaction in Stellar-transaction.x).
-#[derive(Debug, PartialEq, Eq, Drop)]
+#[derive(Drop)]
 pub struct Transaction {
     pub source_account: MuxedAccount,
     /// The bid: the most that the transaction pays, in stroops.
@@ -88,7 +105,7 @@ impl Transaction {
 }
 
 /// A transaction of the first version (TransactionV0 in Stellar-transaction.x), whose source is a bare key.
-#[derive(Debug, PartialEq, Eq, Drop)]
+#[derive(Drop)]
 pub struct TransactionV0 {
     pub source_account_ed25519: [u8; 32],
     /// The bid: the most that the transaction pays, in stroops.
@@ -118,7 +135,7 @@ impl TransactionV0 {
 }
 
 /// A transaction with its signatures (TransactionV1Envelope in Stellar-transaction.x).
-#[derive(Debug, PartialEq, Eq, Drop)]
+#[derive(Drop)]
 pub struct TransactionV1Envelope {
     pub tx: Transaction,
     /// At most 20.
@@ -138,7 +155,7 @@ impl TransactionV1Envelope {
 }
 
 /// A transaction of the first version with its signatures (TransactionV0Envelope in Stellar-transaction.x).
-#[derive(Debug, PartialEq, Eq, Drop)]
+#[derive(Drop)]
 pub struct TransactionV0Envelope {
     pub tx: TransactionV0,
     /// At most 20.
@@ -158,7 +175,7 @@ impl TransactionV0Envelope {
 }
 
 /// A transaction whose fee another account pays (FeeBumpTransaction in Stellar-transaction.x; CAP-0015).
-#[derive(Debug, PartialEq, Eq, Drop)]
+#[derive(Drop)]
 pub struct FeeBumpTransaction {
     pub fee_source: MuxedAccount,
     /// The bid, in stroops.
@@ -180,7 +197,7 @@ impl FeeBumpTransaction {
 }
 
 /// A fee bump with its signatures (FeeBumpTransactionEnvelope in Stellar-transaction.x).
-#[derive(Debug, PartialEq, Eq, Drop)]
+#[derive(Drop)]
 pub struct FeeBumpTransactionEnvelope {
     pub tx: FeeBumpTransaction,
     /// At most 20.
@@ -200,7 +217,7 @@ impl FeeBumpTransactionEnvelope {
 }
 
 /// What is signed and sent (TransactionEnvelope in Stellar-transaction.x).
-#[derive(Debug, PartialEq, Eq, Drop)]
+#[derive(Drop)]
 pub enum TransactionEnvelope {
     /// ENVELOPE_TYPE_TX_V0, 0.
     V0(TransactionV0Envelope),
@@ -234,7 +251,7 @@ impl Clone for TransactionEnvelope {
 }
 
 /// The transactions that close one ledger (TransactionSet in Stellar-ledger.x).
-#[derive(Debug, PartialEq, Eq, Drop)]
+#[derive(Drop)]
 pub struct TransactionSet {
     pub previous_ledger_hash: Hash,
     pub txs: ItemList<TransactionEnvelope>,

@@ -11,7 +11,7 @@ use std::alloc::AllocError;
 
 /// How the inner transaction of a fee bump ended, with the results of its operations where its checks passed (the union `result`
 /// of InnerTransactionResult in Stellar-transaction.x).
-#[derive(Debug, PartialEq, Eq, Drop)]
+#[derive(Drop)]
 pub enum InnerTransactionOutcome {
     /// txSUCCESS, 0: the operations succeeded.
     Success(ItemList<OperationResult>),
@@ -135,7 +135,7 @@ impl Coded for InnerTransactionOutcome {
 }
 
 /// What the inner transaction of a fee bump answers (InnerTransactionResult in Stellar-transaction.x).
-#[derive(Debug, PartialEq, Eq, Drop)]
+#[derive(Drop)]
 pub struct InnerTransactionResult {
     /// In stroops. The fee bump pays, so it is 0.
     pub fee_charged: i64,
@@ -155,7 +155,7 @@ impl InnerTransactionResult {
 }
 
 /// The result of the inner transaction of a fee bump beside its hash (InnerTransactionResultPair in Stellar-transaction.x).
-#[derive(Debug, PartialEq, Eq, Drop)]
+#[derive(Drop)]
 pub struct InnerTransactionResultPair {
     pub transaction_hash: Hash,
     pub result: InnerTransactionResult,
@@ -175,7 +175,7 @@ impl InnerTransactionResultPair {
 
 /// How a transaction ended, with the results of its operations where its checks passed, or of its inner transaction (the union
 /// `result` of TransactionResult in Stellar-transaction.x).
-#[derive(Debug, PartialEq, Eq, Drop)]
+#[derive(Drop)]
 pub enum TransactionOutcome {
     /// txSUCCESS, 0: the operations succeeded.
     Success(ItemList<OperationResult>),
@@ -289,7 +289,7 @@ impl Coded for TransactionOutcome {
 }
 
 /// What a transaction answers (TransactionResult in Stellar-transaction.x).
-#[derive(Debug, PartialEq, Eq, Drop)]
+#[derive(Drop)]
 pub struct TransactionResult {
     /// In stroops.
     pub fee_charged: i64,
@@ -309,7 +309,7 @@ impl TransactionResult {
 }
 
 /// A transaction's result beside its hash (TransactionResultPair in Stellar-ledger.x).
-#[derive(Debug, PartialEq, Eq, Drop)]
+#[derive(Drop)]
 pub struct TransactionResultPair {
     pub transaction_hash: Hash,
     pub result: TransactionResult,
@@ -336,7 +336,7 @@ impl Clone for TransactionResultPair {
 }
 
 /// The results of a set, in the order in which its transactions were applied (TransactionResultSet in Stellar-ledger.x).
-#[derive(Debug, PartialEq, Eq, Drop)]
+#[derive(Drop)]
 pub struct TransactionResultSet {
     pub results: ItemList<TransactionResultPair>,
 }

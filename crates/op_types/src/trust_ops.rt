@@ -3,7 +3,7 @@
 use ledger_types::{AccountId, Asset, ChangeTrustAsset, MuxedAccount};
 
 /// The code of an asset whose issuer is known (AssetCode in Stellar-ledger-entries.x).
-#[derive(Clone, Copy, Debug, PartialEq, Eq)]
+#[derive(Clone, Copy)]
 pub enum AssetCode {
     /// ASSET_TYPE_CREDIT_ALPHANUM4, 1.
     Alphanum4([u8; 4]),
@@ -12,7 +12,7 @@ pub enum AssetCode {
 }
 
 /// Makes, changes or removes a trust line (ChangeTrustOp in Stellar-transaction.x).
-#[derive(Clone, Copy, Debug, PartialEq, Eq)]
+#[derive(Clone, Copy)]
 pub struct ChangeTrustOp {
     pub line: ChangeTrustAsset,
     /// 0 removes the line.
@@ -20,7 +20,7 @@ pub struct ChangeTrustOp {
 }
 
 /// Says whether a trust line may be used (AllowTrustOp in Stellar-transaction.x).
-#[derive(Clone, Copy, Debug, PartialEq, Eq)]
+#[derive(Clone, Copy)]
 pub struct AllowTrustOp {
     pub trustor: AccountId,
     /// The code of an asset that the source issues.
@@ -30,7 +30,7 @@ pub struct AllowTrustOp {
 }
 
 /// Changes the flags of a trust line in an asset that the source issues (SetTrustLineFlagsOp in Stellar-transaction.x; CAP-0035).
-#[derive(Clone, Copy, Debug, PartialEq, Eq)]
+#[derive(Clone, Copy)]
 pub struct SetTrustLineFlagsOp {
     pub trustor: AccountId,
     pub asset: Asset,
@@ -39,7 +39,7 @@ pub struct SetTrustLineFlagsOp {
 }
 
 /// Takes an asset back that the source issues (ClawbackOp in Stellar-transaction.x; CAP-0035).
-#[derive(Clone, Copy, Debug, PartialEq, Eq)]
+#[derive(Clone, Copy)]
 pub struct ClawbackOp {
     pub asset: Asset,
     pub from: MuxedAccount,

@@ -5,7 +5,7 @@ ghost use Rattle.op_types.specs.Codes.{change_trust_code, change_trust_values, a
 use crate::coded::Coded;
 
 /// What CHANGE_TRUST answers (ChangeTrustResult in Stellar-transaction.x).
-#[derive(Clone, Copy, Debug, PartialEq, Eq)]
+#[derive(Clone, Copy)]
 pub enum ChangeTrustResult {
     /// CHANGE_TRUST_SUCCESS, 0.
     Success,
@@ -63,7 +63,7 @@ impl Coded for ChangeTrustResult {
 }
 
 /// What ALLOW_TRUST answers (AllowTrustResult in Stellar-transaction.x).
-#[derive(Clone, Copy, Debug, PartialEq, Eq)]
+#[derive(Clone, Copy)]
 pub enum AllowTrustResult {
     /// ALLOW_TRUST_SUCCESS, 0.
     Success,
@@ -113,7 +113,7 @@ impl Coded for AllowTrustResult {
 }
 
 /// What CLAWBACK answers (ClawbackResult in Stellar-transaction.x).
-#[derive(Clone, Copy, Debug, PartialEq, Eq)]
+#[derive(Clone, Copy)]
 pub enum ClawbackResult {
     /// CLAWBACK_SUCCESS, 0.
     Success,
@@ -155,7 +155,7 @@ impl Coded for ClawbackResult {
 }
 
 /// What SET_TRUST_LINE_FLAGS answers (SetTrustLineFlagsResult in Stellar-transaction.x).
-#[derive(Clone, Copy, Debug, PartialEq, Eq)]
+#[derive(Clone, Copy)]
 pub enum SetTrustLineFlagsResult {
     /// SET_TRUST_LINE_FLAGS_SUCCESS, 0.
     Success,

@@ -77,6 +77,10 @@ next_seen m k r t (Some p) range first =
 
 -- ---- one map put over another
 
+or_none : {V : Type 0} (o : Option V) → option_or o None ≡ o
+or_none None = refl
+or_none (Some v) = refl
+
 inserts_distinct : {V : Type 0} (m n : BTreeMap LedgerKey V) (es : List (LedgerKey × V)) → tree.InsertsAll key_cmp m es n → IsDistinct (eq_by_cmp key_cmp) (keys_of es) → (q : LedgerKey)
     → get (seen n) q ≡ option_or (lookup (eq_by_cmp key_cmp q) es) (get (seen m) q)
 inserts_distinct m n es u apart q = get-seen n q ∙ u.0 q
@@ -90,6 +94,16 @@ get-absorbed m other n u sorted q =
     let ordered = subst (λ c. tree.IsOrdered c other) derived_is sorted in
     inserts_distinct m n other.entries stated (IsDistinct-from_sorted key_cmp _ ordered) q
     ∙ ap (λ o. option_or o (get (seen m) q)) (sym (get-seen other q))
+
+-- the map of pairs with distinct keys
+pub seen_from_pairs : {V : Type 0} (es : List (LedgerKey × V)) (n : BTreeMap LedgerKey V) → tree.IsFromIterResult derived es n → IsDistinct (eq_by_cmp key_cmp) (keys_of es)
+    → seen n ≡ from_entries es
+seen_from_pairs es n made apart =
+    let stated = subst (λ c. tree.IsFromIterResult c es n) derived_is made in
+    same_map keys_total keys_exact _ _ (λ q. get-seen n q ∙ stated.0 q
+    ∙ update_all_distinct (eq_by_cmp_equiv keys_total) (eq_by_cmp key_cmp) (λ x y. refl) (λ _. None) es q apart
+    ∙ or_none (lookup (eq_by_cmp key_cmp q) es)
+    ∙ sym (get-from_entries keys_total es q ∙ find_lookup key_cmp q es))
 
 lookup-prefix : {K X : Type 0} (test : K → Bool) (es fs : List (K × X)) (v : X) → lookup test es ≡ Some v → lookup test (es ++ fs) ≡ Some v
 lookup-prefix test [] fs v h = cc

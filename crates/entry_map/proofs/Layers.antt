@@ -53,6 +53,9 @@ pub keyed_from : (es : List LedgerEntry) → IsKeyed (from_entries (map with_key
 keyed_from [] k = subst (λ o. IfSome o (λ e. key_of e ≡ k)) (sym (get-empty key_cmp k)) tt
 keyed_from (e ∷ es) k = keyed_put (from_entries (map with_key es)) e (keyed_from es) k
 
+pub keyed_boxed : (entry boxed e : LedgerEntry) (k : LedgerKey) → k ≡ key_of entry → boxed ≡ entry → Some boxed ≡ Some e → key_of e ≡ k
+keyed_boxed entry boxed e k own same is = cc
+
 -- what a layer has at a key is the key's own
 pub keyed_found : (l : LayerMap) (k : LedgerKey) (o : Option (Bor (Option LedgerEntry))) → IsKeyedLayer l → option_copied o ≡ get l k → IfSome o (λ change. IfSome change.now (λ e. key_of e ≡ k))
 keyed_found l k None keyed found = tt

@@ -4,7 +4,7 @@ use item_list::ItemList;
 use ledger_types::{LedgerEntry, LedgerKey};
 
 /// What changed, each list in the order of keys.
-#[derive(Debug, Drop)]
+#[derive(Drop)]
 pub struct Batch {
     /// Entries that were not there.
     pub init: ItemList<LedgerEntry>,

@@ -72,7 +72,7 @@ impl<'a, B: Base> Entries<'a, B> {
     pub fn put(&mut self, entry: LedgerEntry) -> Result<(), AllocError>
         ensures { OnOk result (self.new ≡ with_current self.old (put self.old.current entry)) }
     {
-        self.top.put(entry)
+        self.top.put(self.alloc, entry)
     }
 
     /// Removes what stands under a key, if anything does.

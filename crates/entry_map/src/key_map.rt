@@ -1,9 +1,14 @@
 //! A map under the keys of entries.
 
 ghost use Rattle.std.specs.Prelude.{◌≡◌, ◌||◌, ◌⊎◌, IfOk, OnOk, OnErr, MatchOption};
+ghost use Rattle.std.specs.List.{IsDistinct};
+ghost use Rattle.std.specs.Map.{keys_of};
+ghost use Rattle.std.specs.BTreeMap.{IsFromIterResult};
+ghost use Rattle.std.specs.Ordering.{eq_by_cmp};
 ghost use Rattle.std.specs.Option.{option_copied, option_or};
-ghost use Rattle.std.specs.FinMap.{empty, get, insert, contains_key};
+ghost use Rattle.std.specs.FinMap.{empty, from_entries, get, insert, contains_key};
 ghost use Rattle.ledger_types.specs.declared.key.LedgerKey.{LedgerKey as AKey};
+ghost use Rattle.ledger_types.specs.KeyOrder.{key_cmp as order};
 ghost use Rattle.entry_map.specs.KeyMaps.{NoneAbove, IsLeastAt, AreKeysOf};
 
 use ledger_types::LedgerKey;
@@ -69,6 +74,16 @@ impl<V> KeyMap<V> {
 }
 
 impl<V: Drop> KeyMap<V> {
+    /// The map of pairs whose keys are distinct, built at once.
+    pub fn from_pairs(pairs: Vec<(LedgerKey, V)>) -> Result<KeyMap<V>, AllocError>
+        requires { IsDistinct (eq_by_cmp order) (keys_of pairs.items) }
+        ensures { IfOk result (λ m. m ≡ from_entries pairs.items) }
+    {
+        Ok(KeyMap {
+            tree: tree_of(pairs)?,
+        })
+    }
+
     /// Puts a value at a key. Where memory is refused the map stays as it was.
     pub fn insert(&mut self, key: LedgerKey, value: V) -> Result<(), AllocError>
         ensures ok { OnOk result (self.new ≡ insert self.old key value) }
@@ -94,4 +109,12 @@ impl<V: Drop> KeyMap<V> {
         let KeyMap { tree } = self;
         tree.into_keys().collect(alloc)
     }
+}
+
+/// The tree of pairs, built at once.
+fn tree_of<V: Drop>(pairs: Vec<(LedgerKey, V)>) -> Result<BTreeMap<LedgerKey, V>, AllocError>
+    ensures { IfOk result (IsFromIterResult ⟦<LedgerKey as Ord>⟧.cmp pairs.items) }
+{
+    let alloc = *pairs.allocator();
+    pairs.into_iter().collect(alloc)
 }

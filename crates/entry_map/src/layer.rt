@@ -8,6 +8,7 @@ ghost use Rattle.ledger_types.specs.Keys.{key_of};
 ghost use Rattle.entry_map.specs.Layers.{IsKeyedLayer, IsNextKey};
 
 use crate::key_map::KeyMap;
+use item_list::Boxed;
 use ledger_types::{LedgerEntry, LedgerKey};
 use std::alloc::{AllocError, Global};
 use std::marker::Model;
@@ -15,7 +16,8 @@ use std::marker::Model;
 /// Changes by key: the entry that is put there, or none where it is erased.
 #[derive(Drop)]
 pub struct Layer {
-    changes: KeyMap<Option<LedgerEntry>>,
+    // Boxed, so that a node of the tree has room for the entries' places alone.
+    changes: KeyMap<Option<Boxed<LedgerEntry>>>,
 }
 
 impl Model for Layer {
@@ -45,7 +47,7 @@ impl Layer {
     }
 
     /// What a key was changed to, if it was.
-    pub fn get(&self, key: &LedgerKey) -> Option<&Option<LedgerEntry>>
+    pub fn get(&self, key: &LedgerKey) -> Option<&Option<Boxed<LedgerEntry>>>
         ensures found { option_copied result ≡ get self.now key.now }
         ensures keyed { IsKeyedLayer self.now }
     {
@@ -53,10 +55,11 @@ impl Layer {
     }
 
     /// Puts an entry under its key.
-    pub fn put(&mut self, entry: LedgerEntry) -> Result<(), AllocError>
+    pub fn put(&mut self, alloc: Global, entry: LedgerEntry) -> Result<(), AllocError>
         ensures { OnOk result (self.new ≡ insert self.old (key_of entry) (Some entry)) }
     {
         let key = entry.key()?;
+        let entry = Boxed::new(alloc, entry)?;
         self.changes.insert(key, Some(entry))
     }
 

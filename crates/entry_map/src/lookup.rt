@@ -8,11 +8,12 @@ ghost use Rattle.entry_map.specs.Layers.{under, under_one, change_of, newest_cha
 
 use crate::base::Base;
 use crate::layer::Layer;
+use item_list::Boxed;
 use ledger_types::{LedgerEntry, LedgerKey};
 use std::alloc::AllocError;
 
 /// What the newest of the layers that changed a key changed it to. The layers stand in the order of their age, the oldest first.
-fn change_in<'a>(layers: &'a [Layer], key: &LedgerKey) -> Option<&'a Option<LedgerEntry>>
+fn change_in<'a>(layers: &'a [Layer], key: &LedgerKey) -> Option<&'a Option<Boxed<LedgerEntry>>>
     ensures found { option_copied result ≡ change_of layers.now key.now }
     ensures keyed { IfSome result (λ change. IfSome change.now (λ e. key_of e ≡ key.now)) }
 {
@@ -30,7 +31,7 @@ fn newest_change<'a>(
     lower: &'a [Layer],
     top: &'a Layer,
     key: &LedgerKey,
-) -> Option<&'a Option<LedgerEntry>>
+) -> Option<&'a Option<Boxed<LedgerEntry>>>
     ensures found { option_copied result ≡ newest_change lower.now top.now key.now }
     ensures keyed { IfSome result (λ change. IfSome change.now (λ e. key_of e ≡ key.now)) }
 {
@@ -41,12 +42,12 @@ fn newest_change<'a>(
 }
 
 /// The same entry once more, or none.
-fn copied(entry: &Option<LedgerEntry>) -> Result<Option<LedgerEntry>, AllocError>
+fn copied(entry: &Option<Boxed<LedgerEntry>>) -> Result<Option<LedgerEntry>, AllocError>
     ensures { IfOk result (λ copy. copy ≡ entry.now) }
 {
     match entry {
         None => Ok(None),
-        Some(entry) => Ok(Some(entry.copy()?)),
+        Some(entry) => Ok(Some(entry.get().copy()?)),
     }
 }
 

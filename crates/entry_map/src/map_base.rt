@@ -1,15 +1,15 @@
 //! A base in memory.
 
-ghost use Rattle.std.specs.Prelude.{◌≡◌, IfOk, OnOk, map};
+ghost use Rattle.std.specs.Prelude.{◌≡◌, [], ◌∷◌, ◌++◌, IfOk, OnOk, map};
 ghost use Rattle.std.specs.List.{IsDistinct};
 ghost use Rattle.std.specs.Ordering.{eq_by_cmp};
 ghost use Rattle.std.specs.FinMap.{from_entries};
 ghost use Rattle.ledger_types.specs.Keys.{key_of};
 ghost use Rattle.ledger_types.specs.KeyOrder.{key_cmp};
-ghost use Rattle.entry_map.specs.EntryMap.{put};
 
 use crate::base::Base;
 use crate::key_map::KeyMap;
+use item_list::Boxed;
 use ledger_types::{LedgerEntry, LedgerKey};
 use std::alloc::AllocError;
 use std::marker::Model;
@@ -17,7 +17,8 @@ use std::marker::Model;
 /// An ordered map of entries in memory. Contracts see the map.
 #[derive(Drop)]
 pub struct MapBase {
-    entries: KeyMap<LedgerEntry>,
+    // Boxed, so that a node of the tree has room for the entries' places alone.
+    entries: KeyMap<Boxed<LedgerEntry>>,
 }
 
 impl Model for MapBase {
@@ -41,20 +42,27 @@ impl MapBase {
         requires { IsDistinct (eq_by_cmp key_cmp) (map key_of entries.items) }
         ensures { IfOk result (λ base. base ≡ from_entries (map (λ e. (key_of e, e)) entries.items)) }
     {
-        let mut map = KeyMap::new(*entries.allocator());
+        let mut pairs = Vec::with_capacity(*entries.allocator(), entries.len())?;
         for entry in entries {
-            put_into(&mut map, entry)?;
+            push_pair(&mut pairs, entry)?;
         }
-        Ok(MapBase { entries: map })
+        Ok(MapBase {
+            entries: KeyMap::from_pairs(pairs)?,
+        })
     }
 }
 
-/// Puts an entry under its key.
-fn put_into(map: &mut KeyMap<LedgerEntry>, entry: LedgerEntry) -> Result<(), AllocError>
-    ensures { OnOk result (map.new ≡ put map.old entry) }
+/// Puts an entry and its key at the end.
+fn push_pair(
+    pairs: &mut Vec<(LedgerKey, Boxed<LedgerEntry>)>,
+    entry: LedgerEntry,
+) -> Result<(), AllocError>
+    ensures { OnOk result (pairs.new.items ≡ pairs.old.items ++ (key_of entry, entry) ∷ []) }
 {
     let key = entry.key()?;
-    map.insert(key, entry)
+    let entry = Boxed::new(*pairs.allocator(), entry)?;
+    pairs.push((key, entry))?;
+    Ok(())
 }
 
 impl Base for MapBase {
@@ -63,14 +71,14 @@ impl Base for MapBase {
     fn find(&self, key: &LedgerKey) -> Result<Option<LedgerEntry>, AllocError> {
         match self.entries.get(key) {
             None => Ok(None),
-            Some(entry) => Ok(Some(entry.copy()?)),
+            Some(entry) => Ok(Some(entry.get().copy()?)),
         }
     }
 
     fn next_after(&self, key: &LedgerKey) -> Result<Option<LedgerEntry>, AllocError> {
         match self.entries.next_after(key) {
             None => Ok(None),
-            Some((_, entry)) => Ok(Some(entry.copy()?)),
+            Some((_, entry)) => Ok(Some(entry.get().copy()?)),
         }
     }
 }

@@ -11,8 +11,22 @@ ghost use Rattle.ledger_types.specs.declared.key.LedgerKey.TheVariants.{Offer};
 use crate::{Batch, Entries, MapBase};
 use ledger_types::{AccountId, Asset, LedgerEntry, LedgerEntryBody, LedgerKey, OfferEntry, Price};
 use std::alloc::{AllocError, Global};
-use std::process::Abort;
-use std::test::Fail;
+
+const SELLER: AccountId = AccountId([7; 32]);
+
+/// The numbers and amounts of the offers after the changes of all layers.
+const LISTED: [(i64, i64); 10] = [
+    (0, 0),
+    (2, 200),
+    (3, 33),
+    (4, 400),
+    (5, 500),
+    (6, 600),
+    (7, 700),
+    (8, 800),
+    (9, 900),
+    (11, 1100),
+];
 
 /// An offer of an account.
 fn offer(seller_id: AccountId, number: u8, amount: i64, last_modified: u32) -> LedgerEntry
@@ -112,89 +126,95 @@ fn change(entries: &mut Entries<'_, MapBase>, seller: AccountId) -> Result<(), A
     change_third(entries, seller)
 }
 
-/// Looks up offers by their numbers, and what comes after each.
-fn check_map(
-    rt: &impl Abort,
+/// Whether a look-up of an offer, and of what comes after it, gives what a plain list of all offers gives.
+fn is_as_listed(
     entries: &Entries<'_, MapBase>,
-    seller: AccountId,
+    number: u8,
     offers: &[(i64, i64)],
-) -> Result<(), AllocError> {
+) -> Result<bool, AllocError> {
+    let at = key(SELLER, number);
+    let found = shown_if(&entries.get(&at)?);
+    let next = shown_if(&entries.next_after(&at)?);
+    let from = first_from(offers, i64::from(number));
+    let after = first_from(offers, i64::from(number) + 1);
+    Ok(next == after && found == if from == after { None } else { from })
+}
+
+/// Whether the entries are those of a plain list.
+fn are_as_listed(
+    entries: &Entries<'_, MapBase>,
+    offers: &[(i64, i64)],
+) -> Result<bool, AllocError> {
     for number in 0..16u8 {
-        let found = shown_if(&entries.get(&key(seller, number))?);
-        let next = shown_if(&entries.next_after(&key(seller, number))?);
-        let from = first_from(offers, i64::from(number));
-        let after = first_from(offers, i64::from(number) + 1);
-        assert_eq!(rt; next, after, "after {number}");
-        assert_eq!(rt;
-            found,
-            if from == after { None } else { from },
-            "at {number}"
-        );
+        if !is_as_listed(entries, number, offers)? {
+            return Ok(false);
+        }
     }
-    Ok(())
+    Ok(true)
 }
 
-/// The one new offer, the one changed offer and the number of the one that is gone.
-fn check_changes(rt: &impl Abort, batch: &Batch) {
-    match batch.init.as_slice() {
-        [new] => assert_eq!(rt; shown(new), Some((11, 1100))),
-        _ => panic!(rt; "not one new offer"),
-    }
-    match batch.live.as_slice() {
-        [changed] => assert_eq!(rt; shown(changed), Some((3, 33))),
-        _ => panic!(rt; "not one changed offer"),
-    }
-    match batch.dead.as_slice() {
-        [LedgerKey::Offer { offer_id, .. }] => assert_eq!(rt; *offer_id, 1),
-        _ => panic!(rt; "not one offer that is gone"),
+/// The one new offer, the one changed offer, and the number of the one that is gone.
+fn changed(batch: &Batch) -> Option<((i64, i64), (i64, i64), i64)> {
+    match (
+        batch.init.as_slice(),
+        batch.live.as_slice(),
+        batch.dead.as_slice(),
+    ) {
+        ([new], [changed], [LedgerKey::Offer { offer_id, .. }]) => {
+            Some((shown(new)?, shown(changed)?, *offer_id))
+        }
+        _ => None,
     }
 }
 
-#[test]
-fn three_layers_are_as_a_plain_list(rt: HostRuntime) -> Result<(), Fail> {
-    let seller = AccountId([7; 32]);
-    let base = MapBase::from_entries(first_offers(rt.alloc(), seller, 10)?)?;
-    let mut entries = Entries::new(rt.alloc(), &base)?;
-    change(&mut entries, seller)?;
-    let offers = [
-        (0, 0),
-        (2, 200),
-        (3, 33),
-        (4, 400),
-        (5, 500),
-        (6, 600),
-        (7, 700),
-        (8, 800),
-        (9, 900),
-        (11, 1100),
-    ];
-    check_map(&rt, &entries, seller, &offers)?;
-    check_changes(&rt, &entries.changes()?);
-    Ok(())
+/// The first offers of the seller as a base.
+fn base_of(alloc: Global, count: u8) -> Result<MapBase, AllocError> {
+    MapBase::from_entries(first_offers(alloc, SELLER, count)?)
 }
 
-#[test]
-fn a_dropped_child_leaves_no_trace(rt: HostRuntime) -> Result<(), Fail> {
-    let seller = AccountId([7; 32]);
-    let base = MapBase::from_entries(first_offers(rt.alloc(), seller, 3)?)?;
-    let mut entries = Entries::new(rt.alloc(), &base)?;
-    entries.child()?;
-    entries.erase(&key(seller, 1))?;
-    entries.drop_child();
-    assert_eq!(rt; shown_if(&entries.get(&key(seller, 1))?), Some((1, 100)));
+/// Whether entries that are changed in three layers are as a plain list, and differ from the base as they should.
+fn layers_are_as_listed(entries: &mut Entries<'_, MapBase>) -> Result<bool, AllocError> {
+    change(entries, SELLER)?;
     let batch = entries.changes()?;
-    assert!(rt; batch.init.is_empty() && batch.live.is_empty() && batch.dead.is_empty());
-    Ok(())
+    let is_changed = changed(&batch) == Some(((11, 1100), (3, 33), 1));
+    Ok(is_changed && are_as_listed(entries, &LISTED)?)
 }
 
 #[test]
-fn a_kept_child_stays(rt: HostRuntime) -> Result<(), Fail> {
-    let seller = AccountId([7; 32]);
-    let base = MapBase::from_entries(first_offers(rt.alloc(), seller, 1)?)?;
-    let mut entries = Entries::new(rt.alloc(), &base)?;
+fn three_layers_are_as_a_plain_list(rt: HostRuntime) {
+    let base = base_of(rt.alloc(), 10).expect(&rt, "memory");
+    let mut entries = Entries::new(rt.alloc(), &base).expect(&rt, "memory");
+    assert!(rt; layers_are_as_listed(&mut entries) == Ok(true));
+}
+
+/// Whether a child that is given up leaves the offers and no change.
+fn is_undone(entries: &mut Entries<'_, MapBase>) -> Result<bool, AllocError> {
     entries.child()?;
-    entries.put(offer(seller, 1, 100, 1))?;
+    entries.erase(&key(SELLER, 1))?;
+    entries.drop_child();
+    let batch = entries.changes()?;
+    let is_empty = batch.init.is_empty() && batch.live.is_empty() && batch.dead.is_empty();
+    Ok(is_empty && is_as_listed(entries, 1, &[(1, 100), (2, 200)])?)
+}
+
+#[test]
+fn a_dropped_child_leaves_no_trace(rt: HostRuntime) {
+    let base = base_of(rt.alloc(), 3).expect(&rt, "memory");
+    let mut entries = Entries::new(rt.alloc(), &base).expect(&rt, "memory");
+    assert!(rt; is_undone(&mut entries) == Ok(true));
+}
+
+/// Whether what a child put stays where it is kept.
+fn is_kept(entries: &mut Entries<'_, MapBase>) -> Result<bool, AllocError> {
+    entries.child()?;
+    entries.put(offer(SELLER, 1, 100, 1))?;
     entries.commit()?;
-    assert_eq!(rt; shown_if(&entries.get(&key(seller, 1))?), Some((1, 100)));
-    Ok(())
+    is_as_listed(entries, 1, &[(1, 100)])
+}
+
+#[test]
+fn a_kept_child_stays(rt: HostRuntime) {
+    let base = base_of(rt.alloc(), 1).expect(&rt, "memory");
+    let mut entries = Entries::new(rt.alloc(), &base).expect(&rt, "memory");
+    assert!(rt; is_kept(&mut entries) == Ok(true));
 }

@@ -1,12 +1,13 @@
-use Rattle.std.proofs.Common.{◌≡◌, [], ◌∷◌, ◌++◌, ap, map, sym, subst, ◌∙◌, append_assoc}
+use Rattle.std.proofs.Common.{arith, ◌≡◌, [], ◌∷◌, ◌++◌, ap, sym, subst, ◌∙◌, append_assoc}
 use Rattle.std.specs.List.{IsDistinct}
 use Rattle.std.specs.Ordering.{eq_by_cmp}
+use Rattle.std.proofs.lemmas.Grind.{common_steps}
+use Rattle.std.specs.FinMap.{from_entries}
 use Rattle.std.specs.Vec.Iter.{into_iter_items}
-use Rattle.ledger_types.specs.Keys.{key_of}
 use Rattle.ledger_types.specs.KeyOrder.{key_cmp}
-use Rattle.entry_map.specs.EntryMap.{IsKeyed, put}
-use Rattle.entry_map.proofs.Layers.{keyed_from}
-use Rattle.entry_map.proofs.Lists.{from_pushed}
+use Rattle.entry_map.specs.EntryMap.{IsKeyed}
+use Rattle.entry_map.proofs.Layers.{with_key, keyed_from}
+use Rattle.entry_map.proofs.Lists.{map_push, all_keys}
 use Rattle.entry_map.proofs.map_base.MapBase.from_entries.Goals as goal
 
 pub loop-entry-preserved : goal.loop-entry-preserved
@@ -14,10 +15,15 @@ loop-entry-preserved c =
     let split : c.loop-entry.yielded ++ c.in-Some.entry ∷ into_iter_items c.next.new.self ≡ c.args.entries.items =
     ap (λ es. c.loop-entry.yielded ++ es) (sym c.in-Some.ensures.steps.0) ∙ c.loop-entry.invariant.left in
     record {
-      made = c.in_ok-put_into.ensures ∙ ap (λ m. put m c.in-Some.entry) c.loop-entry.invariant.made
-          ∙ from_pushed c.loop-entry.yielded (into_iter_items c.next.new.self) c.in-Some.entry (subst (λ es. IsDistinct (eq_by_cmp key_cmp) (map key_of es)) (sym split) c.requires);
+      made = c.in_ok-push_pair.ensures ∙ ap (λ ps. ps ++ with_key c.in-Some.entry ∷ []) c.loop-entry.invariant.made
+          ∙ sym (map_push with_key c.loop-entry.yielded c.in-Some.entry);
       left = append_assoc c.loop-entry.yielded (c.in-Some.entry ∷ []) (into_iter_items c.next.new.self) ∙ split;
     }
 
+pub from_pairs-requires : goal.from_pairs-requires
+from_pairs-requires c =
+    let none : into_iter_items c.loop-entry.entry-iterator ≡ [] = grind (arith, common_steps, c.in-None.ensures.steps) in
+    subst (λ es. IsDistinct (eq_by_cmp key_cmp) es) (all_keys c.loop-entry.yielded _ c.loop-entry.pairs.items c.args.entries.items c.loop-entry.invariant.made c.loop-entry.invariant.left none) c.requires
+
 pub invariant_of-result : goal.invariant_of-result
-invariant_of-result c = subst IsKeyed (sym c.loop-entry.invariant.made) (keyed_from c.loop-entry.yielded)
+invariant_of-result c = subst IsKeyed (sym (c.in_ok-from_pairs.ensures ∙ ap from_entries c.loop-entry.invariant.made)) (keyed_from c.loop-entry.yielded)

@@ -1,12 +1,11 @@
 use Rattle.std.proofs.Common.{◌≡◌, ◌++◌, map}
-use Rattle.std.specs.FinMap.{from_entries}
 use Rattle.std.specs.Vec.Iter.{into_iter_items}
 use Rattle.entry_map.proofs.Layers.{with_key}
 use Rattle.entry_map.proofs.map_base.MapBase.from_entries.Given as goal
 
--- the map of the entries so far, which the others follow
+-- the pairs of the entries so far, which the others follow
 abbrev pub invariant-loop-entry : goal.invariant-loop-entry
 invariant-loop-entry l = record {
-  made : l.map ≡ from_entries (map with_key l.yielded);
+  made : l.pairs.items ≡ map with_key l.yielded;
   left : l.yielded ++ into_iter_items l.entry-iterator ≡ l.fn.entries.items;
 }

@@ -1,5 +1,5 @@
 #!/usr/bin/env python3
-"""Times the reading and writing of ledger entries and of transaction sets.
+"""Measures the reading and writing of ledger entries and of transaction sets.
 
     bench/codecs.py [PROGRAM]
 
@@ -9,11 +9,11 @@ The entries are accounts, trust lines, offers and data entries in turn, whose ke
 same in each run of this script: at least 64 MB (1 MB is 1,000,000 bytes) of them. The sets have
 1,000, 10,000 and 100,000 transactions, of one payment and one signature each.
 
-Each run is made 3 times, or 20 times for an input below 4 MB, and the best time counts. The time of a run with an empty input is
-taken off, so that starting the program is not counted; reading the file is. A line of the program
-must tell as many values as the script made, and where they are written again, as many bytes.
+Each run is made 3 times, or 20 times for an input below 4 MB. The time of a run with an empty input is taken off, so that starting
+the program is not counted; reading the file is. A line of the program must tell as many values as the script made, and where they
+are written again, as many bytes.
 
-The script prints MB a second, and the ratio of the time to that of sha256sum over the same bytes.
+The script prints processor time, peak memory, MB a second, and the ratio of the time to that of sha256sum over the same bytes.
 
 Exit status: 0 where all is well, 1 where 100,000 transactions take more than 15 times as long to
 read as 10,000, 2 where a run fails or prints another line. Python 3.9 or later, its standard library, and
@@ -22,34 +22,15 @@ sha256sum.
 
 import os
 import random
-import struct
-import subprocess
 import sys
 import tempfile
-import time
 
-TOP = os.path.dirname(os.path.dirname(os.path.abspath(__file__)))
+from measuring import built, i64, opaque, run, u32
+
 LEAST_BYTES = 64_000_000
 SETS = (1_000, 10_000, 100_000)
 GREATEST_RATIO = 15
 SMALL = 4_000_000
-
-
-def stop(why):
-    print(f"{os.path.basename(sys.argv[0])}: {why}", file=sys.stderr)
-    sys.exit(2)
-
-
-def u32(number):
-    return struct.pack(">I", number)
-
-
-def i64(number):
-    return struct.pack(">q", number)
-
-
-def opaque(text):
-    return u32(len(text)) + text + bytes(-len(text) % 4)
 
 
 def account_id(rng):
@@ -99,53 +80,50 @@ def transaction_set(count):
     return rng.randbytes(32) + u32(count) + b"".join(transaction(rng) for _ in range(count))
 
 
-def seconds_of(words, wanted=None):
-    best = None
-    for _ in range(20 if os.path.getsize(words[-1]) < SMALL else 3):
-        begin = time.perf_counter()
-        ran = subprocess.run(words, capture_output=True, check=False)
-        took = time.perf_counter() - begin
-        if ran.returncode or (wanted is not None and ran.stdout.decode() != wanted):
-            stop(f"{' '.join(words)}: status {ran.returncode}, {ran.stdout[:200]!r}")
-        best = took if best is None else min(best, took)
-    return best
+class Bench:
+    """The program, and a folder for its input."""
+
+    def __init__(self, program, folder):
+        self.program, self.folder, self.path = program, folder, f"{folder}/input"
+        self.start = 0
+        self.write(b"")
+        self.start = self.seconds_of([program, "entries", self.path])
+
+    def write(self, text):
+        with open(self.path, "wb") as out:
+            out.write(text)
+
+    def seconds_of(self, words, wanted=None):
+        runs = 20 if os.path.getsize(self.path) < SMALL else 3
+        seconds, self.memory, _ = run(words, runs, self.folder, wanted=wanted)
+        return seconds
+
+    def measure(self, command, count, text):
+        """Reads, and reads and writes again; answers the time of reading."""
+        self.write(text)
+        hashed = self.seconds_of(["sha256sum", self.path])
+        took = []
+        for again in ("", "-again"):
+            written = len(text) if again else 0
+            line = f"{command}{again}: {count} values, {written} bytes written\n"
+            seconds = max(self.seconds_of([self.program, command + again, self.path], line) - self.start, 1e-9)
+            took.append(seconds)
+            what = "read and written" if again else "read"
+            print(
+                f"{command}: {count:7} values {len(text):9} bytes {what:16} {seconds * 1e3:7.1f} ms {self.memory / 1e3:6.1f} MB"
+                f"  {len(text) / seconds / 1e6:6.0f} MB/s  {seconds / hashed:5.2f} times sha256sum"
+            )
+        return took[0]
 
 
 def main():
-    program = sys.argv[1] if len(sys.argv) > 1 else f"{TOP}/crates/speed/out/speed"
+    program = sys.argv[1] if len(sys.argv) > 1 else built("speed")
     with tempfile.TemporaryDirectory() as folder:
-        path = f"{folder}/input"
-
-        def write(text):
-            with open(path, "wb") as out:
-                out.write(text)
-
-        def measure(command, count, text, start):
-            hashed = seconds_of(["sha256sum", path])
-            took = []
-            for again in ("", "-again"):
-                written = len(text) if again else 0
-                line = f"{command}{again}: {count} values, {written} bytes written\n"
-                seconds = max(seconds_of([program, command + again, path], line) - start, 1e-9)
-                took.append(seconds)
-                what = "read and written" if again else "read"
-                print(
-                    f"{command}: {count:7} values {len(text):9} bytes {what:16} {seconds:7.3f} s"
-                    f"  {len(text) / seconds / 1e6:6.0f} MB/s  {seconds / hashed:5.2f} times sha256sum"
-                )
-            return took[0]
-
-        write(b"")
-        start = seconds_of([program, "entries", path])
+        bench = Bench(program, folder)
         count, text = entries()
-        write(text)
-        measure("entries", count, text, start)
-        times = []
-        for count in SETS:
-            text = transaction_set(count)
-            write(text)
-            # (a set is one value, and its values are counted as its transactions)
-            times.append(measure("set", count, text, start))
+        bench.measure("entries", count, text)
+        # (a set is one value, and its values are counted as its transactions)
+        times = [bench.measure("set", count, transaction_set(count)) for count in SETS]
         ratio = times[2] / times[1]
         print(f"100,000 transactions take {ratio:.1f} times as long as 10,000, at most {GREATEST_RATIO}")
         sys.exit(ratio > GREATEST_RATIO)

@@ -1,5 +1,5 @@
 #!/usr/bin/env python3
-"""Times the command `set` on large inputs.
+"""Measures the command `set` on large inputs.
 
     bench/set.py [PROGRAM]              inputs of 5,000 and 20,000 transactions
     bench/set.py --largest [PROGRAM]    the longest input that the command takes
@@ -12,10 +12,9 @@ account has one signer, the hash of a preimage of 32 bytes, and its transaction 
 preimage, so each transaction succeeds. The transactions stand in an order of their own, the same in
 each run of this script.
 
-Each program is run three times on each input, and the best time counts. It must end with status 0
-and print a line `tx HASH 100 0` for each transaction and then a line `results HASH`.
+Each program is run three times on each input. It must end with status 0 and print a line `tx HASH 100 0` for each transaction and then a line `results HASH`.
 
-Without --largest the script prints both times and their ratio, and the times that sha256sum takes
+Without --largest the script prints both processor times and their ratio, and the times that sha256sum takes
 over the same bytes. Four times the transactions may take at most five times as long.
 
 With --largest the input has exactly 16777216 bytes: as many transactions as there is room for, of
@@ -32,12 +31,11 @@ import hashlib
 import os
 import random
 import re
-import struct
-import subprocess
 import sys
 import tempfile
 
-TOP = os.path.dirname(os.path.dirname(os.path.abspath(__file__)))
+from measuring import built, i32, i64, opaque, run, stop, u32, u64
+
 SIZES = (5000, 20000)
 GREATEST_RATIO = 5
 GREATEST_INPUT = 16777216
@@ -52,48 +50,6 @@ BALANCE = 1000000000
 TX_LINE = re.compile(rb"tx [0-9a-f]{64} %d 0" % BASE_FEE)
 RESULTS_LINE = re.compile(rb"results [0-9a-f]{64}")
 
-# Starts a command with these files as its standard input and output, from a process that is small
-# (what a process uses before it becomes the command counts as the command's peak memory). Prints
-# the seconds that it took, its exit status, and its peak memory in kB.
-STARTER = """
-import os, sys, time
-source, target, *words = sys.argv[1:]
-opened = [
-    (os.POSIX_SPAWN_OPEN, 0, source, os.O_RDONLY, 0),
-    (os.POSIX_SPAWN_OPEN, 1, target, os.O_WRONLY | os.O_CREAT | os.O_TRUNC, 0o600),
-]
-begin = time.perf_counter()
-child = os.posix_spawnp(words[0], words, os.environ, file_actions=opened)
-_, status, used = os.wait4(child, 0)
-seconds = time.perf_counter() - begin
-print(seconds, os.waitstatus_to_exitcode(status), used.ru_maxrss)
-"""
-
-
-def stop(why):
-    print(f"{os.path.basename(sys.argv[0])}: {why}", file=sys.stderr)
-    sys.exit(2)
-
-
-def u32(number):
-    return struct.pack(">I", number)
-
-
-def i32(number):
-    return struct.pack(">i", number)
-
-
-def u64(number):
-    return struct.pack(">Q", number)
-
-
-def i64(number):
-    return struct.pack(">q", number)
-
-
-def text(content):
-    return u32(len(content)) + content + bytes(-len(content) % 4)
-
 
 def account(key, signer):
     """A ledger entry: an account without a usable key of its own, with one signer, a hash."""
@@ -106,7 +62,7 @@ def account(key, signer):
         u32(1),  # its entries: the signer
         u32(0),  # no destination for inflation
         u32(0),  # no flags
-        text(b""),  # no home domain
+        opaque(b""),  # no home domain
         bytes([0, 1, 1, 1]),  # the weight of its own key, and the three thresholds
         u32(1) + i32(2) + signer + u32(1),  # one signer, the hash of a preimage, of weight 1
         i32(0),  # no extension of the account
@@ -128,7 +84,7 @@ def envelope(key, signer, preimage):
         u32(0),  # of the transaction's account
         i32(11) + i64(2),  # the operation: raise the sequence number to 2
         i32(0),  # no extension
-        u32(1) + signer[-4:] + text(preimage),  # one signature
+        u32(1) + signer[-4:] + opaque(preimage),  # one signature
     ]
     return b"".join(fields)
 
@@ -167,28 +123,12 @@ def largest():
     return rest // pair, rest % pair // 4
 
 
-def run(words, source, target):
-    """Runs a command, and returns its best time in seconds and its greatest peak memory in kB."""
-    best, most = float("inf"), 0
-    for _ in range(RUNS):
-        starter = [sys.executable, "-I", "-S", "-c", STARTER, source, target, *words]
-        ran = subprocess.run(starter, stdout=subprocess.PIPE)
-        if ran.returncode:
-            stop(f"{words[0]} could not be run")
-        seconds, status, memory = ran.stdout.split()
-        if int(status):
-            stop(f"{' '.join(words)} ended with status {int(status)}")
-        best, most = min(best, float(seconds)), max(most, int(memory))
-    return best, most
-
-
 def measure(program, folder, count, longer=0):
     """Runs the program and sha256sum on one input: size, both times in seconds, peak memory in kB."""
-    source, target = f"{folder}/{count}.slt1", f"{folder}/{count}.out"
+    source = f"{folder}/{count}.slt1"
     write_input(source, count, longer)
-    seconds, memory = run([program, "set", "--network", "bench"], source, target)
-    with open(target, "rb") as file:
-        lines = file.read().split(b"\n")
+    seconds, memory, output = run([program, "set", "--network", "bench"], RUNS, folder, source)
+    lines = output.split(b"\n")
     if len(lines) != count + 2 or lines[-1]:
         stop(f"{count} transactions: {count + 1} whole lines are wanted, and {len(lines) - 1} came")
     for number, line in enumerate(lines[:count], 1):
@@ -196,7 +136,7 @@ def measure(program, folder, count, longer=0):
             stop(f"{count} transactions: line {number} is {line[:100]!r}")
     if not RESULTS_LINE.fullmatch(lines[count]):
         stop(f"{count} transactions: the last line is {lines[count][:100]!r}")
-    hashing, _ = run(["sha256sum"], source, os.devnull)
+    hashing, _, _ = run(["sha256sum"], RUNS, folder, source)
     return os.path.getsize(source), seconds, hashing, memory
 
 
@@ -208,7 +148,7 @@ def main():
     about, _, more = __doc__.partition("\n\n")
     how = argparse.RawDescriptionHelpFormatter
     reader = argparse.ArgumentParser(description=about, epilog=more, formatter_class=how)
-    reader.add_argument("program", nargs="?", default=f"{TOP}/crates/ledger/out/ledger")
+    reader.add_argument("program", nargs="?", default=built("ledger"))
     reader.add_argument("--largest", action="store_true", help="one input of 16777216 bytes")
     given = reader.parse_args()
     program = os.path.abspath(given.program)

@@ -1,4 +1,4 @@
-//! The outside of the program as traits: sources of bytes and sinks, each with a count of faults.
+//! The outside of the program as traits: sources of bytes and sinks, each with a count of faults. Beside them a counter of steps.
 #![tactic(auto)]
 
 mod call_plan;
@@ -10,6 +10,7 @@ mod sink;
 mod source;
 mod std_sink;
 mod std_source;
+mod steps;
 mod sure_sink;
 mod sure_source;
 #[cfg(test)]
@@ -22,5 +23,6 @@ pub use sink::{Sink, write_all};
 pub use source::{ReadAllFault, Source, read_all};
 pub use std_sink::StdSink;
 pub use std_source::StdSource;
+pub use steps::Steps;
 pub use sure_sink::SureSink;
 pub use sure_source::SureSource;

@@ -1,5 +1,6 @@
 -- A tree under keys is a finite map in the stated order of keys.
-use Rattle.std.proofs.Common.{rules, ◌≡◌, ◌≢◌, refl, sym, ap, subst, ◌∙◌, Bool, true, false, cond, List, [], ◌∷◌, Option, Some, None, MatchOption, IsSome, Bor, ◌||◌, ◌⊎◌, ◌++◌, inl, inr, All}
+use Rattle.std.proofs.Common.{rules, ◌≡◌, ◌≢◌, refl, sym, ap, subst, ◌∙◌, Bool, true, false, cond, List, [], ◌∷◌}
+use Rattle.std.proofs.Common.{Option, Some, None, MatchOption, IsSome, Bor, ◌||◌, ◌⊎◌, ◌++◌, inl, inr, All}
 use Rattle.std.specs.declared.cmp.Ordering.{Ordering}
 use Rattle.std.specs.declared.cmp.Ordering.TheVariants.{Less, Greater}
 use Rattle.std.specs.declared.ops.Bound.TheVariants.{Excluded, Unbounded}
@@ -45,7 +46,8 @@ get-seen m q = get-from_entries keys_total m.entries q ∙ find_lookup key_cmp q
 pub get-derived : {V : Type 0} (m : BTreeMap LedgerKey V) (q : LedgerKey) → tree.get derived m q ≡ get (seen m) q
 get-derived m q = ap (λ c. tree.get c m q) derived_is ∙ sym (get-seen m q)
 
-pub seen_inserted : {V : Type 0} (m n : BTreeMap LedgerKey V) (k : LedgerKey) (v : V) → tree.Updates derived m n k (Some v) → seen n ≡ insert (seen m) k v
+pub seen_inserted : {V : Type 0} (m n : BTreeMap LedgerKey V) (k : LedgerKey) (v : V)
+    → tree.Updates derived m n k (Some v) → seen n ≡ insert (seen m) k v
 seen_inserted m n k v u =
     let stated = subst (λ c. tree.Updates c m n k (Some v)) derived_is u in
     same_map keys_total keys_exact _ _ (λ q. get-seen n q ∙ stated.0 q
@@ -60,7 +62,8 @@ there_is (Some v) h = refl
 not_greater : (o : Ordering) → is_gt o ≡ false → o ≢ Greater
 not_greater o h e = cc (ap is_gt e)
 
-pub next_seen : {V : Type 0} (m : BTreeMap LedgerKey V) (k : LedgerKey) (r t : List (LedgerKey × V)) (o : Option (Bor LedgerKey × Bor V))
+pub next_seen : {V : Type 0} (m : BTreeMap LedgerKey V) (k : LedgerKey) (r t : List (LedgerKey × V)) (o : Option
+    (Bor LedgerKey × Bor V))
     → IsRangeOf derived (Excluded k) Unbounded m r → TakesFirst deref_pair r o t
     → MatchOption o (NoneAbove (seen m) k) (λ p. IsLeastAt (seen m) k p.0.now p.1.now)
 next_seen m k r t None range first =
@@ -81,13 +84,15 @@ or_none : {V : Type 0} (o : Option V) → option_or o None ≡ o
 or_none None = refl
 or_none (Some v) = refl
 
-inserts_distinct : {V : Type 0} (m n : BTreeMap LedgerKey V) (es : List (LedgerKey × V)) → tree.InsertsAll key_cmp m es n → IsDistinct (eq_by_cmp key_cmp) (keys_of es) → (q : LedgerKey)
+inserts_distinct : {V : Type 0} (m n : BTreeMap LedgerKey V) (es : List (LedgerKey × V))
+    → tree.InsertsAll key_cmp m es n → IsDistinct (eq_by_cmp key_cmp) (keys_of es) → (q : LedgerKey)
     → get (seen n) q ≡ option_or (lookup (eq_by_cmp key_cmp q) es) (get (seen m) q)
 inserts_distinct m n es u apart q = get-seen n q ∙ u.0 q
     ∙ update_all_distinct (eq_by_cmp_equiv keys_total) (eq_by_cmp key_cmp) (λ x y. refl) (tree.get key_cmp m) es q apart
     ∙ ap (option_or (lookup (eq_by_cmp key_cmp q) es)) (sym (get-seen m q))
 
-pub get-absorbed : {V : Type 0} (m other n : BTreeMap LedgerKey V) → tree.InsertsAll derived m other.entries n → tree.IsOrdered derived other → (q : LedgerKey)
+pub get-absorbed : {V : Type 0} (m other n : BTreeMap LedgerKey V) → tree.InsertsAll derived m other.entries n
+    → tree.IsOrdered derived other → (q : LedgerKey)
     → get (seen n) q ≡ option_or (get (seen other) q) (get (seen m) q)
 get-absorbed m other n u sorted q =
     let stated = subst (λ c. tree.InsertsAll c m other.entries n) derived_is u in
@@ -96,7 +101,8 @@ get-absorbed m other n u sorted q =
     ∙ ap (λ o. option_or o (get (seen m) q)) (sym (get-seen other q))
 
 -- the map of pairs with distinct keys
-pub seen_from_pairs : {V : Type 0} (es : List (LedgerKey × V)) (n : BTreeMap LedgerKey V) → tree.IsFromIterResult derived es n → IsDistinct (eq_by_cmp key_cmp) (keys_of es)
+pub seen_from_pairs : {V : Type 0} (es : List (LedgerKey × V)) (n : BTreeMap LedgerKey V)
+    → tree.IsFromIterResult derived es n → IsDistinct (eq_by_cmp key_cmp) (keys_of es)
     → seen n ≡ from_entries es
 seen_from_pairs es n made apart =
     let stated = subst (λ c. tree.IsFromIterResult c es n) derived_is made in
@@ -105,39 +111,48 @@ seen_from_pairs es n made apart =
     ∙ or_none (lookup (eq_by_cmp key_cmp q) es)
     ∙ sym (get-from_entries keys_total es q ∙ find_lookup key_cmp q es))
 
-lookup-prefix : {K X : Type 0} (test : K → Bool) (es fs : List (K × X)) (v : X) → lookup test es ≡ Some v → lookup test (es ++ fs) ≡ Some v
+lookup-prefix : {K X : Type 0} (test : K → Bool) (es fs : List (K × X)) (v : X) → lookup test es ≡ Some v
+    → lookup test (es ++ fs) ≡ Some v
 lookup-prefix test [] fs v h = cc
 lookup-prefix test (e ∷ es) fs v h =
-    elim (test e.0) as (λ b. cond b (Some e.1) (lookup test es) ≡ Some v → cond b (Some e.1) (lookup test (es ++ fs)) ≡ Some v) [
+    elim (test e.0) as (λ b. cond b (Some e.1) (lookup test es) ≡ Some v
+    → cond b (Some e.1) (lookup test (es ++ fs)) ≡ Some v) [
       | true ↦ λ found. found
       | false ↦ λ found. lookup-prefix test es fs v found
     ] h
 
-keys_front : {K X : Type 0} (P : K → Type 0) (es fs : List (K × X)) → AllByRecursion P (keys_of (es ++ fs)) → AllByRecursion P (keys_of es)
+keys_front : {K X : Type 0} (P : K → Type 0) (es fs : List (K × X)) → AllByRecursion P (keys_of (es ++ fs))
+    → AllByRecursion P (keys_of es)
 keys_front P [] fs h = tt
 keys_front P (e ∷ es) fs h = (h.0, keys_front P es fs h.1)
 
-distinct_front : {K X : Type 0} (e : K → K → Bool) (es fs : List (K × X)) → IsDistinct e (keys_of (es ++ fs)) → IsDistinct e (keys_of es)
+distinct_front : {K X : Type 0} (e : K → K → Bool) (es fs : List (K × X)) → IsDistinct e (keys_of (es ++ fs))
+    → IsDistinct e (keys_of es)
 unfolding IsDistinct
 distinct_front e [] fs h = tt
 distinct_front e (x ∷ es) fs h = (keys_front (λ y. e x.0 y ≡ false) es fs h.0, distinct_front e es fs h.1)
 
-from_front : {V : Type 0} (o : Option V) (here there : Option V) (new : Option V) → ((v : V) → o ≡ Some v → there ≡ Some v) → new ≡ option_or o here → (new ≡ there) ⊎ (new ≡ here)
+from_front : {V : Type 0} (o : Option V) (here there : Option V) (new : Option V) →
+    ((v : V) → o ≡ Some v → there ≡ Some v) → new ≡ option_or o here → (new ≡ there) ⊎ (new ≡ here)
 from_front None here there new more e = inr e
 from_front (Some v) here there new more e = inl (e ∙ sym (more v refl))
 
-pub each-absorbed : {V : Type 0} (m other n rest : BTreeMap LedgerKey V) → tree.MovesPrefix derived m other n rest → tree.IsOrdered derived other → (q : LedgerKey)
+pub each-absorbed : {V : Type 0} (m other n rest : BTreeMap LedgerKey V) → tree.MovesPrefix derived m other n rest
+    → tree.IsOrdered derived other → (q : LedgerKey)
     → (get (seen n) q ≡ get (seen other) q) ⊎ (get (seen n) q ≡ get (seen m) q)
 each-absorbed m other n rest moves sorted q =
     let stated = subst (λ c. tree.MovesPrefix c m other n rest) derived_is moves in
-    let apart = subst (λ es. IsDistinct (eq_by_cmp key_cmp) (keys_of es)) stated.1 (IsDistinct-from_sorted key_cmp _ (subst (λ c. tree.IsOrdered c other) derived_is sorted)) in
+    let apart = subst (λ es. IsDistinct (eq_by_cmp key_cmp) (keys_of es)) stated.1 (IsDistinct-from_sorted key_cmp _
+    (subst (λ c. tree.IsOrdered c other) derived_is sorted)) in
     from_front (lookup (eq_by_cmp key_cmp q) stated.0) _ _ _
-    (λ v found. get-seen other q ∙ ap (lookup (eq_by_cmp key_cmp q)) stated.1 ∙ lookup-prefix (eq_by_cmp key_cmp q) stated.0 rest.entries v found)
+    (λ v found. get-seen other q ∙ ap (lookup (eq_by_cmp key_cmp q)) stated.1
+    ∙ lookup-prefix (eq_by_cmp key_cmp q) stated.0 rest.entries v found)
     (inserts_distinct m n stated.0 stated.2 (distinct_front _ stated.0 rest.entries apart) q)
 
 -- ---- keys
 
-pub contains-seen : {V : Type 0} (m : BTreeMap LedgerKey V) (q : LedgerKey) → contains_key (seen m) q ≡ list_any (eq_by_cmp key_cmp q) (tree.keys m)
+pub contains-seen : {V : Type 0} (m : BTreeMap LedgerKey V) (q : LedgerKey)
+    → contains_key (seen m) q ≡ list_any (eq_by_cmp key_cmp q) (tree.keys m)
 contains-seen m q = ap is_some (get-from_entries keys_total m.entries q) ∙ is_some-find key_cmp q m.entries
 
 all_of : {X : Type 0} (P : X → Type 0) (xs : List X) → AllByRecursion P xs → All P xs
@@ -155,21 +170,28 @@ same_keys a b h = keys_exact a b ((Equal-is (key_cmp a b)).0 h)
 pub same_itself : (k : LedgerKey) → eq_by_cmp key_cmp k k ≡ true
 same_itself k = (eq_by_cmp_equiv keys_total).refl k
 
-pub keys-seen : {V : Type 0} (m : BTreeMap LedgerKey V) (ks : List LedgerKey) → ks ≡ tree.keys m → tree.IsOrdered derived m → AreKeysOf (seen m) ks
+pub keys-seen : {V : Type 0} (m : BTreeMap LedgerKey V) (ks : List LedgerKey) → ks ≡ tree.keys m
+    → tree.IsOrdered derived m → AreKeysOf (seen m) ks
 keys-seen m ks e sorted = record {
   rises = rising_of ks (subst (IsStrictlySortedBy key_cmp) (sym e) (subst (λ c. tree.IsOrdered c m) derived_is sorted));
-  all = λ q. let is : contains_key (seen m) q ≡ list_any (eq_by_cmp key_cmp q) ks = contains-seen m q ∙ ap (list_any (eq_by_cmp key_cmp q)) (sym e) in
-      (λ h. is ∙ list_any-from_Contains (eq_by_cmp_equiv keys_total) q ks h, λ h. Contains-from_any same_keys q ks (sym is ∙ h));
+  all = λ q. let is : contains_key (seen m) q ≡ list_any (eq_by_cmp key_cmp q) ks = contains-seen m q
+      ∙ ap (list_any (eq_by_cmp key_cmp q)) (sym e) in (
+        λ h. is ∙ list_any-from_Contains (eq_by_cmp_equiv keys_total) q ks h,
+        λ h. Contains-from_any same_keys q ks (sym is ∙ h),
+      );
 }
 
-one_more_key : {V : Type 0} (u : V) (b : Bool) (o : Option V) (r : Bool) → (is_some (cond b (Some u) o) || r) ≡ (is_some o || (b || r))
+one_more_key : {V : Type 0} (u : V) (b : Bool) (o : Option V) (r : Bool)
+    → (is_some (cond b (Some u) o) || r) ≡ (is_some o || (b || r))
 one_more_key u true None r = refl
 one_more_key u true (Some v) r = refl
 one_more_key u false o r = refl
 
 -- a key that goes from a list into a map is in one of them before and after
-pub key_moved : {V : Type 0} (q k k' : LedgerKey) (u : V) (old new : KeyedMap V) (s t : List LedgerKey) → new ≡ insert old k' u → k' ≡ k → s ≡ k ∷ t
-    → (contains_key new q || list_any (eq_by_cmp key_cmp q) t) ≡ (contains_key old q || list_any (eq_by_cmp key_cmp q) s)
+pub key_moved : {V : Type 0} (q k k' : LedgerKey) (u : V) (old new : KeyedMap V) (s t : List LedgerKey)
+    → new ≡ insert old k' u → k' ≡ k → s ≡ k ∷ t
+    → (contains_key new q || list_any (eq_by_cmp key_cmp q) t)
+    ≡ (contains_key old q || list_any (eq_by_cmp key_cmp q) s)
 key_moved q k k' u old new s t put same taken =
     ap (λ m. contains_key m q || list_any (eq_by_cmp key_cmp q) t) (put ∙ ap (λ x. insert old x u) same)
     ∙ ap (λ o. is_some o || list_any (eq_by_cmp key_cmp q) t) (get-insert keys_total old k u q)

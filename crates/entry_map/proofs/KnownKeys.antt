@@ -1,5 +1,6 @@
 -- Going over the known keys in their order.
-use Rattle.std.proofs.Common.{◌≡◌, ◌≢◌, ℕ, ◌+◌, ◌-◌, ◌<◌, ◌≤◌, length, get_or, take, drop, refl, sym, ap, subst, ◌∙◌, arith, Bool, true, false, cond, ◌||◌, List, [], ◌∷◌, Option, Some, None, is_some}
+use Rattle.std.proofs.Common.{◌≡◌, ◌≢◌, ℕ, ◌+◌, ◌-◌, ◌<◌, ◌≤◌, length, get_or, take, drop, refl, sym, ap, subst, ◌∙◌}
+use Rattle.std.proofs.Common.{arith, Bool, true, false, cond, ◌||◌, List, [], ◌∷◌, Option, Some, None, is_some}
 use Rattle.std.specs.declared.cmp.Ordering.{Ordering}
 use Rattle.std.specs.declared.cmp.Ordering.TheVariants.{Less, Equal, Greater}
 use Rattle.std.specs.Option.{unwrap_or, option_or}
@@ -13,7 +14,8 @@ use Rattle.ledger_types.specs.Keys.{key_of}
 use Rattle.ledger_types.specs.KeyOrder.{key_cmp}
 use Rattle.ledger_types.proofs.KeyOrdering.{keys_total, keys_exact}
 use Rattle.entry_map.specs.EntryMap.{EntryMap, IsLeastAbove, IsNextAfter}
-use Rattle.entry_map.specs.Layers.{LayerMap, under, under_one, change_of, newest_change, is_changed, is_known, IsLeastKey, IsNextKey, lesser_of}
+use Rattle.entry_map.specs.Layers.{LayerMap, under, under_one, change_of, newest_change, is_changed, is_known}
+use Rattle.entry_map.specs.Layers.{IsLeastKey, IsNextKey, lesser_of}
 use Rattle.entry_map.proofs.KeyMaps.{same_keys}
 use Rattle.std.proofs.lemmas.Grind.{common_steps}
 use Rattle.entry_map.proofs.Under.{get-current}
@@ -82,20 +84,24 @@ either P false b h f g = g h
 cannot_be : {P : Type 0} (a : Bool) → a ≡ false → a ≡ true → P
 cannot_be a p q = absurd (cc (p, q))
 
-pub next_either : (p r : LedgerKey → Bool) (k : LedgerKey) (a b : Option LedgerKey) → IsNextKey p k a → IsNextKey r k b → IsNextKey (λ q. p q || r q) k (lesser_of a b)
+pub next_either : (p r : LedgerKey → Bool) (k : LedgerKey) (a b : Option LedgerKey) → IsNextKey p k a → IsNextKey r k b
+    → IsNextKey (λ q. p q || r q) k (lesser_of a b)
 next_either p r k None None one other = λ q above. or_false (p q) (r q) (one q above) (other q above)
 next_either p r k None (Some y) one other = record {
   there = or_right (p y) (r y) other.there;
   above = other.above;
-  least_of = λ q above passes. either (key_cmp y q ≢ Greater) (p q) (r q) passes (λ h. cannot_be (p q) (one q above) h) (λ h. other.least_of q above h);
+  least_of = λ q above passes. either (key_cmp y q ≢ Greater) (p q) (r q) passes (λ h. cannot_be (p q) (one q above) h)
+      (λ h. other.least_of q above h);
 }
 next_either p r k (Some x) None one other = record {
   there = or_left (p x) (r x) one.there;
   above = one.above;
-  least_of = λ q above passes. either (key_cmp x q ≢ Greater) (p q) (r q) passes (λ h. one.least_of q above h) (λ h. cannot_be (r q) (other q above) h);
+  least_of = λ q above passes. either (key_cmp x q ≢ Greater) (p q) (r q) passes (λ h. one.least_of q above h)
+      (λ h. cannot_be (r q) (other q above) h);
 }
 next_either p r k (Some x) (Some y) one other =
-    elim (is_lt (key_cmp y x)) as (λ t. is_lt (key_cmp y x) ≡ t → IsNextKey (λ q. p q || r q) k (cond t (Some y) (Some x))) [
+    elim (is_lt (key_cmp y x)) as (λ t. is_lt (key_cmp y x) ≡ t
+    → IsNextKey (λ q. p q || r q) k (cond t (Some y) (Some x))) [
       | true ↦ λ e. record {
         there = or_right (p y) (r y) other.there;
         above = other.above;
@@ -108,7 +114,8 @@ next_either p r k (Some x) (Some y) one other =
         above = one.above;
         least_of = λ q above passes. either (key_cmp x q ≢ Greater) (p q) (r q) passes
             (λ h. one.least_of q above h)
-            (λ h. not_greater _ (upto keys_total x y q (unless_less y x (λ less. cannot_be _ e (ap is_lt less))) (not_gt _ (other.least_of q above h))));
+            (λ h. not_greater _ (upto keys_total x y q (unless_less y x (λ less. cannot_be _ e (ap is_lt less)))
+            (not_gt _ (other.least_of q above h))));
       }
     ] refl
 
@@ -122,7 +129,8 @@ is_some-or (Some x) (Some y) = refl
 
 is_some-change_of : (ls : List LayerMap) (q : LedgerKey) → is_some (change_of ls q) ≡ is_changed ls q
 is_some-change_of [] q = refl
-is_some-change_of (l ∷ ls) q = is_some-or (change_of ls q) (get l q) ∙ ap (λ b. contains_key l q || b) (is_some-change_of ls q)
+is_some-change_of (l ∷ ls) q = is_some-or (change_of ls q) (get l q)
+    ∙ ap (λ b. contains_key l q || b) (is_some-change_of ls q)
 
 none_of : {X : Type 0} (o : Option X) → is_some o ≡ false → o ≡ None
 none_of None h = refl
@@ -134,19 +142,25 @@ turned_or true false = refl
 turned_or false true = refl
 turned_or false false = refl
 
-is_some-newest : (ls : List LayerMap) (top : LayerMap) (q : LedgerKey) → is_some (newest_change ls top q) ≡ (contains_key top q || is_changed ls q)
-is_some-newest ls top q = is_some-or (get top q) (change_of ls q) ∙ ap (λ b. b || contains_key top q) (is_some-change_of ls q) ∙ turned_or (is_changed ls q) (contains_key top q)
+is_some-newest : (ls : List LayerMap) (top : LayerMap) (q : LedgerKey)
+    → is_some (newest_change ls top q) ≡ (contains_key top q || is_changed ls q)
+is_some-newest ls top q = is_some-or (get top q) (change_of ls q)
+    ∙ ap (λ b. b || contains_key top q) (is_some-change_of ls q) ∙ turned_or (is_changed ls q) (contains_key top q)
 
 both_false : (a b : Bool) → (a || b) ≡ false → (a ≡ false) × (b ≡ false)
 both_false true b h = cc
 both_false false b h = (refl, h)
 
 -- a key that no layer changed is as in the base
-pub unchanged : (m : EntryMap) (ls : List LayerMap) (top : LayerMap) (q : LedgerKey) → (contains_key top q || is_changed ls q) ≡ false → get (under_one (under m ls) top) q ≡ get m q
-unchanged m ls top q h = get-current m ls top q ∙ ap (λ o. unwrap_or o (get m q)) (none_of (newest_change ls top q) (is_some-newest ls top q ∙ h))
+pub unchanged : (m : EntryMap) (ls : List LayerMap) (top : LayerMap) (q : LedgerKey)
+    → (contains_key top q || is_changed ls q) ≡ false → get (under_one (under m ls) top) q ≡ get m q
+unchanged m ls top q h = get-current m ls top q
+    ∙ ap (λ o. unwrap_or o (get m q)) (none_of (newest_change ls top q) (is_some-newest ls top q ∙ h))
 
-unknown : (m : EntryMap) (ls : List LayerMap) (top : LayerMap) (q : LedgerKey) → is_known m ls top q ≡ false → get (under_one (under m ls) top) q ≡ None
-unknown m ls top q h = let parts = both_false (contains_key m q) (contains_key top q || is_changed ls q) h in unchanged m ls top q parts.1 ∙ none_of (get m q) parts.0
+unknown : (m : EntryMap) (ls : List LayerMap) (top : LayerMap) (q : LedgerKey) → is_known m ls top q ≡ false
+    → get (under_one (under m ls) top) q ≡ None
+unknown m ls top q h = let parts = both_false (contains_key m q) (contains_key top q || is_changed ls q) h in
+    unchanged m ls top q parts.1 ∙ none_of (get m q) parts.0
 
 -- ---- the walk
 
@@ -168,14 +182,16 @@ module _ (m : EntryMap) (ls : List LayerMap) (top : LayerMap) where
   abbrev current : EntryMap
   current = under_one (under m ls) top
 
-  none_before : (at least : LedgerKey) → IsLeastKey known at least → (q : LedgerKey) → key_cmp at q ≡ Less → key_cmp q least ≡ Less → get current q ≡ None
+  none_before : (at least : LedgerKey) → IsLeastKey known at least → (q : LedgerKey) → key_cmp at q ≡ Less
+      → key_cmp q least ≡ Less → get current q ≡ None
   none_before at least next q above before =
       elim (known q) as (λ b. known q ≡ b → get current q ≡ None) [
         | true ↦ λ e. absurd (next.least_of q above e (keys_total.antisymm least q ∙ ap ordering_reverse before))
         | false ↦ λ e. unknown m ls top q e
       ] refl
 
-  pub seen_next : (k at least : LedgerKey) → IsSeenTo current k at → IsLeastKey known at least → get current least ≡ None → IsSeenTo current k least
+  pub seen_next : (k at least : LedgerKey) → IsSeenTo current k at → IsLeastKey known at least
+      → get current least ≡ None → IsSeenTo current k least
   seen_next k at least seen next gone = record {
     ahead = ap is_gt (up_to_less k at least seen.ahead next.above);
     none = λ q above here. by_order (get current q ≡ None) (key_cmp at q)
@@ -187,9 +203,12 @@ module _ (m : EntryMap) (ls : List LayerMap) (top : LayerMap) where
         (λ early. seen.none q above early);
   }
 
-  pub found_next : (k at least : LedgerKey) (e : LedgerEntry) → IsSeenTo current k at → IsLeastKey known at least → get current least ≡ Some e → key_of e ≡ least → IsLeastAbove current k e
+  pub found_next : (k at least : LedgerKey) (e : LedgerEntry) → IsSeenTo current k at → IsLeastKey known at least
+      → get current least ≡ Some e → key_of e ≡ least → IsLeastAbove current k e
   found_next k at least e seen next there own =
-      subst (λ x. (get current x ≡ Some e) × (key_cmp k x ≡ Less) × ((q : LedgerKey) → key_cmp k q ≡ Less → get current q ≢ None → key_cmp x q ≢ Greater) → IsLeastAbove current k e) own
+      subst (λ x. (get current x ≡ Some e) × (key_cmp k x ≡ Less)
+      × ((q : LedgerKey) → key_cmp k q ≡ Less → get current q ≢ None → key_cmp x q ≢ Greater)
+      → IsLeastAbove current k e) own
       (λ h. record { there = h.0; above = h.1; least = h.2 }) (
         there,
         up_to_less k at least seen.ahead next.above,
@@ -199,7 +218,9 @@ module _ (m : EntryMap) (ls : List LayerMap) (top : LayerMap) where
       )
 
   pub ended : (k at : LedgerKey) → IsSeenTo current k at → IsNextKey known at None → IsNextAfter current k None
-  ended k at seen next q above = by_order (get current q ≡ None) (key_cmp at q) (λ later. unknown m ls top q (next q later)) (λ early. seen.none q above early)
+  ended k at seen next q above =
+      by_order (get current q ≡ None) (key_cmp at q) (λ later. unknown m ls top q (next q later))
+      (λ early. seen.none q above early)
 
 -- ---- how many known keys are left
 
@@ -218,7 +239,8 @@ module _ (a b : LedgerKey) (less : key_cmp a b ≡ Less) where
   counts : (q : LedgerKey) → cond (is_lt (key_cmp b q)) 1 0 ≤ cond (is_lt (key_cmp a q)) 1 0
   counts q =
       elim (is_lt (key_cmp b q)) as (λ t. is_lt (key_cmp b q) ≡ t → cond t 1 0 ≤ cond (is_lt (key_cmp a q)) 1 0) [
-        | true ↦ λ e. subst (λ t. 1 ≤ cond t 1 0) (sym (ap is_lt (keys_total.trans a b q less (is_less _ e)))) (omega arith)
+        | true ↦ λ e. subst (λ t. 1 ≤ cond t 1 0) (sym (ap is_lt (keys_total.trans a b q less (is_less _ e))))
+            (omega arith)
         | false ↦ λ e. omega arith
       ] refl
 
@@ -226,14 +248,17 @@ module _ (a b : LedgerKey) (less : key_cmp a b ≡ Less) where
   fewer [] = omega arith
   fewer (k ∷ ks) = omega (arith, counts k, fewer ks)
 
-  counts_itself : (q : LedgerKey) → eq_by_cmp key_cmp b q ≡ true → cond (is_lt (key_cmp b q)) 1 0 < cond (is_lt (key_cmp a q)) 1 0
+  counts_itself : (q : LedgerKey) → eq_by_cmp key_cmp b q ≡ true
+      → cond (is_lt (key_cmp b q)) 1 0 < cond (is_lt (key_cmp a q)) 1 0
   counts_itself q tied = let same : b ≡ q = same_keys b q tied in
       subst (λ x. cond (is_lt (key_cmp b x)) 1 0 < cond (is_lt (key_cmp a x)) 1 0) same
-      (subst (λ t. cond (is_lt (key_cmp b b)) 1 0 < cond t 1 0) (sym (ap is_lt less)) (subst (λ t. cond t 1 0 < 1) (sym (ap is_lt (tied_itself keys_total b))) (omega arith)))
+      (subst (λ t. cond (is_lt (key_cmp b b)) 1 0 < cond t 1 0) (sym (ap is_lt less)) (subst (λ t. cond t 1 0 < 1) (sym
+      (ap is_lt (tied_itself keys_total b))) (omega arith)))
 
   falls : (ks : List LedgerKey) → list_any (eq_by_cmp key_cmp b) ks ≡ true → count_above b ks < count_above a ks
   falls [] h = cc
-  falls (k ∷ ks) h = either (count_above b (k ∷ ks) < count_above a (k ∷ ks)) (eq_by_cmp key_cmp b k) (list_any (eq_by_cmp key_cmp b) ks) h
+  falls (k ∷ ks) h = either (count_above b (k ∷ ks) < count_above a (k ∷ ks)) (eq_by_cmp key_cmp b k) (list_any
+      (eq_by_cmp key_cmp b) ks) h
       (λ here. omega (arith, counts_itself k here, fewer ks))
       (λ later. omega (arith, counts k, falls ks later))
 
@@ -243,29 +268,51 @@ module _ (a b : LedgerKey) (less : key_cmp a b ≡ Less) where
 
   changed_falls : (ls : List LayerMap) → is_changed ls b ≡ true → changed_above b ls < changed_above a ls
   changed_falls [] h = cc
-  changed_falls (l ∷ ls) h = either (changed_above b (l ∷ ls) < changed_above a (l ∷ ls)) (contains_key l b) (is_changed ls b) h
+  changed_falls (l ∷ ls) h =
+      either (changed_above b (l ∷ ls) < changed_above a (l ∷ ls)) (contains_key l b) (is_changed ls b) h
       (λ here. omega (arith, falls (keys l) (sym (contains_key-keys l b) ∙ here), fewer_changed ls))
       (λ later. omega (arith, fewer (keys l), changed_falls ls later))
 
-pub known_falls : (m : EntryMap) (ls : List LayerMap) (top : LayerMap) (at least : LedgerKey) → IsLeastKey (is_known m ls top) at least → known_above m ls top least < known_above m ls top at
+pub known_falls : (m : EntryMap) (ls : List LayerMap) (top : LayerMap) (at least : LedgerKey)
+    → IsLeastKey (is_known m ls top) at least → known_above m ls top least < known_above m ls top at
 known_falls m ls top at least next =
     let less = next.above in
-    either (known_above m ls top least < known_above m ls top at) (contains_key m least) (contains_key top least || is_changed ls least) next.there
-    (λ here. omega (arith, falls at least less (keys m) (sym (contains_key-keys m least) ∙ here), fewer at least less (keys top), fewer_changed at least less ls))
-    (λ later. either (known_above m ls top least < known_above m ls top at) (contains_key top least) (is_changed ls least) later
-    (λ here. omega (arith, fewer at least less (keys m), falls at least less (keys top) (sym (contains_key-keys top least) ∙ here), fewer_changed at least less ls))
-    (λ last. omega (arith, fewer at least less (keys m), fewer at least less (keys top), changed_falls at least less ls last)))
+    either (known_above m ls top least < known_above m ls top at) (contains_key m least)
+    (contains_key top least || is_changed ls least) next.there
+    (λ here. omega (
+      arith,
+      falls at least less (keys m) (sym (contains_key-keys m least) ∙ here),
+      fewer at least less (keys top),
+      fewer_changed at least less ls,
+    ))
+    (λ later. either (known_above m ls top least < known_above m ls top at) (contains_key top least)
+    (is_changed ls least) later
+    (λ here. omega (
+      arith,
+      fewer at least less (keys m),
+      falls at least less (keys top) (sym (contains_key-keys top least) ∙ here),
+      fewer_changed at least less ls,
+    ))
+    (λ last. omega (
+      arith,
+      fewer at least less (keys m),
+      fewer at least less (keys top),
+      changed_falls at least less ls last,
+    )))
 
 -- ---- as the code finds it
 
-pub next_of_three : (p r s : LedgerKey → Bool) (k : LedgerKey) (a b c a' bc out : Option LedgerKey) → IsNextKey p k a → IsNextKey r k b → IsNextKey s k c
+pub next_of_three : (p r s : LedgerKey → Bool) (k : LedgerKey) (a b c a' bc out : Option LedgerKey) → IsNextKey p k a
+    → IsNextKey r k b → IsNextKey s k c
     → bc ≡ lesser_of b c → a' ≡ a → out ≡ lesser_of a' bc → IsNextKey (λ q. p q || (r q || s q)) k out
 next_of_three p r s k a b c a' bc out one two three is_bc is_a is =
     subst (IsNextKey (λ q. p q || (r q || s q)) k) (sym (is ∙ ap (λ x. lesser_of x bc) is_a ∙ ap (lesser_of a) is_bc))
     (next_either p (λ q. r q || s q) k a (lesser_of b c) one (next_either r s k b c two three))
 
-pub next_is : (p : LedgerKey → Bool) (k : LedgerKey) (o p' : Option LedgerKey) → o ≡ p' → IsNextKey p k o → IsNextKey p k p'
+pub next_is : (p : LedgerKey → Bool) (k : LedgerKey) (o p' : Option LedgerKey) → o ≡ p' → IsNextKey p k o
+    → IsNextKey p k p'
 next_is p k o p' is next = subst (IsNextKey p k) is next
 
-pub first_and_rest : {X : Type 0} (xs : List X) (x : X) → 1 ≤ length xs → x ≡ get_or xs 0 x → xs ≡ x ∷ take (length xs - 1) (drop 1 xs)
+pub first_and_rest : {X : Type 0} (xs : List X) (x : X) → 1 ≤ length xs → x ≡ get_or xs 0 x
+    → xs ≡ x ∷ take (length xs - 1) (drop 1 xs)
 first_and_rest xs x h e = grind (arith, common_steps)

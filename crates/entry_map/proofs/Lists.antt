@@ -18,4 +18,5 @@ keys_of-with_key (e ∷ es) = ap (λ ks. key_of e ∷ ks) (keys_of-with_key es)
 pub all_keys : (yielded rest : List LedgerEntry) (pairs : List (LedgerKey × LedgerEntry)) (all : List LedgerEntry)
     → pairs ≡ map with_key yielded → yielded ++ rest ≡ all → rest ≡ [] → map key_of all ≡ keys_of pairs
 all_keys yielded rest pairs all made left none =
-    ap (map key_of) (sym left ∙ ap (λ es. yielded ++ es) none ∙ append-nil yielded) ∙ sym (keys_of-with_key yielded) ∙ ap keys_of (sym made)
+    ap (map key_of) (sym left ∙ ap (λ es. yielded ++ es) none ∙ append-nil yielded) ∙ sym (keys_of-with_key yielded)
+    ∙ ap keys_of (sym made)

@@ -20,7 +20,9 @@ IsNew before after e = (get after (key_of e) ≡ Some e) × (get before (key_of 
 
 -- an entry whose body or extension is another than it was
 abbrev pub IsChanged : EntryMap → EntryMap → LedgerEntry → Type 0
-IsChanged before after e = (get after (key_of e) ≡ Some e) × ((old : LedgerEntry) × (get before (key_of e) ≡ Some old) × (parts_of old ≢ parts_of e))
+IsChanged before after e =
+    (get after (key_of e) ≡ Some e) × ((old : LedgerEntry) × (get before (key_of e) ≡ Some old)
+    × (parts_of old ≢ parts_of e))
 
 -- a key that has no entry any more
 abbrev pub IsGone : EntryMap → EntryMap → LedgerKey → Type 0

@@ -1,5 +1,6 @@
 -- How the changed keys are noted, one after another.
-use Rattle.std.specs.Prelude.{◌≡◌, ◌≢◌, ◌↔◌, ◌⊎◌, true, ◌||◌, Option, Some, None, List, [], ◌∷◌, ◌++◌, Contains, option_to_list}
+use Rattle.std.specs.Prelude.{◌≡◌, ◌≢◌, ◌↔◌, ◌⊎◌, true, ◌||◌, Option, Some, None, List, [], ◌∷◌, ◌++◌, Contains}
+use Rattle.std.specs.Prelude.{option_to_list}
 use Rattle.std.specs.FinMap.{contains_key}
 use Rattle.ledger_types.specs.declared.key.LedgerKey.{LedgerKey}
 use Rattle.ledger_types.specs.declared.entry.LedgerEntry.{LedgerEntry}
@@ -24,7 +25,8 @@ IsNoted None None k old new = new ≡ old
 IsNoted None (Some e) k old new = new ≡ record { init = old.init ++ e ∷ []; live = old.live; dead = old.dead }
 IsNoted (Some was) None k old new = new ≡ record { init = old.init; live = old.live; dead = old.dead ++ k ∷ [] }
 IsNoted (Some was) (Some e) k old new =
-    ((parts_of was ≡ parts_of e) × (new ≡ old)) ⊎ ((parts_of was ≢ parts_of e) × (new ≡ record { init = old.init; live = old.live ++ e ∷ []; dead = old.dead }))
+    ((parts_of was ≡ parts_of e) × (new ≡ old))
+    ⊎ ((parts_of was ≢ parts_of e) × (new ≡ record { init = old.init; live = old.live ++ e ∷ []; dead = old.dead }))
 
 -- the one value that has the key k and of which P holds, or none where there is none
 abbrev pub Answers : {X : Type 0} → (X → LedgerKey) → (X → Type 0) → LedgerKey → Option X → Type 0

@@ -42,5 +42,6 @@ map_code = code keys.the_row.coded entry.the_row.coded
 
 abbrev pub undo_code : Coded Undo
 undo_code =
-    code_by (EntryMap × (List EntryMap × EntryMap)) (coded× map_code (coded× (coded_list map_code) map_code)) (λ u. (u.current, (u.saved, u.base)))
+    code_by (EntryMap × (List EntryMap × EntryMap)) (coded× map_code (coded× (coded_list map_code) map_code)) (λ u.
+    (u.current, (u.saved, u.base)))
     (λ p. record { current = p.0; saved = p.1.0; base = p.1.1 }) (λ _. refl)

@@ -11,5 +11,6 @@ abbrev pub IsWhole : Outcome → Seen → Status → Type 0
 IsWhole outcome out end = ((end ≡ outcome.status) × Received out outcome.text) ⊎ (end ≡ status.NoMemory)
 
 abbrev pub RunsAreComplete : Type 0
-RunsAreComplete = (words : List (List ℕ)) (network bytes : List ℕ) (input out err : Seen) (end : Status) → Ran words input out err end → command_of words ≡ Some network → input.before ≡ Some bytes
+RunsAreComplete = (words : List (List ℕ)) (network bytes : List ℕ) (input out err : Seen) (end : Status)
+    → Ran words input out err end → command_of words ≡ Some network → input.before ≡ Some bytes
     → (Failed input → ⊥) → (Failed out → ⊥) → (Failed err → ⊥) → IsWhole (outcome_of network bytes) out end

@@ -33,7 +33,8 @@ pub record Replied (outcome : Outcome) (out : Seen) (end : Status) : Type 0 wher
 pub record Responded (words : List (List ℕ)) (input out : Seen) (end : Status) : Type 0 where
   pub usage : command_of words ≡ None → (end ≡ status.Usage) × Received out [] × IsUntouched input
   pub usage_only : end ≡ status.Usage → command_of words ≡ None
-  pub answered : (network : List ℕ) → command_of words ≡ Some network → IfSome input.before (λ bytes. Answered (outcome_of network bytes) out end)
+  pub answered : (network : List ℕ) → command_of words ≡ Some network
+      → IfSome input.before (λ bytes. Answered (outcome_of network bytes) out end)
   pub ended : end ≡ status.Done → IsAtEnd input.now
   pub refused : end ≡ status.Refused → (ledger_seq : ℕ) × Received out (refused_text ledger_seq)
   pub bad : end ≡ status.BadInput → Received out []

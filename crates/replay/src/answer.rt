@@ -3,7 +3,8 @@
 ghost use Rattle.std.specs.Prelude.{◌≡◌, ◌<◌, ◌≤◌, ◌^◌, length, IfOk};
 ghost use Rattle.set_form.specs.Whole.{whole_input};
 ghost use Rattle.set_rules.specs.Conditions.{accounts_of};
-ghost use Rattle.set_outcome.specs.Outcome.{outcome_of, judged, bad_input as outcome_of_bad_input, ledger_seq_of as ledger_seq_in};
+ghost use Rattle.set_outcome.specs.Outcome.{outcome_of, judged, bad_input as outcome_of_bad_input};
+ghost use Rattle.set_outcome.specs.Outcome.{ledger_seq_of as ledger_seq_in};
 ghost use Rattle.replay.specs.Reply.{Tells};
 ghost use Rattle.std.specs.Prelude.{Ok, []};
 

@@ -8,7 +8,8 @@ use Rattle.xdr_core.specs.Leaves.{i32}
 use Rattle.xdr_core.specs.Combinators.{list}
 use Rattle.xdr_core.proofs.LeafLaws.{u32_lawful, u64_lawful, i64_lawful, i32_sized}
 use Rattle.xdr_core.proofs.Opaque.{fixed_lawful, var_lawful}
-use Rattle.xdr_core.proofs.Combining.{lifted_law, ◌&◌, struct_law, constant_law, marked_law, closed_law, option_law, list_law}
+use Rattle.xdr_core.proofs.Combining.{lifted_law, ◌&◌, struct_law, constant_law, marked_law, closed_law, option_law}
+use Rattle.xdr_core.proofs.Combining.{list_law}
 use Rattle.xdr_core.proofs.Unions.{IsFound, union_law}
 use Rattle.xdr_core.proofs.Grammar.{prefix_free, faults_rightly}
 use Rattle.set_types.specs.declared.account.SignerKey.{SignerKey}
@@ -17,7 +18,12 @@ use Rattle.set_types.specs.declared.transaction.Transaction.{Transaction}
 use Rattle.set_form.specs.declared.fault.FormFault.TheVariants.{Xdr}
 use Rattle.set_form.specs.declared.input.SetInput.{SetInput}
 use Rattle.set_form.specs.Arms.{arm, other_arm, absent, present, one_operation, other_count}
-use Rattle.set_form.specs.Grammar.{account_id_fields, account_id, muxed_account, hash_fields, hash, ed25519_arm, hash_x_arm, signer_key_arms, signer_key_part, signer_key, signer_fields, signer, account_fields, account_entry, entry_fields, ledger_entry, signature_fields, decorated_signature, bump_fields, other_operations, operation, transaction_fields, transaction, envelope_fields, transaction_envelope, set_fields, transaction_set, input_fields, set_input}
+use Rattle.set_form.specs.Grammar.{account_id_fields, account_id, muxed_account, hash_fields, hash, ed25519_arm}
+use Rattle.set_form.specs.Grammar.{hash_x_arm, signer_key_arms, signer_key_part, signer_key, signer_fields, signer}
+use Rattle.set_form.specs.Grammar.{account_fields, account_entry, entry_fields, ledger_entry, signature_fields}
+use Rattle.set_form.specs.Grammar.{decorated_signature, bump_fields, other_operations, operation, transaction_fields}
+use Rattle.set_form.specs.Grammar.{transaction, envelope_fields, transaction_envelope, set_fields, transaction_set}
+use Rattle.set_form.specs.Grammar.{input_fields, set_input}
 
 -- ---- constants
 
@@ -56,7 +62,8 @@ account_id_lawful = struct_law account_id_fields (marked_law (zero_law []) (lift
 
 pub muxed_account_lawful : Lawful muxed_account
 unfolding muxed_account
-muxed_account_lawful = struct_law account_id_fields (marked_law (zero_law (pos 256 ∷ [])) (lifted_law Xdr (fixed_lawful 32)))
+muxed_account_lawful =
+    struct_law account_id_fields (marked_law (zero_law (pos 256 ∷ [])) (lifted_law Xdr (fixed_lawful 32)))
 
 pub hash_lawful : Lawful hash
 unfolding hash
@@ -85,8 +92,10 @@ found (HashX digest) = record {
 pub signer_key_lawful : Lawful signer_key
 unfolding signer_key
 signer_key_lawful =
-    union_law Xdr signer_key_part signer_key_arms (other_arm (pos 1 ∷ []))
-    (record { law = lifted_law Xdr (fixed_lawful 32); is_part = λ x. refl }, (record { law = hash_lawful; is_part = λ x. refl }, tt))
+    union_law Xdr signer_key_part signer_key_arms (other_arm (pos 1 ∷ [])) (
+      record { law = lifted_law Xdr (fixed_lawful 32); is_part = λ x. refl },
+      (record { law = hash_lawful; is_part = λ x. refl }, tt),
+    )
     found
 
 pub signer_lawful : Lawful signer
@@ -99,29 +108,34 @@ pub account_entry_lawful : Lawful account_entry
 unfolding account_entry
 account_entry_lawful = struct_law account_fields (
     account_id_lawful & lifted_law Xdr i64_lawful & lifted_law Xdr i64_lawful & lifted_law Xdr u32_lawful
-    & option_law Xdr account_id_lawful & lifted_law Xdr u32_lawful & lifted_law Xdr (var_lawful 32 (omega arith)) & lifted_law Xdr (fixed_lawful 4)
+    & option_law Xdr account_id_lawful & lifted_law Xdr u32_lawful & lifted_law Xdr (var_lawful 32
+    (omega arith)) & lifted_law Xdr (fixed_lawful 4)
     & closed_law (list_law Xdr 20 (omega arith) signer_lawful) (zero_law (pos 1 ∷ [])))
 
 pub ledger_entry_lawful : Lawful ledger_entry
 unfolding ledger_entry
 ledger_entry_lawful =
-    struct_law entry_fields (lifted_law Xdr u32_lawful & marked_law (zero_law (pos 1 ∷ pos 2 ∷ pos 3 ∷ pos 4 ∷ pos 5 ∷ [])) (closed_law account_entry_lawful (zero_law (pos 1 ∷ []))))
+    struct_law entry_fields (lifted_law Xdr u32_lawful & marked_law (zero_law
+    (pos 1 ∷ pos 2 ∷ pos 3 ∷ pos 4 ∷ pos 5 ∷ [])) (closed_law account_entry_lawful (zero_law (pos 1 ∷ []))))
 
 -- ---- transactions
 
 pub decorated_signature_lawful : Lawful decorated_signature
 unfolding decorated_signature
-decorated_signature_lawful = struct_law signature_fields (lifted_law Xdr (fixed_lawful 4) & lifted_law Xdr (var_lawful 64 (omega arith)))
+decorated_signature_lawful =
+    struct_law signature_fields (lifted_law Xdr (fixed_lawful 4) & lifted_law Xdr (var_lawful 64 (omega arith)))
 
 pub operation_lawful : Lawful operation
 unfolding operation
-operation_lawful = marked_law absent_law (marked_law (arm_law (pos 11) other_operations bump_fits) (struct_law bump_fields (lifted_law Xdr i64_lawful)))
+operation_lawful = marked_law absent_law (marked_law (arm_law (pos 11) other_operations bump_fits)
+    (struct_law bump_fields (lifted_law Xdr i64_lawful)))
 
 pub transaction_lawful : Lawful transaction
 unfolding transaction
 transaction_lawful = struct_law transaction_fields (
     muxed_account_lawful & lifted_law Xdr u32_lawful & lifted_law Xdr i64_lawful
-    & marked_law absent_law (marked_law (zero_law (pos 1 ∷ pos 2 ∷ pos 3 ∷ pos 4 ∷ [])) (marked_law one_operation_law (closed_law operation_lawful (zero_law [])))))
+    & marked_law absent_law (marked_law (zero_law (pos 1 ∷ pos 2 ∷ pos 3 ∷ pos 4 ∷ [])) (marked_law one_operation_law
+    (closed_law operation_lawful (zero_law [])))))
 
 pub transaction_appends : (out : List ℕ) (tx : Transaction) → transaction.onto out tx ≡ out ++ transaction.spell tx
 transaction_appends out tx = transaction_lawful.appends out tx
@@ -129,11 +143,13 @@ transaction_appends out tx = transaction_lawful.appends out tx
 pub transaction_envelope_lawful : Lawful transaction_envelope
 unfolding transaction_envelope
 transaction_envelope_lawful =
-    struct_law envelope_fields (marked_law (arm_law (pos 2) (pos 0 ∷ pos 5 ∷ []) two_fits) (transaction_lawful & list_law Xdr 20 (omega arith) decorated_signature_lawful))
+    struct_law envelope_fields (marked_law (arm_law (pos 2) (pos 0 ∷ pos 5 ∷ []) two_fits)
+    (transaction_lawful & list_law Xdr 20 (omega arith) decorated_signature_lawful))
 
 pub transaction_set_lawful : Lawful transaction_set
 unfolding transaction_set
-transaction_set_lawful = struct_law set_fields (hash_lawful & list_law Xdr 4294967295 (omega arith) transaction_envelope_lawful)
+transaction_set_lawful =
+    struct_law set_fields (hash_lawful & list_law Xdr 4294967295 (omega arith) transaction_envelope_lawful)
 
 -- ---- the form
 
@@ -170,5 +186,7 @@ few_txs : (input : SetInput) → set_input.within input → length input.tx_set.
 unfolding set_input transaction_set list
 few_txs input h = h.1.1.1.1.1.1.1.0
 
-pub few_are_read : (p q : Place) (input : SetInput) → IsBytes p.rest → set_input.read p ≡ Ok (input, q) → length input.tx_set.txs < 2 ^ 32
-few_are_read p q input fits e = let few = few_txs input (set_input_lawful.takes p q input fits e).within in omega (arith, few)
+pub few_are_read : (p q : Place) (input : SetInput) → IsBytes p.rest → set_input.read p ≡ Ok (input, q)
+    → length input.tx_set.txs < 2 ^ 32
+few_are_read p q input fits e = let few = few_txs input (set_input_lawful.takes p q input fits e).within in
+    omega (arith, few)

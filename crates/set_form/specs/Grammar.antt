@@ -2,7 +2,8 @@
 use Rattle.std.specs.Prelude.{ℕ, ℤ, pos, List, [], ◌∷◌, Option, refl}
 use Rattle.xdr_core.specs.Format.{Format}
 use Rattle.xdr_core.specs.Leaves.{u32, u64, i64, fixed, var}
-use Rattle.xdr_core.specs.Combinators.{lifted, ◌⨾◌, Fields, struct_of, marked, closed, option, list, Arm, Part, part, union}
+use Rattle.xdr_core.specs.Combinators.{lifted, ◌⨾◌, Fields, struct_of, marked, closed, option, list, Arm, Part, part}
+use Rattle.xdr_core.specs.Combinators.{union}
 use Rattle.ledger_types.specs.declared.ids.AccountId.{AccountId}
 use Rattle.ledger_types.specs.declared.ids.Hash.{Hash}
 use Rattle.set_types.specs.declared.account.SignerKey.{SignerKey}
@@ -50,7 +51,13 @@ unfoldable pub muxed_account : Format FormFault AccountId
 muxed_account = struct_of account_id_fields (marked (arm (pos 0) (pos 256 ∷ [])) (bytes 32))
 
 abbrev pub hash_fields : Fields (List ℕ) Hash
-hash_fields = record { to = λ digest. record { 0 = digest }; from = λ hash. hash.0; there = λ _. refl; back = λ _. refl }
+hash_fields = record {
+  to = λ digest. record { 0 = digest };
+  from = λ hash. hash.0;
+  there = λ _. refl;
+  back =
+      λ _. refl;
+}
 
 unfoldable pub hash : Format FormFault Hash
 hash = struct_of hash_fields (bytes 32)
@@ -90,7 +97,28 @@ AccountParts = AccountId × (ℤ × (ℤ × (ℕ × (Option AccountId × (ℕ ×
 
 abbrev pub account_fields : Fields AccountParts AccountEntry
 account_fields = record {
-  to = λ (id, (balance, (seq_num, (num_sub_entries, (inflation_dest, (flags, (home_domain, (thresholds, signers)))))))). record {
+  to = λ (
+    id,
+    (
+      balance,
+      (
+        seq_num,
+        (
+          num_sub_entries,
+          (
+            inflation_dest,
+            (
+              flags,
+              (
+                home_domain,
+                (thresholds, signers),
+              ),
+            ),
+          ),
+        ),
+      ),
+    ),
+  ). record {
     account_id = id;
     balance = balance;
     seq_num = seq_num;
@@ -101,7 +129,28 @@ account_fields = record {
     thresholds = thresholds;
     signers = signers;
   };
-  from = λ a. (a.account_id, (a.balance, (a.seq_num, (a.num_sub_entries, (a.inflation_dest, (a.flags, (a.home_domain, (a.thresholds, a.signers))))))));
+  from = λ a. (
+    a.account_id,
+    (
+      a.balance,
+      (
+        a.seq_num,
+        (
+          a.num_sub_entries,
+          (
+            a.inflation_dest,
+            (
+              a.flags,
+              (
+                a.home_domain,
+                (a.thresholds, a.signers),
+              ),
+            ),
+          ),
+        ),
+      ),
+    ),
+  );
   there = λ _. refl;
   back = λ _. refl;
 }
@@ -109,7 +158,8 @@ account_fields = record {
 -- AccountEntry: the other arm of its extension, 1, has liabilities and more
 unfoldable pub account_entry : Format FormFault AccountEntry
 account_entry = struct_of account_fields
-    (account_id ⨾ int64 ⨾ int64 ⨾ uint32 ⨾ option Xdr account_id ⨾ uint32 ⨾ text 32 ⨾ bytes 4 ⨾ closed (list Xdr 20 signer) (arm (pos 0) (pos 1 ∷ [])))
+    (account_id ⨾ int64 ⨾ int64 ⨾ uint32 ⨾ option Xdr account_id ⨾ uint32 ⨾ text 32 ⨾ bytes 4 ⨾ closed
+    (list Xdr 20 signer) (arm (pos 0) (pos 1 ∷ [])))
 
 abbrev pub entry_fields : Fields (ℕ × AccountEntry) LedgerEntry
 entry_fields = record {
@@ -123,7 +173,8 @@ entry_fields = record {
 -- extension, 1, has a sponsor
 unfoldable pub ledger_entry : Format FormFault LedgerEntry
 ledger_entry = struct_of entry_fields
-    (uint32 ⨾ marked (arm (pos 0) (pos 1 ∷ pos 2 ∷ pos 3 ∷ pos 4 ∷ pos 5 ∷ [])) (closed account_entry (arm (pos 0) (pos 1 ∷ []))))
+    (uint32 ⨾ marked (arm (pos 0) (pos 1 ∷ pos 2 ∷ pos 3 ∷ pos 4 ∷ pos 5 ∷ [])) (closed account_entry (arm (pos 0)
+    (pos 1 ∷ []))))
 
 -- ---- transactions
 
@@ -153,7 +204,13 @@ operation = marked absent (marked (arm (pos 11) other_operations) (struct_of bum
 
 abbrev pub transaction_fields : Fields (AccountId × (ℕ × (ℤ × BumpSequenceOp))) Transaction
 transaction_fields = record {
-  to = λ (source, (fee, (seq_num, operation))). record { source_account = source; fee = fee; seq_num = seq_num; operation = operation };
+  to = λ (source, (fee, (seq_num, operation))). record {
+    source_account = source;
+    fee = fee;
+    seq_num =
+        seq_num;
+    operation = operation;
+  };
   from = λ t. (t.source_account, (t.fee, (t.seq_num, t.operation)));
   there = λ _. refl;
   back = λ _. refl;
@@ -162,7 +219,8 @@ transaction_fields = record {
 -- Transaction: without time bounds, without memo (whose other arms are 1 to 4), and of one operation
 unfoldable pub transaction : Format FormFault Transaction
 transaction = struct_of transaction_fields
-    (muxed_account ⨾ uint32 ⨾ int64 ⨾ marked absent (marked (arm (pos 0) (pos 1 ∷ pos 2 ∷ pos 3 ∷ pos 4 ∷ [])) (marked one_operation (closed operation (arm (pos 0) [])))))
+    (muxed_account ⨾ uint32 ⨾ int64 ⨾ marked absent (marked (arm (pos 0) (pos 1 ∷ pos 2 ∷ pos 3 ∷ pos 4 ∷ []))
+    (marked one_operation (closed operation (arm (pos 0) [])))))
 
 abbrev pub envelope_fields : Fields (Transaction × List DecoratedSignature) TransactionEnvelope
 envelope_fields = record {
@@ -174,7 +232,9 @@ envelope_fields = record {
 
 -- TransactionEnvelope: the other arms, 0 and 5, are transactions of the first version and fee bumps
 unfoldable pub transaction_envelope : Format FormFault TransactionEnvelope
-transaction_envelope = struct_of envelope_fields (marked (arm (pos 2) (pos 0 ∷ pos 5 ∷ [])) (transaction ⨾ list Xdr 20 decorated_signature))
+transaction_envelope =
+    struct_of envelope_fields (marked (arm (pos 2) (pos 0 ∷ pos 5 ∷ []))
+    (transaction ⨾ list Xdr 20 decorated_signature))
 
 abbrev pub set_fields : Fields (Hash × List TransactionEnvelope) TransactionSet
 set_fields = record {

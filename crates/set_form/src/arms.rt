@@ -4,7 +4,8 @@ ghost use Rattle.std.specs.Prelude.{◌≡◌, pos};
 ghost use Rattle.xdr_core.specs.Place.{Reads};
 ghost use Rattle.xdr_core.specs.Combinators.{constant};
 ghost use Rattle.set_form.specs.Fault.{cause_of};
-ghost use Rattle.set_form.specs.Arms.{refused as refused_field, arm as arm_format, other_arm, absent as absent_field, present, one_operation, other_count};
+ghost use Rattle.set_form.specs.Arms.{refused as refused_field, arm as arm_format, other_arm, absent as absent_field};
+ghost use Rattle.set_form.specs.Arms.{present, one_operation, other_count};
 
 use crate::fault::FormFault;
 use xdr_core::{Cursor, XdrKind};

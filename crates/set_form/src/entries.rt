@@ -3,7 +3,9 @@
 ghost use Rattle.std.specs.Prelude.{◌≡◌};
 ghost use Rattle.xdr_core.specs.Place.{Reads};
 ghost use Rattle.set_form.specs.Fault.{cause_of};
-ghost use Rattle.set_form.specs.Grammar.{account_id as account_id_format, muxed_account as muxed_format, hash as hash_format, signer_key as signer_key_format, signer as signer_format, account_entry as account_format, ledger_entry as entry_format};
+ghost use Rattle.set_form.specs.Grammar.{account_id as account_id_format, muxed_account as muxed_format};
+ghost use Rattle.set_form.specs.Grammar.{hash as hash_format, signer_key as signer_key_format, signer as signer_format};
+ghost use Rattle.set_form.specs.Grammar.{account_entry as account_format, ledger_entry as entry_format};
 
 use crate::arms::{read_arm, refused};
 use crate::fault::FormFault;

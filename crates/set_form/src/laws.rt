@@ -1,7 +1,9 @@
 //! The laws of the formats of the form, as contracts.
 
 ghost use Rattle.xdr_core.specs.Format.{Lawful, IsPrefixFree, FaultsRightly};
-ghost use Rattle.set_form.specs.Grammar.{account_id, muxed_account, hash, signer_key, signer, account_entry, ledger_entry, decorated_signature, operation, transaction, transaction_envelope, transaction_set, set_input};
+ghost use Rattle.set_form.specs.Grammar.{account_id, muxed_account, hash, signer_key, signer, account_entry};
+ghost use Rattle.set_form.specs.Grammar.{ledger_entry, decorated_signature, operation, transaction};
+ghost use Rattle.set_form.specs.Grammar.{transaction_envelope, transaction_set, set_input};
 
 /// What is read is spelled so, what is spelled so is read whatever follows, and writing puts the spelling at the end.
 #[tactic(auto, using(crate::proofs::FormLaws::form_laws))]

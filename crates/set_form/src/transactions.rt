@@ -3,7 +3,9 @@
 ghost use Rattle.std.specs.Prelude.{◌≡◌, ◌++◌, OnOk};
 ghost use Rattle.xdr_core.specs.Place.{Reads};
 ghost use Rattle.set_form.specs.Fault.{cause_of};
-ghost use Rattle.set_form.specs.Grammar.{decorated_signature as signature_format, operation as operation_format, transaction as transaction_format, transaction_envelope as envelope_format, transaction_set as set_format};
+ghost use Rattle.set_form.specs.Grammar.{decorated_signature as signature_format, operation as operation_format};
+ghost use Rattle.set_form.specs.Grammar.{transaction as transaction_format, transaction_envelope as envelope_format};
+ghost use Rattle.set_form.specs.Grammar.{transaction_set as set_format};
 
 use crate::arms::{read_absent, read_arm, read_one_operation};
 use crate::entries::{KEY_TYPE_ED25519, read_hash, read_muxed_account};

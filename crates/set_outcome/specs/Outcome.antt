@@ -29,7 +29,9 @@ input_limit = 16777216
 
 -- `tx <hash> <fee charged> <code>`
 abbrev pub tx_line : TransactionResultPair → List ℕ
-tx_line pair = ended_line (codes "tx " ++ encode_lower pair.transaction_hash.0 ++ codes " " ++ signed_decimal pair.result.fee_charged ++ codes " " ++ signed_decimal (outcome_code pair.result.outcome))
+tx_line pair = ended_line
+    (codes "tx " ++ encode_lower pair.transaction_hash.0 ++ codes " " ++ signed_decimal pair.result.fee_charged
+    ++ codes " " ++ signed_decimal (outcome_code pair.result.outcome))
 
 -- `results <hash of the result set>`
 abbrev pub results_line : Hash → List ℕ
@@ -50,17 +52,27 @@ ledger_seq_of input = if nat_lt (length input) 8 then 0 else big_number 4 (drop 
 
 -- the results of the input's set on the network with this passphrase
 unfoldable pub results_of : List ℕ → SetInput → List TransactionResultPair
-results_of network input = set_results (network_id_of network) (terms_of input) input.tx_set.txs (accounts_of input.entries)
+results_of network input =
+    set_results (network_id_of network) (terms_of input) input.tx_set.txs (accounts_of input.entries)
 
 abbrev pub bad_input : Outcome
 bad_input = record { status = status.BadInput; text = [] }
 
 -- An input that isn't read is bad, unless its first field that doesn't spell isn't built. (No text gives NoMemory.)
 abbrev pub judged : List ℕ → List ℕ → Result SetInput FormFault → Outcome
-judged network input (Ok read) = if is_valid_input read then record { status = status.Done; text = results_text (results_of network read) } else bad_input
-judged network input (Err (faults.NotBuilt at)) = record { status = status.Refused; text = refused_text (ledger_seq_of input) }
+judged network input (Ok read) = if is_valid_input read then record {
+  status = status.Done;
+  text =
+      results_text (results_of network read);
+} else bad_input
+judged network input (Err (faults.NotBuilt at)) = record {
+  status = status.Refused;
+  text =
+      refused_text (ledger_seq_of input);
+}
 judged network input (Err (faults.Xdr fault)) = bad_input
 judged network input (Err faults.NoMemory) = bad_input
 
 unfoldable pub outcome_of : List ℕ → List ℕ → Outcome
-outcome_of network input = if nat_lt input_limit (length input) then bad_input else judged network input (whole_input input)
+outcome_of network input =
+    if nat_lt input_limit (length input) then bad_input else judged network input (whole_input input)

@@ -17,7 +17,13 @@ pub record Seen : Type 0 where
   pub faults_now : ℕ
 
 abbrev pub seen : {S : Type 0} → (S → Option (List ℕ)) → (S → ℕ) → S → S → Seen
-seen told faults old new = record { before = told old; now = told new; faults_before = faults old; faults_now = faults new }
+seen told faults old new = record {
+  before = told old;
+  now = told new;
+  faults_before = faults old;
+  faults_now =
+      faults new;
+}
 
 -- the stream's count of faults rose
 abbrev pub Failed : Seen → Type 0
@@ -43,10 +49,12 @@ pub record Answered (outcome : Outcome) (out : Seen) (end : Status) : Type 0 whe
 -- The words were run as a command, over these streams, with this end.
 pub record Ran (words : List (List ℕ)) (input out err : Seen) (end : Status) : Type 0 where
   -- words that are no command: nothing is read or written to the output
-  pub usage : command_of words ≡ None → ((end ≡ status.Usage) ⊎ (end ≡ status.WriteFault)) × Received out [] × IsUntouched input
+  pub usage : command_of words ≡ None
+      → ((end ≡ status.Usage) ⊎ (end ≡ status.WriteFault)) × Received out [] × IsUntouched input
   pub usage_only : end ≡ status.Usage → command_of words ≡ None
   -- a command: its outcome on the bytes that the input tells
-  pub answered : (network : List ℕ) → command_of words ≡ Some network → IfSome input.before (λ bytes. Answered (outcome_of network bytes) out end)
+  pub answered : (network : List ℕ) → command_of words ≡ Some network
+      → IfSome input.before (λ bytes. Answered (outcome_of network bytes) out end)
   pub ended : end ≡ status.Done → IsAtEnd input.now
   -- what the output received at the other ends, whether or not the input tells its bytes
   pub refused : end ≡ status.Refused → (ledger_seq : ℕ) × Received out (refused_text ledger_seq)

@@ -1,6 +1,7 @@
 -- What the values of an input have to meet.
 -- Source: stellar-core, the invariant LedgerEntryIsValid; CAP-0035 for the flags.
-use Rattle.std.specs.Prelude.{ℕ, ℤ, pos, ◌+ℤ◌, int_le, nat_le, ◌==◌, ◌&&◌, ◌||◌, not, List, [], ◌∷◌, length, map, Bool, true, false, is_some, bit_and}
+use Rattle.std.specs.Prelude.{ℕ, ℤ, pos, ◌+ℤ◌, int_le, nat_le, ◌==◌, ◌&&◌, ◌||◌, not, List, [], ◌∷◌, length, map, Bool}
+use Rattle.std.specs.Prelude.{true, false, is_some, bit_and}
 use Rattle.std.specs.List.{list_all}
 use Rattle.std.specs.declared.cmp.Ordering.{Ordering}
 use Rattle.std.specs.Ordering.{is_lt, nat_cmp}
@@ -39,7 +40,8 @@ is_own_key account (HashX digest) = false
 
 -- a weight of 1 to 255, and a key that isn't the account's own
 abbrev pub is_valid_signer : AccountEntry → Signer → Bool
-is_valid_signer account signer = nat_le 1 signer.weight && nat_le signer.weight 255 && not (is_own_key account signer.key)
+is_valid_signer account signer =
+    nat_le 1 signer.weight && nat_le signer.weight 255 && not (is_own_key account signer.key)
 
 -- AUTH_CLAWBACK_ENABLED, 8, stands only beside AUTH_REVOCABLE, 2, and no flag is above 15
 abbrev pub are_valid_flags : ℕ → Bool
@@ -81,11 +83,13 @@ are_valid_accounts accounts =
 
 -- the number of the ledger that is being closed, and its terms
 abbrev pub are_in_range : ℕ → Terms → Bool
-are_in_range ledger_seq terms = nat_le 2 ledger_seq && nat_le ledger_seq 2147483647 && nat_le 1 terms.base_fee && nat_le 1 terms.base_reserve
+are_in_range ledger_seq terms =
+    nat_le 2 ledger_seq && nat_le ledger_seq 2147483647 && nat_le 1 terms.base_fee && nat_le 1 terms.base_reserve
 
 -- all of it, over the accounts
 abbrev pub are_valid : ℕ → Terms → List AccountEntry → List TransactionEnvelope → Bool
-are_valid ledger_seq terms accounts txs = are_in_range ledger_seq terms && are_valid_accounts accounts && sources_stand accounts txs
+are_valid ledger_seq terms accounts txs =
+    are_in_range ledger_seq terms && are_valid_accounts accounts && sources_stand accounts txs
 
 abbrev pub terms_of : SetInput → Terms
 terms_of input = record { base_fee = input.base_fee; base_reserve = input.base_reserve }

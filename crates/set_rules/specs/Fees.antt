@@ -30,4 +30,5 @@ unfoldable pub charge_all : ℕ → List TransactionEnvelope → List AccountEnt
 charge_all base_fee [] accounts = record { charges = []; accounts = accounts }
 charge_all base_fee (envelope ∷ others) accounts =
     let charge = fee_of_source base_fee envelope.tx.fee (account_at envelope.tx.source_account accounts) in
-    charged_first charge (charge_all base_fee others (with_account envelope.tx.source_account (debited charge) accounts))
+    charged_first charge (charge_all base_fee others (with_account envelope.tx.source_account
+    (debited charge) accounts))

@@ -27,10 +27,15 @@ abbrev pub hash_of_tx : Hash → TransactionEnvelope → Hash
 hash_of_tx network envelope = tx_hash_of network 2 (transaction.spell envelope.tx)
 
 abbrev pub result_pair : Hash → TransactionEnvelope → ℤ → TransactionOutcome → TransactionResultPair
-result_pair network envelope charge end = record { transaction_hash = hash_of_tx network envelope; result = record { fee_charged = charge; outcome = end } }
+result_pair network envelope charge end = record {
+  transaction_hash = hash_of_tx network envelope;
+  result =
+      record { fee_charged = charge; outcome = end };
+}
 
 -- the transactions in order, each with what it was charged
-unfoldable pub apply_all : Hash → Terms → List TransactionEnvelope → List ℤ → List AccountEntry → List TransactionResultPair
+unfoldable pub apply_all : Hash → Terms → List TransactionEnvelope → List ℤ → List AccountEntry
+    → List TransactionResultPair
 apply_all network terms [] charges accounts = []
 apply_all network terms (envelope ∷ others) [] accounts = []
 apply_all network terms (envelope ∷ others) (charge ∷ charges) accounts =
@@ -61,7 +66,8 @@ bump_code bump.BadSeq = negsuc 0
 
 -- opINNER 0, the operation's number 11 and its code, or the operation's own code
 unfoldable pub spell_operation : OperationResult → List ℕ
-spell_operation (operation.BumpSequence result) = i32.spell (pos 0) ++ i32.spell (pos 11) ++ i32.spell (bump_code result)
+spell_operation (operation.BumpSequence result) =
+    i32.spell (pos 0) ++ i32.spell (pos 11) ++ i32.spell (bump_code result)
 spell_operation operation.BadAuth = i32.spell (negsuc 0)
 
 -- behind the code stand the results of the operations, of which there is one, or nothing
@@ -71,7 +77,9 @@ spell_operations (outcome.Failed result) = u32.spell 1 ++ spell_operation result
 spell_operations other = []
 
 unfoldable pub spell_result : TransactionResult → List ℕ
-spell_result result = i64.spell result.fee_charged ++ i32.spell (outcome_code result.outcome) ++ spell_operations result.outcome ++ i32.spell (pos 0)
+spell_result result =
+    i64.spell result.fee_charged ++ i32.spell (outcome_code result.outcome) ++ spell_operations result.outcome
+    ++ i32.spell (pos 0)
 
 unfoldable pub spell_pair : TransactionResultPair → List ℕ
 spell_pair pair = pair.transaction_hash.0 ++ spell_result pair.result

@@ -1,6 +1,7 @@
 -- The weight of signatures.
 -- Source: stellar-core, SignatureChecker::checkSignature; SignatureUtils for hints and hash-x.
-use Rattle.std.specs.Prelude.{ℕ, ◌-◌, ◌&&◌, ◌||◌, nat_le, min, List, [], ◌∷◌, drop, slice_index, Bool, true, false, Option, Some, None, if◌then◌else◌}
+use Rattle.std.specs.Prelude.{ℕ, ◌-◌, ◌&&◌, ◌||◌, nat_le, min, List, [], ◌∷◌, drop, slice_index, Bool, true, false}
+use Rattle.std.specs.Prelude.{Option, Some, None, if◌then◌else◌}
 use Rattle.std.specs.Str.{bytes_eq}
 use Rattle.sha2.specs.Sha256.{sha256}
 use Rattle.set_types.specs.declared.account.SignerKey.{SignerKey}

@@ -1,6 +1,7 @@
 -- One transaction: its checks in order, and its operation.
 -- Source: stellar-core, TransactionFrame::commonValid, processSignatures and applyOperations; CAP-0001 for the operation.
-use Rattle.std.specs.Prelude.{ℤ, pos, ◌+ℤ◌, ◌||◌, int_lt, nat_lt, not, List, [], ◌∷◌, Bool, Option, Some, None, if◌then◌else◌}
+use Rattle.std.specs.Prelude.{ℤ, pos, ◌+ℤ◌, ◌||◌, int_lt, nat_lt, not, List, [], ◌∷◌, Bool, Option, Some, None}
+use Rattle.std.specs.Prelude.{if◌then◌else◌}
 use Rattle.std.specs.Int.{int_max}
 use Rattle.std.specs.Ordering.{int_eq}
 use Rattle.set_types.specs.declared.account.AccountEntry.{AccountEntry}
@@ -24,7 +25,8 @@ with_seq_num seq_num account = record account { seq_num = seq_num }
 
 -- the account has the greatest sequence number, or the transaction's isn't the next one
 abbrev pub is_bad_seq : Transaction → AccountEntry → Bool
-is_bad_seq tx account = int_eq account.seq_num (pos 9223372036854775807) || not (int_eq (account.seq_num +ℤ pos 1) tx.seq_num)
+is_bad_seq tx account =
+    int_eq account.seq_num (pos 9223372036854775807) || not (int_eq (account.seq_num +ℤ pos 1) tx.seq_num)
 
 -- The transaction's own check is at the source's low threshold. So is that of its operation, which has no source of its
 -- own: the same signatures are asked the same, and those that either uses are the same.

@@ -13,8 +13,11 @@ IdsRise accounts = rises (λ a b. account_id_cmp a.account_id b.account_id) acco
 pub record StandsAt (id : AccountId) (accounts : List AccountEntry) (place : ℕ) : Type 0 where
   pub within : place < length accounts
   pub found : (d : AccountEntry) → account_at id accounts ≡ Some (slice_index_or accounts place d)
-  pub changed : (d : AccountEntry) (change : AccountEntry → AccountEntry) → with_account id change accounts ≡ slice_set accounts place (change (slice_index_or accounts place d))
+  pub changed : (d : AccountEntry) (change : AccountEntry → AccountEntry)
+      → with_account id change accounts ≡ slice_set accounts place (change (slice_index_or accounts place d))
 
 abbrev pub IsPlaceOf : AccountId → List AccountEntry → Option ℕ → Type 0
 IsPlaceOf id accounts (Some place) = StandsAt id accounts place
-IsPlaceOf id accounts None = (account_at id accounts ≡ None) × ((change : AccountEntry → AccountEntry) → with_account id change accounts ≡ accounts)
+IsPlaceOf id accounts None =
+    (account_at id accounts ≡ None)
+    × ((change : AccountEntry → AccountEntry) → with_account id change accounts ≡ accounts)

@@ -3,7 +3,12 @@
 ghost use Rattle.std.specs.Prelude.{◌≡◌, true, int_le, pos};
 ghost use Rattle.std.specs.List.{list_all};
 ghost use Rattle.set_rules.specs.Accounts.{account_id_cmp};
-ghost use Rattle.set_rules.specs.Conditions.{rises, signer_key_cmp, is_own_key as is_own_key_of, is_valid_signer as is_signer_of, are_valid_flags as are_flags, is_printable as is_printable_byte, is_valid_account as is_account, total_balance, are_valid_accounts as are_accounts, sources_stand as sources_stand_among, are_in_range as are_values_in_range, are_valid as are_valid_values};
+ghost use Rattle.set_rules.specs.Conditions.{rises, signer_key_cmp, is_own_key as is_own_key_of};
+ghost use Rattle.set_rules.specs.Conditions.{is_valid_signer as is_signer_of, are_valid_flags as are_flags};
+ghost use Rattle.set_rules.specs.Conditions.{is_printable as is_printable_byte, is_valid_account as is_account};
+ghost use Rattle.set_rules.specs.Conditions.{total_balance, are_valid_accounts as are_accounts};
+ghost use Rattle.set_rules.specs.Conditions.{sources_stand as sources_stand_among, are_in_range as are_values_in_range};
+ghost use Rattle.set_rules.specs.Conditions.{are_valid as are_valid_values};
 ghost use Rattle.tx_apply.specs.Place.{IdsRise};
 
 use crate::accounts::has_account;

@@ -1,7 +1,8 @@
 //! The spelling of results (TransactionResultSet), and its hash.
 
 ghost use Rattle.std.specs.Prelude.{◌≡◌, ◌++◌, ◌<◌, ◌^◌, length, IfOk, OnOk};
-ghost use Rattle.set_rules.specs.Results.{spell_operation, spell_operations, spell_result, spell_pair, spell_results, results_hash as hash_of_results};
+ghost use Rattle.set_rules.specs.Results.{spell_operation, spell_operations, spell_result, spell_pair, spell_results};
+ghost use Rattle.set_rules.specs.Results.{results_hash as hash_of_results};
 
 use hash_ids::hash;
 use ledger_types::Hash;

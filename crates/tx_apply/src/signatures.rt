@@ -2,7 +2,8 @@
 
 ghost use Rattle.std.specs.Prelude.{◌≡◌, IfOk, drop, position};
 ghost use Rattle.sha2.specs.Sha256.{sha256};
-ghost use Rattle.set_rules.specs.Signatures.{matches_key as key_matches, first_match, counts_of, weights, reaches, uses_all};
+ghost use Rattle.set_rules.specs.Signatures.{matches_key as key_matches, first_match, counts_of, weights, reaches};
+ghost use Rattle.set_rules.specs.Signatures.{uses_all};
 
 use hash_ids::hash;
 use ledger_types::Hash;

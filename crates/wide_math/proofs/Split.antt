@@ -12,10 +12,12 @@ in_multiples p k d carried = omega (arith, ap (λ n. n * k) (div-add-mod' p d))
 
 -- the multiples of d leave the quotient whole
 carried_split : (p k d carried : ℕ) → 1 ≤ d → (p * k + carried) / d ≡ p / d * k + (p % d * k + carried) / d
-carried_split p k d carried some = rw (in_multiples p k d carried) (mul-add-div_right (omega arith) (p / d * k) (p % d * k + carried))
+carried_split p k d carried some =
+    rw (in_multiples p k d carried) (mul-add-div_right (omega arith) (p / d * k) (p % d * k + carried))
 
 -- only the rest is rounded
-pub quotient_split : (round : Round) (p k d : ℕ) → 1 ≤ d → quotient round (p * k) d ≡ p / d * k + quotient round (p % d * k) d
+pub quotient_split : (round : Round) (p k d : ℕ) → 1 ≤ d
+    → quotient round (p * k) d ≡ p / d * k + quotient round (p % d * k) d
 quotient_split Down p k d some = simp add-zero at (carried_split p k d 0 some)
 quotient_split Up p k d some = carried_split p k d (d - 1) some
 

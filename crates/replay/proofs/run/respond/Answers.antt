@@ -8,4 +8,5 @@ pub returns-in-Err-TooLong : goal.returns-in-Err-TooLong
 returns-in-Err-TooLong g c =
     let input = seen g.I.Source.left g.I.Source.faults c.args.input.now c.read_all.new.source in
     let out = seen g.O.Sink.taken g.O.Sink.faults c.args.out.now c.args.out.now in
-    responded_too_long (words_of c.args.words.now) c.in-Some.network.now input out c.in-Some.ensures (rw c.in-Err-TooLong.field-0-is at c.in-Err-TooLong.ensures.cause) refl
+    responded_too_long (words_of c.args.words.now) c.in-Some.network.now input out c.in-Some.ensures
+    (rw c.in-Err-TooLong.field-0-is at c.in-Err-TooLong.ensures.cause) refl

@@ -8,7 +8,8 @@ use Rattle.set_form.specs.Arms.{refused}
 use Rattle.set_form.proofs.arms.read_arm.Goals as goal
 
 -- a field that is refused is a fault of the text
-refused_tells : (kind : XdrKind) (p : Place) (is_known : Bool) → cause_of (refused kind p is_known) ≡ Some (refused kind p is_known)
+refused_tells : (kind : XdrKind) (p : Place) (is_known : Bool)
+    → cause_of (refused kind p is_known) ≡ Some (refused kind p is_known)
 refused_tells kind p true = refl
 refused_tells kind p false = refl
 

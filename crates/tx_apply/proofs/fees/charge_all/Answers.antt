@@ -9,7 +9,8 @@ loop-envelope-preserved c =
     let charge = c.charge_source.result in
     let fits : FitsSigned w64 charge = search rules in
     record {
-      charged = rw (c.in_ok-push.ensures.items, to_z-of_z w64 charge fits) (goes_on c.args.base_fee c.loop-envelope.charges.items c.args.txs.now c.loop-envelope.envelope-index c.envelope-item.result charge c.loop-envelope.accounts c.charge_source.new.accounts
+      charged = rw (c.in_ok-push.ensures.items, to_z-of_z w64 charge fits)
+          (goes_on c.args.base_fee c.loop-envelope.charges.items c.args.txs.now c.loop-envelope.envelope-index c.envelope-item.result charge c.loop-envelope.accounts c.charge_source.new.accounts
           (charge_all c.args.base_fee c.args.txs.now c.args.accounts.now) c.loop-envelope-test.true c.envelope-item.is c.charge_source.ensures.charge c.charge_source.ensures.debited c.loop-envelope.invariant.charged);
       ids = c.charge_source.ensures.ids;
     }

@@ -10,7 +10,8 @@ returns-clause-debited c =
     let charge = c.charge_account.result in
     let fits : FitsSigned w64 charge = search rules in
     let d = c.index-accounts-place.result in
-    rw (to_z-of_z w64 charge fits) (ap (set c.args.accounts.now c.in-Some.place) c.charge_account.ensures.debited ∙ sym (c.in-Some.ensures.changed d (debited charge)))
+    rw (to_z-of_z w64 charge fits) (ap (set c.args.accounts.now c.in-Some.place) c.charge_account.ensures.debited
+    ∙ sym (c.in-Some.ensures.changed d (debited charge)))
 
 pub returns-clause-ids : goal.returns-clause-ids
 returns-clause-ids c =

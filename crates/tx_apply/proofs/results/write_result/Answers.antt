@@ -13,7 +13,12 @@ returns c =
     let fee_fits : FitsSigned w64 end.fee_charged = search rules in
     let code_fits : FitsSigned w32 c.outcome_code.result = search rules in
     let first = then_i64 out [] out c.i64.new.self end.fee_charged fee_fits c.in_ok-i64.ensures (nothing_written out) in
-    let second = then_i32 out (i64.spell end.fee_charged) c.i64.new.self c.i32.new.self c.outcome_code.result (outcome_code end.outcome) code_fits c.outcome_code.ensures c.in_ok-i32.ensures first in
-    let third = then_text out (i64.spell end.fee_charged ++ i32.spell (outcome_code end.outcome)) c.i32.new.self c.write_operations.new.builder (spell_operations end.outcome) c.in_ok-write_operations.ensures second in
-    then_i32 out (i64.spell end.fee_charged ++ i32.spell (outcome_code end.outcome) ++ spell_operations end.outcome) c.write_operations.new.builder c.i32-2.new.self (pos 0) (pos 0) (sfits_lit {w = w32} {z = pos 0} tt) refl
+    let second = then_i32 out (i64.spell end.fee_charged) c.i64.new.self c.i32.new.self c.outcome_code.result
+    (outcome_code end.outcome) code_fits c.outcome_code.ensures c.in_ok-i32.ensures first in
+    let third = then_text out (i64.spell end.fee_charged
+    ++ i32.spell (outcome_code end.outcome)) c.i32.new.self c.write_operations.new.builder
+    (spell_operations end.outcome) c.in_ok-write_operations.ensures second in
+    then_i32 out (i64.spell end.fee_charged ++ i32.spell (outcome_code end.outcome)
+    ++ spell_operations end.outcome) c.write_operations.new.builder c.i32-2.new.self (pos 0) (pos 0)
+    (sfits_lit {w = w32} {z = pos 0} tt) refl
     c.in_ok-i32-2.ensures third

@@ -5,4 +5,5 @@ use Rattle.set_rules.specs.Results.{spell_pair}
 use Rattle.tx_apply.proofs.results.write_results.Given as goal
 
 abbrev pub invariant-loop-pair : goal.invariant-loop-pair
-invariant-loop-pair l = l.builder ≡ l.fn.builder ++ (u32.spell (length l.pairs) ++ flat_map spell_pair (take l.pair-index l.pairs))
+invariant-loop-pair l =
+    l.builder ≡ l.fn.builder ++ (u32.spell (length l.pairs) ++ flat_map spell_pair (take l.pair-index l.pairs))

@@ -8,4 +8,5 @@ returns-clause-accounts c =
     (applied_at c.args.terms c.args.envelope.now c.args.accounts.now c.in-Some.place c.index-accounts-place.result c.apply_to_source.new.account c.if-envelope-terms.false c.in-Some.ensures) c.apply_to_source.ensures.account
 
 pub returns-clause-ids : goal.returns-clause-ids
-returns-clause-ids c = ids_still_rise c.args.accounts.now c.in-Some.place c.apply_to_source.new.account c.index-accounts-place.result c.requires c.apply_to_source.ensures.id
+returns-clause-ids c =
+    ids_still_rise c.args.accounts.now c.in-Some.place c.apply_to_source.new.account c.index-accounts-place.result c.requires c.apply_to_source.ensures.id

@@ -8,7 +8,7 @@ use Rattle.xdr_core.specs.declared.fault.XdrFault.{XdrFault}
 use Rattle.xdr_core.specs.Place.{Place, Reading, with_fault, ◌>>=◌}
 use Rattle.xdr_core.specs.Format.{Format, IsBytes, Takes, Spells, Lawful}
 use Rattle.xdr_core.specs.Leaves.{i32, flag, count}
-use Rattle.xdr_core.specs.Combinators.{lifted, ◌⨾◌, Fields, struct_of, constant_of, constant, marked, closed, option_of, spell_option, onto_option, option, many_at, list, times}
+use Rattle.xdr_core.specs.Combinators.{lifted, ◌⨾◌, Fields, struct_of, constant_of, constant, marked, closed, whole, option_of, spell_option, onto_option, option, many_at, list, times}
 use Rattle.xdr_core.proofs.Steps.{bind_ok, with_fault_ok, wanted_ok, ok_is, Takes-then, place_of_two}
 use Rattle.std.proofs.lemmas.List.{append-nil}
 use Rattle.xdr_core.proofs.LeafLaws.{i32_lawful, i32_within}
@@ -151,9 +151,11 @@ option_again {F} {A} as_fault f law at (Some v) rest within sized =
     ∙ ap (λ (r : Reading F A). r >>= λ x. Ok (Some x.0, x.1)) (law.again (at + length (flag.spell true)) v rest within sized)
     ∙ ap (λ (k : ℕ). Ok (Some v, record { at = k; rest = rest })) (place_of_two at (flag.spell true) (f.spell v) rest _ refl)
 
-option_appends : {F A : Type 0} (f : Format F A) → Lawful f → (out : List ℕ) (v : Option A) → onto_option f out v ≡ out ++ spell_option f v
-option_appends f law out None = flag_lawful.appends out false
-option_appends f law out (Some v) = law.appends (flag.onto out true) v ∙ ap (λ (t : List ℕ). t ++ f.spell v) (flag_lawful.appends out true) ∙ append_assoc out (flag.spell true) (f.spell v)
+option_appends : {F A : Type 0} (f : Format F A) (out : List ℕ) (v : Option A)
+    → onto_option f out v ≡ out ++ spell_option f v
+option_appends f out None = flag_lawful.appends out false
+option_appends f out (Some v) =
+    ap (λ (t : List ℕ). t ++ f.spell v) (flag_lawful.appends out true) ∙ append_assoc out (flag.spell true) (f.spell v)
 
 pub option_law : {F A : Type 0} (as_fault : XdrFault → F) {f : Format F A} → Lawful f → Lawful (option as_fault f)
 unfolding option
@@ -163,7 +165,7 @@ option_law {F} {A} as_fault {f} law = record {
       let b = flag_lawful.takes p a.0.1 a.0.0 fits (with_fault_ok as_fault (flag.read p) a.0 a.1) in
       option_of_takes as_fault f law p q a.0 v b.taken a.2;
   again = λ at v rest within sized. option_again as_fault f law at v rest within sized;
-  appends = λ out v. option_appends f law out v;
+  appends = λ out v. option_appends f out v;
 }
 
 -- ---- lists
@@ -192,6 +194,13 @@ many_again {F} {A} f law at (v ∷ vs) rest within sized =
     ∙ ap (λ (r : Reading F (List A)). r >>= λ xs. Ok (v ∷ xs.0, xs.1)) (many_again f law (at + length (f.spell v)) vs rest within.1 sized.1)
     ∙ ap (λ (k : ℕ). Ok (v ∷ vs, record { at = k; rest = rest })) (place_of_two at (f.spell v) (flat_map f.spell vs) rest _ refl)
 
+pub whole_law : {F V : Type 0} {f : Format F V} → Lawful f → Lawful (whole f)
+whole_law {F} {V} {f} law = record {
+  takes = λ p q v fits e. let s = law.takes p q v fits e in record { taken = s.taken; within = s.within; sized = s.sized };
+  again = λ at v rest within sized. law.again at v rest within sized;
+  appends = λ out v. refl;
+}
+
 many_appends : {F A : Type 0} (f : Format F A) → Lawful f → (out : List ℕ) (vs : List A) → fold f.onto out vs ≡ out ++ flat_map f.spell vs
 many_appends f law out [] = sym (append-nil out)
 many_appends f law out (v ∷ vs) =
@@ -216,7 +225,8 @@ list_law {F} {A} as_fault max {f} lt law = record {
       ∙ many_again f law (at + length ((count max).spell (length vs))) vs rest within.1 sized
       ∙ ap (λ (k : ℕ). Ok (vs, record { at = k; rest = rest })) (place_of_two at ((count max).spell (length vs)) (flat_map f.spell vs) rest _ refl);
   appends = λ out vs.
-      many_appends f law ((count max).onto out (length vs)) vs ∙ ap (λ (t : List ℕ). t ++ flat_map f.spell vs) ((count_lawful max lt).appends out (length vs)) ∙ append_assoc out ((count max).spell (length vs)) (flat_map f.spell vs);
+      ap (λ (t : List ℕ). t ++ flat_map f.spell vs) ((count_lawful max lt).appends out (length vs))
+      ∙ append_assoc out ((count max).spell (length vs)) (flat_map f.spell vs);
 }
 
 pub times_law : {F A : Type 0} (n : ℕ) {f : Format F A} → Lawful f → Lawful (times n f)

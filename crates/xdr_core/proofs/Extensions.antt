@@ -13,6 +13,7 @@ use Rattle.xdr_core.specs.Leaves.{i32}
 use Rattle.xdr_core.specs.Combinators.{empty, refused, without, extended, extension_part, extension}
 use Rattle.xdr_core.proofs.Steps.{ok_is}
 use Rattle.xdr_core.proofs.LeafLaws.{i32_sized}
+use Rattle.xdr_core.proofs.Combining.{whole_law}
 use Rattle.xdr_core.proofs.Unions.{IsFound, union_law}
 
 pub empty_law : {F : Type 0} → Lawful (empty {F = F})
@@ -48,7 +49,7 @@ extension_found mark {f} other fits law None = record {
 extension_found mark {f} other fits law (Some v) = record {
   arm = extended mark f;
   body = v;
-  law = law;
+  law = whole_law law;
   fits = fits;
   is_part = refl;
   makes = refl;
@@ -59,5 +60,5 @@ pub extension_law : {F V : Type 0} (as_fault : XdrFault → F) (mark : ℤ) {f :
 unfolding extension
 extension_law {F} {V} as_fault mark {f} other fits law =
     union_law as_fault (extension_part mark f) (without ∷ extended mark f ∷ []) (λ p d. as_fault (fault_at p BadEnum))
-    (record { law = empty_law; is_part = λ x. refl }, (record { law = law; is_part = λ x. refl }, tt))
+    (record { law = empty_law; is_part = λ x. refl }, (record { law = whole_law law; is_part = λ x. refl }, tt))
     (extension_found mark other fits law)

@@ -74,6 +74,9 @@ pub fn read_extension<D: Decode>(
     Ok(Some(value))
 }
 
+/// The most items that a list takes room for before it has read any.
+const FIRST_ROOM: u32 = 100;
+
 /// Reads `len` values, one behind another.
 fn read_many<D: Decode>(
     alloc: Global,
@@ -83,7 +86,10 @@ fn read_many<D: Decode>(
     ensures { Reads D.Failure.cause result cursor.old cursor.new (many_at D.format len cursor.old) }
 {
     let mut ahead = cursor.fork();
-    let mut items = ItemList::new(alloc);
+    let mut items = match ItemList::with_capacity(alloc, len.min(FIRST_ROOM) as usize) {
+        Ok(items) => items,
+        Err(_) => return Err(D::Failure::no_memory()),
+    };
     for _ in 0..len {
         let item = D::decode(alloc, &mut ahead)?;
         if let Err(_) = items.push(item) {
@@ -94,8 +100,8 @@ fn read_many<D: Decode>(
     Ok(items)
 }
 
-/// Reads at most `max` values behind their number. Memory grows with the values that are there, and
-/// not with the number.
+/// Reads at most `max` values behind their number. It takes room for 100 of them at most at once, so memory grows with the
+/// values that are there, and not with the number.
 #[tactic(auto, unfolding(crate::specs::Combinators::list))]
 pub fn read_list<D: Decode>(
     alloc: Global,

@@ -1,7 +1,8 @@
 //! Lists, options and extensions of values that a type knows how to write.
 
-ghost use Rattle.std.specs.Prelude.{◌≡◌, ◌≤◌, length, fold, OnOk};
-ghost use Rattle.std.specs.List.{AllByRecursion};
+ghost use Rattle.std.specs.Prelude.{◌≡◌, ◌≤◌, ◌++◌, length, OnOk};
+ghost use Rattle.std.specs.List.{flat_map, AllByRecursion};
+ghost use Rattle.xdr_core.specs.Format.{Lawful};
 ghost use Rattle.xdr_core.specs.Combinators.{list, option, extension};
 
 use crate::builder::Builder;
@@ -10,10 +11,13 @@ use std::alloc::AllocError;
 
 /// A format, its reader and its writer.
 pub trait Encode: Decode {
-    /// Writes one value that has a spelling. Where memory is refused the builder may only be dropped.
+    /// Puts the spelling of a value that has one at the end of a text. Where memory is refused the builder may only be dropped.
     fn encode(value: &Self::Value, builder: &mut Builder) -> Result<(), AllocError>
         requires { Self.format.within value.now }
-        ensures { OnOk result (builder.new ≡ Self.format.onto builder.old value.now) };
+        ensures { OnOk result (builder.new ≡ builder.old ++ Self.format.spell value.now) };
+
+    // What is read is spelled so, and what is spelled so is read.
+    ghost lawful: { Lawful Self.format };
 }
 
 /// Writes a flag, and the value where there is one.
@@ -56,7 +60,7 @@ pub fn write_extension<E: Encode>(
 /// Writes values one behind another.
 pub fn write_many<E: Encode>(values: &[E::Value], builder: &mut Builder) -> Result<(), AllocError>
     requires { AllByRecursion E.format.within values.now }
-    ensures { OnOk result (builder.new ≡ fold E.format.onto builder.old values.now) }
+    ensures { OnOk result (builder.new ≡ builder.old ++ flat_map E.format.spell values.now) }
 {
     for value in values {
         E::encode(value, builder)?;

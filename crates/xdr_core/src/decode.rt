@@ -5,7 +5,7 @@ ghost use Rattle.xdr_core.specs.Format.{Format};
 ghost use Rattle.xdr_core.specs.Combinators.{list, many_at, option, extension};
 
 use crate::cursor::Cursor;
-use crate::failure::ReadFailure;
+use crate::failure::{MemoryFailure, ReadFailure};
 use crate::fault::{XdrFault, XdrKind};
 use item_list::ItemList;
 use std::alloc::Global;
@@ -83,6 +83,7 @@ fn read_many<D: Decode>(
     len: u32,
     cursor: &mut Cursor<'_>,
 ) -> Result<ItemList<D::Value>, D::Failure>
+    where D::Failure: MemoryFailure,
     ensures { Reads D.Failure.cause result cursor.old cursor.new (many_at D.format len cursor.old) }
 {
     let mut ahead = cursor.fork();
@@ -108,6 +109,7 @@ pub fn read_list<D: Decode>(
     max: u32,
     cursor: &mut Cursor<'_>,
 ) -> Result<ItemList<D::Value>, D::Failure>
+    where D::Failure: MemoryFailure,
     ensures { Reads D.Failure.cause result cursor.old cursor.new ((list D.Failure.of_fault max D.format).read cursor.old) }
 {
     let mut ahead = cursor.fork();

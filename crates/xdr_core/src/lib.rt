@@ -16,6 +16,6 @@ pub use builder::Builder;
 pub use cursor::Cursor;
 pub use decode::{Decode, read_extension, read_list, read_option};
 pub use encode::{Encode, write_extension, write_list, write_many, write_option};
-pub use failure::ReadFailure;
+pub use failure::{MemoryFailure, ReadFailure};
 pub use fault::{XdrFault, XdrKind};
 pub use read_fault::ReadFault;

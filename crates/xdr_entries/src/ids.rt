@@ -4,6 +4,7 @@ ghost use Rattle.std.specs.Prelude.{◌≡◌, OnOk};
 ghost use Rattle.xdr_core.specs.Place.{Reads, itself};
 ghost use Rattle.xdr_core.specs.Xdr.{optional};
 ghost use Rattle.xdr_entries.specs.Basic.{hash as hash_format, account_id as account_id_format, claimable_balance_id as balance_id_format, muxed_account as muxed_account_format};
+ghost use Rattle.xdr_entries.proofs.BasicLaws.{account_id_lawful};
 
 use ledger_types::{AccountId, ClaimableBalanceId, Hash, MuxedAccount};
 use std::alloc::{AllocError, Global};
@@ -133,6 +134,9 @@ impl Decode for AccountIdFormat {
 }
 
 impl Encode for AccountIdFormat {
+    ghost lawful = { account_id_lawful };
+
+    #[tactic(auto, using(xdr_core::proofs::Grammar::written, crate::proofs::BasicLaws::account_id_lawful))]
     fn encode(value: &AccountId, builder: &mut Builder) -> Result<(), AllocError> {
         write_account_id(value, builder)
     }

@@ -2,7 +2,6 @@
 
 ghost use Rattle.std.specs.Prelude.{◌≡◌, ◌≤◌, ◌++◌, length, OnOk};
 ghost use Rattle.std.specs.List.{flat_map, AllByRecursion};
-ghost use Rattle.xdr_core.specs.Format.{Lawful};
 ghost use Rattle.xdr_core.specs.Combinators.{list, option, extension};
 
 use crate::builder::Builder;
@@ -15,9 +14,6 @@ pub trait Encode: Decode {
     fn encode(value: &Self::Value, builder: &mut Builder) -> Result<(), AllocError>
         requires { Self.format.within value.now }
         ensures { OnOk result (builder.new ≡ builder.old ++ Self.format.spell value.now) };
-
-    // What is read is spelled so, and what is spelled so is read.
-    ghost lawful: { Lawful Self.format };
 }
 
 /// Writes a flag, and the value where there is one.

@@ -1,7 +1,6 @@
 //! Texts laid out by hand after RFC 4506 and RFC 5531.
 
 ghost use Rattle.xdr_core.specs.Leaves.{u32 as u32_format};
-ghost use Rattle.xdr_core.proofs.LeafLaws.{u32_lawful};
 
 use super::*;
 use std::alloc::{AllocError, Global};
@@ -192,8 +191,6 @@ impl Decode for Word {
 }
 
 impl Encode for Word {
-    ghost lawful = { u32_lawful };
-
     #[tactic(auto, unfolding(crate::specs::Leaves::u32))]
     fn encode(value: &u32, builder: &mut Builder) -> Result<(), AllocError> {
         builder.u32(*value)

@@ -4,7 +4,7 @@ use Rattle.xdr_core.specs.Format.{Lawful}
 use Rattle.xdr_core.specs.Xdr.{as_it_is, no_arm}
 use Rattle.xdr_core.proofs.LeafLaws.{u32_lawful, i32_lawful, i64_lawful}
 use Rattle.xdr_core.proofs.Opaque.{fixed_lawful, var_lawful}
-use Rattle.xdr_core.proofs.Combining.{◌&◌, struct_law, marked_law, closed_law, option_law, list_law}
+use Rattle.xdr_core.proofs.Combining.{◌&◌, struct_law, marked_law, closed_law, whole_law, option_law, list_law}
 use Rattle.xdr_core.proofs.Unions.{IsFound, union_law}
 use Rattle.xdr_core.proofs.Extensions.{extension_law}
 use Rattle.xdr_core.proofs.Discriminants.{discriminant_fits, tag_law}
@@ -50,7 +50,7 @@ data_entry_lawful = struct_law data_fields (account_id_lawful & var_lawful 64 (o
 
 pub claimant_lawful : Lawful claimant
 unfolding claimant
-claimant_lawful = struct_law claimant_fields (marked_law (tag_law (pos 0) tt) (account_id_lawful & claim_predicate_lawful))
+claimant_lawful = struct_law claimant_fields (marked_law (tag_law (pos 0) tt) (account_id_lawful & whole_law claim_predicate_lawful))
 
 pub claimable_balance_extension_v1_lawful : Lawful claimable_balance_extension_v1
 unfolding claimable_balance_extension_v1

@@ -4,7 +4,7 @@ use Rattle.xdr_core.specs.Format.{Lawful}
 use Rattle.xdr_core.specs.Xdr.{as_it_is, no_arm}
 use Rattle.xdr_core.proofs.LeafLaws.{u32_lawful, i64_lawful}
 use Rattle.xdr_core.proofs.Opaque.{var_lawful}
-use Rattle.xdr_core.proofs.Combining.{◌&◌, closed_law}
+use Rattle.xdr_core.proofs.Combining.{◌&◌, closed_law, whole_law}
 use Rattle.xdr_core.proofs.Unions.{IsFound, union_law}
 use Rattle.xdr_core.proofs.Discriminants.{discriminant_fits, tag_law}
 use Rattle.ledger_types.specs.declared.key.LedgerKey.{LedgerKey}
@@ -31,12 +31,12 @@ ledger_key_lawful = union_law as_it_is key_part key_arms no_arm
 
 bucket_entry_found : (v : BucketEntry) → IsFound bucket_part bucket_arms v
 bucket_entry_found (bucket.Meta version) = record { arm = meta_arm; body = version; law = closed_law u32_lawful (tag_law (pos 0) tt); fits = discriminant_fits (negsuc 0) tt; is_part = refl; makes = refl; picked = λ wrong start p. refl }
-bucket_entry_found (bucket.Live entry) = record { arm = live_arm; body = entry; law = ledger_entry_lawful; fits = discriminant_fits (pos 0) tt; is_part = refl; makes = refl; picked = λ wrong start p. refl }
-bucket_entry_found (bucket.Dead gone) = record { arm = dead_arm; body = gone; law = ledger_key_lawful; fits = discriminant_fits (pos 1) tt; is_part = refl; makes = refl; picked = λ wrong start p. refl }
-bucket_entry_found (bucket.Init entry) = record { arm = init_arm; body = entry; law = ledger_entry_lawful; fits = discriminant_fits (pos 2) tt; is_part = refl; makes = refl; picked = λ wrong start p. refl }
+bucket_entry_found (bucket.Live entry) = record { arm = live_arm; body = entry; law = whole_law ledger_entry_lawful; fits = discriminant_fits (pos 0) tt; is_part = refl; makes = refl; picked = λ wrong start p. refl }
+bucket_entry_found (bucket.Dead gone) = record { arm = dead_arm; body = gone; law = whole_law ledger_key_lawful; fits = discriminant_fits (pos 1) tt; is_part = refl; makes = refl; picked = λ wrong start p. refl }
+bucket_entry_found (bucket.Init entry) = record { arm = init_arm; body = entry; law = whole_law ledger_entry_lawful; fits = discriminant_fits (pos 2) tt; is_part = refl; makes = refl; picked = λ wrong start p. refl }
 
 pub bucket_entry_lawful : Lawful bucket_entry
 unfolding bucket_entry
 bucket_entry_lawful = union_law as_it_is bucket_part bucket_arms no_arm
-    (record { law = closed_law u32_lawful (tag_law (pos 0) tt); is_part = λ x. refl }, (record { law = ledger_entry_lawful; is_part = λ x. refl }, (record { law = ledger_key_lawful; is_part = λ x. refl }, (record { law = ledger_entry_lawful; is_part = λ x. refl }, tt))))
+    (record { law = closed_law u32_lawful (tag_law (pos 0) tt); is_part = λ x. refl }, (record { law = whole_law ledger_entry_lawful; is_part = λ x. refl }, (record { law = whole_law ledger_key_lawful; is_part = λ x. refl }, (record { law = whole_law ledger_entry_lawful; is_part = λ x. refl }, tt))))
     bucket_entry_found

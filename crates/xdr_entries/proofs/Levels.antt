@@ -1,9 +1,10 @@
 -- Predicates of a number of levels.
-use Rattle.std.proofs.Common.{◌≡◌, ℕ, zero, suc, ◌-◌, ◌<◌, List, refl, arith}
+use Rattle.std.proofs.Common.{◌≡◌, ℕ, zero, suc, ◌-◌, ◌<◌, List, ◌++◌, refl, arith}
 use Rattle.xdr_core.specs.Place.{Place}
 use Rattle.xdr_core.specs.Combinators.{refused}
 use Rattle.ledger_types.specs.declared.predicate.ClaimPredicate.{ClaimPredicate}
 use Rattle.xdr_entries.specs.Predicates.{predicate_of, predicate_below}
+use Rattle.xdr_entries.proofs.PredicateLaws.{predicate_below_lawful}
 
 pub one_level_more : (levels : ℕ) (p : Place) → 0 < levels → (predicate_below levels).read p ≡ (predicate_of (predicate_below (levels - 1))).read p
 unfolding predicate_below
@@ -16,10 +17,13 @@ unfolding predicate_below refused
 some_level zero v h = absurd h
 some_level (suc levels) v h = omega arith
 
-pub write_one_level_more : (levels : ℕ) (out : List ℕ) (v : ClaimPredicate) → 0 < levels → (predicate_below levels).onto out v ≡ (predicate_of (predicate_below (levels - 1))).onto out v
+-- what is written behind some bytes is the spelling of a predicate of one level more
+pub written_one_level_more : (levels : ℕ) (out : List ℕ) (v : ClaimPredicate) → 0 < levels
+    → (predicate_of (predicate_below (levels - 1))).onto out v ≡ out ++ (predicate_below levels).spell v
 unfolding predicate_below
-write_one_level_more zero out v lt = absurd (omega arith)
-write_one_level_more (suc levels) out v lt = let e : suc levels - 1 ≡ levels = omega arith in rw e refl
+written_one_level_more zero out v lt = absurd (omega arith)
+written_one_level_more (suc levels) out v lt =
+    let e : suc levels - 1 ≡ levels = omega arith in rw e ((predicate_below_lawful (suc levels)).appends out v)
 
 pub within_one_level_more : (levels : ℕ) (v : ClaimPredicate) → 0 < levels → (predicate_below levels).within v → (predicate_of (predicate_below (levels - 1))).within v
 unfolding predicate_below

@@ -9,18 +9,14 @@ use crate::ids::{AccountIdFormat, OptionalAccountIdFormat, read_account_id, writ
 use crate::price::{read_liabilities, write_liabilities};
 use crate::signer::SignerFormat;
 use item_list::ItemList;
-use ledger_types::{AccountEntry, AccountEntryExtensionV1, AccountEntryExtensionV2};
+use ledger_types::{
+    AccountEntry, AccountEntryExtensionV1, AccountEntryExtensionV2, MAX_HOME_DOMAIN_LEN, MAX_SIGNERS,
+};
 use std::alloc::{AllocError, Global};
 use xdr_core::{
     Builder, Cursor, Decode, Encode, ReadFault, read_extension, read_list, read_option,
     write_extension, write_list, write_option,
 };
-
-/// The most signers of an account (MAX_SIGNERS in Stellar-ledger-entries.x).
-const MAX_SIGNERS: u32 = 20;
-
-/// The most bytes of a home domain (string32 in Stellar-ledger-entries.x).
-const MAX_HOME_DOMAIN_LEN: u32 = 32;
 
 /// Reads what sponsorship adds to an account.
 #[tactic(auto, unfolding(crate::specs::Entries::account_extension_v2))]
@@ -162,6 +158,7 @@ impl Decode for AccountExtensionV2Format {
 }
 
 impl Encode for AccountExtensionV2Format {
+    #[tactic(auto, using(xdr_core::proofs::Grammar::written, crate::proofs::EntryLaws::account_extension_v2_lawful))]
     fn encode(value: &AccountEntryExtensionV2, builder: &mut Builder) -> Result<(), AllocError> {
         write_account_extension_v2(value, builder)
     }
@@ -186,6 +183,7 @@ impl Decode for AccountExtensionV1Format {
 }
 
 impl Encode for AccountExtensionV1Format {
+    #[tactic(auto, using(xdr_core::proofs::Grammar::written, crate::proofs::EntryLaws::account_extension_v1_lawful))]
     fn encode(value: &AccountEntryExtensionV1, builder: &mut Builder) -> Result<(), AllocError> {
         write_account_extension_v1(value, builder)
     }

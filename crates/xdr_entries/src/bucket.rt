@@ -1,6 +1,6 @@
 //! Items of buckets.
 
-ghost use Rattle.std.specs.Prelude.{◌≡◌, OnOk};
+ghost use Rattle.std.specs.Prelude.{◌≡◌, ◌++◌, OnOk};
 ghost use Rattle.xdr_core.specs.Place.{Reads, itself};
 ghost use Rattle.xdr_core.specs.ReadFault.{cause_of};
 ghost use Rattle.xdr_entries.specs.Keys.{meta_arm, bucket_entry as bucket_format};
@@ -53,9 +53,18 @@ pub fn read_bucket_entry(alloc: Global, cursor: &mut Cursor<'_>) -> Result<Bucke
     Ok(entry)
 }
 
-/// Writes an item of a bucket.
-#[tactic(auto, unfolding(crate::specs::Keys::bucket_entry, xdr_core::specs::Combinators::constant))]
+/// Writes an item of a bucket: its spelling stands at the end.
+#[tactic(auto, using(xdr_core::proofs::Grammar::written, crate::proofs::KeyLaws::bucket_entry_lawful))]
 pub fn write_bucket_entry(value: &BucketEntry, builder: &mut Builder) -> Result<(), AllocError>
+    requires { bucket_format.within value.now }
+    ensures { OnOk result (builder.new ≡ builder.old ++ bucket_format.spell value.now) }
+{
+    write_arm(value, builder)
+}
+
+/// Writes the discriminant of an item, and what stands behind it.
+#[tactic(auto, unfolding(crate::specs::Keys::bucket_entry, xdr_core::specs::Combinators::constant))]
+fn write_arm(value: &BucketEntry, builder: &mut Builder) -> Result<(), AllocError>
     requires { bucket_format.within value.now }
     ensures { OnOk result (builder.new ≡ bucket_format.onto builder.old value.now) }
 {

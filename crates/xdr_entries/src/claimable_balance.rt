@@ -132,6 +132,7 @@ impl Decode for ClaimantFormat {
 }
 
 impl Encode for ClaimantFormat {
+    #[tactic(auto, using(xdr_core::proofs::Grammar::written, crate::proofs::EntryLaws::claimant_lawful))]
     fn encode(value: &Claimant, builder: &mut Builder) -> Result<(), AllocError> {
         write_claimant(value, builder)
     }
@@ -143,19 +144,20 @@ pub enum ClaimableBalanceExtensionV1Format {}
 impl Decode for ClaimableBalanceExtensionV1Format {
     type Value = ClaimableBalanceEntryExtensionV1;
 
-    type Failure = ReadFault;
+    type Failure = XdrFault;
 
     ghost format = { v1_format };
 
     fn decode(
         _alloc: Global,
         cursor: &mut Cursor<'_>,
-    ) -> Result<ClaimableBalanceEntryExtensionV1, ReadFault> {
-        Ok(read_claimable_balance_extension_v1(cursor)?)
+    ) -> Result<ClaimableBalanceEntryExtensionV1, XdrFault> {
+        read_claimable_balance_extension_v1(cursor)
     }
 }
 
 impl Encode for ClaimableBalanceExtensionV1Format {
+    #[tactic(auto, using(xdr_core::proofs::Grammar::written, crate::proofs::EntryLaws::claimable_balance_extension_v1_lawful))]
     fn encode(
         value: &ClaimableBalanceEntryExtensionV1,
         builder: &mut Builder,

@@ -1,7 +1,7 @@
 //! Ledger entries.
 
-ghost use Rattle.std.specs.Prelude.{◌≡◌, OnOk};
-ghost use Rattle.xdr_core.specs.Place.{Reads};
+ghost use Rattle.std.specs.Prelude.{◌≡◌, ◌++◌, OnOk};
+ghost use Rattle.xdr_core.specs.Place.{Reads, itself};
 ghost use Rattle.xdr_core.specs.ReadFault.{cause_of};
 ghost use Rattle.xdr_entries.specs.Entries.{ledger_entry_body as body_format, ledger_entry_extension_v1 as v1_format, ledger_entry as entry_format};
 
@@ -15,7 +15,7 @@ use crate::trust_line::{read_trust_line_entry, write_trust_line_entry};
 use ledger_types::{LedgerEntry, LedgerEntryBody, LedgerEntryExtensionV1};
 use std::alloc::{AllocError, Global};
 use xdr_core::{
-    Builder, Cursor, Decode, Encode, ReadFault, XdrKind, read_extension, read_option,
+    Builder, Cursor, Decode, Encode, ReadFault, XdrFault, XdrKind, read_extension, read_option,
     write_extension, write_option,
 };
 
@@ -103,8 +103,8 @@ pub fn write_ledger_entry_body(
 pub fn read_ledger_entry_extension_v1(
     alloc: Global,
     cursor: &mut Cursor<'_>,
-) -> Result<LedgerEntryExtensionV1, ReadFault>
-    ensures { Reads cause_of result cursor.old cursor.new (v1_format.read cursor.old) }
+) -> Result<LedgerEntryExtensionV1, XdrFault>
+    ensures { Reads itself result cursor.old cursor.new (v1_format.read cursor.old) }
 {
     let mut ahead = cursor.fork();
     let sponsoring_id = read_option::<AccountIdFormat>(alloc, &mut ahead)?;
@@ -143,9 +143,18 @@ pub fn read_ledger_entry(alloc: Global, cursor: &mut Cursor<'_>) -> Result<Ledge
     })
 }
 
-/// Writes an entry.
-#[tactic(auto, unfolding(crate::specs::Entries::ledger_entry))]
+/// Writes an entry: its spelling stands at the end.
+#[tactic(auto, using(xdr_core::proofs::Grammar::written, crate::proofs::EntryLaws::ledger_entry_lawful))]
 pub fn write_ledger_entry(value: &LedgerEntry, builder: &mut Builder) -> Result<(), AllocError>
+    requires { entry_format.within value.now }
+    ensures { OnOk result (builder.new ≡ builder.old ++ entry_format.spell value.now) }
+{
+    write_fields(value, builder)
+}
+
+/// Writes the fields of an entry one behind another.
+#[tactic(auto, unfolding(crate::specs::Entries::ledger_entry))]
+fn write_fields(value: &LedgerEntry, builder: &mut Builder) -> Result<(), AllocError>
     requires { entry_format.within value.now }
     ensures { OnOk result (builder.new ≡ entry_format.onto builder.old value.now) }
 {
@@ -160,16 +169,17 @@ pub enum LedgerEntryExtensionV1Format {}
 impl Decode for LedgerEntryExtensionV1Format {
     type Value = LedgerEntryExtensionV1;
 
-    type Failure = ReadFault;
+    type Failure = XdrFault;
 
     ghost format = { v1_format };
 
-    fn decode(alloc: Global, cursor: &mut Cursor<'_>) -> Result<LedgerEntryExtensionV1, ReadFault> {
+    fn decode(alloc: Global, cursor: &mut Cursor<'_>) -> Result<LedgerEntryExtensionV1, XdrFault> {
         read_ledger_entry_extension_v1(alloc, cursor)
     }
 }
 
 impl Encode for LedgerEntryExtensionV1Format {
+    #[tactic(auto, using(xdr_core::proofs::Grammar::written, crate::proofs::EntryLaws::ledger_entry_extension_v1_lawful))]
     fn encode(value: &LedgerEntryExtensionV1, builder: &mut Builder) -> Result<(), AllocError> {
         write_ledger_entry_extension_v1(value, builder)
     }

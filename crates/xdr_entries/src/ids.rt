@@ -4,7 +4,6 @@ ghost use Rattle.std.specs.Prelude.{◌≡◌, OnOk};
 ghost use Rattle.xdr_core.specs.Place.{Reads, itself};
 ghost use Rattle.xdr_core.specs.Xdr.{optional};
 ghost use Rattle.xdr_entries.specs.Basic.{hash as hash_format, account_id as account_id_format, claimable_balance_id as balance_id_format, muxed_account as muxed_account_format};
-ghost use Rattle.xdr_entries.proofs.BasicLaws.{account_id_lawful};
 
 use ledger_types::{AccountId, ClaimableBalanceId, Hash, MuxedAccount};
 use std::alloc::{AllocError, Global};
@@ -124,18 +123,16 @@ pub enum AccountIdFormat {}
 impl Decode for AccountIdFormat {
     type Value = AccountId;
 
-    type Failure = ReadFault;
+    type Failure = XdrFault;
 
     ghost format = { account_id_format };
 
-    fn decode(_alloc: Global, cursor: &mut Cursor<'_>) -> Result<AccountId, ReadFault> {
-        Ok(read_account_id(cursor)?)
+    fn decode(_alloc: Global, cursor: &mut Cursor<'_>) -> Result<AccountId, XdrFault> {
+        read_account_id(cursor)
     }
 }
 
 impl Encode for AccountIdFormat {
-    ghost lawful = { account_id_lawful };
-
     #[tactic(auto, using(xdr_core::proofs::Grammar::written, crate::proofs::BasicLaws::account_id_lawful))]
     fn encode(value: &AccountId, builder: &mut Builder) -> Result<(), AllocError> {
         write_account_id(value, builder)
@@ -153,11 +150,12 @@ impl Decode for OptionalAccountIdFormat {
     ghost format = { optional account_id_format };
 
     fn decode(alloc: Global, cursor: &mut Cursor<'_>) -> Result<Option<AccountId>, ReadFault> {
-        read_option::<AccountIdFormat>(alloc, cursor)
+        Ok(read_option::<AccountIdFormat>(alloc, cursor)?)
     }
 }
 
 impl Encode for OptionalAccountIdFormat {
+    #[tactic(auto, using(xdr_core::proofs::Grammar::written, crate::proofs::BasicLaws::account_id_lawful, xdr_core::proofs::Combining::option_law))]
     fn encode(value: &Option<AccountId>, builder: &mut Builder) -> Result<(), AllocError> {
         write_option::<AccountIdFormat>(value, builder)
     }
@@ -179,6 +177,7 @@ impl Decode for MuxedAccountFormat {
 }
 
 impl Encode for MuxedAccountFormat {
+    #[tactic(auto, using(xdr_core::proofs::Grammar::written, crate::proofs::BasicLaws::muxed_account_lawful))]
     fn encode(value: &MuxedAccount, builder: &mut Builder) -> Result<(), AllocError> {
         write_muxed_account(value, builder)
     }

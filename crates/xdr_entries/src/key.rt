@@ -1,6 +1,6 @@
 //! Keys.
 
-ghost use Rattle.std.specs.Prelude.{◌≡◌, OnOk};
+ghost use Rattle.std.specs.Prelude.{◌≡◌, ◌++◌, OnOk};
 ghost use Rattle.xdr_core.specs.Place.{Reads};
 ghost use Rattle.xdr_core.specs.ReadFault.{cause_of};
 ghost use Rattle.xdr_entries.specs.Keys.{ledger_key as key_format};
@@ -51,9 +51,18 @@ pub fn read_ledger_key(alloc: Global, cursor: &mut Cursor<'_>) -> Result<LedgerK
     Ok(key)
 }
 
-/// Writes a key.
-#[tactic(auto, unfolding(crate::specs::Keys::ledger_key))]
+/// Writes a key: its spelling stands at the end.
+#[tactic(auto, using(xdr_core::proofs::Grammar::written, crate::proofs::KeyLaws::ledger_key_lawful))]
 pub fn write_ledger_key(value: &LedgerKey, builder: &mut Builder) -> Result<(), AllocError>
+    requires { key_format.within value.now }
+    ensures { OnOk result (builder.new ≡ builder.old ++ key_format.spell value.now) }
+{
+    write_arm(value, builder)
+}
+
+/// Writes the discriminant of a key, and what stands behind it.
+#[tactic(auto, unfolding(crate::specs::Keys::ledger_key))]
+fn write_arm(value: &LedgerKey, builder: &mut Builder) -> Result<(), AllocError>
     requires { key_format.within value.now }
     ensures { OnOk result (builder.new ≡ key_format.onto builder.old value.now) }
 {

@@ -8,7 +8,7 @@ use Rattle.xdr_entries.proofs.predicate.+predicate.Goals as goal
 
 pub read_many-returns-in_err-read_below : goal.read_many-returns-in_err-read_below
 read_many-returns-in_err-read_below t c =
-    let p = err_from_is_err_and c.from_residual.result c.from_residual.ensures.1 in
+    let p = err_from_is_err_and c.from_residual-in_err-read_below.result c.from_residual-in_err-read_below.ensures.1 in
     let f = predicate_below c.args.levels in
     rw (p.1, p.2) (fails_at (cause_of c.in_err-read_below.field-0.0) f c.loop.parts c.args.len c.loop.counter c.loop.ahead (many_at f c.args.len c.args.cursor.now) c.loop-test.true c.in_err-read_below.ensures.0 c.loop.invariant, refl)
 

@@ -43,6 +43,9 @@ pub ◌&◌ : {F A B : Type 0} {f : Format F A} {g : Format F B} → Lawful f �
       second.appends (f.onto out v.0) v.1 ∙ ap (λ (t : List ℕ). t ++ g.spell v.1) (first.appends out v.0) ∙ append_assoc out (f.spell v.0) (g.spell v.1);
 }
 
+pub both_law : {F A B : Type 0} {f : Format F A} {g : Format F B} → Lawful f → Lawful g → Lawful (f ⨾ g)
+both_law first second = first & second
+
 pub struct_law : {F A V : Type 0} (fields : Fields A V) {f : Format F A} → Lawful f → Lawful (struct_of fields f)
 struct_law {F} {A} {V} fields {f} law = record {
   takes = λ p q v fits e.

@@ -38,7 +38,7 @@ number_again n wide at v rest lt =
     let len = wide.len v in
     rw (front_is_there n (big_bytes n v) rest len, wide.again v rest lt, drop_front n (big_bytes n v) rest len, len) refl
 
-number_lawful : (n : ℕ) → IsWide n → Lawful (number n)
+pub number_lawful : (n : ℕ) → IsWide n → Lawful (number n)
 number_lawful n wide = record {
   takes = λ p q v fits e. let t = number_takes n wide p q v fits e in record { taken = t.0; within = tt; sized = t.1 };
   again = λ at v rest within sized. number_again n wide at v rest sized;

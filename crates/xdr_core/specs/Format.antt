@@ -1,6 +1,8 @@
 -- A format: how the values of a type are spelled, and what a text reads as.
-use Rattle.std.specs.Prelude.{◌≡◌, ℕ, ◌+◌, ◌<◌, List, ◌++◌, length, slice_index, Ok, Err}
-use Rattle.xdr_core.specs.Place.{Place, Reading}
+use Rattle.std.specs.Prelude.{◌≡◌, ◌≢◌, ℕ, ◌+◌, ◌<◌, List, ◌++◌, length, slice_index, Ok, Err}
+use Rattle.xdr_core.specs.declared.fault.XdrFault.{XdrFault}
+use Rattle.xdr_core.specs.declared.fault.XdrKind.TheVariants.{Short}
+use Rattle.xdr_core.specs.Place.{Place, Reading, followed, end_of}
 
 -- F is the type of faults, V that of values
 pub record Format (F V : Type 0) : Type 1 where
@@ -48,3 +50,10 @@ IsPrefixFree {F} {V} f = (v w : V) (x y : List ℕ) → f.within v → f.sized v
 -- A fault comes only where no value is spelled.
 abbrev pub FaultsRightly : {F V : Type 0} → Format F V → Type 0
 FaultsRightly {F} {V} f = (p : Place) (fault : F) → f.read p ≡ Err fault → (v : V) (rest : List ℕ) → f.within v → f.sized v → p.rest ≡ f.spell v ++ rest → ⊥
+
+-- Each fault has its place: where the text ends too early it is the text's end, and any other fault stays the same whatever
+-- bytes follow.
+pub record PlacesFaults {V : Type 0} (f : Format XdrFault V) : Type 0 where
+  pub short : (p : Place) (fault : XdrFault) → IsBytes p.rest → f.read p ≡ Err fault → fault.kind ≡ Short → fault.at ≡ end_of p
+  pub stays : (p : Place) (fault : XdrFault) (more : List ℕ) → IsBytes p.rest → f.read p ≡ Err fault → fault.kind ≢ Short
+      → f.read (followed p more) ≡ Err fault

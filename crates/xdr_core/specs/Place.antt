@@ -1,5 +1,5 @@
 -- Where reading stands in a text, and what a step of reading answers.
-use Rattle.std.specs.Prelude.{◌≡◌, ℕ, ◌+◌, List, length, drop, Option, Some, IfSome, Result, Ok, Err}
+use Rattle.std.specs.Prelude.{◌≡◌, ℕ, ◌+◌, List, ◌++◌, length, drop, Option, Some, IfSome, Result, Ok, Err}
 use Rattle.xdr_core.specs.declared.fault.XdrFault.{XdrFault}
 use Rattle.xdr_core.specs.declared.fault.XdrKind.{XdrKind}
 use Rattle.xdr_core.specs.declared.fault.XdrKind.TheVariants.{Short}
@@ -17,13 +17,21 @@ start_of text = record { at = 0; rest = text }
 abbrev pub onward : ℕ → Place → Place
 onward n p = record { at = p.at + n; rest = drop n p.rest }
 
+-- the same place, with more bytes behind the text
+abbrev pub followed : Place → List ℕ → Place
+followed p more = record { at = p.at; rest = p.rest ++ more }
+
+-- where the text ends
+abbrev pub end_of : Place → ℕ
+end_of p = p.at + length p.rest
+
 -- a fault at the first byte ahead
 abbrev pub fault_at : Place → XdrKind → XdrFault
 fault_at p kind = record { at = p.at; kind = kind }
 
 -- the text ends too early: the fault names the length of the whole text
 abbrev pub short_at : Place → XdrFault
-short_at p = record { at = p.at + length p.rest; kind = Short }
+short_at p = record { at = end_of p; kind = Short }
 
 -- a value and the place behind it, or a fault
 abbrev pub Reading : Type 0 → Type 0 → Type 0

@@ -1,6 +1,6 @@
 -- The laws of a format whose faults are those of XDR: reading and spelling are one relation, and each fault has its place.
 use Rattle.std.proofs.Common.{
-  ◌≡◌, ℕ, zero, suc, ◌^◌, ◌<◌, ℤ, pos, Bool, true, false, cond, T, ltb, List, [], ◌∷◌, Option, Some, None, Ok, Err, refl, ap, arith,
+  ◌≡◌, ℕ, zero, suc, ◌^◌, ◌<◌, ℤ, pos, Bool, true, false, cond, T, ltb, List, [], ◌∷◌, ◌++◌, Option, Some, None, Ok, Err, refl, ap, arith,
 }
 use lib.Signed.{mag}
 use Rattle.std.specs.Ordering.{int_eq}
@@ -38,6 +38,10 @@ faults_placed laws = record {
   short = λ p fault fits e is. (laws.places p fault fits e).short is;
   stays = λ p fault more fits e other. (laws.places p fault fits e).stays other more;
 }
+
+-- writing puts the spelling at the end
+pub written : {V : Type 0} {f : Xdr V} → Laws f → (out : List ℕ) (v : V) → f.onto out v ≡ out ++ f.spell v
+written laws out v = laws.lawful.appends out v
 
 -- ---- leaves
 

@@ -4,7 +4,7 @@ use Rattle.xdr_core.specs.Place.{Place}
 use Rattle.xdr_core.specs.Combinators.{refused}
 use Rattle.ledger_types.specs.declared.predicate.ClaimPredicate.{ClaimPredicate}
 use Rattle.xdr_entries.specs.Predicates.{predicate_of, predicate_below}
-use Rattle.xdr_entries.proofs.PredicateLaws.{predicate_below_lawful}
+use Rattle.xdr_entries.proofs.PredicateLaws.{predicate_below_laws}
 
 pub one_level_more : (levels : ℕ) (p : Place) → 0 < levels → (predicate_below levels).read p ≡ (predicate_of (predicate_below (levels - 1))).read p
 unfolding predicate_below
@@ -23,7 +23,7 @@ pub written_one_level_more : (levels : ℕ) (out : List ℕ) (v : ClaimPredicate
 unfolding predicate_below
 written_one_level_more zero out v lt = absurd (omega arith)
 written_one_level_more (suc levels) out v lt =
-    let e : suc levels - 1 ≡ levels = omega arith in rw e ((predicate_below_lawful (suc levels)).appends out v)
+    let e : suc levels - 1 ≡ levels = omega arith in rw e ((predicate_below_laws (suc levels)).lawful.appends out v)
 
 pub within_one_level_more : (levels : ℕ) (v : ClaimPredicate) → 0 < levels → (predicate_below levels).within v → (predicate_of (predicate_below (levels - 1))).within v
 unfolding predicate_below

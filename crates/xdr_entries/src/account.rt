@@ -158,7 +158,7 @@ impl Decode for AccountExtensionV2Format {
 }
 
 impl Encode for AccountExtensionV2Format {
-    #[tactic(auto, using(xdr_core::proofs::Grammar::written, crate::proofs::EntryLaws::account_extension_v2_lawful))]
+    #[tactic(auto, using(xdr_core::proofs::FormatLaws::written, crate::proofs::EntryLaws::account_extension_v2_laws))]
     fn encode(value: &AccountEntryExtensionV2, builder: &mut Builder) -> Result<(), AllocError> {
         write_account_extension_v2(value, builder)
     }
@@ -183,7 +183,7 @@ impl Decode for AccountExtensionV1Format {
 }
 
 impl Encode for AccountExtensionV1Format {
-    #[tactic(auto, using(xdr_core::proofs::Grammar::written, crate::proofs::EntryLaws::account_extension_v1_lawful))]
+    #[tactic(auto, using(xdr_core::proofs::FormatLaws::written, crate::proofs::EntryLaws::account_extension_v1_laws))]
     fn encode(value: &AccountEntryExtensionV1, builder: &mut Builder) -> Result<(), AllocError> {
         write_account_extension_v1(value, builder)
     }

@@ -209,7 +209,7 @@ impl Decode for AssetFormat {
 }
 
 impl Encode for AssetFormat {
-    #[tactic(auto, using(xdr_core::proofs::Grammar::written, crate::proofs::BasicLaws::asset_lawful))]
+    #[tactic(auto, using(xdr_core::proofs::FormatLaws::written, crate::proofs::BasicLaws::asset_laws))]
     fn encode(value: &Asset, builder: &mut Builder) -> Result<(), AllocError> {
         write_asset(value, builder)
     }

@@ -54,7 +54,7 @@ pub fn read_bucket_entry(alloc: Global, cursor: &mut Cursor<'_>) -> Result<Bucke
 }
 
 /// Writes an item of a bucket: its spelling stands at the end.
-#[tactic(auto, using(xdr_core::proofs::Grammar::written, crate::proofs::KeyLaws::bucket_entry_lawful))]
+#[tactic(auto, using(xdr_core::proofs::FormatLaws::written, crate::proofs::KeyLaws::bucket_entry_laws))]
 pub fn write_bucket_entry(value: &BucketEntry, builder: &mut Builder) -> Result<(), AllocError>
     requires { bucket_format.within value.now }
     ensures { OnOk result (builder.new ≡ builder.old ++ bucket_format.spell value.now) }

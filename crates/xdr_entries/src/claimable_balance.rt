@@ -132,7 +132,7 @@ impl Decode for ClaimantFormat {
 }
 
 impl Encode for ClaimantFormat {
-    #[tactic(auto, using(xdr_core::proofs::Grammar::written, crate::proofs::EntryLaws::claimant_lawful))]
+    #[tactic(auto, using(xdr_core::proofs::FormatLaws::written, crate::proofs::EntryLaws::claimant_laws))]
     fn encode(value: &Claimant, builder: &mut Builder) -> Result<(), AllocError> {
         write_claimant(value, builder)
     }
@@ -157,7 +157,7 @@ impl Decode for ClaimableBalanceExtensionV1Format {
 }
 
 impl Encode for ClaimableBalanceExtensionV1Format {
-    #[tactic(auto, using(xdr_core::proofs::Grammar::written, crate::proofs::EntryLaws::claimable_balance_extension_v1_lawful))]
+    #[tactic(auto, using(xdr_core::proofs::FormatLaws::written, crate::proofs::EntryLaws::claimable_balance_extension_v1_laws))]
     fn encode(
         value: &ClaimableBalanceEntryExtensionV1,
         builder: &mut Builder,

@@ -144,7 +144,7 @@ pub fn read_ledger_entry(alloc: Global, cursor: &mut Cursor<'_>) -> Result<Ledge
 }
 
 /// Writes an entry: its spelling stands at the end.
-#[tactic(auto, using(xdr_core::proofs::Grammar::written, crate::proofs::EntryLaws::ledger_entry_lawful))]
+#[tactic(auto, using(xdr_core::proofs::FormatLaws::written, crate::proofs::EntryLaws::ledger_entry_laws))]
 pub fn write_ledger_entry(value: &LedgerEntry, builder: &mut Builder) -> Result<(), AllocError>
     requires { entry_format.within value.now }
     ensures { OnOk result (builder.new ≡ builder.old ++ entry_format.spell value.now) }
@@ -179,7 +179,7 @@ impl Decode for LedgerEntryExtensionV1Format {
 }
 
 impl Encode for LedgerEntryExtensionV1Format {
-    #[tactic(auto, using(xdr_core::proofs::Grammar::written, crate::proofs::EntryLaws::ledger_entry_extension_v1_lawful))]
+    #[tactic(auto, using(xdr_core::proofs::FormatLaws::written, crate::proofs::EntryLaws::ledger_entry_extension_v1_laws))]
     fn encode(value: &LedgerEntryExtensionV1, builder: &mut Builder) -> Result<(), AllocError> {
         write_ledger_entry_extension_v1(value, builder)
     }

@@ -133,7 +133,7 @@ impl Decode for AccountIdFormat {
 }
 
 impl Encode for AccountIdFormat {
-    #[tactic(auto, using(xdr_core::proofs::Grammar::written, crate::proofs::BasicLaws::account_id_lawful))]
+    #[tactic(auto, using(xdr_core::proofs::FormatLaws::written, crate::proofs::BasicLaws::account_id_laws))]
     fn encode(value: &AccountId, builder: &mut Builder) -> Result<(), AllocError> {
         write_account_id(value, builder)
     }
@@ -155,7 +155,7 @@ impl Decode for OptionalAccountIdFormat {
 }
 
 impl Encode for OptionalAccountIdFormat {
-    #[tactic(auto, using(xdr_core::proofs::Grammar::written, crate::proofs::BasicLaws::account_id_lawful, xdr_core::proofs::Combining::option_law))]
+    #[tactic(auto, using(xdr_core::proofs::FormatLaws::written, crate::proofs::BasicLaws::account_id_laws, xdr_core::proofs::FormatLaws::option_laws))]
     fn encode(value: &Option<AccountId>, builder: &mut Builder) -> Result<(), AllocError> {
         write_option::<AccountIdFormat>(value, builder)
     }
@@ -177,7 +177,7 @@ impl Decode for MuxedAccountFormat {
 }
 
 impl Encode for MuxedAccountFormat {
-    #[tactic(auto, using(xdr_core::proofs::Grammar::written, crate::proofs::BasicLaws::muxed_account_lawful))]
+    #[tactic(auto, using(xdr_core::proofs::FormatLaws::written, crate::proofs::BasicLaws::muxed_account_laws))]
     fn encode(value: &MuxedAccount, builder: &mut Builder) -> Result<(), AllocError> {
         write_muxed_account(value, builder)
     }

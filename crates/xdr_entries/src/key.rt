@@ -52,7 +52,7 @@ pub fn read_ledger_key(alloc: Global, cursor: &mut Cursor<'_>) -> Result<LedgerK
 }
 
 /// Writes a key: its spelling stands at the end.
-#[tactic(auto, using(xdr_core::proofs::Grammar::written, crate::proofs::KeyLaws::ledger_key_lawful))]
+#[tactic(auto, using(xdr_core::proofs::FormatLaws::written, crate::proofs::KeyLaws::ledger_key_laws))]
 pub fn write_ledger_key(value: &LedgerKey, builder: &mut Builder) -> Result<(), AllocError>
     requires { key_format.within value.now }
     ensures { OnOk result (builder.new ≡ builder.old ++ key_format.spell value.now) }

@@ -1,6 +1,6 @@
 //! The laws of the formats, as contracts.
 
-ghost use Rattle.xdr_core.specs.Format.{Lawful, IsPrefixFree, FaultsRightly};
+ghost use Rattle.xdr_core.specs.Format.{Lawful, IsPrefixFree, FaultsRightly, PlacesFaults};
 ghost use Rattle.xdr_entries.specs.Basic.{hash, account_id, claimable_balance_id, muxed_account, signer_key, signer, asset, trust_line_asset, pool_params, change_trust_asset, price, liabilities};
 ghost use Rattle.xdr_entries.specs.Predicates.{claim_predicate};
 ghost use Rattle.xdr_entries.specs.Entries.{account_extension_v2, account_extension_v1, account_entry, trust_line_extension_v2, trust_line_extension_v1, trust_line_entry, offer_entry, data_entry, claimant, claimable_balance_extension_v1, claimable_balance_entry, liquidity_pool_entry, ledger_entry_body, ledger_entry_extension_v1, ledger_entry};
@@ -109,4 +109,39 @@ pub fn faults_come_only_without_spelling()
     ensures ledger_entries { FaultsRightly ledger_entry }
     ensures ledger_keys { FaultsRightly ledger_key }
     ensures bucket_entries { FaultsRightly bucket_entry }
+{}
+
+/// Where a text ends too early the fault's place is the text's end, and any other fault stays the same whatever bytes follow.
+#[tactic(auto, using(crate::proofs::AllLaws::all_laws))]
+pub fn faults_are_placed()
+    ensures hashes { PlacesFaults hash }
+    ensures account_ids { PlacesFaults account_id }
+    ensures claimable_balance_ids { PlacesFaults claimable_balance_id }
+    ensures muxed_accounts { PlacesFaults muxed_account }
+    ensures signer_keys { PlacesFaults signer_key }
+    ensures signers { PlacesFaults signer }
+    ensures assets { PlacesFaults asset }
+    ensures trust_line_assets { PlacesFaults trust_line_asset }
+    ensures pool_params { PlacesFaults pool_params }
+    ensures change_trust_assets { PlacesFaults change_trust_asset }
+    ensures prices { PlacesFaults price }
+    ensures liabilities { PlacesFaults liabilities }
+    ensures claim_predicates { PlacesFaults claim_predicate }
+    ensures account_extensions_v2 { PlacesFaults account_extension_v2 }
+    ensures account_extensions_v1 { PlacesFaults account_extension_v1 }
+    ensures account_entries { PlacesFaults account_entry }
+    ensures trust_line_extensions_v2 { PlacesFaults trust_line_extension_v2 }
+    ensures trust_line_extensions_v1 { PlacesFaults trust_line_extension_v1 }
+    ensures trust_line_entries { PlacesFaults trust_line_entry }
+    ensures offer_entries { PlacesFaults offer_entry }
+    ensures data_entries { PlacesFaults data_entry }
+    ensures claimants { PlacesFaults claimant }
+    ensures claimable_balance_extensions_v1 { PlacesFaults claimable_balance_extension_v1 }
+    ensures claimable_balance_entries { PlacesFaults claimable_balance_entry }
+    ensures liquidity_pool_entries { PlacesFaults liquidity_pool_entry }
+    ensures ledger_entry_bodies { PlacesFaults ledger_entry_body }
+    ensures ledger_entry_extensions_v1 { PlacesFaults ledger_entry_extension_v1 }
+    ensures ledger_entries { PlacesFaults ledger_entry }
+    ensures ledger_keys { PlacesFaults ledger_key }
+    ensures bucket_entries { PlacesFaults bucket_entry }
 {}

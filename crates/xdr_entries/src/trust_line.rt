@@ -129,7 +129,7 @@ impl Decode for TrustLineExtensionV2Format {
 }
 
 impl Encode for TrustLineExtensionV2Format {
-    #[tactic(auto, using(xdr_core::proofs::Grammar::written, crate::proofs::EntryLaws::trust_line_extension_v2_lawful))]
+    #[tactic(auto, using(xdr_core::proofs::FormatLaws::written, crate::proofs::EntryLaws::trust_line_extension_v2_laws))]
     fn encode(value: &TrustLineEntryExtensionV2, builder: &mut Builder) -> Result<(), AllocError> {
         write_trust_line_extension_v2(value, builder)
     }
@@ -154,7 +154,7 @@ impl Decode for TrustLineExtensionV1Format {
 }
 
 impl Encode for TrustLineExtensionV1Format {
-    #[tactic(auto, using(xdr_core::proofs::Grammar::written, crate::proofs::EntryLaws::trust_line_extension_v1_lawful))]
+    #[tactic(auto, using(xdr_core::proofs::FormatLaws::written, crate::proofs::EntryLaws::trust_line_extension_v1_laws))]
     fn encode(value: &TrustLineEntryExtensionV1, builder: &mut Builder) -> Result<(), AllocError> {
         write_trust_line_extension_v1(value, builder)
     }

@@ -8,8 +8,8 @@ use ledger_types::Hash;
 use sha2::{Digest, Sha256};
 use std::alloc::AllocError;
 
-/// The hash of a transaction whose spelling is `tx`. `kind` is the type of its envelope: 2 for a transaction, 5 for
-/// a fee bump. A transaction of the first version is spelled behind the four zero bytes of its key's type.
+/// The hash of a transaction whose spelling is `tx`. `kind` is the type of its envelope, `ENVELOPE_TYPE_TX` or
+/// `ENVELOPE_TYPE_TX_FEE_BUMP`. A transaction of the first version is spelled behind the four zero bytes of its key's type.
 #[tactic(auto, unfolding(xdr_core::specs::Leaves::u32))]
 pub fn tx_hash(network: &Hash, kind: u32, tx: &[u8]) -> Result<Hash, AllocError>
     ensures { result ≡ Ok (tx_hash_of network.now kind tx.now) }

@@ -5,6 +5,7 @@ use Rattle.xdr_core.proofs.FormatLaws.{
   tag_laws, option_laws, list_laws, arm_laws, found, union_laws, extension_laws,
 }
 use Rattle.xdr_core.proofs.Unions.{IsFound}
+use Rattle.ledger_types.specs.declared.bounds.TheConstants.{MAX_SIGNERS, MAX_HOME_DOMAIN_LEN}
 use Rattle.ledger_types.specs.declared.entry.LedgerEntryBody.{LedgerEntryBody}
 use Rattle.ledger_types.specs.declared.entry.LedgerEntryBody.TheVariants as body
 use Rattle.xdr_entries.specs.Entries.{
@@ -25,7 +26,7 @@ pub account_extension_v2_laws : Laws account_extension_v2
 unfolding account_extension_v2
 account_extension_v2_laws = struct_laws account_v2_fields
     (u32_laws & u32_laws
-      & closed_laws (list_laws 20 (omega arith) (option_laws account_id_laws)) (tag_laws (pos 0) tt))
+      & closed_laws (list_laws MAX_SIGNERS (omega arith) (option_laws account_id_laws)) (tag_laws (pos 0) tt))
 
 pub account_extension_v1_laws : Laws account_extension_v1
 unfolding account_extension_v1
@@ -35,8 +36,8 @@ account_extension_v1_laws = struct_laws account_v1_fields
 pub account_entry_laws : Laws account_entry
 unfolding account_entry
 account_entry_laws = struct_laws account_fields (
-    account_id_laws & i64_laws & i64_laws & u32_laws & option_laws account_id_laws & u32_laws & var_laws 32 (omega arith)
-    & fixed_laws 4 & list_laws 20 (omega arith) signer_laws & extension_laws (pos 1) refl tt account_extension_v1_laws)
+    account_id_laws & i64_laws & i64_laws & u32_laws & option_laws account_id_laws & u32_laws & var_laws MAX_HOME_DOMAIN_LEN (omega arith)
+    & fixed_laws 4 & list_laws MAX_SIGNERS (omega arith) signer_laws & extension_laws (pos 1) refl tt account_extension_v1_laws)
 
 pub trust_line_extension_v2_laws : Laws trust_line_extension_v2
 unfolding trust_line_extension_v2

@@ -4,6 +4,7 @@ use Rattle.xdr_core.specs.declared.fault.XdrFault.{XdrFault}
 use Rattle.xdr_core.specs.Leaves.{u32, i32, i64, fixed, var}
 use Rattle.xdr_core.specs.Combinators.{◌⨾◌, Fields, struct_of, marked, closed, whole, Arm, Part, part}
 use Rattle.xdr_core.specs.Xdr.{Xdr, tag, optional, list_of, union_of, extension_of}
+use Rattle.ledger_types.specs.declared.bounds.TheConstants.{MAX_SIGNERS, MAX_HOME_DOMAIN_LEN}
 use Rattle.ledger_types.specs.declared.ids.AccountId.{AccountId}
 use Rattle.ledger_types.specs.declared.ids.Hash.{Hash}
 use Rattle.ledger_types.specs.declared.ids.ClaimableBalanceId.{ClaimableBalanceId}
@@ -44,7 +45,7 @@ account_v2_fields = record {
 }
 
 unfoldable pub account_extension_v2 : Xdr AccountEntryExtensionV2
-account_extension_v2 = struct_of account_v2_fields (u32 ⨾ u32 ⨾ closed (list_of 20 (optional account_id)) (tag (pos 0)))
+account_extension_v2 = struct_of account_v2_fields (u32 ⨾ u32 ⨾ closed (list_of MAX_SIGNERS (optional account_id)) (tag (pos 0)))
 
 abbrev pub account_v1_fields : Fields (Liabilities × Option AccountEntryExtensionV2) AccountEntryExtensionV1
 account_v1_fields = record {
@@ -81,7 +82,7 @@ account_fields = record {
 
 unfoldable pub account_entry : Xdr AccountEntry
 account_entry = struct_of account_fields
-    (account_id ⨾ i64 ⨾ i64 ⨾ u32 ⨾ optional account_id ⨾ u32 ⨾ var 32 ⨾ fixed 4 ⨾ list_of 20 signer ⨾ extension_of (pos 1) account_extension_v1)
+    (account_id ⨾ i64 ⨾ i64 ⨾ u32 ⨾ optional account_id ⨾ u32 ⨾ var MAX_HOME_DOMAIN_LEN ⨾ fixed 4 ⨾ list_of MAX_SIGNERS signer ⨾ extension_of (pos 1) account_extension_v1)
 
 -- ---- trust lines
 

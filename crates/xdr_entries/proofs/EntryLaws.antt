@@ -9,7 +9,7 @@ use Rattle.ledger_types.specs.declared.bounds.TheConstants.{MAX_SIGNERS, MAX_HOM
 use Rattle.ledger_types.specs.declared.entry.LedgerEntryBody.{LedgerEntryBody}
 use Rattle.ledger_types.specs.declared.entry.LedgerEntryBody.TheVariants as body
 use Rattle.xdr_entries.specs.Entries.{
-  account_v2_fields, account_extension_v2, account_v1_fields, account_extension_v1, account_fields, account_entry,
+  account_v2_fields, account_extension_v2, account_v1_fields, account_extension_v1, account_head, account_tail, account_fields, account_entry,
   line_v2_fields, trust_line_extension_v2, line_v1_fields, trust_line_extension_v1, line_fields, trust_line_entry,
   offer_fields, offer_entry, data_fields, data_entry, claimant_fields, claimant, balance_v1_fields,
   claimable_balance_extension_v1, balance_fields, claimable_balance_entry, pool_fields, liquidity_pool_entry,
@@ -33,11 +33,19 @@ unfolding account_extension_v1
 account_extension_v1_laws = struct_laws account_v1_fields
     (liabilities_laws & extension_laws (pos 2) refl tt account_extension_v2_laws)
 
+account_head_laws : Laws account_head
+unfolding account_head
+account_head_laws = account_id_laws & i64_laws & i64_laws & u32_laws & option_laws account_id_laws & u32_laws
+
+account_tail_laws : Laws account_tail
+unfolding account_tail
+account_tail_laws =
+    var_laws MAX_HOME_DOMAIN_LEN (omega arith) & fixed_laws 4 & list_laws MAX_SIGNERS (omega arith) signer_laws
+    & extension_laws (pos 1) refl tt account_extension_v1_laws
+
 pub account_entry_laws : Laws account_entry
 unfolding account_entry
-account_entry_laws = struct_laws account_fields (
-    account_id_laws & i64_laws & i64_laws & u32_laws & option_laws account_id_laws & u32_laws & var_laws MAX_HOME_DOMAIN_LEN (omega arith)
-    & fixed_laws 4 & list_laws MAX_SIGNERS (omega arith) signer_laws & extension_laws (pos 1) refl tt account_extension_v1_laws)
+account_entry_laws = struct_laws account_fields (account_head_laws & account_tail_laws)
 
 pub trust_line_extension_v2_laws : Laws trust_line_extension_v2
 unfolding trust_line_extension_v2

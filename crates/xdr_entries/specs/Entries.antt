@@ -58,12 +58,23 @@ account_v1_fields = record {
 unfoldable pub account_extension_v1 : Xdr AccountEntryExtensionV1
 account_extension_v1 = struct_of account_v1_fields (liabilities ⨾ extension_of (pos 2) account_extension_v2)
 
-abbrev pub AccountParts : Type 0
-AccountParts = AccountId × (ℤ × (ℤ × (ℕ × (Option AccountId × (ℕ × (List ℕ × (List ℕ × (List Signer × Option AccountEntryExtensionV1))))))))
+-- the fields of an account up to its flags
+abbrev pub AccountHead : Type 0
+AccountHead = AccountId × (ℤ × (ℤ × (ℕ × (Option AccountId × ℕ))))
 
-abbrev pub account_fields : Fields AccountParts AccountEntry
+unfoldable pub account_head : Xdr AccountHead
+account_head = account_id ⨾ i64 ⨾ i64 ⨾ u32 ⨾ optional account_id ⨾ u32
+
+-- the fields of an account from its home domain on
+abbrev pub AccountTail : Type 0
+AccountTail = List ℕ × (List ℕ × (List Signer × Option AccountEntryExtensionV1))
+
+unfoldable pub account_tail : Xdr AccountTail
+account_tail = var MAX_HOME_DOMAIN_LEN ⨾ fixed 4 ⨾ list_of MAX_SIGNERS signer ⨾ extension_of (pos 1) account_extension_v1
+
+abbrev pub account_fields : Fields (AccountHead × AccountTail) AccountEntry
 account_fields = record {
-  to = λ (id, (balance, (seq_num, (num_sub_entries, (inflation_dest, (flags, (home_domain, (thresholds, (signers, ext))))))))). record {
+  to = λ ((id, (balance, (seq_num, (num_sub_entries, (inflation_dest, flags))))), (home_domain, (thresholds, (signers, ext)))). record {
     account_id = id;
     balance = balance;
     seq_num = seq_num;
@@ -75,14 +86,16 @@ account_fields = record {
     signers = signers;
     ext = ext;
   };
-  from = λ a. (a.account_id, (a.balance, (a.seq_num, (a.num_sub_entries, (a.inflation_dest, (a.flags, (a.home_domain, (a.thresholds, (a.signers, a.ext)))))))));
+  from = λ a. (
+    (a.account_id, (a.balance, (a.seq_num, (a.num_sub_entries, (a.inflation_dest, a.flags))))),
+    (a.home_domain, (a.thresholds, (a.signers, a.ext))),
+  );
   there = λ _. refl;
   back = λ _. refl;
 }
 
 unfoldable pub account_entry : Xdr AccountEntry
-account_entry = struct_of account_fields
-    (account_id ⨾ i64 ⨾ i64 ⨾ u32 ⨾ optional account_id ⨾ u32 ⨾ var MAX_HOME_DOMAIN_LEN ⨾ fixed 4 ⨾ list_of MAX_SIGNERS signer ⨾ extension_of (pos 1) account_extension_v1)
+account_entry = struct_of account_fields (account_head ⨾ account_tail)
 
 -- ---- trust lines
 

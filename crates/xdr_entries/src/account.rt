@@ -1,20 +1,24 @@
 //! Accounts.
 
 ghost use Rattle.std.specs.Prelude.{◌≡◌, OnOk};
-ghost use Rattle.xdr_core.specs.Place.{Reads};
+ghost use Rattle.xdr_core.specs.Place.{Reads, itself};
 ghost use Rattle.xdr_core.specs.ReadFault.{cause_of};
-ghost use Rattle.xdr_entries.specs.Entries.{account_extension_v2 as v2_format, account_extension_v1 as v1_format, account_entry as account_format};
+ghost use Rattle.xdr_entries.specs.Entries.{account_head, account_tail, account_fields};
+ghost use Rattle.xdr_entries.specs.Entries.{account_extension_v2 as v2_format, account_extension_v1 as v1_format};
+ghost use Rattle.xdr_entries.specs.Entries.{account_entry as account_format};
 
 use crate::ids::{AccountIdFormat, OptionalAccountIdFormat, read_account_id, write_account_id};
 use crate::price::{read_liabilities, write_liabilities};
 use crate::signer::SignerFormat;
 use item_list::ItemList;
 use ledger_types::{
-    AccountEntry, AccountEntryExtensionV1, AccountEntryExtensionV2, MAX_HOME_DOMAIN_LEN, MAX_SIGNERS,
+    AccountEntry, AccountEntryExtensionV1, AccountEntryExtensionV2, AccountId, MAX_HOME_DOMAIN_LEN,
+    MAX_SIGNERS, Signer,
 };
 use std::alloc::{AllocError, Global};
 use xdr_core::{
-    Builder, Cursor, Decode, Encode, ReadFault, read_extension, read_list, read_option,
+    Builder, Cursor, Decode, Encode, ReadFault, XdrFault, read_extension, read_list,
+    read_option,
     write_extension, write_list, write_option,
 };
 
@@ -90,10 +94,13 @@ pub fn write_account_extension_v1(
     write_extension::<AccountExtensionV2Format>(&value.ext, 2, builder)
 }
 
-/// Reads an account.
-#[tactic(auto, unfolding(crate::specs::Entries::account_entry))]
-pub fn read_account_entry(alloc: Global, cursor: &mut Cursor<'_>) -> Result<AccountEntry, ReadFault>
-    ensures { Reads cause_of result cursor.old cursor.new (account_format.read cursor.old) }
+/// The fields of an account up to its flags.
+type AccountHead = (AccountId, (i64, (i64, (u32, (Option<AccountId>, u32)))));
+
+/// Reads the fields of an account up to its flags.
+#[tactic(auto, unfolding(crate::specs::Entries::account_head))]
+fn read_account_head(alloc: Global, cursor: &mut Cursor<'_>) -> Result<AccountHead, XdrFault>
+    ensures { Reads itself result cursor.old cursor.new (account_head.read cursor.old) }
 {
     let mut ahead = cursor.fork();
     let account_id = read_account_id(&mut ahead)?;
@@ -102,10 +109,36 @@ pub fn read_account_entry(alloc: Global, cursor: &mut Cursor<'_>) -> Result<Acco
     let num_sub_entries = ahead.u32()?;
     let inflation_dest = read_option::<AccountIdFormat>(alloc, &mut ahead)?;
     let flags = ahead.u32()?;
+    *cursor = ahead;
+    Ok((account_id, (balance, (seq_num, (num_sub_entries, (inflation_dest, flags))))))
+}
+
+/// The fields of an account from its home domain on.
+type AccountTail = (ItemList<u8>, ([u8; 4], (ItemList<Signer>, Option<AccountEntryExtensionV1>)));
+
+/// Reads the fields of an account from its home domain on.
+#[tactic(auto, unfolding(crate::specs::Entries::account_tail))]
+fn read_account_tail(alloc: Global, cursor: &mut Cursor<'_>) -> Result<AccountTail, ReadFault>
+    ensures { Reads cause_of result cursor.old cursor.new (account_tail.read cursor.old) }
+{
+    let mut ahead = cursor.fork();
     let home_domain = ItemList::from_slice(alloc, ahead.var(MAX_HOME_DOMAIN_LEN)?)?;
     let thresholds = ahead.array::<4>()?;
     let signers = read_list::<SignerFormat>(alloc, MAX_SIGNERS, &mut ahead)?;
     let ext = read_extension::<AccountExtensionV1Format>(alloc, 1, &mut ahead)?;
+    *cursor = ahead;
+    Ok((home_domain, (thresholds, (signers, ext))))
+}
+
+/// Reads an account.
+#[tactic(auto, unfolding(crate::specs::Entries::account_entry))]
+pub fn read_account_entry(alloc: Global, cursor: &mut Cursor<'_>) -> Result<AccountEntry, ReadFault>
+    ensures { Reads cause_of result cursor.old cursor.new (account_format.read cursor.old) }
+{
+    let mut ahead = cursor.fork();
+    let (account_id, (balance, (seq_num, (num_sub_entries, (inflation_dest, flags))))) =
+        read_account_head(alloc, &mut ahead)?;
+    let (home_domain, (thresholds, (signers, ext))) = read_account_tail(alloc, &mut ahead)?;
     *cursor = ahead;
     Ok(AccountEntry {
         account_id,
@@ -121,22 +154,40 @@ pub fn read_account_entry(alloc: Global, cursor: &mut Cursor<'_>) -> Result<Acco
     })
 }
 
-/// Writes an account.
-#[tactic(auto, unfolding(crate::specs::Entries::account_entry))]
-pub fn write_account_entry(value: &AccountEntry, builder: &mut Builder) -> Result<(), AllocError>
-    requires { account_format.within value.now }
-    ensures { OnOk result (builder.new ≡ account_format.onto builder.old value.now) }
+/// Writes the fields of an account up to its flags.
+#[tactic(auto, unfolding(crate::specs::Entries::account_head))]
+fn write_account_head(value: &AccountEntry, builder: &mut Builder) -> Result<(), AllocError>
+    requires { account_head.within (account_fields.from value.now).0 }
+    ensures { OnOk result (builder.new ≡ account_head.onto builder.old (account_fields.from value.now).0) }
 {
     write_account_id(&value.account_id, builder)?;
     builder.i64(value.balance)?;
     builder.i64(value.seq_num)?;
     builder.u32(value.num_sub_entries)?;
     write_option::<AccountIdFormat>(&value.inflation_dest, builder)?;
-    builder.u32(value.flags)?;
+    builder.u32(value.flags)
+}
+
+/// Writes the fields of an account from its home domain on.
+#[tactic(auto, unfolding(crate::specs::Entries::account_tail))]
+fn write_account_tail(value: &AccountEntry, builder: &mut Builder) -> Result<(), AllocError>
+    requires { account_tail.within (account_fields.from value.now).1 }
+    ensures { OnOk result (builder.new ≡ account_tail.onto builder.old (account_fields.from value.now).1) }
+{
     builder.var(value.home_domain.as_slice(), MAX_HOME_DOMAIN_LEN)?;
     builder.fixed(&value.thresholds)?;
     write_list::<SignerFormat>(value.signers.as_slice(), MAX_SIGNERS, builder)?;
     write_extension::<AccountExtensionV1Format>(&value.ext, 1, builder)
+}
+
+/// Writes an account.
+#[tactic(auto, unfolding(crate::specs::Entries::account_entry))]
+pub fn write_account_entry(value: &AccountEntry, builder: &mut Builder) -> Result<(), AllocError>
+    requires { account_format.within value.now }
+    ensures { OnOk result (builder.new ≡ account_format.onto builder.old value.now) }
+{
+    write_account_head(value, builder)?;
+    write_account_tail(value, builder)
 }
 
 /// What sponsorship adds to accounts, as a format.

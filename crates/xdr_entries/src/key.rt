@@ -1,9 +1,10 @@
 //! Keys.
 
 ghost use Rattle.std.specs.Prelude.{◌≡◌, ◌++◌, OnOk};
-ghost use Rattle.xdr_core.specs.Place.{Reads};
+ghost use Rattle.xdr_core.specs.Place.{Reads, itself};
+ghost use Rattle.xdr_core.specs.Combinators.{arm_at};
 ghost use Rattle.xdr_core.specs.ReadFault.{cause_of};
-ghost use Rattle.xdr_entries.specs.Keys.{ledger_key as key_format};
+ghost use Rattle.xdr_entries.specs.Keys.{trust_line_key, offer_key, data_key, ledger_key as key_format};
 
 use crate::asset::{read_trust_line_asset, write_trust_line_asset};
 use crate::data_entry::MAX_DATA_NAME_LEN;
@@ -15,7 +16,46 @@ use crate::ids::{
 use item_list::ItemList;
 use ledger_types::LedgerKey;
 use std::alloc::{AllocError, Global};
-use xdr_core::{Builder, Cursor, ReadFault, XdrKind};
+use xdr_core::{Builder, Cursor, ReadFault, XdrFault, XdrKind};
+
+/// Reads what names a trust line.
+fn read_trust_line_key(cursor: &mut Cursor<'_>) -> Result<LedgerKey, XdrFault>
+    ensures { Reads itself result cursor.old cursor.new (arm_at trust_line_key cursor.old) }
+{
+    let mut ahead = cursor.fork();
+    let account_id = read_account_id(&mut ahead)?;
+    let asset = read_trust_line_asset(&mut ahead)?;
+    *cursor = ahead;
+    Ok(LedgerKey::TrustLine { account_id, asset })
+}
+
+/// Reads what names an offer.
+fn read_offer_key(cursor: &mut Cursor<'_>) -> Result<LedgerKey, XdrFault>
+    ensures { Reads itself result cursor.old cursor.new (arm_at offer_key cursor.old) }
+{
+    let mut ahead = cursor.fork();
+    let seller_id = read_account_id(&mut ahead)?;
+    let offer_id = ahead.i64()?;
+    *cursor = ahead;
+    Ok(LedgerKey::Offer {
+        seller_id,
+        offer_id,
+    })
+}
+
+/// Reads what names data.
+fn read_data_key(alloc: Global, cursor: &mut Cursor<'_>) -> Result<LedgerKey, ReadFault>
+    ensures { Reads cause_of result cursor.old cursor.new (arm_at data_key cursor.old) }
+{
+    let mut ahead = cursor.fork();
+    let account_id = read_account_id(&mut ahead)?;
+    let data_name = ItemList::from_slice(alloc, ahead.var(MAX_DATA_NAME_LEN)?)?;
+    *cursor = ahead;
+    Ok(LedgerKey::Data {
+        account_id,
+        data_name,
+    })
+}
 
 /// Reads a key.
 #[tactic(auto, unfolding(crate::specs::Keys::ledger_key))]
@@ -27,18 +67,9 @@ pub fn read_ledger_key(alloc: Global, cursor: &mut Cursor<'_>) -> Result<LedgerK
         ACCOUNT => LedgerKey::Account {
             account_id: read_account_id(&mut ahead)?,
         },
-        TRUSTLINE => LedgerKey::TrustLine {
-            account_id: read_account_id(&mut ahead)?,
-            asset: read_trust_line_asset(&mut ahead)?,
-        },
-        OFFER => LedgerKey::Offer {
-            seller_id: read_account_id(&mut ahead)?,
-            offer_id: ahead.i64()?,
-        },
-        DATA => LedgerKey::Data {
-            account_id: read_account_id(&mut ahead)?,
-            data_name: ItemList::from_slice(alloc, ahead.var(MAX_DATA_NAME_LEN)?)?,
-        },
+        TRUSTLINE => read_trust_line_key(&mut ahead)?,
+        OFFER => read_offer_key(&mut ahead)?,
+        DATA => read_data_key(alloc, &mut ahead)?,
         CLAIMABLE_BALANCE => LedgerKey::ClaimableBalance {
             balance_id: read_claimable_balance_id(&mut ahead)?,
         },

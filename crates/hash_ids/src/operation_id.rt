@@ -22,8 +22,8 @@ pub fn balance_id(alloc: Global, source: &AccountId, seq: i64, op: u32) -> Resul
     Ok(hash(builder.as_slice()))
 }
 
-/// The id of the claimable balance that the operation at place `op`, counted from 0, of a transaction makes of an asset of a pool,
-/// as it revokes an authorisation.
+/// The id of the claimable balance that the operation at place `op`, counted from 0, of a transaction makes of an asset of
+/// a pool, as it revokes an authorisation.
 #[tactic(auto, using(crate::proofs::Pieces::written_pieces))]
 pub fn revoke_id(
     alloc: Global,
@@ -58,7 +58,8 @@ fn write_operation(
     builder: &mut Builder,
 ) -> Result<(), AllocError>
     ensures {
-        OnOk result (builder.new ≡ builder.old ++ i32.spell kind ++ account_id.spell source.now ++ i64.spell seq ++ u32.spell op)
+        OnOk result (builder.new
+            ≡ builder.old ++ i32.spell kind ++ account_id.spell source.now ++ i64.spell seq ++ u32.spell op)
     }
 {
     builder.i32(kind)?;

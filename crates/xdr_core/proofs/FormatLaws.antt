@@ -1,6 +1,31 @@
 -- The laws of a format whose faults are those of XDR: reading and spelling are one relation, and each fault has its place.
 use Rattle.std.proofs.Common.{
-  ◌≡◌, ℕ, zero, suc, ◌^◌, ◌<◌, ℤ, pos, Bool, true, false, cond, T, ltb, List, [], ◌∷◌, ◌++◌, Option, Some, None, Ok, Err, refl, ap, arith,
+  ◌≡◌,
+  ℕ,
+  zero,
+  suc,
+  ◌^◌,
+  ◌<◌,
+  ℤ,
+  pos,
+  Bool,
+  true,
+  false,
+  cond,
+  T,
+  ltb,
+  List,
+  [],
+  ◌∷◌,
+  ◌++◌,
+  Option,
+  Some,
+  None,
+  Ok,
+  Err,
+  refl,
+  ap,
+  arith,
 }
 use lib.Signed.{mag}
 use Rattle.std.specs.Ordering.{int_eq}
@@ -10,8 +35,32 @@ use Rattle.xdr_core.specs.Place.{Place, Reading, followed, end_of, fault_at, wit
 use Rattle.xdr_core.specs.Format.{Format, IsBytes, Lawful, PlacesFaults}
 use Rattle.xdr_core.specs.Leaves.{u32, u64, i32, i64, flag, fixed, count, var, mark}
 use Rattle.xdr_core.specs.Combinators.{
-  lifted, ◌⨾◌, Fields, struct_of, empty, constant_of, constant, marked, closed, whole, option_of, option, many_at, list, times,
-  Arm, Part, part, arm_at, pick, union, without, extended, extension_part, extension, refused,
+  lifted,
+  ◌⨾◌,
+  Fields,
+  struct_of,
+  empty,
+  constant_of,
+  constant,
+  marked,
+  closed,
+  whole,
+  option_of,
+  option,
+  many_at,
+  list,
+  times,
+  Arm,
+  Part,
+  part,
+  arm_at,
+  pick,
+  union,
+  without,
+  extended,
+  extension_part,
+  extension,
+  refused,
 }
 use Rattle.xdr_core.specs.Xdr.{Xdr, as_it_is, no_arm, tag, optional, list_of, union_of, extension_of, too_deep}
 use Rattle.xdr_core.proofs.LeafLaws.{u32_lawful, u64_lawful, i32_lawful, i64_lawful}
@@ -22,8 +71,22 @@ use Rattle.xdr_core.proofs.Unions.{IsArm, AreArms, IsFound, union_law}
 use Rattle.xdr_core.proofs.Extensions.{empty_law, refused_law, extension_law}
 use Rattle.xdr_core.proofs.Discriminants.{discriminant_fits, tag_law}
 use Rattle.xdr_core.proofs.Placing.{
-  Placed, Places, goes_on, bind_places, map_places, placed_other, err_is, flag_places, count_places, fixed_places, var_places,
-  mark_places, u32_places, u64_places, i32_places, i64_places,
+  Placed,
+  Places,
+  goes_on,
+  bind_places,
+  map_places,
+  placed_other,
+  err_is,
+  flag_places,
+  count_places,
+  fixed_places,
+  var_places,
+  mark_places,
+  u32_places,
+  u64_places,
+  i32_places,
+  i64_places,
 }
 
 pub record Laws {V : Type 0} (f : Xdr V) : Type 0 where
@@ -137,7 +200,7 @@ lifted_laws {V} {f} laws = record {
 constant_placed : (p m : Place) (fault : XdrFault) (same : Bool)
     → cond {A = Reading XdrFault (Unit {0})} same (Ok (tt, m)) (Err (fault_at p BadEnum)) ≡ Err fault
     → Placed (end_of m)
-      (λ more. cond {A = Reading XdrFault (Unit {0})} same (Ok (tt, followed m more)) (Err (fault_at p BadEnum))) fault
+    (λ more. cond {A = Reading XdrFault (Unit {0})} same (Ok (tt, followed m more)) (Err (fault_at p BadEnum))) fault
 constant_placed p m fault true e = absurd cc
 constant_placed p m fault false e =
     placed_other (end_of m) _ (fault_at p BadEnum) fault (λ is. cc) (err_is _ _ e) (λ more. refl)
@@ -228,9 +291,9 @@ arm_placed : {V : Type 0} (a : Arm XdrFault V) (others : List (Arm XdrFault V)) 
     (fault : XdrFault) (same : Bool) → IsBytes m.rest
     → cond same (arm_at a m) (pick others no_arm start (d, m)) ≡ Err fault
     → (pick others no_arm start (d, m) ≡ Err fault
-        → Placed (end_of m) (λ more. pick others no_arm (followed start more) (d, followed m more)) fault)
+    → Placed (end_of m) (λ more. pick others no_arm (followed start more) (d, followed m more)) fault)
     → Placed (end_of m)
-      (λ more. cond same (arm_at a (followed m more)) (pick others no_arm (followed start more) (d, followed m more))) fault
+    (λ more. cond same (arm_at a (followed m more)) (pick others no_arm (followed start more) (d, followed m more))) fault
 arm_placed a others laws start m d fault true fits e later =
     map_places a.body.read (λ x. (a.make x.0, x.1)) laws.places m fault fits e
 arm_placed a others laws start m d fault false fits e later = later e
@@ -263,6 +326,6 @@ extension_laws {V} mark {f} other fits laws = let word = lifted_laws i32_laws in
   places =
       bind_places (lifted as_it_is i32).read (pick (without ∷ extended mark f ∷ []) no_arm) word.places (goes_on word.lawful)
       (λ p m d fault fits e.
-        pick_placed (extension_part mark f) (without ∷ extended mark f ∷ [])
-        (arm_laws empty_laws (λ x. refl), (arm_laws (whole_laws laws) (λ x. refl), tt)) p m d fault fits e);
+      pick_placed (extension_part mark f) (without ∷ extended mark f ∷ [])
+      (arm_laws empty_laws (λ x. refl), (arm_laws (whole_laws laws) (λ x. refl), tt)) p m d fault fits e);
 }

@@ -1,7 +1,40 @@
 -- Where faults stand: tools, and the places of the leaves' faults.
 use Rattle.std.proofs.Common.{
-  ◌≡◌, ℕ, ◌+◌, ◌-◌, ◌^◌, ◌<◌, ◌≤◌, ℤ, Bool, true, false, cond, ltb, eqb, not, List, ◌++◌, length, take, Option, Some, None,
-  Result, Ok, Err, refl, sym, ap, subst, ◌∙◌, append_assoc, arith, inl, inr, ◌⊎◌,
+  ◌≡◌,
+  ℕ,
+  ◌+◌,
+  ◌-◌,
+  ◌^◌,
+  ◌<◌,
+  ◌≤◌,
+  ℤ,
+  Bool,
+  true,
+  false,
+  cond,
+  ltb,
+  eqb,
+  not,
+  List,
+  ◌++◌,
+  length,
+  take,
+  Option,
+  Some,
+  None,
+  Result,
+  Ok,
+  Err,
+  refl,
+  sym,
+  ap,
+  subst,
+  ◌∙◌,
+  append_assoc,
+  arith,
+  inl,
+  inr,
+  ◌⊎◌,
 }
 use Rattle.std.specs.Prelude.{◌≢◌}
 use Rattle.std.specs.List.{position}
@@ -14,8 +47,26 @@ use Rattle.xdr_core.specs.declared.fault.XdrKind.TheVariants.{Short, Padding, Ba
 use Rattle.xdr_core.specs.Place.{Place, Reading, onward, followed, end_of, fault_at, short_at, ◌>>=◌}
 use Rattle.xdr_core.specs.Format.{Format, IsBytes, Takes, Lawful}
 use Rattle.xdr_core.specs.Leaves.{
-  number_at, signed_at, number, flag_of, flag, padding_len, bytes_at, padding_of, padding_at, opaque_at, bounded, count, var, fixed,
-  mark_len, mark, u32, u64, i32, i64,
+  number_at,
+  signed_at,
+  number,
+  flag_of,
+  flag,
+  padding_len,
+  bytes_at,
+  padding_of,
+  padding_at,
+  opaque_at,
+  bounded,
+  count,
+  var,
+  fixed,
+  mark_len,
+  mark,
+  u32,
+  u64,
+  i32,
+  i64,
 }
 use Rattle.xdr_core.proofs.Steps.{bind_ok, guard_ok, guarded_ok}
 use Rattle.xdr_core.proofs.Numbers.{wide4}
@@ -79,7 +130,7 @@ bind_err (Err d) f e h = inl cc
 pub bind_places : {A B : Type 0} (read : Place → Reading XdrFault A) (next : Place → A × Place → Reading XdrFault B) → Places read
     → AlwaysGoesOn read
     → ((p m : Place) (x : A) (fault : XdrFault) → IsBytes m.rest → next p (x, m) ≡ Err fault
-        → Placed (end_of m) (λ more. next (followed p more) (x, followed m more)) fault)
+    → Placed (end_of m) (λ more. next (followed p more) (x, followed m more)) fault)
     → Places (λ p. read p >>= next p)
 bind_places read next first on second p fault fits e =
     elim (bind_err (read p) (next p) fault e) [
@@ -152,8 +203,8 @@ word_goes_on p m x fits e = goes_on (number_lawful 4 wide4) p m x fits e
 flag_placed : (p m : Place) (fault : XdrFault) (zero one : Bool)
     → cond {A = Reading XdrFault Bool} zero (Ok (false, m)) (cond one (Ok (true, m)) (Err (fault_at p BadFlag))) ≡ Err fault
     → Placed (end_of m)
-      (λ more. cond {A = Reading XdrFault Bool} zero (Ok (false, followed m more))
-        (cond one (Ok (true, followed m more)) (Err (fault_at p BadFlag)))) fault
+    (λ more. cond {A = Reading XdrFault Bool} zero (Ok (false, followed m more))
+    (cond one (Ok (true, followed m more)) (Err (fault_at p BadFlag)))) fault
 flag_placed p m fault true one e = absurd cc
 flag_placed p m fault false true e = absurd cc
 flag_placed p m fault false false e = placed_other (end_of m) _ (fault_at p BadFlag) fault (λ is. cc) (err_is _ _ e) (λ more. refl)
@@ -184,8 +235,8 @@ padding_placed : (k : ℕ) (p : Place) (fault : XdrFault) (o : Option ℕ) → k
 padding_placed k p fault None le is e = absurd cc
 padding_placed k p fault (Some i) le is e =
     placed_other (end_of p) _ (record { at = p.at + i; kind = Padding }) fault (λ is. cc) (err_is _ _ e) (λ more.
-      let there : k ≤ length (p.rest ++ more) = omega (arith, length-append p.rest more) in
-      rw (le-ltb (length (p.rest ++ more)) k there, take-append-le k p.rest more le, is) refl)
+    let there : k ≤ length (p.rest ++ more) = omega (arith, length-append p.rest more) in
+    rw (le-ltb (length (p.rest ++ more)) k there, take-append-le k p.rest more le, is) refl)
 
 guarded_err : {A : Type 0} (b : Bool) (d e : XdrFault) (r : Reading XdrFault A) → cond b (Err d) r ≡ Err e
     → ((b ≡ true) × (d ≡ e)) ⊎ ((b ≡ false) × (r ≡ Err e))
@@ -221,8 +272,8 @@ var_places max lt =
 mark_len_placed : (max : ℕ) (p m : Place) (len : ℕ) (fault : XdrFault) (low above : Bool)
     → cond {A = Reading XdrFault ℕ} low (Err (fault_at p BadMark)) (cond above (Err (fault_at p TooLong)) (Ok (len, m))) ≡ Err fault
     → Placed (end_of m)
-      (λ more. cond {A = Reading XdrFault ℕ} low (Err (fault_at p BadMark))
-        (cond above (Err (fault_at p TooLong)) (Ok (len, followed m more)))) fault
+    (λ more. cond {A = Reading XdrFault ℕ} low (Err (fault_at p BadMark))
+    (cond above (Err (fault_at p TooLong)) (Ok (len, followed m more)))) fault
 mark_len_placed max p m len fault true above e =
     placed_other (end_of m) _ (fault_at p BadMark) fault (λ is. cc) (err_is _ _ e) (λ more. refl)
 mark_len_placed max p m len fault false above e = bounded_placed p m len fault above e
@@ -237,9 +288,11 @@ mark_len_goes_on : (max : ℕ) (p m q : Place) (word len : ℕ) → mark_len max
 mark_len_goes_on max p m q word len e =
     let g = guarded_ok (ltb word (2 ^ 31)) (fault_at p BadMark) (bounded max p (word - 2 ^ 31, m)) (len, q) e in
     let h = guard_ok (ltb max (word - 2 ^ 31)) (fault_at p TooLong) (word - 2 ^ 31, m) (len, q) g.1 in
-    let place : m ≡ q = ap (λ (x : ℕ × Place). x.1) h.1 in
-    (place, λ more.
-      rw (g.0, h.0) (ap (λ (x : ℕ × Place). Ok (x.0, followed x.1 more)) h.1))
+    let place : m ≡ q = ap (λ (x : ℕ × Place). x.1) h.1 in (
+      place,
+      λ more.
+          rw (g.0, h.0) (ap (λ (x : ℕ × Place). Ok (x.0, followed x.1 more)) h.1),
+    )
 
 marked_len_goes_on : (max : ℕ) → AlwaysGoesOn (λ p. number_at 4 p >>= mark_len max p)
 marked_len_goes_on max p q len fits e =

@@ -1,7 +1,7 @@
 //! Writing a text of XDR at its end (RFC 4506).
 
 ghost use Rattle.std.specs.Prelude.{◌≡◌, ◌≤◌, ◌<◌, ◌^◌, [], ◌++◌, length, OnOk};
-ghost use Rattle.xdr_core.specs.Leaves.{u32 as u32_format, i32 as i32_format, u64 as u64_format, i64 as i64_format, flag as flag_format, fixed as fixed_format, count as count_format, var as var_format, mark as mark_format, padded};
+ghost use Rattle.xdr_core.specs.Leaves as leaf;
 
 use crate::cursor::TOP_BIT;
 use byteorder::{BigEndian, ByteOrder};
@@ -57,7 +57,7 @@ impl Builder {
     /// An unsigned integer of 32 bits.
     #[tactic(auto, unfolding(crate::specs::Leaves::u32))]
     pub fn u32(&mut self, value: u32) -> Result<(), AllocError>
-        ensures { OnOk result (self.new ≡ u32_format.onto self.old value) }
+        ensures { OnOk result (self.new ≡ leaf.u32.onto self.old value) }
     {
         let mut bytes = [0u8; 4];
         BigEndian::write_u32(&mut bytes, value);
@@ -67,7 +67,7 @@ impl Builder {
     /// A signed integer of 32 bits.
     #[tactic(auto, unfolding(crate::specs::Leaves::i32))]
     pub fn i32(&mut self, value: i32) -> Result<(), AllocError>
-        ensures { OnOk result (self.new ≡ i32_format.onto self.old value) }
+        ensures { OnOk result (self.new ≡ leaf.i32.onto self.old value) }
     {
         let mut bytes = [0u8; 4];
         BigEndian::write_i32(&mut bytes, value);
@@ -77,7 +77,7 @@ impl Builder {
     /// An unsigned integer of 64 bits.
     #[tactic(auto, unfolding(crate::specs::Leaves::u64))]
     pub fn u64(&mut self, value: u64) -> Result<(), AllocError>
-        ensures { OnOk result (self.new ≡ u64_format.onto self.old value) }
+        ensures { OnOk result (self.new ≡ leaf.u64.onto self.old value) }
     {
         let mut bytes = [0u8; 8];
         BigEndian::write_u64(&mut bytes, value);
@@ -87,7 +87,7 @@ impl Builder {
     /// A signed integer of 64 bits.
     #[tactic(auto, unfolding(crate::specs::Leaves::i64))]
     pub fn i64(&mut self, value: i64) -> Result<(), AllocError>
-        ensures { OnOk result (self.new ≡ i64_format.onto self.old value) }
+        ensures { OnOk result (self.new ≡ leaf.i64.onto self.old value) }
     {
         let mut bytes = [0u8; 8];
         BigEndian::write_i64(&mut bytes, value);
@@ -97,14 +97,14 @@ impl Builder {
     /// A flag: 0 is false, 1 is true.
     #[tactic(auto, unfolding(crate::specs::Leaves::flag, crate::specs::Leaves::u32))]
     pub fn flag(&mut self, value: bool) -> Result<(), AllocError>
-        ensures { OnOk result (self.new ≡ flag_format.onto self.old value) }
+        ensures { OnOk result (self.new ≡ leaf.flag.onto self.old value) }
     {
         if value { self.u32(1) } else { self.u32(0) }
     }
 
     /// Bytes and the zero bytes that fill up to a multiple of four.
     fn opaque(&mut self, bytes: &[u8]) -> Result<(), AllocError>
-        ensures { OnOk result (self.new ≡ self.old ++ padded bytes.now) }
+        ensures { OnOk result (self.new ≡ self.old ++ leaf.padded bytes.now) }
     {
         self.raw(bytes)?;
         let zeros = [0u8; 4];
@@ -114,7 +114,7 @@ impl Builder {
     /// Bytes whose number both sides know, and their padding.
     #[tactic(auto, unfolding(crate::specs::Leaves::fixed))]
     pub fn fixed(&mut self, bytes: &[u8]) -> Result<(), AllocError>
-        ensures { OnOk result (self.new ≡ (fixed_format (length bytes.now)).onto self.old bytes.now) }
+        ensures { OnOk result (self.new ≡ (leaf.fixed (length bytes.now)).onto self.old bytes.now) }
     {
         self.opaque(bytes)
     }
@@ -123,7 +123,7 @@ impl Builder {
     #[tactic(auto, unfolding(crate::specs::Leaves::count, crate::specs::Leaves::u32))]
     pub fn count(&mut self, len: usize, max: u32) -> Result<(), AllocError>
         requires { len ≤ max }
-        ensures { OnOk result (self.new ≡ (count_format max).onto self.old len) }
+        ensures { OnOk result (self.new ≡ (leaf.count max).onto self.old len) }
     {
         self.u32(len as u32)
     }
@@ -131,8 +131,8 @@ impl Builder {
     /// At most `max` bytes behind their number, and their padding.
     #[tactic(auto, unfolding(crate::specs::Leaves::var))]
     pub fn var(&mut self, bytes: &[u8], max: u32) -> Result<(), AllocError>
-        requires { (var_format max).within bytes.now }
-        ensures { OnOk result (self.new ≡ (var_format max).onto self.old bytes.now) }
+        requires { (leaf.var max).within bytes.now }
+        ensures { OnOk result (self.new ≡ (leaf.var max).onto self.old bytes.now) }
     {
         self.count(bytes.len(), max)?;
         self.opaque(bytes)
@@ -141,9 +141,9 @@ impl Builder {
     /// At most `max` bytes behind their mark (RFC 5531, 11), with no padding.
     #[tactic(auto, unfolding(crate::specs::Leaves::mark, crate::specs::Leaves::u32))]
     pub fn mark(&mut self, bytes: &[u8], max: u32) -> Result<(), AllocError>
-        requires fits { (mark_format max).within bytes.now }
+        requires fits { (leaf.mark max).within bytes.now }
         requires room { max < 2 ^ 31 }
-        ensures { OnOk result (self.new ≡ (mark_format max).onto self.old bytes.now) }
+        ensures { OnOk result (self.new ≡ (leaf.mark max).onto self.old bytes.now) }
     {
         self.u32(TOP_BIT + bytes.len() as u32)?;
         self.raw(bytes)

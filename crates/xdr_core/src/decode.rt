@@ -55,7 +55,8 @@ pub fn read_extension<D: Decode>(
     mark: i32,
     cursor: &mut Cursor<'_>,
 ) -> Result<Option<D::Value>, D::Failure>
-    ensures { Reads D.Failure.cause result cursor.old cursor.new ((extension D.Failure.of_fault mark D.format).read cursor.old) }
+    ensures { Reads D.Failure.cause result cursor.old cursor.new
+        ((extension D.Failure.of_fault mark D.format).read cursor.old) }
 {
     let mut ahead = cursor.fork();
     let discriminant = match ahead.i32() {
@@ -83,7 +84,8 @@ fn read_many<D: Decode>(
     len: u32,
     cursor: &mut Cursor<'_>,
 ) -> Result<ItemList<D::Value>, D::Failure>
-    where D::Failure: MemoryFailure,
+where
+    D::Failure: MemoryFailure,
     ensures { Reads D.Failure.cause result cursor.old cursor.new (many_at D.format len cursor.old) }
 {
     let mut ahead = cursor.fork();
@@ -101,15 +103,16 @@ fn read_many<D: Decode>(
     Ok(items)
 }
 
-/// Reads at most `max` values behind their number. It takes room for 100 of them at most at once, so memory grows with the
-/// values that are there, and not with the number.
+/// Reads at most `max` values behind their number. It takes room for 100 of them at most at once, so memory grows with
+/// the values that are there, and not with the number.
 #[tactic(auto, unfolding(crate::specs::Combinators::list))]
 pub fn read_list<D: Decode>(
     alloc: Global,
     max: u32,
     cursor: &mut Cursor<'_>,
 ) -> Result<ItemList<D::Value>, D::Failure>
-    where D::Failure: MemoryFailure,
+where
+    D::Failure: MemoryFailure,
     ensures { Reads D.Failure.cause result cursor.old cursor.new ((list D.Failure.of_fault max D.format).read cursor.old) }
 {
     let mut ahead = cursor.fork();

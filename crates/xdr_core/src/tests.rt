@@ -131,8 +131,8 @@ fn fields_stand_one_behind_another(rt: HostRuntime) -> Result<(), Fail> {
     Ok(())
 }
 
-// The place behind a record, or of the mark where the read faults. The kind of a mark and its length are tested before what
-// follows.
+// The place behind a record, or of the mark where the read faults. The kind of a mark and its length are tested before
+// what follows.
 #[test]
 fn a_record_stands_behind_its_mark(rt: HostRuntime) {
     for (text, want, place) in [
@@ -273,7 +273,7 @@ fn an_extension_stands_behind_its_discriminant(rt: HostRuntime) {
 }
 
 #[test]
-#[tactic(auto, unfolding(crate::specs::Combinators::option, crate::specs::Combinators::list, crate::specs::Combinators::extension, crate::specs::Leaves::u32))]
+#[tactic(auto, unfolding(crate::specs::Combinators::option, crate::specs::Combinators::list, crate::specs::Combinators::extension, crate::specs::Leaves::u32,),)]
 fn what_is_written_is_what_is_read(rt: HostRuntime) -> Result<(), Fail> {
     let mut builder = Builder::new(rt.alloc());
     write_option::<Word>(&None, &mut builder)?;

@@ -1,8 +1,20 @@
 -- The laws of ids, signers, assets and prices.
 use Rattle.std.proofs.Common.{pos, refl}
 use Rattle.xdr_core.proofs.FormatLaws.{
-  Laws, u32_laws, u64_laws, i32_laws, i64_laws, fixed_laws, empty_laws, ◌&◌, struct_laws, marked_laws, tag_laws,
-  arm_laws, found, union_laws,
+  Laws,
+  u32_laws,
+  u64_laws,
+  i32_laws,
+  i64_laws,
+  fixed_laws,
+  empty_laws,
+  ◌&◌,
+  struct_laws,
+  marked_laws,
+  tag_laws,
+  arm_laws,
+  found,
+  union_laws,
 }
 use Rattle.xdr_core.proofs.Unions.{IsFound}
 use Rattle.ledger_types.specs.declared.ids.MuxedAccount.{MuxedAccount}
@@ -16,12 +28,50 @@ use Rattle.ledger_types.specs.declared.asset.TrustLineAsset.TheVariants as line
 use Rattle.ledger_types.specs.declared.asset.ChangeTrustAsset.{ChangeTrustAsset}
 use Rattle.ledger_types.specs.declared.asset.ChangeTrustAsset.TheVariants as change
 use Rattle.xdr_entries.specs.Basic.{
-  hash_fields, hash, account_id_fields, account_id, balance_id_fields, claimable_balance_id, muxed_ed25519,
-  muxed_with_id, muxed_arms, muxed_part, muxed_account, signer_ed25519, signer_pre_auth, signer_hash_x, signer_key_arms,
-  signer_key_part, signer_key, signer_fields, signer, native, alphanum4, alphanum12, asset_arms, asset_part, asset,
-  line_native, line_alphanum4, line_alphanum12, line_pool, trust_line_asset_arms, trust_line_asset_part,
-  trust_line_asset, pool_params_fields, pool_params, change_native, change_alphanum4, change_alphanum12, change_pool,
-  change_trust_asset_arms, change_trust_asset_part, change_trust_asset, price_fields, price, liabilities_fields,
+  hash_fields,
+  hash,
+  account_id_fields,
+  account_id,
+  balance_id_fields,
+  claimable_balance_id,
+  muxed_ed25519,
+  muxed_with_id,
+  muxed_arms,
+  muxed_part,
+  muxed_account,
+  signer_ed25519,
+  signer_pre_auth,
+  signer_hash_x,
+  signer_key_arms,
+  signer_key_part,
+  signer_key,
+  signer_fields,
+  signer,
+  native,
+  alphanum4,
+  alphanum12,
+  asset_arms,
+  asset_part,
+  asset,
+  line_native,
+  line_alphanum4,
+  line_alphanum12,
+  line_pool,
+  trust_line_asset_arms,
+  trust_line_asset_part,
+  trust_line_asset,
+  pool_params_fields,
+  pool_params,
+  change_native,
+  change_alphanum4,
+  change_alphanum12,
+  change_pool,
+  change_trust_asset_arms,
+  change_trust_asset_part,
+  change_trust_asset,
+  price_fields,
+  price,
+  liabilities_fields,
   liabilities,
 }
 
@@ -46,9 +96,10 @@ muxed_account_found (muxed.MuxedEd25519 id key) =
 
 pub muxed_account_laws : Laws muxed_account
 unfolding muxed_account
-muxed_account_laws = union_laws
-    (arm_laws (fixed_laws 32) (λ x. refl),
-      (arm_laws (u64_laws & fixed_laws 32) (λ x. refl), tt))
+muxed_account_laws = union_laws (
+  arm_laws (fixed_laws 32) (λ x. refl),
+  (arm_laws (u64_laws & fixed_laws 32) (λ x. refl), tt),
+)
     muxed_account_found
 
 -- ---- signers
@@ -60,10 +111,13 @@ signer_key_found (signing.HashX digest) = found signer_hash_x digest hash_laws t
 
 pub signer_key_laws : Laws signer_key
 unfolding signer_key
-signer_key_laws = union_laws
-    (arm_laws (fixed_laws 32) (λ x. refl),
-      (arm_laws hash_laws (λ x. refl),
-      (arm_laws hash_laws (λ x. refl), tt)))
+signer_key_laws = union_laws (
+  arm_laws (fixed_laws 32) (λ x. refl),
+  (
+    arm_laws hash_laws (λ x. refl),
+    (arm_laws hash_laws (λ x. refl), tt),
+  ),
+)
     signer_key_found
 
 pub signer_laws : Laws signer
@@ -81,10 +135,13 @@ asset_found (held.Alphanum12 code issuer) =
 
 pub asset_laws : Laws asset
 unfolding asset
-asset_laws = union_laws
-    (arm_laws empty_laws (λ x. refl),
-      (arm_laws (fixed_laws 4 & account_id_laws) (λ x. refl),
-      (arm_laws (fixed_laws 12 & account_id_laws) (λ x. refl), tt)))
+asset_laws = union_laws (
+  arm_laws empty_laws (λ x. refl),
+  (
+    arm_laws (fixed_laws 4 & account_id_laws) (λ x. refl),
+    (arm_laws (fixed_laws 12 & account_id_laws) (λ x. refl), tt),
+  ),
+)
     asset_found
 
 trust_line_asset_found : (v : TrustLineAsset) → IsFound trust_line_asset_part trust_line_asset_arms v
@@ -97,11 +154,16 @@ trust_line_asset_found (line.PoolShare pool) = found line_pool pool hash_laws tt
 
 pub trust_line_asset_laws : Laws trust_line_asset
 unfolding trust_line_asset
-trust_line_asset_laws = union_laws
-    (arm_laws empty_laws (λ x. refl),
-      (arm_laws (fixed_laws 4 & account_id_laws) (λ x. refl),
-      (arm_laws (fixed_laws 12 & account_id_laws) (λ x. refl),
-      (arm_laws hash_laws (λ x. refl), tt))))
+trust_line_asset_laws = union_laws (
+  arm_laws empty_laws (λ x. refl),
+  (
+    arm_laws (fixed_laws 4 & account_id_laws) (λ x. refl),
+    (
+      arm_laws (fixed_laws 12 & account_id_laws) (λ x. refl),
+      (arm_laws hash_laws (λ x. refl), tt),
+    ),
+  ),
+)
     trust_line_asset_found
 
 pub pool_params_laws : Laws pool_params
@@ -120,11 +182,16 @@ change_trust_asset_found (change.PoolShare params) =
 
 pub change_trust_asset_laws : Laws change_trust_asset
 unfolding change_trust_asset
-change_trust_asset_laws = union_laws
-    (arm_laws empty_laws (λ x. refl),
-      (arm_laws (fixed_laws 4 & account_id_laws) (λ x. refl),
-      (arm_laws (fixed_laws 12 & account_id_laws) (λ x. refl),
-      (arm_laws pool_params_laws (λ x. refl), tt))))
+change_trust_asset_laws = union_laws (
+  arm_laws empty_laws (λ x. refl),
+  (
+    arm_laws (fixed_laws 4 & account_id_laws) (λ x. refl),
+    (
+      arm_laws (fixed_laws 12 & account_id_laws) (λ x. refl),
+      (arm_laws pool_params_laws (λ x. refl), tt),
+    ),
+  ),
+)
     change_trust_asset_found
 
 -- ---- prices

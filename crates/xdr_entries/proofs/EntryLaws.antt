@@ -1,24 +1,80 @@
 -- The laws of ledger entries.
 use Rattle.std.proofs.Common.{pos, refl, arith}
 use Rattle.xdr_core.proofs.FormatLaws.{
-  Laws, u32_laws, i32_laws, i64_laws, fixed_laws, var_laws, ◌&◌, struct_laws, whole_laws, marked_laws, closed_laws,
-  tag_laws, option_laws, list_laws, arm_laws, found, union_laws, extension_laws,
+  Laws,
+  u32_laws,
+  i32_laws,
+  i64_laws,
+  fixed_laws,
+  var_laws,
+  ◌&◌,
+  struct_laws,
+  whole_laws,
+  marked_laws,
+  closed_laws,
+  tag_laws,
+  option_laws,
+  list_laws,
+  arm_laws,
+  found,
+  union_laws,
+  extension_laws,
 }
 use Rattle.xdr_core.proofs.Unions.{IsFound}
 use Rattle.ledger_types.specs.declared.bounds.TheConstants.{MAX_SIGNERS, MAX_HOME_DOMAIN_LEN}
 use Rattle.ledger_types.specs.declared.entry.LedgerEntryBody.{LedgerEntryBody}
 use Rattle.ledger_types.specs.declared.entry.LedgerEntryBody.TheVariants as body
 use Rattle.xdr_entries.specs.Entries.{
-  account_v2_fields, account_extension_v2, account_v1_fields, account_extension_v1, account_head, account_tail, account_fields, account_entry,
-  line_v2_fields, trust_line_extension_v2, line_v1_fields, trust_line_extension_v1, line_fields, trust_line_entry,
-  offer_fields, offer_entry, data_fields, data_entry, claimant_fields, claimant, balance_v1_fields,
-  claimable_balance_extension_v1, balance_fields, claimable_balance_entry, pool_fields, liquidity_pool_entry,
-  account_arm, trust_line_arm, offer_arm, data_arm, claimable_balance_arm, liquidity_pool_arm, body_arms, body_part,
-  ledger_entry_body, entry_v1_fields, ledger_entry_extension_v1, entry_fields, ledger_entry,
+  account_v2_fields,
+  account_extension_v2,
+  account_v1_fields,
+  account_extension_v1,
+  account_head,
+  account_tail,
+  account_fields,
+  account_entry,
+  line_v2_fields,
+  trust_line_extension_v2,
+  line_v1_fields,
+  trust_line_extension_v1,
+  line_fields,
+  trust_line_entry,
+  offer_fields,
+  offer_entry,
+  data_fields,
+  data_entry,
+  claimant_fields,
+  claimant,
+  balance_v1_fields,
+  claimable_balance_extension_v1,
+  balance_fields,
+  claimable_balance_entry,
+  pool_fields,
+  liquidity_pool_entry,
+  account_arm,
+  trust_line_arm,
+  offer_arm,
+  data_arm,
+  claimable_balance_arm,
+  liquidity_pool_arm,
+  body_arms,
+  body_part,
+  ledger_entry_body,
+  entry_v1_fields,
+  ledger_entry_extension_v1,
+  entry_fields,
+  ledger_entry,
 }
 use Rattle.xdr_entries.proofs.BasicLaws.{
-  hash_laws, account_id_laws, claimable_balance_id_laws, signer_laws, asset_laws, trust_line_asset_laws,
-  pool_params_laws, price_laws, liabilities_laws,
+  hash_laws,
+  account_id_laws,
+  claimable_balance_id_laws,
+  signer_laws,
+  asset_laws,
+  trust_line_asset_laws,
+  pool_params_laws,
+  price_laws,
+  liabilities_laws,
 }
 use Rattle.xdr_entries.proofs.PredicateLaws.{claim_predicate_laws}
 
@@ -26,7 +82,7 @@ pub account_extension_v2_laws : Laws account_extension_v2
 unfolding account_extension_v2
 account_extension_v2_laws = struct_laws account_v2_fields
     (u32_laws & u32_laws
-      & closed_laws (list_laws MAX_SIGNERS (omega arith) (option_laws account_id_laws)) (tag_laws (pos 0) tt))
+    & closed_laws (list_laws MAX_SIGNERS (omega arith) (option_laws account_id_laws)) (tag_laws (pos 0) tt))
 
 pub account_extension_v1_laws : Laws account_extension_v1
 unfolding account_extension_v1
@@ -60,13 +116,13 @@ pub trust_line_entry_laws : Laws trust_line_entry
 unfolding trust_line_entry
 trust_line_entry_laws = struct_laws line_fields
     (account_id_laws & trust_line_asset_laws & i64_laws & i64_laws & u32_laws
-      & extension_laws (pos 1) refl tt trust_line_extension_v1_laws)
+    & extension_laws (pos 1) refl tt trust_line_extension_v1_laws)
 
 pub offer_entry_laws : Laws offer_entry
 unfolding offer_entry
 offer_entry_laws = struct_laws offer_fields
     (account_id_laws & i64_laws & asset_laws & asset_laws & i64_laws & price_laws
-      & closed_laws u32_laws (tag_laws (pos 0) tt))
+    & closed_laws u32_laws (tag_laws (pos 0) tt))
 
 pub data_entry_laws : Laws data_entry
 unfolding data_entry
@@ -86,7 +142,7 @@ pub claimable_balance_entry_laws : Laws claimable_balance_entry
 unfolding claimable_balance_entry
 claimable_balance_entry_laws = struct_laws balance_fields
     (claimable_balance_id_laws & list_laws 10 (omega arith) claimant_laws & asset_laws & i64_laws
-      & extension_laws (pos 1) refl tt claimable_balance_extension_v1_laws)
+    & extension_laws (pos 1) refl tt claimable_balance_extension_v1_laws)
 
 pub liquidity_pool_entry_laws : Laws liquidity_pool_entry
 unfolding liquidity_pool_entry
@@ -106,13 +162,22 @@ ledger_entry_body_found (body.LiquidityPool entry) =
 
 pub ledger_entry_body_laws : Laws ledger_entry_body
 unfolding ledger_entry_body
-ledger_entry_body_laws = union_laws
-    (arm_laws account_entry_laws (λ x. refl),
-      (arm_laws trust_line_entry_laws (λ x. refl),
-      (arm_laws offer_entry_laws (λ x. refl),
-      (arm_laws data_entry_laws (λ x. refl),
-      (arm_laws claimable_balance_entry_laws (λ x. refl),
-      (arm_laws liquidity_pool_entry_laws (λ x. refl), tt))))))
+ledger_entry_body_laws = union_laws (
+  arm_laws account_entry_laws (λ x. refl),
+  (
+    arm_laws trust_line_entry_laws (λ x. refl),
+    (
+      arm_laws offer_entry_laws (λ x. refl),
+      (
+        arm_laws data_entry_laws (λ x. refl),
+        (
+          arm_laws claimable_balance_entry_laws (λ x. refl),
+          (arm_laws liquidity_pool_entry_laws (λ x. refl), tt),
+        ),
+      ),
+    ),
+  ),
+)
     ledger_entry_body_found
 
 pub ledger_entry_extension_v1_laws : Laws ledger_entry_extension_v1

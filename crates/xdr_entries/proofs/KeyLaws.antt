@@ -1,7 +1,17 @@
 -- The laws of keys and items of buckets.
 use Rattle.std.proofs.Common.{pos, negsuc, refl, arith}
 use Rattle.xdr_core.proofs.FormatLaws.{
-  Laws, u32_laws, i64_laws, var_laws, ◌&◌, whole_laws, closed_laws, tag_laws, arm_laws, found, union_laws,
+  Laws,
+  u32_laws,
+  i64_laws,
+  var_laws,
+  ◌&◌,
+  whole_laws,
+  closed_laws,
+  tag_laws,
+  arm_laws,
+  found,
+  union_laws,
 }
 use Rattle.xdr_core.proofs.Unions.{IsFound}
 use Rattle.ledger_types.specs.declared.key.LedgerKey.{LedgerKey}
@@ -9,8 +19,22 @@ use Rattle.ledger_types.specs.declared.key.LedgerKey.TheVariants as key
 use Rattle.ledger_types.specs.declared.bucket.BucketEntry.{BucketEntry}
 use Rattle.ledger_types.specs.declared.bucket.BucketEntry.TheVariants as bucket
 use Rattle.xdr_entries.specs.Keys.{
-  account_key, trust_line_key, offer_key, data_key, claimable_balance_key, liquidity_pool_key, key_arms, key_part,
-  ledger_key, meta_arm, live_arm, dead_arm, init_arm, bucket_arms, bucket_part, bucket_entry,
+  account_key,
+  trust_line_key,
+  offer_key,
+  data_key,
+  claimable_balance_key,
+  liquidity_pool_key,
+  key_arms,
+  key_part,
+  ledger_key,
+  meta_arm,
+  live_arm,
+  dead_arm,
+  init_arm,
+  bucket_arms,
+  bucket_part,
+  bucket_entry,
 }
 use Rattle.xdr_entries.proofs.BasicLaws.{hash_laws, account_id_laws, claimable_balance_id_laws, trust_line_asset_laws}
 use Rattle.xdr_entries.proofs.EntryLaws.{ledger_entry_laws}
@@ -29,13 +53,22 @@ ledger_key_found (key.LiquidityPool id) = found liquidity_pool_key id hash_laws 
 
 pub ledger_key_laws : Laws ledger_key
 unfolding ledger_key
-ledger_key_laws = union_laws
-    (arm_laws account_id_laws (λ x. refl),
-      (arm_laws (account_id_laws & trust_line_asset_laws) (λ x. refl),
-      (arm_laws (account_id_laws & i64_laws) (λ x. refl),
-      (arm_laws (account_id_laws & var_laws 64 (omega arith)) (λ x. refl),
-      (arm_laws claimable_balance_id_laws (λ x. refl),
-      (arm_laws hash_laws (λ x. refl), tt))))))
+ledger_key_laws = union_laws (
+  arm_laws account_id_laws (λ x. refl),
+  (
+    arm_laws (account_id_laws & trust_line_asset_laws) (λ x. refl),
+    (
+      arm_laws (account_id_laws & i64_laws) (λ x. refl),
+      (
+        arm_laws (account_id_laws & var_laws 64 (omega arith)) (λ x. refl),
+        (
+          arm_laws claimable_balance_id_laws (λ x. refl),
+          (arm_laws hash_laws (λ x. refl), tt),
+        ),
+      ),
+    ),
+  ),
+)
     ledger_key_found
 
 bucket_entry_found : (v : BucketEntry) → IsFound bucket_part bucket_arms v
@@ -49,9 +82,14 @@ bucket_entry_found (bucket.Init entry) =
 
 pub bucket_entry_laws : Laws bucket_entry
 unfolding bucket_entry
-bucket_entry_laws = union_laws
-    (arm_laws (closed_laws u32_laws (tag_laws (pos 0) tt)) (λ x. refl),
-      (arm_laws (whole_laws ledger_entry_laws) (λ x. refl),
-      (arm_laws (whole_laws ledger_key_laws) (λ x. refl),
-      (arm_laws (whole_laws ledger_entry_laws) (λ x. refl), tt))))
+bucket_entry_laws = union_laws (
+  arm_laws (closed_laws u32_laws (tag_laws (pos 0) tt)) (λ x. refl),
+  (
+    arm_laws (whole_laws ledger_entry_laws) (λ x. refl),
+    (
+      arm_laws (whole_laws ledger_key_laws) (λ x. refl),
+      (arm_laws (whole_laws ledger_entry_laws) (λ x. refl), tt),
+    ),
+  ),
+)
     bucket_entry_found

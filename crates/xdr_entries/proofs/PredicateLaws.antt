@@ -3,14 +3,33 @@ use Rattle.std.proofs.Common.{ℕ, zero, suc, pos, refl, arith}
 use Rattle.xdr_core.specs.Place.{fault_at}
 use Rattle.xdr_core.specs.declared.fault.XdrKind.TheVariants.{TooDeep}
 use Rattle.xdr_core.proofs.FormatLaws.{
-  Laws, i64_laws, empty_laws, too_deep_laws, struct_laws, option_laws, list_laws, arm_laws, found, union_laws,
+  Laws,
+  i64_laws,
+  empty_laws,
+  too_deep_laws,
+  struct_laws,
+  option_laws,
+  list_laws,
+  arm_laws,
+  found,
+  union_laws,
 }
 use Rattle.xdr_core.specs.Xdr.{Xdr}
 use Rattle.xdr_core.proofs.Unions.{IsFound}
 use Rattle.ledger_types.specs.declared.predicate.ClaimPredicate.TheOpen.{ClaimPredicate-F}
 use Rattle.xdr_entries.specs.Predicates.{
-  unconditional, and_arm, or_arm, not_arm, before_absolute_time, before_relative_time, level_arms, level_part, level,
-  level_fields, predicate_below, claim_predicate,
+  unconditional,
+  and_arm,
+  or_arm,
+  not_arm,
+  before_absolute_time,
+  before_relative_time,
+  level_arms,
+  level_part,
+  level,
+  level_fields,
+  predicate_below,
+  claim_predicate,
 }
 
 module _ {P : Type 0} {below : Xdr P} (law : Laws below) where
@@ -27,13 +46,22 @@ module _ {P : Type 0} {below : Xdr P} (law : Laws below) where
       found before_relative_time seconds i64_laws tt refl refl (λ _ _ _. refl)
 
   level_laws : Laws (level below)
-  level_laws = union_laws
-      (arm_laws empty_laws (λ x. refl),
-        (arm_laws (list_laws 2 (omega arith) law) (λ x. refl),
-        (arm_laws (list_laws 2 (omega arith) law) (λ x. refl),
-        (arm_laws (option_laws law) (λ x. refl),
-        (arm_laws i64_laws (λ x. refl),
-        (arm_laws i64_laws (λ x. refl), tt))))))
+  level_laws = union_laws (
+    arm_laws empty_laws (λ x. refl),
+    (
+      arm_laws (list_laws 2 (omega arith) law) (λ x. refl),
+      (
+        arm_laws (list_laws 2 (omega arith) law) (λ x. refl),
+        (
+          arm_laws (option_laws law) (λ x. refl),
+          (
+            arm_laws i64_laws (λ x. refl),
+            (arm_laws i64_laws (λ x. refl), tt),
+          ),
+        ),
+      ),
+    ),
+  )
       level_found
 
 pub predicate_below_laws : (levels : ℕ) → Laws (predicate_below levels)

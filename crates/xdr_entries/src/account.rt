@@ -3,9 +3,7 @@
 ghost use Rattle.std.specs.Prelude.{◌≡◌, OnOk};
 ghost use Rattle.xdr_core.specs.Place.{Reads, itself};
 ghost use Rattle.xdr_core.specs.ReadFault.{cause_of};
-ghost use Rattle.xdr_entries.specs.Entries.{account_head, account_tail, account_fields};
-ghost use Rattle.xdr_entries.specs.Entries.{account_extension_v2 as v2_format, account_extension_v1 as v1_format};
-ghost use Rattle.xdr_entries.specs.Entries.{account_entry as account_format};
+ghost use Rattle.xdr_entries.specs.Entries as spec;
 
 use crate::ids::{AccountIdFormat, OptionalAccountIdFormat, read_account_id, write_account_id};
 use crate::price::{read_liabilities, write_liabilities};
@@ -17,8 +15,7 @@ use ledger_types::{
 };
 use std::alloc::{AllocError, Global};
 use xdr_core::{
-    Builder, Cursor, Decode, Encode, ReadFault, XdrFault, read_extension, read_list,
-    read_option,
+    Builder, Cursor, Decode, Encode, ReadFault, XdrFault, read_extension, read_list, read_option,
     write_extension, write_list, write_option,
 };
 
@@ -28,7 +25,7 @@ pub fn read_account_extension_v2(
     alloc: Global,
     cursor: &mut Cursor<'_>,
 ) -> Result<AccountEntryExtensionV2, ReadFault>
-    ensures { Reads cause_of result cursor.old cursor.new (v2_format.read cursor.old) }
+    ensures { Reads cause_of result cursor.old cursor.new (spec.account_extension_v2.read cursor.old) }
 {
     let mut ahead = cursor.fork();
     let num_sponsored = ahead.u32()?;
@@ -53,8 +50,8 @@ pub fn write_account_extension_v2(
     value: &AccountEntryExtensionV2,
     builder: &mut Builder,
 ) -> Result<(), AllocError>
-    requires { v2_format.within value.now }
-    ensures { OnOk result (builder.new ≡ v2_format.onto builder.old value.now) }
+    requires { spec.account_extension_v2.within value.now }
+    ensures { OnOk result (builder.new ≡ spec.account_extension_v2.onto builder.old value.now) }
 {
     builder.u32(value.num_sponsored)?;
     builder.u32(value.num_sponsoring)?;
@@ -72,7 +69,7 @@ pub fn read_account_extension_v1(
     alloc: Global,
     cursor: &mut Cursor<'_>,
 ) -> Result<AccountEntryExtensionV1, ReadFault>
-    ensures { Reads cause_of result cursor.old cursor.new (v1_format.read cursor.old) }
+    ensures { Reads cause_of result cursor.old cursor.new (spec.account_extension_v1.read cursor.old) }
 {
     let mut ahead = cursor.fork();
     let liabilities = read_liabilities(&mut ahead)?;
@@ -87,8 +84,8 @@ pub fn write_account_extension_v1(
     value: &AccountEntryExtensionV1,
     builder: &mut Builder,
 ) -> Result<(), AllocError>
-    requires { v1_format.within value.now }
-    ensures { OnOk result (builder.new ≡ v1_format.onto builder.old value.now) }
+    requires { spec.account_extension_v1.within value.now }
+    ensures { OnOk result (builder.new ≡ spec.account_extension_v1.onto builder.old value.now) }
 {
     write_liabilities(&value.liabilities, builder)?;
     write_extension::<AccountExtensionV2Format>(&value.ext, 2, builder)
@@ -100,7 +97,7 @@ type AccountHead = (AccountId, (i64, (i64, (u32, (Option<AccountId>, u32)))));
 /// Reads the fields of an account up to its flags.
 #[tactic(auto, unfolding(crate::specs::Entries::account_head))]
 fn read_account_head(alloc: Global, cursor: &mut Cursor<'_>) -> Result<AccountHead, XdrFault>
-    ensures { Reads itself result cursor.old cursor.new (account_head.read cursor.old) }
+    ensures { Reads itself result cursor.old cursor.new (spec.account_head.read cursor.old) }
 {
     let mut ahead = cursor.fork();
     let account_id = read_account_id(&mut ahead)?;
@@ -110,16 +107,25 @@ fn read_account_head(alloc: Global, cursor: &mut Cursor<'_>) -> Result<AccountHe
     let inflation_dest = read_option::<AccountIdFormat>(alloc, &mut ahead)?;
     let flags = ahead.u32()?;
     *cursor = ahead;
-    Ok((account_id, (balance, (seq_num, (num_sub_entries, (inflation_dest, flags))))))
+    Ok((
+        account_id,
+        (
+            balance,
+            (seq_num, (num_sub_entries, (inflation_dest, flags))),
+        ),
+    ))
 }
 
 /// The fields of an account from its home domain on.
-type AccountTail = (ItemList<u8>, ([u8; 4], (ItemList<Signer>, Option<AccountEntryExtensionV1>)));
+type AccountTail = (
+    ItemList<u8>,
+    ([u8; 4], (ItemList<Signer>, Option<AccountEntryExtensionV1>)),
+);
 
 /// Reads the fields of an account from its home domain on.
 #[tactic(auto, unfolding(crate::specs::Entries::account_tail))]
 fn read_account_tail(alloc: Global, cursor: &mut Cursor<'_>) -> Result<AccountTail, ReadFault>
-    ensures { Reads cause_of result cursor.old cursor.new (account_tail.read cursor.old) }
+    ensures { Reads cause_of result cursor.old cursor.new (spec.account_tail.read cursor.old) }
 {
     let mut ahead = cursor.fork();
     let home_domain = ItemList::from_slice(alloc, ahead.var(MAX_HOME_DOMAIN_LEN)?)?;
@@ -133,7 +139,7 @@ fn read_account_tail(alloc: Global, cursor: &mut Cursor<'_>) -> Result<AccountTa
 /// Reads an account.
 #[tactic(auto, unfolding(crate::specs::Entries::account_entry))]
 pub fn read_account_entry(alloc: Global, cursor: &mut Cursor<'_>) -> Result<AccountEntry, ReadFault>
-    ensures { Reads cause_of result cursor.old cursor.new (account_format.read cursor.old) }
+    ensures { Reads cause_of result cursor.old cursor.new (spec.account_entry.read cursor.old) }
 {
     let mut ahead = cursor.fork();
     let (account_id, (balance, (seq_num, (num_sub_entries, (inflation_dest, flags))))) =
@@ -157,8 +163,8 @@ pub fn read_account_entry(alloc: Global, cursor: &mut Cursor<'_>) -> Result<Acco
 /// Writes the fields of an account up to its flags.
 #[tactic(auto, unfolding(crate::specs::Entries::account_head))]
 fn write_account_head(value: &AccountEntry, builder: &mut Builder) -> Result<(), AllocError>
-    requires { account_head.within (account_fields.from value.now).0 }
-    ensures { OnOk result (builder.new ≡ account_head.onto builder.old (account_fields.from value.now).0) }
+    requires { spec.account_head.within (spec.account_fields.from value.now).0 }
+    ensures { OnOk result (builder.new ≡ spec.account_head.onto builder.old (spec.account_fields.from value.now).0) }
 {
     write_account_id(&value.account_id, builder)?;
     builder.i64(value.balance)?;
@@ -171,8 +177,8 @@ fn write_account_head(value: &AccountEntry, builder: &mut Builder) -> Result<(),
 /// Writes the fields of an account from its home domain on.
 #[tactic(auto, unfolding(crate::specs::Entries::account_tail))]
 fn write_account_tail(value: &AccountEntry, builder: &mut Builder) -> Result<(), AllocError>
-    requires { account_tail.within (account_fields.from value.now).1 }
-    ensures { OnOk result (builder.new ≡ account_tail.onto builder.old (account_fields.from value.now).1) }
+    requires { spec.account_tail.within (spec.account_fields.from value.now).1 }
+    ensures { OnOk result (builder.new ≡ spec.account_tail.onto builder.old (spec.account_fields.from value.now).1) }
 {
     builder.var(value.home_domain.as_slice(), MAX_HOME_DOMAIN_LEN)?;
     builder.fixed(&value.thresholds)?;
@@ -183,8 +189,8 @@ fn write_account_tail(value: &AccountEntry, builder: &mut Builder) -> Result<(),
 /// Writes an account.
 #[tactic(auto, unfolding(crate::specs::Entries::account_entry))]
 pub fn write_account_entry(value: &AccountEntry, builder: &mut Builder) -> Result<(), AllocError>
-    requires { account_format.within value.now }
-    ensures { OnOk result (builder.new ≡ account_format.onto builder.old value.now) }
+    requires { spec.account_entry.within value.now }
+    ensures { OnOk result (builder.new ≡ spec.account_entry.onto builder.old value.now) }
 {
     write_account_head(value, builder)?;
     write_account_tail(value, builder)
@@ -198,7 +204,7 @@ impl Decode for AccountExtensionV2Format {
 
     type Failure = ReadFault;
 
-    ghost format = { v2_format };
+    ghost format = { spec.account_extension_v2 };
 
     fn decode(
         alloc: Global,
@@ -223,7 +229,7 @@ impl Decode for AccountExtensionV1Format {
 
     type Failure = ReadFault;
 
-    ghost format = { v1_format };
+    ghost format = { spec.account_extension_v1 };
 
     fn decode(
         alloc: Global,

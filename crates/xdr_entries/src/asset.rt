@@ -2,7 +2,7 @@
 
 ghost use Rattle.std.specs.Prelude.{◌≡◌, OnOk};
 ghost use Rattle.xdr_core.specs.Place.{Reads, itself};
-ghost use Rattle.xdr_entries.specs.Basic.{asset as asset_format, trust_line_asset as trust_line_asset_format, pool_params as pool_params_format, change_trust_asset as change_trust_asset_format};
+ghost use Rattle.xdr_entries.specs.Basic as spec;
 
 use crate::ids::{read_account_id, read_hash, write_account_id, write_hash};
 use ledger_types::{Asset, ChangeTrustAsset, PoolParams, TrustLineAsset};
@@ -27,7 +27,7 @@ const LIQUIDITY_POOL_CONSTANT_PRODUCT: i32 = 0;
 /// Reads an asset.
 #[tactic(auto, unfolding(crate::specs::Basic::asset))]
 pub fn read_asset(cursor: &mut Cursor<'_>) -> Result<Asset, XdrFault>
-    ensures { Reads itself result cursor.old cursor.new (asset_format.read cursor.old) }
+    ensures { Reads itself result cursor.old cursor.new (spec.asset.read cursor.old) }
 {
     let mut ahead = cursor.fork();
     let asset = match ahead.i32()? {
@@ -49,7 +49,7 @@ pub fn read_asset(cursor: &mut Cursor<'_>) -> Result<Asset, XdrFault>
 /// Writes an asset.
 #[tactic(auto, unfolding(crate::specs::Basic::asset))]
 pub fn write_asset(value: &Asset, builder: &mut Builder) -> Result<(), AllocError>
-    ensures { OnOk result (builder.new ≡ asset_format.onto builder.old value.now) }
+    ensures { OnOk result (builder.new ≡ spec.asset.onto builder.old value.now) }
 {
     match value {
         Asset::Native => builder.i32(ASSET_TYPE_NATIVE),
@@ -69,7 +69,7 @@ pub fn write_asset(value: &Asset, builder: &mut Builder) -> Result<(), AllocErro
 /// Reads what a trust line is in.
 #[tactic(auto, unfolding(crate::specs::Basic::trust_line_asset))]
 pub fn read_trust_line_asset(cursor: &mut Cursor<'_>) -> Result<TrustLineAsset, XdrFault>
-    ensures { Reads itself result cursor.old cursor.new (trust_line_asset_format.read cursor.old) }
+    ensures { Reads itself result cursor.old cursor.new (spec.trust_line_asset.read cursor.old) }
 {
     let mut ahead = cursor.fork();
     let asset = match ahead.i32()? {
@@ -95,7 +95,7 @@ pub fn write_trust_line_asset(
     value: &TrustLineAsset,
     builder: &mut Builder,
 ) -> Result<(), AllocError>
-    ensures { OnOk result (builder.new ≡ trust_line_asset_format.onto builder.old value.now) }
+    ensures { OnOk result (builder.new ≡ spec.trust_line_asset.onto builder.old value.now) }
 {
     match value {
         TrustLineAsset::Native => builder.i32(ASSET_TYPE_NATIVE),
@@ -119,7 +119,7 @@ pub fn write_trust_line_asset(
 /// Reads the parameters of a pool.
 #[tactic(auto, unfolding(crate::specs::Basic::pool_params))]
 pub fn read_pool_params(cursor: &mut Cursor<'_>) -> Result<PoolParams, XdrFault>
-    ensures { Reads itself result cursor.old cursor.new (pool_params_format.read cursor.old) }
+    ensures { Reads itself result cursor.old cursor.new (spec.pool_params.read cursor.old) }
 {
     let mut ahead = cursor.fork();
     ahead.tag(LIQUIDITY_POOL_CONSTANT_PRODUCT)?;
@@ -135,7 +135,7 @@ pub fn read_pool_params(cursor: &mut Cursor<'_>) -> Result<PoolParams, XdrFault>
 /// Writes the parameters of a pool.
 #[tactic(auto, unfolding(crate::specs::Basic::pool_params, xdr_core::specs::Combinators::constant))]
 pub fn write_pool_params(value: &PoolParams, builder: &mut Builder) -> Result<(), AllocError>
-    ensures { OnOk result (builder.new ≡ pool_params_format.onto builder.old value.now) }
+    ensures { OnOk result (builder.new ≡ spec.pool_params.onto builder.old value.now) }
 {
     builder.i32(LIQUIDITY_POOL_CONSTANT_PRODUCT)?;
     write_asset(&value.asset_a, builder)?;
@@ -146,7 +146,7 @@ pub fn write_pool_params(value: &PoolParams, builder: &mut Builder) -> Result<()
 /// Reads what a trust line is asked for.
 #[tactic(auto, unfolding(crate::specs::Basic::change_trust_asset))]
 pub fn read_change_trust_asset(cursor: &mut Cursor<'_>) -> Result<ChangeTrustAsset, XdrFault>
-    ensures { Reads itself result cursor.old cursor.new (change_trust_asset_format.read cursor.old) }
+    ensures { Reads itself result cursor.old cursor.new (spec.change_trust_asset.read cursor.old) }
 {
     let mut ahead = cursor.fork();
     let asset = match ahead.i32()? {
@@ -172,7 +172,7 @@ pub fn write_change_trust_asset(
     value: &ChangeTrustAsset,
     builder: &mut Builder,
 ) -> Result<(), AllocError>
-    ensures { OnOk result (builder.new ≡ change_trust_asset_format.onto builder.old value.now) }
+    ensures { OnOk result (builder.new ≡ spec.change_trust_asset.onto builder.old value.now) }
 {
     match value {
         ChangeTrustAsset::Native => builder.i32(ASSET_TYPE_NATIVE),
@@ -201,7 +201,7 @@ impl Decode for AssetFormat {
 
     type Failure = ReadFault;
 
-    ghost format = { asset_format };
+    ghost format = { spec.asset };
 
     fn decode(_alloc: Global, cursor: &mut Cursor<'_>) -> Result<Asset, ReadFault> {
         Ok(read_asset(cursor)?)

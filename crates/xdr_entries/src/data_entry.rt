@@ -3,7 +3,7 @@
 ghost use Rattle.std.specs.Prelude.{◌≡◌, OnOk};
 ghost use Rattle.xdr_core.specs.Place.{Reads};
 ghost use Rattle.xdr_core.specs.ReadFault.{cause_of};
-ghost use Rattle.xdr_entries.specs.Entries.{data_entry as data_format};
+ghost use Rattle.xdr_entries.specs.Entries as spec;
 
 use crate::ids::{read_account_id, write_account_id};
 use item_list::ItemList;
@@ -20,7 +20,7 @@ pub const MAX_DATA_VALUE_LEN: u32 = 64;
 /// Reads data.
 #[tactic(auto, unfolding(crate::specs::Entries::data_entry))]
 pub fn read_data_entry(alloc: Global, cursor: &mut Cursor<'_>) -> Result<DataEntry, ReadFault>
-    ensures { Reads cause_of result cursor.old cursor.new (data_format.read cursor.old) }
+    ensures { Reads cause_of result cursor.old cursor.new (spec.data_entry.read cursor.old) }
 {
     let mut ahead = cursor.fork();
     let account_id = read_account_id(&mut ahead)?;
@@ -38,8 +38,8 @@ pub fn read_data_entry(alloc: Global, cursor: &mut Cursor<'_>) -> Result<DataEnt
 /// Writes data.
 #[tactic(auto, unfolding(crate::specs::Entries::data_entry, xdr_core::specs::Combinators::constant))]
 pub fn write_data_entry(value: &DataEntry, builder: &mut Builder) -> Result<(), AllocError>
-    requires { data_format.within value.now }
-    ensures { OnOk result (builder.new ≡ data_format.onto builder.old value.now) }
+    requires { spec.data_entry.within value.now }
+    ensures { OnOk result (builder.new ≡ spec.data_entry.onto builder.old value.now) }
 {
     write_account_id(&value.account_id, builder)?;
     builder.var(value.data_name.as_slice(), MAX_DATA_NAME_LEN)?;

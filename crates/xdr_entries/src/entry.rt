@@ -3,7 +3,7 @@
 ghost use Rattle.std.specs.Prelude.{◌≡◌, ◌++◌, OnOk};
 ghost use Rattle.xdr_core.specs.Place.{Reads, itself};
 ghost use Rattle.xdr_core.specs.ReadFault.{cause_of};
-ghost use Rattle.xdr_entries.specs.Entries.{ledger_entry_body as body_format, ledger_entry_extension_v1 as v1_format, ledger_entry as entry_format};
+ghost use Rattle.xdr_entries.specs.Entries as spec;
 
 use crate::account::{read_account_entry, write_account_entry};
 use crate::claimable_balance::{read_claimable_balance_entry, write_claimable_balance_entry};
@@ -43,7 +43,7 @@ pub fn read_ledger_entry_body(
     alloc: Global,
     cursor: &mut Cursor<'_>,
 ) -> Result<LedgerEntryBody, ReadFault>
-    ensures { Reads cause_of result cursor.old cursor.new (body_format.read cursor.old) }
+    ensures { Reads cause_of result cursor.old cursor.new (spec.ledger_entry_body.read cursor.old) }
 {
     let mut ahead = cursor.fork();
     let body = match ahead.i32()? {
@@ -67,8 +67,8 @@ pub fn write_ledger_entry_body(
     value: &LedgerEntryBody,
     builder: &mut Builder,
 ) -> Result<(), AllocError>
-    requires { body_format.within value.now }
-    ensures { OnOk result (builder.new ≡ body_format.onto builder.old value.now) }
+    requires { spec.ledger_entry_body.within value.now }
+    ensures { OnOk result (builder.new ≡ spec.ledger_entry_body.onto builder.old value.now) }
 {
     match value {
         LedgerEntryBody::Account(entry) => {
@@ -104,7 +104,7 @@ pub fn read_ledger_entry_extension_v1(
     alloc: Global,
     cursor: &mut Cursor<'_>,
 ) -> Result<LedgerEntryExtensionV1, XdrFault>
-    ensures { Reads itself result cursor.old cursor.new (v1_format.read cursor.old) }
+    ensures { Reads itself result cursor.old cursor.new (spec.ledger_entry_extension_v1.read cursor.old) }
 {
     let mut ahead = cursor.fork();
     let sponsoring_id = read_option::<AccountIdFormat>(alloc, &mut ahead)?;
@@ -119,8 +119,8 @@ pub fn write_ledger_entry_extension_v1(
     value: &LedgerEntryExtensionV1,
     builder: &mut Builder,
 ) -> Result<(), AllocError>
-    requires { v1_format.within value.now }
-    ensures { OnOk result (builder.new ≡ v1_format.onto builder.old value.now) }
+    requires { spec.ledger_entry_extension_v1.within value.now }
+    ensures { OnOk result (builder.new ≡ spec.ledger_entry_extension_v1.onto builder.old value.now) }
 {
     write_option::<AccountIdFormat>(&value.sponsoring_id, builder)?;
     builder.i32(0)
@@ -129,7 +129,7 @@ pub fn write_ledger_entry_extension_v1(
 /// Reads an entry.
 #[tactic(auto, unfolding(crate::specs::Entries::ledger_entry))]
 pub fn read_ledger_entry(alloc: Global, cursor: &mut Cursor<'_>) -> Result<LedgerEntry, ReadFault>
-    ensures { Reads cause_of result cursor.old cursor.new (entry_format.read cursor.old) }
+    ensures { Reads cause_of result cursor.old cursor.new (spec.ledger_entry.read cursor.old) }
 {
     let mut ahead = cursor.fork();
     let last_modified_ledger_seq = ahead.u32()?;
@@ -146,8 +146,8 @@ pub fn read_ledger_entry(alloc: Global, cursor: &mut Cursor<'_>) -> Result<Ledge
 /// Writes an entry: its spelling stands at the end.
 #[tactic(auto, using(xdr_core::proofs::FormatLaws::written, crate::proofs::EntryLaws::ledger_entry_laws))]
 pub fn write_ledger_entry(value: &LedgerEntry, builder: &mut Builder) -> Result<(), AllocError>
-    requires { entry_format.within value.now }
-    ensures { OnOk result (builder.new ≡ builder.old ++ entry_format.spell value.now) }
+    requires { spec.ledger_entry.within value.now }
+    ensures { OnOk result (builder.new ≡ builder.old ++ spec.ledger_entry.spell value.now) }
 {
     write_fields(value, builder)
 }
@@ -155,8 +155,8 @@ pub fn write_ledger_entry(value: &LedgerEntry, builder: &mut Builder) -> Result<
 /// Writes the fields of an entry one behind another.
 #[tactic(auto, unfolding(crate::specs::Entries::ledger_entry))]
 fn write_fields(value: &LedgerEntry, builder: &mut Builder) -> Result<(), AllocError>
-    requires { entry_format.within value.now }
-    ensures { OnOk result (builder.new ≡ entry_format.onto builder.old value.now) }
+    requires { spec.ledger_entry.within value.now }
+    ensures { OnOk result (builder.new ≡ spec.ledger_entry.onto builder.old value.now) }
 {
     builder.u32(value.last_modified_ledger_seq)?;
     write_ledger_entry_body(&value.body, builder)?;
@@ -171,7 +171,7 @@ impl Decode for LedgerEntryExtensionV1Format {
 
     type Failure = XdrFault;
 
-    ghost format = { v1_format };
+    ghost format = { spec.ledger_entry_extension_v1 };
 
     fn decode(alloc: Global, cursor: &mut Cursor<'_>) -> Result<LedgerEntryExtensionV1, XdrFault> {
         read_ledger_entry_extension_v1(alloc, cursor)
@@ -179,7 +179,7 @@ impl Decode for LedgerEntryExtensionV1Format {
 }
 
 impl Encode for LedgerEntryExtensionV1Format {
-    #[tactic(auto, using(xdr_core::proofs::FormatLaws::written, crate::proofs::EntryLaws::ledger_entry_extension_v1_laws))]
+    #[tactic(auto, using(xdr_core::proofs::FormatLaws::written, crate::proofs::EntryLaws::ledger_entry_extension_v1_laws),)]
     fn encode(value: &LedgerEntryExtensionV1, builder: &mut Builder) -> Result<(), AllocError> {
         write_ledger_entry_extension_v1(value, builder)
     }

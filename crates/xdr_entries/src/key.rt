@@ -4,7 +4,7 @@ ghost use Rattle.std.specs.Prelude.{◌≡◌, ◌++◌, OnOk};
 ghost use Rattle.xdr_core.specs.Place.{Reads, itself};
 ghost use Rattle.xdr_core.specs.Combinators.{arm_at};
 ghost use Rattle.xdr_core.specs.ReadFault.{cause_of};
-ghost use Rattle.xdr_entries.specs.Keys.{trust_line_key, offer_key, data_key, ledger_key as key_format};
+ghost use Rattle.xdr_entries.specs.Keys as spec;
 
 use crate::asset::{read_trust_line_asset, write_trust_line_asset};
 use crate::data_entry::MAX_DATA_NAME_LEN;
@@ -20,7 +20,7 @@ use xdr_core::{Builder, Cursor, ReadFault, XdrFault, XdrKind};
 
 /// Reads what names a trust line.
 fn read_trust_line_key(cursor: &mut Cursor<'_>) -> Result<LedgerKey, XdrFault>
-    ensures { Reads itself result cursor.old cursor.new (arm_at trust_line_key cursor.old) }
+    ensures { Reads itself result cursor.old cursor.new (arm_at spec.trust_line_key cursor.old) }
 {
     let mut ahead = cursor.fork();
     let account_id = read_account_id(&mut ahead)?;
@@ -31,7 +31,7 @@ fn read_trust_line_key(cursor: &mut Cursor<'_>) -> Result<LedgerKey, XdrFault>
 
 /// Reads what names an offer.
 fn read_offer_key(cursor: &mut Cursor<'_>) -> Result<LedgerKey, XdrFault>
-    ensures { Reads itself result cursor.old cursor.new (arm_at offer_key cursor.old) }
+    ensures { Reads itself result cursor.old cursor.new (arm_at spec.offer_key cursor.old) }
 {
     let mut ahead = cursor.fork();
     let seller_id = read_account_id(&mut ahead)?;
@@ -45,7 +45,7 @@ fn read_offer_key(cursor: &mut Cursor<'_>) -> Result<LedgerKey, XdrFault>
 
 /// Reads what names data.
 fn read_data_key(alloc: Global, cursor: &mut Cursor<'_>) -> Result<LedgerKey, ReadFault>
-    ensures { Reads cause_of result cursor.old cursor.new (arm_at data_key cursor.old) }
+    ensures { Reads cause_of result cursor.old cursor.new (arm_at spec.data_key cursor.old) }
 {
     let mut ahead = cursor.fork();
     let account_id = read_account_id(&mut ahead)?;
@@ -60,7 +60,7 @@ fn read_data_key(alloc: Global, cursor: &mut Cursor<'_>) -> Result<LedgerKey, Re
 /// Reads a key.
 #[tactic(auto, unfolding(crate::specs::Keys::ledger_key))]
 pub fn read_ledger_key(alloc: Global, cursor: &mut Cursor<'_>) -> Result<LedgerKey, ReadFault>
-    ensures { Reads cause_of result cursor.old cursor.new (key_format.read cursor.old) }
+    ensures { Reads cause_of result cursor.old cursor.new (spec.ledger_key.read cursor.old) }
 {
     let mut ahead = cursor.fork();
     let key = match ahead.i32()? {
@@ -85,8 +85,8 @@ pub fn read_ledger_key(alloc: Global, cursor: &mut Cursor<'_>) -> Result<LedgerK
 /// Writes a key: its spelling stands at the end.
 #[tactic(auto, using(xdr_core::proofs::FormatLaws::written, crate::proofs::KeyLaws::ledger_key_laws))]
 pub fn write_ledger_key(value: &LedgerKey, builder: &mut Builder) -> Result<(), AllocError>
-    requires { key_format.within value.now }
-    ensures { OnOk result (builder.new ≡ builder.old ++ key_format.spell value.now) }
+    requires { spec.ledger_key.within value.now }
+    ensures { OnOk result (builder.new ≡ builder.old ++ spec.ledger_key.spell value.now) }
 {
     write_arm(value, builder)
 }
@@ -94,8 +94,8 @@ pub fn write_ledger_key(value: &LedgerKey, builder: &mut Builder) -> Result<(), 
 /// Writes the discriminant of a key, and what stands behind it.
 #[tactic(auto, unfolding(crate::specs::Keys::ledger_key))]
 fn write_arm(value: &LedgerKey, builder: &mut Builder) -> Result<(), AllocError>
-    requires { key_format.within value.now }
-    ensures { OnOk result (builder.new ≡ key_format.onto builder.old value.now) }
+    requires { spec.ledger_key.within value.now }
+    ensures { OnOk result (builder.new ≡ spec.ledger_key.onto builder.old value.now) }
 {
     match value {
         LedgerKey::Account { account_id } => {

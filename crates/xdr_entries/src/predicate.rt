@@ -49,7 +49,7 @@ pub fn read_claim_predicate(
 
 /// Reads a predicate of at most so many levels.
 #[cycle(predicate)]
-#[tactic(auto, using(crate::proofs::Levels::one_level_more), unfolding(crate::specs::Predicates::predicate_below, xdr_core::specs::Combinators::refused))]
+#[tactic(auto, using(crate::proofs::Levels::one_level_more), unfolding(crate::specs::Predicates::predicate_below, xdr_core::specs::Combinators::refused),)]
 fn read_below(
     alloc: Global,
     levels: u32,

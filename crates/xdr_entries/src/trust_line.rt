@@ -2,7 +2,7 @@
 
 ghost use Rattle.std.specs.Prelude.{◌≡◌, OnOk};
 ghost use Rattle.xdr_core.specs.Place.{Reads, itself};
-ghost use Rattle.xdr_entries.specs.Entries.{trust_line_extension_v2 as v2_format, trust_line_extension_v1 as v1_format, trust_line_entry as line_format};
+ghost use Rattle.xdr_entries.specs.Entries as spec;
 
 use crate::asset::{read_trust_line_asset, write_trust_line_asset};
 use crate::ids::{read_account_id, write_account_id};
@@ -16,7 +16,7 @@ use xdr_core::{Builder, Cursor, Decode, Encode, XdrFault, read_extension, write_
 pub fn read_trust_line_extension_v2(
     cursor: &mut Cursor<'_>,
 ) -> Result<TrustLineEntryExtensionV2, XdrFault>
-    ensures { Reads itself result cursor.old cursor.new (v2_format.read cursor.old) }
+    ensures { Reads itself result cursor.old cursor.new (spec.trust_line_extension_v2.read cursor.old) }
 {
     let mut ahead = cursor.fork();
     let liquidity_pool_use_count = ahead.i32()?;
@@ -33,7 +33,7 @@ pub fn write_trust_line_extension_v2(
     value: &TrustLineEntryExtensionV2,
     builder: &mut Builder,
 ) -> Result<(), AllocError>
-    ensures { OnOk result (builder.new ≡ v2_format.onto builder.old value.now) }
+    ensures { OnOk result (builder.new ≡ spec.trust_line_extension_v2.onto builder.old value.now) }
 {
     builder.i32(value.liquidity_pool_use_count)?;
     builder.i32(0)
@@ -45,7 +45,7 @@ pub fn read_trust_line_extension_v1(
     alloc: Global,
     cursor: &mut Cursor<'_>,
 ) -> Result<TrustLineEntryExtensionV1, XdrFault>
-    ensures { Reads itself result cursor.old cursor.new (v1_format.read cursor.old) }
+    ensures { Reads itself result cursor.old cursor.new (spec.trust_line_extension_v1.read cursor.old) }
 {
     let mut ahead = cursor.fork();
     let liabilities = read_liabilities(&mut ahead)?;
@@ -60,8 +60,8 @@ pub fn write_trust_line_extension_v1(
     value: &TrustLineEntryExtensionV1,
     builder: &mut Builder,
 ) -> Result<(), AllocError>
-    requires { v1_format.within value.now }
-    ensures { OnOk result (builder.new ≡ v1_format.onto builder.old value.now) }
+    requires { spec.trust_line_extension_v1.within value.now }
+    ensures { OnOk result (builder.new ≡ spec.trust_line_extension_v1.onto builder.old value.now) }
 {
     write_liabilities(&value.liabilities, builder)?;
     write_extension::<TrustLineExtensionV2Format>(&value.ext, 2, builder)
@@ -73,7 +73,7 @@ pub fn read_trust_line_entry(
     alloc: Global,
     cursor: &mut Cursor<'_>,
 ) -> Result<TrustLineEntry, XdrFault>
-    ensures { Reads itself result cursor.old cursor.new (line_format.read cursor.old) }
+    ensures { Reads itself result cursor.old cursor.new (spec.trust_line_entry.read cursor.old) }
 {
     let mut ahead = cursor.fork();
     let account_id = read_account_id(&mut ahead)?;
@@ -99,8 +99,8 @@ pub fn write_trust_line_entry(
     value: &TrustLineEntry,
     builder: &mut Builder,
 ) -> Result<(), AllocError>
-    requires { line_format.within value.now }
-    ensures { OnOk result (builder.new ≡ line_format.onto builder.old value.now) }
+    requires { spec.trust_line_entry.within value.now }
+    ensures { OnOk result (builder.new ≡ spec.trust_line_entry.onto builder.old value.now) }
 {
     write_account_id(&value.account_id, builder)?;
     write_trust_line_asset(&value.asset, builder)?;
@@ -118,7 +118,7 @@ impl Decode for TrustLineExtensionV2Format {
 
     type Failure = XdrFault;
 
-    ghost format = { v2_format };
+    ghost format = { spec.trust_line_extension_v2 };
 
     fn decode(
         _alloc: Global,
@@ -129,7 +129,7 @@ impl Decode for TrustLineExtensionV2Format {
 }
 
 impl Encode for TrustLineExtensionV2Format {
-    #[tactic(auto, using(xdr_core::proofs::FormatLaws::written, crate::proofs::EntryLaws::trust_line_extension_v2_laws))]
+    #[tactic(auto, using(xdr_core::proofs::FormatLaws::written, crate::proofs::EntryLaws::trust_line_extension_v2_laws),)]
     fn encode(value: &TrustLineEntryExtensionV2, builder: &mut Builder) -> Result<(), AllocError> {
         write_trust_line_extension_v2(value, builder)
     }
@@ -143,7 +143,7 @@ impl Decode for TrustLineExtensionV1Format {
 
     type Failure = XdrFault;
 
-    ghost format = { v1_format };
+    ghost format = { spec.trust_line_extension_v1 };
 
     fn decode(
         alloc: Global,
@@ -154,7 +154,7 @@ impl Decode for TrustLineExtensionV1Format {
 }
 
 impl Encode for TrustLineExtensionV1Format {
-    #[tactic(auto, using(xdr_core::proofs::FormatLaws::written, crate::proofs::EntryLaws::trust_line_extension_v1_laws))]
+    #[tactic(auto, using(xdr_core::proofs::FormatLaws::written, crate::proofs::EntryLaws::trust_line_extension_v1_laws),)]
     fn encode(value: &TrustLineEntryExtensionV1, builder: &mut Builder) -> Result<(), AllocError> {
         write_trust_line_extension_v1(value, builder)
     }

@@ -9,4 +9,5 @@ flat_map-map f [] = refl
 flat_map-map f (x ∷ xs) = ap (λ t. f x ++ t) (flat_map-map f xs)
 
 -- each piece that was written is its spelling at the end of what stood there
-pub ruleset written_pieces = (written, u32_laws, i32_laws, i64_laws, account_id_laws, hash_laws, asset_laws, pool_params_laws)
+pub ruleset written_pieces =
+    (written, u32_laws, i32_laws, i64_laws, account_id_laws, hash_laws, asset_laws, pool_params_laws)

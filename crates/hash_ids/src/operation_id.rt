@@ -6,9 +6,7 @@ ghost use Rattle.xdr_entries.specs.Basic.{account_id};
 ghost use Rattle.hash_ids.specs.Ids.{balance_id_of, revoke_id_of};
 
 use crate::digest::hash;
-use ledger_types::{
-    AccountId, Asset, ENVELOPE_TYPE_OP_ID, ENVELOPE_TYPE_POOL_REVOKE_OP_ID, Hash,
-};
+use ledger_types::{AccountId, Asset, ENVELOPE_TYPE_OP_ID, ENVELOPE_TYPE_POOL_REVOKE_OP_ID, Hash};
 use std::alloc::{AllocError, Global};
 use xdr_core::Builder;
 use xdr_entries::{write_account_id, write_asset, write_hash};
@@ -57,10 +55,8 @@ fn write_operation(
     op: u32,
     builder: &mut Builder,
 ) -> Result<(), AllocError>
-    ensures {
-        OnOk result (builder.new
-            ≡ builder.old ++ i32.spell kind ++ account_id.spell source.now ++ i64.spell seq ++ u32.spell op)
-    }
+    ensures { OnOk result (builder.new
+        ≡ builder.old ++ i32.spell kind ++ account_id.spell source.now ++ i64.spell seq ++ u32.spell op) }
 {
     builder.i32(kind)?;
     write_account_id(source, builder)?;

@@ -1,4 +1,5 @@
--- The laws of a format whose faults are those of XDR: reading and spelling are one relation, and each fault has its place.
+-- The laws of a format whose faults are those of XDR: reading and spelling are one relation, and each fault has its
+-- place.
 use Rattle.std.proofs.Common.{
   ◌≡◌,
   ℕ,
@@ -267,15 +268,18 @@ abbrev pub EachArm : {V : Type 0} → (V → Part XdrFault V) → List (Arm XdrF
 EachArm part_of [] = Unit {1}
 EachArm part_of (a ∷ others) = ArmLaws part_of a × EachArm part_of others
 
-are_arms : {V : Type 0} (part_of : V → Part XdrFault V) (arms : List (Arm XdrFault V)) → EachArm part_of arms → AreArms part_of arms
+are_arms : {V : Type 0} (part_of : V → Part XdrFault V) (arms : List (Arm XdrFault V)) → EachArm part_of arms
+    → AreArms part_of arms
 are_arms part_of [] each = tt
 are_arms part_of (a ∷ others) each =
     (record { law = each.0.laws.lawful; is_part = each.0.is_part }, are_arms part_of others each.1)
 
 -- a value's arm and what stands behind its discriminant, a numeral that fits 32 bits with a sign
-pub found : {V : Type 0} {part_of : V → Part XdrFault V} {arms : List (Arm XdrFault V)} {v : V} (a : Arm XdrFault V) (x : a.Body)
+pub found : {V : Type 0} {part_of : V → Part XdrFault V} {arms : List (Arm XdrFault V)} {v : V} (a : Arm XdrFault V)
+    (x : a.Body)
     → Laws a.body → T (ltb (mag a.mark) (2 ^ 31)) → part_of v ≡ part a x → a.make x ≡ v
-    → ((wrong : Place → ℤ → XdrFault) (start p : Place) → pick arms wrong start (a.mark, p) ≡ arm_at a p) → IsFound part_of arms v
+    → ((wrong : Place → ℤ → XdrFault) (start p : Place) → pick arms wrong start (a.mark, p) ≡ arm_at a p)
+    → IsFound part_of arms v
 found a x laws fits is_part makes picked = record {
   arm = a;
   body = x;
@@ -287,18 +291,21 @@ found a x laws fits is_part makes picked = record {
 }
 
 -- the arm of a discriminant, or one of those behind it
-arm_placed : {V : Type 0} (a : Arm XdrFault V) (others : List (Arm XdrFault V)) → Laws a.body → (start m : Place) (d : ℤ)
+arm_placed : {V : Type 0} (a : Arm XdrFault V) (others : List (Arm XdrFault V)) → Laws a.body
+    → (start m : Place) (d : ℤ)
     (fault : XdrFault) (same : Bool) → IsBytes m.rest
     → cond same (arm_at a m) (pick others no_arm start (d, m)) ≡ Err fault
     → (pick others no_arm start (d, m) ≡ Err fault
     → Placed (end_of m) (λ more. pick others no_arm (followed start more) (d, followed m more)) fault)
     → Placed (end_of m)
-    (λ more. cond same (arm_at a (followed m more)) (pick others no_arm (followed start more) (d, followed m more))) fault
+    (λ more. cond same (arm_at a (followed m more)) (pick others no_arm (followed start more) (d, followed m more)))
+    fault
 arm_placed a others laws start m d fault true fits e later =
     map_places a.body.read (λ x. (a.make x.0, x.1)) laws.places m fault fits e
 arm_placed a others laws start m d fault false fits e later = later e
 
-pick_placed : {V : Type 0} (part_of : V → Part XdrFault V) (arms : List (Arm XdrFault V)) → EachArm part_of arms → (start m : Place)
+pick_placed : {V : Type 0} (part_of : V → Part XdrFault V) (arms : List (Arm XdrFault V)) → EachArm part_of arms
+    → (start m : Place)
     (d : ℤ) (fault : XdrFault) → IsBytes m.rest → pick arms no_arm start (d, m) ≡ Err fault
     → Placed (end_of m) (λ more. pick arms no_arm (followed start more) (d, followed m more)) fault
 pick_placed part_of [] each start m d fault fits e =
@@ -318,13 +325,15 @@ union_laws {V} {part_of} {arms} each is_found = let word = lifted_laws i32_laws 
 
 -- ---- extensions
 
-pub extension_laws : {V : Type 0} (mark : ℤ) {f : Xdr V} → int_eq mark (pos 0) ≡ false → T (ltb (mag mark) (2 ^ 31)) → Laws f
+pub extension_laws : {V : Type 0} (mark : ℤ) {f : Xdr V} → int_eq mark (pos 0) ≡ false → T (ltb (mag mark) (2 ^ 31))
+    → Laws f
     → Laws (extension_of mark f)
 unfolding extension
 extension_laws {V} mark {f} other fits laws = let word = lifted_laws i32_laws in record {
   lawful = extension_law as_it_is mark other (discriminant_fits mark fits) laws.lawful;
   places =
-      bind_places (lifted as_it_is i32).read (pick (without ∷ extended mark f ∷ []) no_arm) word.places (goes_on word.lawful)
+      bind_places (lifted as_it_is i32).read (pick (without ∷ extended mark f ∷ []) no_arm) word.places
+      (goes_on word.lawful)
       (λ p m d fault fits e.
       pick_placed (extension_part mark f) (without ∷ extended mark f ∷ [])
       (arm_laws empty_laws (λ x. refl), (arm_laws (whole_laws laws) (λ x. refl), tt)) p m d fault fits e);

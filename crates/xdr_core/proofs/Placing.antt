@@ -95,7 +95,8 @@ abbrev pub AlwaysGoesOn : {A : Type 0} → (Place → Reading XdrFault A) → Ty
 AlwaysGoesOn {A} read = (p m : Place) (x : A) → IsBytes p.rest → read p ≡ Ok (x, m) → GoesOn read p m x
 
 goes_on_by : {A : Type 0} (read : Place → Reading XdrFault A) (p m : Place) (text : List ℕ) (x : A) → Takes p m text
-    → ((rest : List ℕ) → read (record { at = p.at; rest = text ++ rest }) ≡ Ok (x, record { at = p.at + length text; rest = rest }))
+    → ((rest : List ℕ) → read (record { at = p.at; rest = text ++ rest })
+    ≡ Ok (x, record { at = p.at + length text; rest = rest }))
     → GoesOn read p m x
 goes_on_by read p m text x t again = record {
   end = omega (arith, t.at, ap length t.parts, length-append text m.rest);
@@ -127,7 +128,8 @@ bind_err (Ok x) f e h = inr (x, refl, h)
 bind_err (Err d) f e h = inl cc
 
 -- one step behind another, which may name the place of the first
-pub bind_places : {A B : Type 0} (read : Place → Reading XdrFault A) (next : Place → A × Place → Reading XdrFault B) → Places read
+pub bind_places : {A B : Type 0} (read : Place → Reading XdrFault A) (next : Place → A × Place → Reading XdrFault B)
+    → Places read
     → AlwaysGoesOn read
     → ((p m : Place) (x : A) (fault : XdrFault) → IsBytes m.rest → next p (x, m) ≡ Err fault
     → Placed (end_of m) (λ more. next (followed p more) (x, followed m more)) fault)
@@ -161,7 +163,8 @@ map_places read to first p fault fits e =
     ]
 
 -- a fault that tells the text's end
-pub placed_short : {A : Type 0} (p : Place) (reads : List ℕ → Reading XdrFault A) (fault : XdrFault) → short_at p ≡ fault
+pub placed_short : {A : Type 0} (p : Place) (reads : List ℕ → Reading XdrFault A) (fault : XdrFault) → short_at p
+    ≡ fault
     → Placed (end_of p) reads fault
 placed_short p reads fault is = record {
   short = λ _. sym (ap (λ f. f.at) is);
@@ -169,7 +172,8 @@ placed_short p reads fault is = record {
 }
 
 -- a fault of another kind, which stays
-pub placed_other : {A : Type 0} (end : ℕ) (reads : List ℕ → Reading XdrFault A) (known fault : XdrFault) → known.kind ≢ Short
+pub placed_other : {A : Type 0} (end : ℕ) (reads : List ℕ → Reading XdrFault A) (known fault : XdrFault)
+    → known.kind ≢ Short
     → known ≡ fault → ((more : List ℕ) → reads more ≡ Err known) → Placed end reads fault
 placed_other end reads known fault other is stays = record {
   short = λ short. absurd (other (ap (λ f. f.kind) is ∙ short));
@@ -201,13 +205,15 @@ word_goes_on p m x fits e = goes_on (number_lawful 4 wide4) p m x fits e
 -- ---- flags and lengths
 
 flag_placed : (p m : Place) (fault : XdrFault) (zero one : Bool)
-    → cond {A = Reading XdrFault Bool} zero (Ok (false, m)) (cond one (Ok (true, m)) (Err (fault_at p BadFlag))) ≡ Err fault
+    → cond {A = Reading XdrFault Bool} zero (Ok (false, m)) (cond one (Ok (true, m)) (Err (fault_at p BadFlag)))
+    ≡ Err fault
     → Placed (end_of m)
     (λ more. cond {A = Reading XdrFault Bool} zero (Ok (false, followed m more))
     (cond one (Ok (true, followed m more)) (Err (fault_at p BadFlag)))) fault
 flag_placed p m fault true one e = absurd cc
 flag_placed p m fault false true e = absurd cc
-flag_placed p m fault false false e = placed_other (end_of m) _ (fault_at p BadFlag) fault (λ is. cc) (err_is _ _ e) (λ more. refl)
+flag_placed p m fault false false e =
+    placed_other (end_of m) _ (fault_at p BadFlag) fault (λ is. cc) (err_is _ _ e) (λ more. refl)
 
 pub flag_places : Places flag.read
 unfolding flag
@@ -217,8 +223,10 @@ flag_places =
 
 bounded_placed : (p m : Place) (n : ℕ) (fault : XdrFault) (above : Bool)
     → cond {A = Reading XdrFault ℕ} above (Err (fault_at p TooLong)) (Ok (n, m)) ≡ Err fault
-    → Placed (end_of m) (λ more. cond {A = Reading XdrFault ℕ} above (Err (fault_at p TooLong)) (Ok (n, followed m more))) fault
-bounded_placed p m n fault true e = placed_other (end_of m) _ (fault_at p TooLong) fault (λ is. cc) (err_is _ _ e) (λ more. refl)
+    → Placed (end_of m)
+    (λ more. cond {A = Reading XdrFault ℕ} above (Err (fault_at p TooLong)) (Ok (n, followed m more))) fault
+bounded_placed p m n fault true e =
+    placed_other (end_of m) _ (fault_at p TooLong) fault (λ is. cc) (err_is _ _ e) (λ more. refl)
 bounded_placed p m n fault false e = absurd cc
 
 pub count_places : (max : ℕ) → Places (count max).read
@@ -254,8 +262,10 @@ padding_places k p fault fits e =
 pub opaque_places : (n : ℕ) → Places (opaque_at n)
 unfolding opaque_at
 opaque_places n =
-    bind_places (bytes_at n) (λ _ x. padding_at (padding_len n) x.1 >>= λ y. Ok (x.0, y.1)) (bytes_places n) (bytes_go_on n)
-    (λ p m x fault fits e. map_places (padding_at (padding_len n)) (λ y. (x, y.1)) (padding_places (padding_len n)) m fault fits e)
+    bind_places (bytes_at n) (λ _ x. padding_at (padding_len n) x.1 >>= λ y. Ok (x.0, y.1)) (bytes_places n)
+    (bytes_go_on n)
+    (λ p m x fault fits e. map_places (padding_at (padding_len n)) (λ y. (x, y.1)) (padding_places (padding_len n)) m
+    fault fits e)
 
 pub fixed_places : (n : ℕ) → Places (fixed n).read
 unfolding fixed
@@ -270,7 +280,8 @@ var_places max lt =
 -- ---- record marks
 
 mark_len_placed : (max : ℕ) (p m : Place) (len : ℕ) (fault : XdrFault) (low above : Bool)
-    → cond {A = Reading XdrFault ℕ} low (Err (fault_at p BadMark)) (cond above (Err (fault_at p TooLong)) (Ok (len, m))) ≡ Err fault
+    → cond {A = Reading XdrFault ℕ} low (Err (fault_at p BadMark)) (cond above (Err (fault_at p TooLong)) (Ok (len, m)))
+    ≡ Err fault
     → Placed (end_of m)
     (λ more. cond {A = Reading XdrFault ℕ} low (Err (fault_at p BadMark))
     (cond above (Err (fault_at p TooLong)) (Ok (len, followed m more)))) fault
@@ -308,7 +319,8 @@ marked_len_goes_on max p q len fits e =
 pub mark_places : (max : ℕ) → Places (mark max).read
 unfolding mark
 mark_places max =
-    bind_places (λ p. number_at 4 p >>= mark_len max p) (λ _ n. bytes_at n.0 n.1) (marked_len_places max) (marked_len_goes_on max)
+    bind_places (λ p. number_at 4 p >>= mark_len max p) (λ _ n. bytes_at n.0 n.1) (marked_len_places max)
+    (marked_len_goes_on max)
     (λ p m n fault fits e. bytes_places n m fault fits e)
 
 pub u32_places : Places u32.read

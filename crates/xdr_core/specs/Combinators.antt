@@ -1,5 +1,29 @@
 -- Formats made of other formats: one behind another, constants, options, lists and unions.
-use Rattle.std.specs.Prelude.{◌≡◌, ℕ, zero, suc, ◌≤◌, ℤ, pos, List, [], ◌∷◌, ◌++◌, length, fold, if◌then◌else◌, Bool, true, false, Option, Some, None, IfSome, Ok, Err}
+use Rattle.std.specs.Prelude.{
+  ◌≡◌,
+  ℕ,
+  zero,
+  suc,
+  ◌≤◌,
+  ℤ,
+  pos,
+  List,
+  [],
+  ◌∷◌,
+  ◌++◌,
+  length,
+  fold,
+  if◌then◌else◌,
+  Bool,
+  true,
+  false,
+  Option,
+  Some,
+  None,
+  IfSome,
+  Ok,
+  Err,
+}
 use Rattle.std.specs.List.{flat_map, AllByRecursion}
 use Rattle.std.specs.Ordering.{int_eq}
 use Rattle.xdr_core.specs.declared.fault.XdrFault.{XdrFault}
@@ -218,4 +242,5 @@ extension_part mark f None = part without tt
 extension_part mark f (Some v) = part (extended mark f) v
 
 unfoldable pub extension : {F V : Type 0} → (XdrFault → F) → ℤ → Format F V → Format F (Option V)
-extension as_fault mark f = union as_fault (extension_part mark f) (without ∷ extended mark f ∷ []) (λ p d. as_fault (fault_at p BadEnum))
+extension as_fault mark f =
+    union as_fault (extension_part mark f) (without ∷ extended mark f ∷ []) (λ p d. as_fault (fault_at p BadEnum))

@@ -39,21 +39,27 @@ pub record Lawful {F V : Type 0} (f : Format F V) : Type 0 where
   pub takes : (p q : Place) (v : V) → IsBytes p.rest → f.read p ≡ Ok (v, q) → Spells f p q v
   -- what is spelled so is read, whatever follows
   pub again : (at : ℕ) (v : V) (rest : List ℕ) → f.within v → f.sized v
-      → f.read (record { at = at; rest = f.spell v ++ rest }) ≡ Ok (v, record { at = at + length (f.spell v); rest = rest })
+      → f.read (record { at = at; rest = f.spell v ++ rest })
+      ≡ Ok (v, record { at = at + length (f.spell v); rest = rest })
   -- writing puts the spelling at the end
   pub appends : (out : List ℕ) (v : V) → f.onto out v ≡ out ++ f.spell v
 
 -- No spelling begins another: where two texts are equal, so are the values that they begin with.
 abbrev pub IsPrefixFree : {F V : Type 0} → Format F V → Type 0
-IsPrefixFree {F} {V} f = (v w : V) (x y : List ℕ) → f.within v → f.sized v → f.within w → f.sized w → f.spell v ++ x ≡ f.spell w ++ y → (v ≡ w) × (x ≡ y)
+IsPrefixFree {F} {V} f = (v w : V) (x y : List ℕ) → f.within v → f.sized v → f.within w → f.sized w → f.spell v ++ x
+    ≡ f.spell w ++ y → (v ≡ w) × (x ≡ y)
 
 -- A fault comes only where no value is spelled.
 abbrev pub FaultsRightly : {F V : Type 0} → Format F V → Type 0
-FaultsRightly {F} {V} f = (p : Place) (fault : F) → f.read p ≡ Err fault → (v : V) (rest : List ℕ) → f.within v → f.sized v → p.rest ≡ f.spell v ++ rest → ⊥
+FaultsRightly {F} {V} f = (p : Place) (fault : F) → f.read p ≡ Err fault → (v : V) (rest : List ℕ) → f.within v
+    → f.sized v → p.rest ≡ f.spell v ++ rest → ⊥
 
--- Each fault has its place: where the text ends too early it is the text's end, and any other fault stays the same whatever
+-- Each fault has its place: where the text ends too early it is the text's end, and any other fault stays the same
+-- whatever
 -- bytes follow.
 pub record PlacesFaults {V : Type 0} (f : Format XdrFault V) : Type 0 where
-  pub short : (p : Place) (fault : XdrFault) → IsBytes p.rest → f.read p ≡ Err fault → fault.kind ≡ Short → fault.at ≡ end_of p
-  pub stays : (p : Place) (fault : XdrFault) (more : List ℕ) → IsBytes p.rest → f.read p ≡ Err fault → fault.kind ≢ Short
+  pub short : (p : Place) (fault : XdrFault) → IsBytes p.rest → f.read p ≡ Err fault → fault.kind ≡ Short → fault.at
+      ≡ end_of p
+  pub stays : (p : Place) (fault : XdrFault) (more : List ℕ) → IsBytes p.rest → f.read p ≡ Err fault
+      → fault.kind ≢ Short
       → f.read (followed p more) ≡ Err fault

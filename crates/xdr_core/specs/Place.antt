@@ -49,7 +49,8 @@ with_fault as_fault (Ok x) = Ok x
 with_fault as_fault (Err e) = Err (as_fault e)
 
 -- What a reader answered, seen by a view, is what reading gives. With a value the reader stands behind it; with
--- a failure it stands where it stood. A failure has a fault of the text as its cause, or none where memory was refused, which
+-- a failure it stands where it stood. A failure has a fault of the text as its cause, or none where memory was refused,
+-- which
 -- says nothing of the text.
 abbrev pub ReadsBy : {X Y D F : Type 0} → (X → Y) → (D → Option F) → Result X D → Place → Place → Reading F Y → Type 0
 ReadsBy view cause (Ok x) old new reading = reading ≡ Ok (view x, new)

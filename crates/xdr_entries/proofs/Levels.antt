@@ -6,7 +6,8 @@ use Rattle.ledger_types.specs.declared.predicate.ClaimPredicate.{ClaimPredicate}
 use Rattle.xdr_entries.specs.Predicates.{predicate_of, predicate_below}
 use Rattle.xdr_entries.proofs.PredicateLaws.{predicate_below_laws}
 
-pub one_level_more : (levels : ℕ) (p : Place) → 0 < levels → (predicate_below levels).read p ≡ (predicate_of (predicate_below (levels - 1))).read p
+pub one_level_more : (levels : ℕ) (p : Place) → 0 < levels → (predicate_below levels).read p
+    ≡ (predicate_of (predicate_below (levels - 1))).read p
 unfolding predicate_below
 one_level_more zero p lt = absurd (omega arith)
 one_level_more (suc levels) p lt = let e : suc levels - 1 ≡ levels = omega arith in rw e refl
@@ -25,7 +26,8 @@ written_one_level_more zero out v lt = absurd (omega arith)
 written_one_level_more (suc levels) out v lt =
     let e : suc levels - 1 ≡ levels = omega arith in rw e ((predicate_below_laws (suc levels)).lawful.appends out v)
 
-pub within_one_level_more : (levels : ℕ) (v : ClaimPredicate) → 0 < levels → (predicate_below levels).within v → (predicate_of (predicate_below (levels - 1))).within v
+pub within_one_level_more : (levels : ℕ) (v : ClaimPredicate) → 0 < levels → (predicate_below levels).within v
+    → (predicate_of (predicate_below (levels - 1))).within v
 unfolding predicate_below
 within_one_level_more zero v lt h = absurd (omega arith)
 within_one_level_more (suc levels) v lt h = let e : suc levels - 1 ≡ levels = omega arith in rw e h

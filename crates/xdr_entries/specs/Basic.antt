@@ -1,4 +1,5 @@
--- The formats of ids, signers, assets and prices (Stellar-types.x, Stellar-ledger-entries.x and Stellar-transaction.x of
+-- The formats of ids, signers, assets and prices (Stellar-types.x, Stellar-ledger-entries.x and Stellar-transaction.x
+-- of
 -- protocol 18, over RFC 4506).
 use Rattle.std.specs.Prelude.{ℕ, ℤ, pos, List, [], ◌∷◌, refl}
 use Rattle.xdr_core.specs.declared.fault.XdrFault.{XdrFault}
@@ -30,7 +31,12 @@ arm {V} {B} mark body make = record { Body = B; mark = mark; body = body; make =
 -- ---- ids
 
 abbrev pub hash_fields : Fields (List ℕ) Hash
-hash_fields = record { to = λ digest. record { 0 = digest }; from = λ hash. hash.0; there = λ _. refl; back = λ _. refl }
+hash_fields = record {
+  to = λ digest. record { 0 = digest };
+  from = λ hash. hash.0;
+  there = λ _. refl;
+  back = λ _. refl;
+}
 
 unfoldable pub hash : Xdr Hash
 hash = struct_of hash_fields (fixed 32)
@@ -87,7 +93,12 @@ unfoldable pub signer_key : Xdr SignerKey
 signer_key = union_of signer_key_part signer_key_arms
 
 abbrev pub signer_fields : Fields (SignerKey × ℕ) Signer
-signer_fields = record { to = λ v. record { key = v.0; weight = v.1 }; from = λ s. (s.key, s.weight); there = λ _. refl; back = λ _. refl }
+signer_fields = record {
+  to = λ v. record { key = v.0; weight = v.1 };
+  from = λ s. (s.key, s.weight);
+  there = λ _. refl;
+  back = λ _. refl;
+}
 
 unfoldable pub signer : Xdr Signer
 signer = struct_of signer_fields (signer_key ⨾ u32)
@@ -177,13 +188,23 @@ change_trust_asset = union_of change_trust_asset_part change_trust_asset_arms
 -- ---- prices
 
 abbrev pub price_fields : Fields (ℤ × ℤ) Price
-price_fields = record { to = λ v. record { n = v.0; d = v.1 }; from = λ p. (p.n, p.d); there = λ _. refl; back = λ _. refl }
+price_fields = record {
+  to = λ v. record { n = v.0; d = v.1 };
+  from = λ p. (p.n, p.d);
+  there = λ _. refl;
+  back = λ _. refl;
+}
 
 unfoldable pub price : Xdr Price
 price = struct_of price_fields (i32 ⨾ i32)
 
 abbrev pub liabilities_fields : Fields (ℤ × ℤ) Liabilities
-liabilities_fields = record { to = λ v. record { buying = v.0; selling = v.1 }; from = λ l. (l.buying, l.selling); there = λ _. refl; back = λ _. refl }
+liabilities_fields = record {
+  to = λ v. record { buying = v.0; selling = v.1 };
+  from = λ l. (l.buying, l.selling);
+  there = λ _. refl;
+  back = λ _. refl;
+}
 
 unfoldable pub liabilities : Xdr Liabilities
 liabilities = struct_of liabilities_fields (i64 ⨾ i64)

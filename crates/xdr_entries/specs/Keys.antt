@@ -1,4 +1,5 @@
--- The formats of keys (LedgerKey in Stellar-ledger-entries.x) and of the items of buckets (BucketEntry in Stellar-ledger.x;
+-- The formats of keys (LedgerKey in Stellar-ledger-entries.x) and of the items of buckets (BucketEntry in
+-- Stellar-ledger.x;
 -- CAP-0020).
 use Rattle.std.specs.Prelude.{pos, negsuc, List, [], ◌∷◌}
 use Rattle.xdr_core.specs.declared.fault.XdrFault.{XdrFault}

@@ -20,8 +20,7 @@ network_id_of passphrase = hash_of passphrase
 abbrev pub tx_hash_of : Hash → ℕ → List ℕ → Hash
 tx_hash_of network kind tx = hash_of (network.0 ++ u32.spell kind ++ tx)
 
--- the hash of a transaction set: the hash of the ledger before it, and the spellings of its envelopes one behind
--- another
+-- the hash of a transaction set: of the hash of the ledger before it, and the spellings of its envelopes in a row
 abbrev pub set_hash_of : Hash → List (List ℕ) → Hash
 set_hash_of previous envelopes = hash_of (previous.0 ++ flat_map (λ envelope. envelope) envelopes)
 
@@ -30,7 +29,7 @@ abbrev pub balance_id_of : AccountId → ℤ → ℕ → Hash
 balance_id_of source seq op =
     hash_of (i32.spell ENVELOPE_TYPE_OP_ID ++ account_id.spell source ++ i64.spell seq ++ u32.spell op)
 
--- the id of the claimable balance that an operation makes of a pool's asset as it revokes an authorisation
+-- the id of the claimable balance that an operation makes as it revokes an authorisation, of a pool's asset
 -- (OperationID)
 abbrev pub revoke_id_of : AccountId → ℤ → ℕ → Hash → Asset → Hash
 revoke_id_of source seq op pool held =

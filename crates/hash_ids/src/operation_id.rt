@@ -20,8 +20,8 @@ pub fn balance_id(alloc: Global, source: &AccountId, seq: i64, op: u32) -> Resul
     Ok(hash(builder.as_slice()))
 }
 
-/// The id of the claimable balance that the operation at place `op`, counted from 0, of a transaction makes of an asset of
-/// a pool, as it revokes an authorisation.
+/// The id of the claimable balance that the operation at place `op`, counted from 0, of a transaction makes of an asset
+/// of a pool, as it revokes an authorisation.
 #[tactic(auto, using(crate::proofs::Pieces::written_pieces))]
 pub fn revoke_id(
     alloc: Global,

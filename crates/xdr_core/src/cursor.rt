@@ -229,8 +229,8 @@ impl<'a> Cursor<'a> {
         Ok(bytes)
     }
 
-    /// At most `max` bytes behind their mark, which is their number with the top bit of four bytes set (RFC 5531, 11). A
-    /// clear top bit is `BadMark`, a number above `max` is `TooLong`.
+    /// At most `max` bytes behind their mark, which is their number with the top bit of four bytes set (RFC 5531, 11).
+    /// A clear top bit is `BadMark`, a number above `max` is `TooLong`.
     #[tactic(auto, unfolding(crate::specs::Leaves::mark, crate::specs::Leaves::u32))]
     pub fn mark(&mut self, max: u32) -> Result<&'a [u8], XdrFault>
         ensures { ReadsBy (λ bytes. bytes.now) itself result self.old self.new ((leaf.mark max).read self.old) }

@@ -32,7 +32,8 @@ pub fn read_option<D: Decode>(
     alloc: Global,
     cursor: &mut Cursor<'_>,
 ) -> Result<Option<D::Value>, D::Failure>
-    ensures { Reads D.Failure.cause result cursor.old cursor.new ((option D.Failure.of_fault D.format).read cursor.old) }
+    ensures { Reads D.Failure.cause result cursor.old cursor.new
+        ((option D.Failure.of_fault D.format).read cursor.old) }
 {
     let mut ahead = cursor.fork();
     let is_there = match ahead.flag() {
@@ -113,7 +114,8 @@ pub fn read_list<D: Decode>(
 ) -> Result<ItemList<D::Value>, D::Failure>
 where
     D::Failure: MemoryFailure,
-    ensures { Reads D.Failure.cause result cursor.old cursor.new ((list D.Failure.of_fault max D.format).read cursor.old) }
+    ensures { Reads D.Failure.cause result cursor.old cursor.new
+        ((list D.Failure.of_fault max D.format).read cursor.old) }
 {
     let mut ahead = cursor.fork();
     let len = match ahead.count(max) {

@@ -1,6 +1,6 @@
 -- The laws of each format, and what follows of them, as one set.
 use Rattle.xdr_core.proofs.Grammar.{prefix_free, faults_rightly}
-use Rattle.xdr_core.proofs.FormatLaws.{lawful_of, faults_placed}
+use Rattle.xdr_core.proofs.FormatLaws.{lawful_of, faults_placed, written, option_laws}
 use Rattle.xdr_entries.proofs.BasicLaws.{
   hash_laws,
   account_id_laws,
@@ -66,6 +66,26 @@ pub ruleset all_laws = (
   claimable_balance_entry_laws,
   liquidity_pool_entry_laws,
   ledger_entry_body_laws,
+  ledger_entry_extension_v1_laws,
+  ledger_entry_laws,
+  ledger_key_laws,
+  bucket_entry_laws,
+)
+
+-- what the writers of whole values and of items of lists, options and extensions rest on
+pub ruleset written_values = (
+  written,
+  option_laws,
+  account_id_laws,
+  muxed_account_laws,
+  signer_laws,
+  asset_laws,
+  account_extension_v1_laws,
+  account_extension_v2_laws,
+  trust_line_extension_v1_laws,
+  trust_line_extension_v2_laws,
+  claimant_laws,
+  claimable_balance_extension_v1_laws,
   ledger_entry_extension_v1_laws,
   ledger_entry_laws,
   ledger_key_laws,

@@ -1,6 +1,7 @@
 -- Predicates of a number of levels.
-use Rattle.std.proofs.Common.{◌≡◌, ℕ, zero, suc, ◌-◌, ◌<◌, List, ◌++◌, refl, arith}
-use Rattle.xdr_core.specs.Place.{Place}
+use Rattle.std.proofs.Common.{◌≡◌, ℕ, zero, suc, ◌-◌, ◌<◌, List, ◌++◌, Err, refl, arith}
+use Rattle.xdr_core.specs.declared.fault.XdrKind.TheVariants.{TooDeep}
+use Rattle.xdr_core.specs.Place.{Place, fault_at}
 use Rattle.xdr_core.specs.Combinators.{refused}
 use Rattle.ledger_types.specs.declared.predicate.ClaimPredicate.{ClaimPredicate}
 use Rattle.xdr_entries.specs.Predicates.{predicate_of, predicate_below}
@@ -11,6 +12,14 @@ pub one_level_more : (levels : ℕ) (p : Place) → 0 < levels → (predicate_be
 unfolding predicate_below
 one_level_more zero p lt = absurd (omega arith)
 one_level_more (suc levels) p lt = let e : suc levels - 1 ≡ levels = omega arith in rw e refl
+
+-- a predicate of no level is refused
+pub no_level : (levels : ℕ) (p : Place) → levels ≡ 0 → (predicate_below levels).read p ≡ Err (fault_at p TooDeep)
+unfolding predicate_below refused
+no_level zero p e = refl
+no_level (suc levels) p e = absurd (omega arith)
+
+pub ruleset levels_read = (one_level_more, no_level)
 
 -- a predicate that has a spelling has a level
 pub some_level : (levels : ℕ) (v : ClaimPredicate) → (predicate_below levels).within v → 0 < levels

@@ -45,7 +45,7 @@ pub fn read_account_extension_v2(
 }
 
 /// Writes what sponsorship adds to an account.
-#[tactic(auto, unfolding(crate::specs::Entries::account_extension_v2, xdr_core::specs::Combinators::constant))]
+#[tactic(auto, unfolding(crate::specs::Entries::account_extension_v2))]
 pub fn write_account_extension_v2(
     value: &AccountEntryExtensionV2,
     builder: &mut Builder,
@@ -60,7 +60,7 @@ pub fn write_account_extension_v2(
         MAX_SIGNERS,
         builder,
     )?;
-    builder.i32(0)
+    builder.tag(0)
 }
 
 /// Reads what liabilities add to an account.
@@ -215,7 +215,7 @@ impl Decode for AccountExtensionV2Format {
 }
 
 impl Encode for AccountExtensionV2Format {
-    #[tactic(auto, using(xdr_core::proofs::FormatLaws::written, crate::proofs::EntryLaws::account_extension_v2_laws))]
+    #[tactic(auto, using(crate::proofs::AllLaws::written_values))]
     fn encode(value: &AccountEntryExtensionV2, builder: &mut Builder) -> Result<(), AllocError> {
         write_account_extension_v2(value, builder)
     }
@@ -240,7 +240,7 @@ impl Decode for AccountExtensionV1Format {
 }
 
 impl Encode for AccountExtensionV1Format {
-    #[tactic(auto, using(xdr_core::proofs::FormatLaws::written, crate::proofs::EntryLaws::account_extension_v1_laws))]
+    #[tactic(auto, using(crate::proofs::AllLaws::written_values))]
     fn encode(value: &AccountEntryExtensionV1, builder: &mut Builder) -> Result<(), AllocError> {
         write_account_extension_v1(value, builder)
     }

@@ -133,11 +133,11 @@ pub fn read_pool_params(cursor: &mut Cursor<'_>) -> Result<PoolParams, XdrFault>
 }
 
 /// Writes the parameters of a pool.
-#[tactic(auto, unfolding(crate::specs::Basic::pool_params, xdr_core::specs::Combinators::constant))]
+#[tactic(auto, unfolding(crate::specs::Basic::pool_params))]
 pub fn write_pool_params(value: &PoolParams, builder: &mut Builder) -> Result<(), AllocError>
     ensures { OnOk result (builder.new ≡ spec.pool_params.onto builder.old value.now) }
 {
-    builder.i32(LIQUIDITY_POOL_CONSTANT_PRODUCT)?;
+    builder.tag(LIQUIDITY_POOL_CONSTANT_PRODUCT)?;
     write_asset(&value.asset_a, builder)?;
     write_asset(&value.asset_b, builder)?;
     builder.i32(value.fee)
@@ -209,7 +209,7 @@ impl Decode for AssetFormat {
 }
 
 impl Encode for AssetFormat {
-    #[tactic(auto, using(xdr_core::proofs::FormatLaws::written, crate::proofs::BasicLaws::asset_laws))]
+    #[tactic(auto, using(crate::proofs::AllLaws::written_values))]
     fn encode(value: &Asset, builder: &mut Builder) -> Result<(), AllocError> {
         write_asset(value, builder)
     }

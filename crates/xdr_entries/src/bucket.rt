@@ -54,7 +54,7 @@ pub fn read_bucket_entry(alloc: Global, cursor: &mut Cursor<'_>) -> Result<Bucke
 }
 
 /// Writes an item of a bucket: its spelling stands at the end.
-#[tactic(auto, using(xdr_core::proofs::FormatLaws::written, crate::proofs::KeyLaws::bucket_entry_laws))]
+#[tactic(auto, using(crate::proofs::AllLaws::written_values))]
 pub fn write_bucket_entry(value: &BucketEntry, builder: &mut Builder) -> Result<(), AllocError>
     requires { spec.bucket_entry.within value.now }
     ensures { OnOk result (builder.new ≡ builder.old ++ spec.bucket_entry.spell value.now) }
@@ -63,7 +63,7 @@ pub fn write_bucket_entry(value: &BucketEntry, builder: &mut Builder) -> Result<
 }
 
 /// Writes the discriminant of an item, and what stands behind it.
-#[tactic(auto, unfolding(crate::specs::Keys::bucket_entry, xdr_core::specs::Combinators::constant))]
+#[tactic(auto, unfolding(crate::specs::Keys::bucket_entry))]
 fn write_arm(value: &BucketEntry, builder: &mut Builder) -> Result<(), AllocError>
     requires { spec.bucket_entry.within value.now }
     ensures { OnOk result (builder.new ≡ spec.bucket_entry.onto builder.old value.now) }
@@ -72,7 +72,7 @@ fn write_arm(value: &BucketEntry, builder: &mut Builder) -> Result<(), AllocErro
         BucketEntry::Meta { ledger_version } => {
             builder.i32(METAENTRY)?;
             builder.u32(*ledger_version)?;
-            builder.i32(0)
+            builder.tag(0)
         }
         BucketEntry::Live(entry) => {
             builder.i32(LIVEENTRY)?;

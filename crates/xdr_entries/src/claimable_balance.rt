@@ -40,12 +40,12 @@ pub fn read_claimant(alloc: Global, cursor: &mut Cursor<'_>) -> Result<Claimant,
 }
 
 /// Writes a claimant.
-#[tactic(auto, unfolding(crate::specs::Entries::claimant, xdr_core::specs::Combinators::constant))]
+#[tactic(auto, unfolding(crate::specs::Entries::claimant))]
 pub fn write_claimant(value: &Claimant, builder: &mut Builder) -> Result<(), AllocError>
     requires { spec.claimant.within value.now }
     ensures { OnOk result (builder.new ≡ spec.claimant.onto builder.old value.now) }
 {
-    builder.i32(CLAIMANT_TYPE_V0)?;
+    builder.tag(CLAIMANT_TYPE_V0)?;
     write_account_id(&value.destination, builder)?;
     write_claim_predicate(&value.predicate, builder)
 }
@@ -65,14 +65,14 @@ pub fn read_claimable_balance_extension_v1(
 }
 
 /// Writes what clawback adds to a claimable balance.
-#[tactic(auto, unfolding(crate::specs::Entries::claimable_balance_extension_v1, xdr_core::specs::Combinators::constant),)]
+#[tactic(auto, unfolding(crate::specs::Entries::claimable_balance_extension_v1))]
 pub fn write_claimable_balance_extension_v1(
     value: &ClaimableBalanceEntryExtensionV1,
     builder: &mut Builder,
 ) -> Result<(), AllocError>
     ensures { OnOk result (builder.new ≡ spec.claimable_balance_extension_v1.onto builder.old value.now) }
 {
-    builder.i32(0)?;
+    builder.tag(0)?;
     builder.u32(value.flags)
 }
 
@@ -132,7 +132,7 @@ impl Decode for ClaimantFormat {
 }
 
 impl Encode for ClaimantFormat {
-    #[tactic(auto, using(xdr_core::proofs::FormatLaws::written, crate::proofs::EntryLaws::claimant_laws))]
+    #[tactic(auto, using(crate::proofs::AllLaws::written_values))]
     fn encode(value: &Claimant, builder: &mut Builder) -> Result<(), AllocError> {
         write_claimant(value, builder)
     }
@@ -157,7 +157,7 @@ impl Decode for ClaimableBalanceExtensionV1Format {
 }
 
 impl Encode for ClaimableBalanceExtensionV1Format {
-    #[tactic(auto, using(xdr_core::proofs::FormatLaws::written, crate::proofs::EntryLaws::claimable_balance_extension_v1_laws),)]
+    #[tactic(auto, using(crate::proofs::AllLaws::written_values))]
     fn encode(
         value: &ClaimableBalanceEntryExtensionV1,
         builder: &mut Builder,

@@ -36,7 +36,7 @@ pub fn read_data_entry(alloc: Global, cursor: &mut Cursor<'_>) -> Result<DataEnt
 }
 
 /// Writes data.
-#[tactic(auto, unfolding(crate::specs::Entries::data_entry, xdr_core::specs::Combinators::constant))]
+#[tactic(auto, unfolding(crate::specs::Entries::data_entry))]
 pub fn write_data_entry(value: &DataEntry, builder: &mut Builder) -> Result<(), AllocError>
     requires { spec.data_entry.within value.now }
     ensures { OnOk result (builder.new ≡ spec.data_entry.onto builder.old value.now) }
@@ -44,5 +44,5 @@ pub fn write_data_entry(value: &DataEntry, builder: &mut Builder) -> Result<(), 
     write_account_id(&value.account_id, builder)?;
     builder.var(value.data_name.as_slice(), MAX_DATA_NAME_LEN)?;
     builder.var(value.data_value.as_slice(), MAX_DATA_VALUE_LEN)?;
-    builder.i32(0)
+    builder.tag(0)
 }

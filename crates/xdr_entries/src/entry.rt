@@ -114,7 +114,7 @@ pub fn read_ledger_entry_extension_v1(
 }
 
 /// Writes what sponsorship adds to an entry.
-#[tactic(auto, unfolding(crate::specs::Entries::ledger_entry_extension_v1, xdr_core::specs::Combinators::constant))]
+#[tactic(auto, unfolding(crate::specs::Entries::ledger_entry_extension_v1))]
 pub fn write_ledger_entry_extension_v1(
     value: &LedgerEntryExtensionV1,
     builder: &mut Builder,
@@ -123,7 +123,7 @@ pub fn write_ledger_entry_extension_v1(
     ensures { OnOk result (builder.new ≡ spec.ledger_entry_extension_v1.onto builder.old value.now) }
 {
     write_option::<AccountIdFormat>(&value.sponsoring_id, builder)?;
-    builder.i32(0)
+    builder.tag(0)
 }
 
 /// Reads an entry.
@@ -144,7 +144,7 @@ pub fn read_ledger_entry(alloc: Global, cursor: &mut Cursor<'_>) -> Result<Ledge
 }
 
 /// Writes an entry: its spelling stands at the end.
-#[tactic(auto, using(xdr_core::proofs::FormatLaws::written, crate::proofs::EntryLaws::ledger_entry_laws))]
+#[tactic(auto, using(crate::proofs::AllLaws::written_values))]
 pub fn write_ledger_entry(value: &LedgerEntry, builder: &mut Builder) -> Result<(), AllocError>
     requires { spec.ledger_entry.within value.now }
     ensures { OnOk result (builder.new ≡ builder.old ++ spec.ledger_entry.spell value.now) }
@@ -179,7 +179,7 @@ impl Decode for LedgerEntryExtensionV1Format {
 }
 
 impl Encode for LedgerEntryExtensionV1Format {
-    #[tactic(auto, using(xdr_core::proofs::FormatLaws::written, crate::proofs::EntryLaws::ledger_entry_extension_v1_laws),)]
+    #[tactic(auto, using(crate::proofs::AllLaws::written_values))]
     fn encode(value: &LedgerEntryExtensionV1, builder: &mut Builder) -> Result<(), AllocError> {
         write_ledger_entry_extension_v1(value, builder)
     }

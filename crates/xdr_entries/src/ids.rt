@@ -49,11 +49,11 @@ pub fn read_account_id(cursor: &mut Cursor<'_>) -> Result<AccountId, XdrFault>
 }
 
 /// Writes an account's id.
-#[tactic(auto, unfolding(crate::specs::Basic::account_id, xdr_core::specs::Combinators::constant))]
+#[tactic(auto, unfolding(crate::specs::Basic::account_id))]
 pub fn write_account_id(value: &AccountId, builder: &mut Builder) -> Result<(), AllocError>
     ensures { OnOk result (builder.new ≡ spec.account_id.onto builder.old value.now) }
 {
-    builder.i32(KEY_TYPE_ED25519)?;
+    builder.tag(KEY_TYPE_ED25519)?;
     builder.fixed(&value.0)
 }
 
@@ -70,14 +70,14 @@ pub fn read_claimable_balance_id(cursor: &mut Cursor<'_>) -> Result<ClaimableBal
 }
 
 /// Writes a claimable balance's id.
-#[tactic(auto, unfolding(crate::specs::Basic::claimable_balance_id, xdr_core::specs::Combinators::constant))]
+#[tactic(auto, unfolding(crate::specs::Basic::claimable_balance_id))]
 pub fn write_claimable_balance_id(
     value: &ClaimableBalanceId,
     builder: &mut Builder,
 ) -> Result<(), AllocError>
     ensures { OnOk result (builder.new ≡ spec.claimable_balance_id.onto builder.old value.now) }
 {
-    builder.i32(CLAIMABLE_BALANCE_ID_TYPE_V0)?;
+    builder.tag(CLAIMABLE_BALANCE_ID_TYPE_V0)?;
     write_hash(&value.0, builder)
 }
 
@@ -133,7 +133,7 @@ impl Decode for AccountIdFormat {
 }
 
 impl Encode for AccountIdFormat {
-    #[tactic(auto, using(xdr_core::proofs::FormatLaws::written, crate::proofs::BasicLaws::account_id_laws))]
+    #[tactic(auto, using(crate::proofs::AllLaws::written_values))]
     fn encode(value: &AccountId, builder: &mut Builder) -> Result<(), AllocError> {
         write_account_id(value, builder)
     }
@@ -155,7 +155,7 @@ impl Decode for OptionalAccountIdFormat {
 }
 
 impl Encode for OptionalAccountIdFormat {
-    #[tactic(auto, using(xdr_core::proofs::FormatLaws::written, crate::proofs::BasicLaws::account_id_laws, xdr_core::proofs::FormatLaws::option_laws,),)]
+    #[tactic(auto, using(crate::proofs::AllLaws::written_values))]
     fn encode(value: &Option<AccountId>, builder: &mut Builder) -> Result<(), AllocError> {
         write_option::<AccountIdFormat>(value, builder)
     }
@@ -177,7 +177,7 @@ impl Decode for MuxedAccountFormat {
 }
 
 impl Encode for MuxedAccountFormat {
-    #[tactic(auto, using(xdr_core::proofs::FormatLaws::written, crate::proofs::BasicLaws::muxed_account_laws))]
+    #[tactic(auto, using(crate::proofs::AllLaws::written_values))]
     fn encode(value: &MuxedAccount, builder: &mut Builder) -> Result<(), AllocError> {
         write_muxed_account(value, builder)
     }

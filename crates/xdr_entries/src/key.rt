@@ -83,7 +83,7 @@ pub fn read_ledger_key(alloc: Global, cursor: &mut Cursor<'_>) -> Result<LedgerK
 }
 
 /// Writes a key: its spelling stands at the end.
-#[tactic(auto, using(xdr_core::proofs::FormatLaws::written, crate::proofs::KeyLaws::ledger_key_laws))]
+#[tactic(auto, using(crate::proofs::AllLaws::written_values))]
 pub fn write_ledger_key(value: &LedgerKey, builder: &mut Builder) -> Result<(), AllocError>
     requires { spec.ledger_key.within value.now }
     ensures { OnOk result (builder.new ≡ builder.old ++ spec.ledger_key.spell value.now) }

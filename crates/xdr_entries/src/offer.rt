@@ -32,7 +32,7 @@ pub fn read_offer_entry(cursor: &mut Cursor<'_>) -> Result<OfferEntry, XdrFault>
 }
 
 /// Writes an offer.
-#[tactic(auto, unfolding(crate::specs::Entries::offer_entry, xdr_core::specs::Combinators::constant))]
+#[tactic(auto, unfolding(crate::specs::Entries::offer_entry))]
 pub fn write_offer_entry(value: &OfferEntry, builder: &mut Builder) -> Result<(), AllocError>
     ensures { OnOk result (builder.new ≡ spec.offer_entry.onto builder.old value.now) }
 {
@@ -43,5 +43,5 @@ pub fn write_offer_entry(value: &OfferEntry, builder: &mut Builder) -> Result<()
     builder.i64(value.amount)?;
     write_price(&value.price, builder)?;
     builder.u32(value.flags)?;
-    builder.i32(0)
+    builder.tag(0)
 }

@@ -49,7 +49,7 @@ pub fn read_claim_predicate(
 
 /// Reads a predicate of at most so many levels.
 #[cycle(predicate)]
-#[tactic(auto, using(crate::proofs::Levels::one_level_more), unfolding(crate::specs::Predicates::predicate_below, xdr_core::specs::Combinators::refused),)]
+#[tactic(auto, using(crate::proofs::Levels::levels_read))]
 fn read_below(
     alloc: Global,
     levels: u32,
@@ -94,7 +94,8 @@ fn read_parts(
     levels: u32,
     cursor: &mut Cursor<'_>,
 ) -> Result<ItemList<ClaimPredicate>, ReadFault>
-    ensures { Reads cause_of result cursor.old cursor.new ((list_of MAX_PARTS (predicate_below levels)).read cursor.old) }
+    ensures { Reads cause_of result cursor.old cursor.new
+        ((list_of MAX_PARTS (predicate_below levels)).read cursor.old) }
 {
     let mut ahead = cursor.fork();
     let len = ahead.count(MAX_PARTS)?;

@@ -92,7 +92,7 @@ impl Decode for SignerFormat {
 }
 
 impl Encode for SignerFormat {
-    #[tactic(auto, using(xdr_core::proofs::FormatLaws::written, crate::proofs::BasicLaws::signer_laws))]
+    #[tactic(auto, using(crate::proofs::AllLaws::written_values))]
     fn encode(value: &Signer, builder: &mut Builder) -> Result<(), AllocError> {
         write_signer(value, builder)
     }

@@ -28,7 +28,7 @@ pub fn read_trust_line_extension_v2(
 }
 
 /// Writes what pools add to a trust line.
-#[tactic(auto, unfolding(crate::specs::Entries::trust_line_extension_v2, xdr_core::specs::Combinators::constant))]
+#[tactic(auto, unfolding(crate::specs::Entries::trust_line_extension_v2))]
 pub fn write_trust_line_extension_v2(
     value: &TrustLineEntryExtensionV2,
     builder: &mut Builder,
@@ -36,7 +36,7 @@ pub fn write_trust_line_extension_v2(
     ensures { OnOk result (builder.new ≡ spec.trust_line_extension_v2.onto builder.old value.now) }
 {
     builder.i32(value.liquidity_pool_use_count)?;
-    builder.i32(0)
+    builder.tag(0)
 }
 
 /// Reads what liabilities add to a trust line.
@@ -129,7 +129,7 @@ impl Decode for TrustLineExtensionV2Format {
 }
 
 impl Encode for TrustLineExtensionV2Format {
-    #[tactic(auto, using(xdr_core::proofs::FormatLaws::written, crate::proofs::EntryLaws::trust_line_extension_v2_laws),)]
+    #[tactic(auto, using(crate::proofs::AllLaws::written_values))]
     fn encode(value: &TrustLineEntryExtensionV2, builder: &mut Builder) -> Result<(), AllocError> {
         write_trust_line_extension_v2(value, builder)
     }
@@ -154,7 +154,7 @@ impl Decode for TrustLineExtensionV1Format {
 }
 
 impl Encode for TrustLineExtensionV1Format {
-    #[tactic(auto, using(xdr_core::proofs::FormatLaws::written, crate::proofs::EntryLaws::trust_line_extension_v1_laws),)]
+    #[tactic(auto, using(crate::proofs::AllLaws::written_values))]
     fn encode(value: &TrustLineEntryExtensionV1, builder: &mut Builder) -> Result<(), AllocError> {
         write_trust_line_extension_v1(value, builder)
     }

@@ -1,5 +1,5 @@
 -- The laws of keys and items of buckets.
-use Rattle.std.proofs.Common.{pos, negsuc, refl, arith}
+use Rattle.std.proofs.Common.{pos, refl, arith}
 use Rattle.xdr_core.proofs.FormatLaws.{
   Laws,
   u32_laws,

@@ -16,7 +16,7 @@ use ledger_types::{
 use std::alloc::{AllocError, Global};
 use xdr_core::{
     Builder, Cursor, Decode, Encode, ReadFault, XdrFault, read_extension, read_list, read_option,
-    write_extension, write_list, write_option,
+    read_var, write_extension, write_list, write_option,
 };
 
 /// Reads what sponsorship adds to an account.
@@ -128,7 +128,7 @@ fn read_account_tail(alloc: Global, cursor: &mut Cursor<'_>) -> Result<AccountTa
     ensures { Reads cause_of result cursor.old cursor.new (spec.account_tail.read cursor.old) }
 {
     let mut ahead = cursor.fork();
-    let home_domain = ItemList::from_slice(alloc, ahead.var(MAX_HOME_DOMAIN_LEN)?)?;
+    let home_domain = read_var(alloc, MAX_HOME_DOMAIN_LEN, &mut ahead)?;
     let thresholds = ahead.array::<4>()?;
     let signers = read_list::<SignerFormat>(alloc, MAX_SIGNERS, &mut ahead)?;
     let ext = read_extension::<AccountExtensionV1Format>(alloc, 1, &mut ahead)?;

@@ -2,10 +2,12 @@
 
 ghost use Rattle.std.specs.Prelude.{◌≡◌, OnOk};
 ghost use Rattle.xdr_core.specs.Place.{Reads, itself};
+ghost use Rattle.xdr_core.specs.Leaves.{fixed};
+ghost use Rattle.xdr_core.specs.Combinators.{◌⨾◌};
 ghost use Rattle.xdr_entries.specs.Basic as spec;
 
 use crate::ids::{read_account_id, read_hash, write_account_id, write_hash};
-use ledger_types::{Asset, ChangeTrustAsset, PoolParams, TrustLineAsset};
+use ledger_types::{AccountId, Asset, ChangeTrustAsset, PoolParams, TrustLineAsset};
 use std::alloc::{AllocError, Global};
 use xdr_core::{Builder, Cursor, Decode, Encode, ReadFault, XdrFault, XdrKind};
 
@@ -24,6 +26,19 @@ const ASSET_TYPE_POOL_SHARE: i32 = 3;
 /// LIQUIDITY_POOL_CONSTANT_PRODUCT (Stellar-ledger-entries.x).
 const LIQUIDITY_POOL_CONSTANT_PRODUCT: i32 = 0;
 
+/// Reads a code of `N` bytes and the issuer of its asset.
+fn read_code_and_issuer<const N: usize>(
+    cursor: &mut Cursor<'_>,
+) -> Result<([u8; N], AccountId), XdrFault>
+    ensures { Reads itself result cursor.old cursor.new ((fixed N ⨾ spec.account_id).read cursor.old) }
+{
+    let mut ahead = cursor.fork();
+    let code = ahead.array::<N>()?;
+    let issuer = read_account_id(&mut ahead)?;
+    *cursor = ahead;
+    Ok((code, issuer))
+}
+
 /// Reads an asset.
 #[tactic(auto, unfolding(crate::specs::Basic::asset))]
 pub fn read_asset(cursor: &mut Cursor<'_>) -> Result<Asset, XdrFault>
@@ -32,14 +47,14 @@ pub fn read_asset(cursor: &mut Cursor<'_>) -> Result<Asset, XdrFault>
     let mut ahead = cursor.fork();
     let asset = match ahead.i32()? {
         ASSET_TYPE_NATIVE => Asset::Native,
-        ASSET_TYPE_CREDIT_ALPHANUM4 => Asset::Alphanum4 {
-            code: ahead.array::<4>()?,
-            issuer: read_account_id(&mut ahead)?,
-        },
-        ASSET_TYPE_CREDIT_ALPHANUM12 => Asset::Alphanum12 {
-            code: ahead.array::<12>()?,
-            issuer: read_account_id(&mut ahead)?,
-        },
+        ASSET_TYPE_CREDIT_ALPHANUM4 => {
+            let (code, issuer) = read_code_and_issuer::<4>(&mut ahead)?;
+            Asset::Alphanum4 { code, issuer }
+        }
+        ASSET_TYPE_CREDIT_ALPHANUM12 => {
+            let (code, issuer) = read_code_and_issuer::<12>(&mut ahead)?;
+            Asset::Alphanum12 { code, issuer }
+        }
         _ => return Err(cursor.fault(XdrKind::BadEnum)),
     };
     *cursor = ahead;
@@ -74,14 +89,14 @@ pub fn read_trust_line_asset(cursor: &mut Cursor<'_>) -> Result<TrustLineAsset, 
     let mut ahead = cursor.fork();
     let asset = match ahead.i32()? {
         ASSET_TYPE_NATIVE => TrustLineAsset::Native,
-        ASSET_TYPE_CREDIT_ALPHANUM4 => TrustLineAsset::Alphanum4 {
-            code: ahead.array::<4>()?,
-            issuer: read_account_id(&mut ahead)?,
-        },
-        ASSET_TYPE_CREDIT_ALPHANUM12 => TrustLineAsset::Alphanum12 {
-            code: ahead.array::<12>()?,
-            issuer: read_account_id(&mut ahead)?,
-        },
+        ASSET_TYPE_CREDIT_ALPHANUM4 => {
+            let (code, issuer) = read_code_and_issuer::<4>(&mut ahead)?;
+            TrustLineAsset::Alphanum4 { code, issuer }
+        }
+        ASSET_TYPE_CREDIT_ALPHANUM12 => {
+            let (code, issuer) = read_code_and_issuer::<12>(&mut ahead)?;
+            TrustLineAsset::Alphanum12 { code, issuer }
+        }
         ASSET_TYPE_POOL_SHARE => TrustLineAsset::PoolShare(read_hash(&mut ahead)?),
         _ => return Err(cursor.fault(XdrKind::BadEnum)),
     };
@@ -151,14 +166,14 @@ pub fn read_change_trust_asset(cursor: &mut Cursor<'_>) -> Result<ChangeTrustAss
     let mut ahead = cursor.fork();
     let asset = match ahead.i32()? {
         ASSET_TYPE_NATIVE => ChangeTrustAsset::Native,
-        ASSET_TYPE_CREDIT_ALPHANUM4 => ChangeTrustAsset::Alphanum4 {
-            code: ahead.array::<4>()?,
-            issuer: read_account_id(&mut ahead)?,
-        },
-        ASSET_TYPE_CREDIT_ALPHANUM12 => ChangeTrustAsset::Alphanum12 {
-            code: ahead.array::<12>()?,
-            issuer: read_account_id(&mut ahead)?,
-        },
+        ASSET_TYPE_CREDIT_ALPHANUM4 => {
+            let (code, issuer) = read_code_and_issuer::<4>(&mut ahead)?;
+            ChangeTrustAsset::Alphanum4 { code, issuer }
+        }
+        ASSET_TYPE_CREDIT_ALPHANUM12 => {
+            let (code, issuer) = read_code_and_issuer::<12>(&mut ahead)?;
+            ChangeTrustAsset::Alphanum12 { code, issuer }
+        }
         ASSET_TYPE_POOL_SHARE => ChangeTrustAsset::PoolShare(read_pool_params(&mut ahead)?),
         _ => return Err(cursor.fault(XdrKind::BadEnum)),
     };

@@ -6,10 +6,9 @@ ghost use Rattle.xdr_core.specs.ReadFault.{cause_of};
 ghost use Rattle.xdr_entries.specs.Entries as spec;
 
 use crate::ids::{read_account_id, write_account_id};
-use item_list::ItemList;
 use ledger_types::DataEntry;
 use std::alloc::{AllocError, Global};
-use xdr_core::{Builder, Cursor, ReadFault};
+use xdr_core::{Builder, Cursor, ReadFault, read_var};
 
 /// The most bytes of a name (string64 in Stellar-ledger-entries.x).
 pub const MAX_DATA_NAME_LEN: u32 = 64;
@@ -24,8 +23,8 @@ pub fn read_data_entry(alloc: Global, cursor: &mut Cursor<'_>) -> Result<DataEnt
 {
     let mut ahead = cursor.fork();
     let account_id = read_account_id(&mut ahead)?;
-    let data_name = ItemList::from_slice(alloc, ahead.var(MAX_DATA_NAME_LEN)?)?;
-    let data_value = ItemList::from_slice(alloc, ahead.var(MAX_DATA_VALUE_LEN)?)?;
+    let data_name = read_var(alloc, MAX_DATA_NAME_LEN, &mut ahead)?;
+    let data_value = read_var(alloc, MAX_DATA_VALUE_LEN, &mut ahead)?;
     ahead.tag(0)?;
     *cursor = ahead;
     Ok(DataEntry {

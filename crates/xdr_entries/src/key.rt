@@ -13,10 +13,9 @@ use crate::ids::{
     read_account_id, read_claimable_balance_id, read_hash, write_account_id,
     write_claimable_balance_id, write_hash,
 };
-use item_list::ItemList;
 use ledger_types::LedgerKey;
 use std::alloc::{AllocError, Global};
-use xdr_core::{Builder, Cursor, ReadFault, XdrFault, XdrKind};
+use xdr_core::{Builder, Cursor, ReadFault, XdrFault, XdrKind, read_var};
 
 /// Reads what names a trust line.
 fn read_trust_line_key(cursor: &mut Cursor<'_>) -> Result<LedgerKey, XdrFault>
@@ -49,7 +48,7 @@ fn read_data_key(alloc: Global, cursor: &mut Cursor<'_>) -> Result<LedgerKey, Re
 {
     let mut ahead = cursor.fork();
     let account_id = read_account_id(&mut ahead)?;
-    let data_name = ItemList::from_slice(alloc, ahead.var(MAX_DATA_NAME_LEN)?)?;
+    let data_name = read_var(alloc, MAX_DATA_NAME_LEN, &mut ahead)?;
     *cursor = ahead;
     Ok(LedgerKey::Data {
         account_id,

@@ -60,9 +60,13 @@ fn write_words(builder: &mut Builder) -> Result<(), AllocError> {
 }
 
 #[test]
-fn numbers_of_32_bits_stand_highest_byte_first(rt: HostRuntime) {
+fn numbers_of_32_bits_are_read_highest_byte_first(rt: HostRuntime) {
     assert!(rt; read_words(&mut Cursor::new(WORDS)) == Ok(UNSIGNED));
     assert!(rt; read_signed_words(&mut Cursor::new(WORDS)) == Ok(SIGNED));
+}
+
+#[test]
+fn numbers_of_32_bits_are_written_highest_byte_first(rt: HostRuntime) {
     let mut builder = Builder::new(rt.alloc());
     assert!(rt; write_words(&mut builder).is_ok());
     assert!(rt; builder.as_slice().split_at_checked(20) == Some((WORDS, WORDS)));
@@ -104,9 +108,13 @@ fn write_long_words(builder: &mut Builder) -> Result<(), AllocError> {
 }
 
 #[test]
-fn numbers_of_64_bits_stand_highest_byte_first(rt: HostRuntime) {
+fn numbers_of_64_bits_are_read_highest_byte_first(rt: HostRuntime) {
     assert!(rt; read_long_words(&mut Cursor::new(LONG_WORDS)) == Ok(LONG_UNSIGNED));
     assert!(rt; read_long_signed_words(&mut Cursor::new(LONG_WORDS)) == Ok(LONG_SIGNED));
+}
+
+#[test]
+fn numbers_of_64_bits_are_written_highest_byte_first(rt: HostRuntime) {
     let mut builder = Builder::new(rt.alloc());
     assert!(rt; write_long_words(&mut builder).is_ok());
     assert!(rt; builder.as_slice().split_at_checked(32) == Some((LONG_WORDS, LONG_WORDS)));

@@ -1,7 +1,5 @@
 -- The laws of predicates.
-use Rattle.std.proofs.Common.{ℕ, zero, suc, pos, refl, arith}
-use Rattle.xdr_core.specs.Place.{fault_at}
-use Rattle.xdr_core.specs.declared.fault.XdrKind.TheVariants.{TooDeep}
+use Rattle.std.proofs.Common.{ℕ, zero, suc, refl, arith}
 use Rattle.xdr_core.proofs.FormatLaws.{
   Laws,
   i64_laws,

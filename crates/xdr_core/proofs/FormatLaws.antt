@@ -1,6 +1,30 @@
 -- The laws of a format whose faults are those of XDR: reading and spelling are one relation, and each fault has its
 -- place.
-use Rattle.std.proofs.Common.{◌≡◌, ℕ, zero, suc, ◌^◌, ◌<◌, ℤ, pos, Bool, true, false, cond, T, ltb, List, [], ◌∷◌, ◌++◌, Some, Ok, Err, refl, ap}
+use Rattle.std.proofs.Common.{
+  ◌≡◌,
+  ℕ,
+  zero,
+  suc,
+  ◌^◌,
+  ◌<◌,
+  ℤ,
+  pos,
+  Bool,
+  true,
+  false,
+  cond,
+  T,
+  ltb,
+  List,
+  [],
+  ◌∷◌,
+  ◌++◌,
+  Some,
+  Ok,
+  Err,
+  refl,
+  ap,
+}
 use lib.Signed.{mag}
 use Rattle.std.specs.Ordering.{int_eq}
 use Rattle.xdr_core.specs.declared.fault.XdrFault.{XdrFault}
@@ -8,7 +32,33 @@ use Rattle.xdr_core.specs.declared.fault.XdrKind.TheVariants.{BadEnum, TooDeep}
 use Rattle.xdr_core.specs.Place.{Place, Reading, followed, end_of, fault_at, with_fault, ◌>>=◌}
 use Rattle.xdr_core.specs.Format.{IsBytes, Lawful, PlacesFaults}
 use Rattle.xdr_core.specs.Leaves.{u32, u64, i32, i64, flag, fixed, count, var, mark}
-use Rattle.xdr_core.specs.Combinators.{lifted, ◌⨾◌, Fields, struct_of, empty, constant_of, constant, marked, closed, whole, option_of, option, many_at, list, times, Arm, Part, part, arm_at, pick, without, extended, extension_part, extension, refused}
+use Rattle.xdr_core.specs.Combinators.{
+  lifted,
+  ◌⨾◌,
+  Fields,
+  struct_of,
+  empty,
+  constant_of,
+  constant,
+  marked,
+  closed,
+  whole,
+  option_of,
+  option,
+  many_at,
+  list,
+  times,
+  Arm,
+  Part,
+  part,
+  arm_at,
+  pick,
+  without,
+  extended,
+  extension_part,
+  extension,
+  refused,
+}
 use Rattle.xdr_core.specs.Xdr.{Xdr, as_it_is, no_arm, tag, optional, list_of, union_of, extension_of, too_deep}
 use Rattle.xdr_core.proofs.LeafLaws.{u32_lawful, u64_lawful, i32_lawful, i64_lawful}
 use Rattle.xdr_core.proofs.Opaque.{flag_lawful, fixed_lawful, count_lawful, var_lawful}

@@ -1,5 +1,40 @@
 -- Where faults stand: tools, and the places of the leaves' faults.
-use Rattle.std.proofs.Common.{◌≡◌, ℕ, ◌+◌, ◌-◌, ◌^◌, ◌<◌, ◌≤◌, Bool, true, false, cond, ltb, eqb, not, List, ◌++◌, length, take, Option, Some, None, Result, Ok, Err, refl, sym, ap, subst, ◌∙◌, append_assoc, arith, inl, inr, ◌⊎◌}
+use Rattle.std.proofs.Common.{
+  ◌≡◌,
+  ℕ,
+  ◌+◌,
+  ◌-◌,
+  ◌^◌,
+  ◌<◌,
+  ◌≤◌,
+  Bool,
+  true,
+  false,
+  cond,
+  ltb,
+  eqb,
+  not,
+  List,
+  ◌++◌,
+  length,
+  take,
+  Option,
+  Some,
+  None,
+  Result,
+  Ok,
+  Err,
+  refl,
+  sym,
+  ap,
+  subst,
+  ◌∙◌,
+  append_assoc,
+  arith,
+  inl,
+  inr,
+  ◌⊎◌,
+}
 use Rattle.std.specs.Prelude.{◌≢◌}
 use Rattle.std.specs.List.{position}
 use Rattle.std.specs.Int.{Width, w32, w64}
@@ -9,7 +44,27 @@ use Rattle.xdr_core.specs.declared.fault.XdrFault.{XdrFault}
 use Rattle.xdr_core.specs.declared.fault.XdrKind.TheVariants.{Short, Padding, BadFlag, BadMark, TooLong}
 use Rattle.xdr_core.specs.Place.{Place, Reading, followed, end_of, fault_at, short_at, ◌>>=◌}
 use Rattle.xdr_core.specs.Format.{Format, IsBytes, Takes, Lawful}
-use Rattle.xdr_core.specs.Leaves.{number_at, signed_at, flag_of, flag, padding_len, bytes_at, padding_of, padding_at, opaque_at, bounded, count, var, fixed, mark_len, mark, u32, u64, i32, i64}
+use Rattle.xdr_core.specs.Leaves.{
+  number_at,
+  signed_at,
+  flag_of,
+  flag,
+  padding_len,
+  bytes_at,
+  padding_of,
+  padding_at,
+  opaque_at,
+  bounded,
+  count,
+  var,
+  fixed,
+  mark_len,
+  mark,
+  u32,
+  u64,
+  i32,
+  i64,
+}
 use Rattle.xdr_core.proofs.Steps.{bind_ok, guard_ok, guarded_ok}
 use Rattle.xdr_core.proofs.Numbers.{wide4}
 use Rattle.xdr_core.proofs.LeafLaws.{number_lawful}

@@ -3,6 +3,7 @@ use Rattle.std.specs.Prelude.{ℕ, ℤ, pos, List, ◌++◌}
 use Rattle.std.specs.List.{flat_map}
 use Rattle.sha2.specs.Sha256.{sha256}
 use Rattle.xdr_core.specs.Leaves.{u32, i32, i64}
+use Rattle.ledger_types.specs.declared.envelope_type.TheConstants.{ENVELOPE_TYPE_OP_ID, ENVELOPE_TYPE_POOL_REVOKE_OP_ID}
 use Rattle.ledger_types.specs.declared.ids.AccountId.{AccountId}
 use Rattle.ledger_types.specs.declared.ids.Hash.{Hash}
 use Rattle.ledger_types.specs.declared.asset.Asset.{Asset}
@@ -19,19 +20,21 @@ network_id_of passphrase = hash_of passphrase
 abbrev pub tx_hash_of : Hash → ℕ → List ℕ → Hash
 tx_hash_of network kind tx = hash_of (network.0 ++ u32.spell kind ++ tx)
 
--- the hash of a transaction set: the hash of the ledger before it, and the spellings of its envelopes one behind another
+-- the hash of a transaction set: of the hash of the ledger before it, and the spellings of its envelopes in a row
 abbrev pub set_hash_of : Hash → List (List ℕ) → Hash
 set_hash_of previous envelopes = hash_of (previous.0 ++ flat_map (λ envelope. envelope) envelopes)
 
--- the id of the claimable balance that an operation makes (OperationID, ENVELOPE_TYPE_OP_ID, 6)
+-- the id of the claimable balance that an operation makes (OperationID)
 abbrev pub balance_id_of : AccountId → ℤ → ℕ → Hash
-balance_id_of source seq op = hash_of (i32.spell (pos 6) ++ account_id.spell source ++ i64.spell seq ++ u32.spell op)
+balance_id_of source seq op =
+    hash_of (i32.spell ENVELOPE_TYPE_OP_ID ++ account_id.spell source ++ i64.spell seq ++ u32.spell op)
 
--- the id of the claimable balance that an operation makes of a pool's asset as it revokes an authorisation (OperationID,
--- ENVELOPE_TYPE_POOL_REVOKE_OP_ID, 7)
+-- the id of the claimable balance that an operation makes as it revokes an authorisation, of a pool's asset
+-- (OperationID)
 abbrev pub revoke_id_of : AccountId → ℤ → ℕ → Hash → Asset → Hash
 revoke_id_of source seq op pool held =
-    hash_of (i32.spell (pos 7) ++ account_id.spell source ++ i64.spell seq ++ u32.spell op ++ hash.spell pool ++ asset.spell held)
+    hash_of (i32.spell ENVELOPE_TYPE_POOL_REVOKE_OP_ID ++ account_id.spell source ++ i64.spell seq ++ u32.spell op
+    ++ hash.spell pool ++ asset.spell held)
 
 -- the id of the pool of two assets, whose fee is 30
 abbrev pub pool_id_of : Asset → Asset → Hash

@@ -6,19 +6,12 @@ ghost use Rattle.xdr_entries.specs.Basic.{account_id};
 ghost use Rattle.hash_ids.specs.Ids.{balance_id_of, revoke_id_of};
 
 use crate::digest::hash;
-use ledger_types::{AccountId, Asset, Hash};
+use ledger_types::{AccountId, Asset, ENVELOPE_TYPE_OP_ID, ENVELOPE_TYPE_POOL_REVOKE_OP_ID, Hash};
 use std::alloc::{AllocError, Global};
 use xdr_core::Builder;
 use xdr_entries::{write_account_id, write_asset, write_hash};
 
-/// ENVELOPE_TYPE_OP_ID (Stellar-ledger-entries.x).
-const ENVELOPE_TYPE_OP_ID: i32 = 6;
-
-/// ENVELOPE_TYPE_POOL_REVOKE_OP_ID (Stellar-ledger-entries.x).
-const ENVELOPE_TYPE_POOL_REVOKE_OP_ID: i32 = 7;
-
 /// The id of the claimable balance that the operation at place `op`, counted from 0, of a transaction makes.
-#[tactic(auto, using(crate::proofs::Spelling::operation_written))]
 pub fn balance_id(alloc: Global, source: &AccountId, seq: i64, op: u32) -> Result<Hash, AllocError>
     ensures { IfOk result (λ id. id ≡ balance_id_of source.now seq op) }
 {
@@ -27,9 +20,9 @@ pub fn balance_id(alloc: Global, source: &AccountId, seq: i64, op: u32) -> Resul
     Ok(hash(builder.as_slice()))
 }
 
-/// The id of the claimable balance that the operation at place `op`, counted from 0, of a transaction makes of an asset of a pool,
-/// as it revokes an authorisation.
-#[tactic(auto, using(crate::proofs::Spelling::hash_written, crate::proofs::Spelling::asset_written))]
+/// The id of the claimable balance that the operation at place `op`, counted from 0, of a transaction makes of an asset
+/// of a pool, as it revokes an authorisation.
+#[tactic(auto, using(crate::proofs::Pieces::written_pieces))]
 pub fn revoke_id(
     alloc: Global,
     source: &AccountId,
@@ -54,7 +47,7 @@ pub fn revoke_id(
 }
 
 /// Writes what names an operation.
-#[tactic(auto, using(crate::proofs::Spelling::operation_written))]
+#[tactic(auto, using(crate::proofs::Pieces::written_pieces))]
 fn write_operation(
     kind: i32,
     source: &AccountId,
@@ -62,7 +55,8 @@ fn write_operation(
     op: u32,
     builder: &mut Builder,
 ) -> Result<(), AllocError>
-    ensures { OnOk result (builder.new ≡ builder.old ++ i32.spell kind ++ account_id.spell source.now ++ i64.spell seq ++ u32.spell op) }
+    ensures { OnOk result (builder.new
+        ≡ builder.old ++ i32.spell kind ++ account_id.spell source.now ++ i64.spell seq ++ u32.spell op) }
 {
     builder.i32(kind)?;
     write_account_id(source, builder)?;

@@ -13,7 +13,7 @@ use xdr_entries::write_pool_params;
 const POOL_FEE: i32 = 30;
 
 /// The id of the pool of two assets.
-#[tactic(auto, using(crate::proofs::Spelling::params_written))]
+#[tactic(auto, using(crate::proofs::Pieces::written_pieces))]
 pub fn pool_id(alloc: Global, a: &Asset, b: &Asset) -> Result<Hash, AllocError>
     ensures { IfOk result (λ id. id ≡ pool_id_of a.now b.now) }
 {

@@ -2,7 +2,7 @@
 
 use super::*;
 use ledger_types::{AccountId, Asset, Hash};
-use std::test::Fail;
+use std::alloc::{AllocError, Global};
 
 const PUBLIC_NETWORK: Hash = Hash([
     0x7a, 0xc3, 0x39, 0x97, 0x54, 0x4e, 0x31, 0x75, 0xd2, 0x66, 0xbd, 0x02, 0x24, 0x39, 0xb2, 0x2c,
@@ -65,8 +65,8 @@ const BALANCE: Hash = Hash([
     0xda, 0x20, 0x39, 0x15, 0x42, 0x70, 0x48, 0x4e, 0x3f, 0x81, 0xd7, 0x2c, 0x66, 0xd5, 0xc2, 0x6f,
 ]);
 
-// 00000007, the source behind 00000000, 0000000500000007, 00000003, the pool below, and dollars as 00000001, "USD" and a zero
-// byte, and their issuer behind 00000000.
+// 00000007, the source behind 00000000, 0000000500000007, 00000003, the pool below, and dollars as 00000001, "USD"
+// and a zero byte, and their issuer behind 00000000.
 const REVOCATION: Hash = Hash([
     0x4c, 0x5a, 0x5f, 0x9d, 0xe1, 0x3b, 0x66, 0xc1, 0x96, 0x69, 0x31, 0x06, 0xc4, 0xfa, 0xf0, 0xe3,
     0x17, 0xe6, 0x74, 0x15, 0xa5, 0x3c, 0x54, 0x86, 0x32, 0xad, 0x80, 0xc6, 0x78, 0x38, 0x6c, 0x39,
@@ -78,8 +78,8 @@ const POOL: Hash = Hash([
     0x3c, 0x2f, 0xbd, 0x78, 0xce, 0x22, 0xad, 0xed, 0x37, 0xec, 0xbf, 0x4f, 0x33, 0x80, 0xfa, 0xc7,
 ]);
 
-// 00000000, lumens as 00000000, euros as 00000002, "EURTOKEN" and four zero bytes, and their issuer behind 00000000, and
-// 0000001e.
+// 00000000, lumens as 00000000, euros as 00000002, "EURTOKEN" and four zero bytes, and their issuer behind 00000000,
+// and 0000001e.
 const POOL_OF_LUMENS: Hash = Hash([
     0x14, 0x84, 0xe3, 0x7f, 0x0e, 0x7e, 0x26, 0x23, 0x1a, 0xb7, 0x17, 0xcb, 0x29, 0x48, 0x52, 0x22,
     0xf3, 0xf0, 0x48, 0x5a, 0x7b, 0xa8, 0xdd, 0xcd, 0x1d, 0xdf, 0xd0, 0x86, 0x2e, 0x07, 0x8a, 0xba,
@@ -107,42 +107,57 @@ const ABC: Hash = Hash([
 ]);
 
 #[test]
-fn hashes_are_those_of_other_programs(rt: HostRuntime) -> Result<(), Fail> {
-    let public = network_id("Public Global Stellar Network ; September 2015")?;
-    assert_eq!(rt; public, PUBLIC_NETWORK);
-    assert_eq!(rt;
-        network_id("Test SDF Network ; September 2015")?,
-        TEST_NETWORK
+fn hashes_are_those_of_other_programs(rt: HostRuntime) {
+    let hashes = [
+        network_id("Public Global Stellar Network ; September 2015").ok(),
+        network_id("Test SDF Network ; September 2015").ok(),
+        Some(hash(&[0; 64])),
+        tx_hash(&PUBLIC_NETWORK, 2, b"transaction").ok(),
+        full_hash(b"abc").ok(),
+        header_hash(b"abc").ok(),
+    ];
+    assert!(rt;
+        hashes
+            == [
+                Some(PUBLIC_NETWORK),
+                Some(TEST_NETWORK),
+                Some(SIXTY_FOUR_ZERO_BYTES),
+                Some(TRANSACTION),
+                Some(ABC),
+                Some(ABC),
+            ]
     );
-    assert_eq!(rt; hash(&[0; 64]), SIXTY_FOUR_ZERO_BYTES);
-    assert_eq!(rt; tx_hash(&public, 2, b"transaction")?, TRANSACTION);
-    assert_eq!(rt; full_hash(b"abc")?, ABC);
-    assert_eq!(rt; header_hash(b"abc")?, ABC);
-    Ok(())
 }
 
 #[test]
-fn ids_are_hashes_of_their_preimages(rt: HostRuntime) -> Result<(), Fail> {
-    let seq = 0x5_0000_0007;
-    assert_eq!(rt; balance_id(rt.alloc(), &SOURCE, 1235, 0)?, BALANCE);
-    assert_eq!(rt;
-        revoke_id(rt.alloc(), &SOURCE, seq, 3, &POOL, &DOLLARS)?,
-        REVOCATION
+fn ids_are_hashes_of_their_preimages(rt: HostRuntime) {
+    let alloc = rt.alloc();
+    let ids = [
+        balance_id(alloc, &SOURCE, 1235, 0).ok(),
+        revoke_id(alloc, &SOURCE, 0x5_0000_0007, 3, &POOL, &DOLLARS).ok(),
+        pool_id(alloc, &PESOS, &DOLLARS).ok(),
+        pool_id(alloc, &Asset::Native, &EUROS).ok(),
+    ];
+    assert!(rt;
+        ids == [
+            Some(BALANCE),
+            Some(REVOCATION),
+            Some(POOL),
+            Some(POOL_OF_LUMENS)
+        ]
     );
-    assert_eq!(rt; pool_id(rt.alloc(), &PESOS, &DOLLARS)?, POOL);
-    assert_eq!(rt;
-        pool_id(rt.alloc(), &Asset::Native, &EUROS)?,
-        POOL_OF_LUMENS
-    );
-    Ok(())
+}
+
+/// The hashes of a set of none, and of one of two.
+fn set_hashes(alloc: Global) -> Result<[Hash; 2], AllocError> {
+    let mut envelopes = Vec::new(alloc);
+    let of_none = set_hash(&PREVIOUS, &envelopes)?;
+    envelopes.push(b"first".to_vec(alloc)?)?;
+    envelopes.push(b"second one".to_vec(alloc)?)?;
+    Ok([of_none, set_hash(&PREVIOUS, &envelopes)?])
 }
 
 #[test]
-fn a_set_is_hashed_behind_the_ledger_before_it(rt: HostRuntime) -> Result<(), Fail> {
-    let mut envelopes = Vec::new(rt.alloc());
-    assert_eq!(rt; set_hash(&PREVIOUS, &envelopes)?, EMPTY_SET);
-    envelopes.push(b"first".to_vec(rt.alloc())?)?;
-    envelopes.push(b"second one".to_vec(rt.alloc())?)?;
-    assert_eq!(rt; set_hash(&PREVIOUS, &envelopes)?, SET);
-    Ok(())
+fn a_set_is_hashed_behind_the_ledger_before_it(rt: HostRuntime) {
+    assert!(rt; set_hashes(rt.alloc()).ok() == Some([EMPTY_SET, SET]));
 }

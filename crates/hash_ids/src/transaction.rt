@@ -8,8 +8,9 @@ use ledger_types::Hash;
 use sha2::{Digest, Sha256};
 use std::alloc::AllocError;
 
-/// The hash of a transaction whose spelling is `tx`. `kind` is the type of its envelope: 2 for a transaction, 5 for
-/// a fee bump. A transaction of the first version is spelled behind the four zero bytes of its key's type.
+/// The hash of a transaction whose spelling is `tx`. `kind` is the type of its envelope, `ENVELOPE_TYPE_TX` or
+/// `ENVELOPE_TYPE_TX_FEE_BUMP`. A transaction of the first version is spelled behind the four zero bytes of its key's
+/// type.
 #[tactic(auto, unfolding(xdr_core::specs::Leaves::u32))]
 pub fn tx_hash(network: &Hash, kind: u32, tx: &[u8]) -> Result<Hash, AllocError>
     ensures { result ≡ Ok (tx_hash_of network.now kind tx.now) }
@@ -23,8 +24,8 @@ pub fn tx_hash(network: &Hash, kind: u32, tx: &[u8]) -> Result<Hash, AllocError>
     Ok(Hash(hasher.finalize()))
 }
 
-/// The hash of a transaction set, from the hash of the ledger before it and the spellings of its envelopes, which are given in
-/// rising order of their hashes.
+/// The hash of a transaction set, from the hash of the ledger before it and the spellings of its envelopes, which are
+/// given in rising order of their hashes.
 pub fn set_hash(previous: &Hash, envelopes: &[Vec<u8>]) -> Result<Hash, AllocError>
     ensures { result ≡ Ok (set_hash_of previous.now (map (λ envelope. envelope.items) envelopes.now)) }
 {

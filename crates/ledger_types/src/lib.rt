@@ -5,11 +5,13 @@
 
 mod account;
 mod asset;
+mod bounds;
 mod bucket;
 mod claim_atom;
 mod claimable_balance;
 mod data_entry;
 mod entry;
+mod envelope_type;
 mod header;
 mod ids;
 mod key;
@@ -26,11 +28,16 @@ mod trust_line;
 
 pub use account::{AccountEntry, AccountEntryExtensionV1, AccountEntryExtensionV2};
 pub use asset::{Asset, ChangeTrustAsset, PoolParams, TrustLineAsset};
+pub use bounds::{MAX_HOME_DOMAIN_LEN, MAX_SIGNERS};
 pub use bucket::BucketEntry;
 pub use claim_atom::ClaimAtom;
 pub use claimable_balance::{ClaimableBalanceEntry, ClaimableBalanceEntryExtensionV1, Claimant};
 pub use data_entry::DataEntry;
 pub use entry::{LedgerEntry, LedgerEntryBody, LedgerEntryExtensionV1};
+pub use envelope_type::{
+    ENVELOPE_TYPE_OP_ID, ENVELOPE_TYPE_POOL_REVOKE_OP_ID, ENVELOPE_TYPE_TX,
+    ENVELOPE_TYPE_TX_FEE_BUMP, ENVELOPE_TYPE_TX_V0,
+};
 pub use header::{
     LedgerCloseValueSignature, LedgerHeader, LedgerHeaderExtensionV1, LedgerUpgrade, StellarValue,
 };

@@ -5,7 +5,7 @@ ghost use Rattle.set_form.specs.Fault.{cause_of};
 ghost use Rattle.set_form.specs.declared.fault.FormFault.TheVariants.{Xdr, NoMemory};
 
 use std::alloc::AllocError;
-use xdr_core::{ReadFailure, XdrFault};
+use xdr_core::{MemoryFailure, ReadFailure, XdrFault};
 
 /// Why a text is no input of the form.
 #[derive(Clone, Copy, Debug, PartialEq, Eq)]
@@ -31,7 +31,9 @@ impl ReadFailure for FormFault {
     fn from_fault(fault: XdrFault) -> FormFault {
         FormFault::Xdr(fault)
     }
+}
 
+impl MemoryFailure for FormFault {
     fn no_memory() -> FormFault {
         FormFault::NoMemory
     }

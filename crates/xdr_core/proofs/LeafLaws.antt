@@ -1,5 +1,26 @@
 -- The laws of numbers, flags and opaque bytes.
-use Rattle.std.proofs.Common.{◌≡◌, ℕ, ◌+◌, ◌^◌, ◌<◌, ◌≤◌, ℤ, false, ltb, List, ◌++◌, length, take, drop, Ok, refl, ap, subst, ◌∙◌, arith}
+use Rattle.std.proofs.Common.{
+  ◌≡◌,
+  ℕ,
+  ◌+◌,
+  ◌^◌,
+  ◌<◌,
+  ◌≤◌,
+  ℤ,
+  false,
+  ltb,
+  List,
+  ◌++◌,
+  length,
+  take,
+  drop,
+  Ok,
+  refl,
+  ap,
+  subst,
+  ◌∙◌,
+  arith,
+}
 use Rattle.std.specs.Prelude.{FitsSigned}
 use Rattle.std.specs.Int.{Width, w32, w64, cast_signed, cast_unsigned}
 use Rattle.std.proofs.lemmas.Bool.{ltb-false, le-ltb}
@@ -25,7 +46,8 @@ front_is_there n x rest e = le-ltb (length (x ++ rest)) n (omega (arith, e, leng
 
 -- ---- numbers
 
-pub number_takes : (n : ℕ) → IsWide n → (p q : Place) (v : ℕ) → IsBytes p.rest → number_at n p ≡ Ok (v, q) → Takes p q (big_bytes n v) × (v < 256 ^ n)
+pub number_takes : (n : ℕ) → IsWide n → (p q : Place) (v : ℕ) → IsBytes p.rest → number_at n p ≡ Ok (v, q)
+    → Takes p q (big_bytes n v) × (v < 256 ^ n)
 number_takes n wide p q v fits e =
     let g = guard_ok (ltb (length p.rest) n) (short_at p) (big_number n p.rest, onward n p) (v, q) e in
     let le : n ≤ length p.rest = ltb-false _ _ g.0 in
@@ -33,36 +55,52 @@ number_takes n wide p q v fits e =
     (Takes-front n p (big_bytes n (big_number n p.rest)) le fits (wide.back p.rest le fits), wide.below p.rest fits)
 
 pub number_again : (n : ℕ) → IsWide n → (at v : ℕ) (rest : List ℕ) → v < 256 ^ n
-    → number_at n (record { at = at; rest = big_bytes n v ++ rest }) ≡ Ok (v, record { at = at + length (big_bytes n v); rest = rest })
+    → number_at n (record { at = at; rest = big_bytes n v ++ rest })
+    ≡ Ok (v, record { at = at + length (big_bytes n v); rest = rest })
 number_again n wide at v rest lt =
     let len = wide.len v in
-    rw (front_is_there n (big_bytes n v) rest len, wide.again v rest lt, drop_front n (big_bytes n v) rest len, len) refl
+    rw (front_is_there n (big_bytes n v) rest len, wide.again v rest lt, drop_front n (big_bytes n v) rest len, len)
+    refl
 
-number_lawful : (n : ℕ) → IsWide n → Lawful (number n)
+pub number_lawful : (n : ℕ) → IsWide n → Lawful (number n)
 number_lawful n wide = record {
   takes = λ p q v fits e. let t = number_takes n wide p q v fits e in record { taken = t.0; within = tt; sized = t.1 };
   again = λ at v rest within sized. number_again n wide at v rest sized;
   appends = λ out v. refl;
 }
 
-pub signed_takes : (n : ℕ) (w : Width) → IsSignedWide n w → (p q : Place) (v : ℤ) → IsBytes p.rest → signed_at n w p ≡ Ok (v, q)
+pub signed_takes : (n : ℕ) (w : Width) → IsSignedWide n w → (p q : Place) (v : ℤ) → IsBytes p.rest → signed_at n w p
+    ≡ Ok (v, q)
     → Takes p q (big_bytes n (cast_unsigned w v)) × FitsSigned w v
 signed_takes n w wide p q v fits e =
     let g = guard_ok (ltb (length p.rest) n) (short_at p) (cast_signed w (big_number n p.rest), onward n p) (v, q) e in
     let le : n ≤ length p.rest = ltb-false _ _ g.0 in
     let lt = wide.wide.below p.rest fits in
-    subst (λ (x : ℤ × Place). Takes p x.1 (big_bytes n (cast_unsigned w x.0)) × FitsSigned w x.0) g.1
-    (Takes-front n p (big_bytes n (cast_unsigned w (cast_signed w (big_number n p.rest)))) le fits (ap (big_bytes n) (wide.there (big_number n p.rest) lt) ∙ wide.wide.back p.rest le fits), wide.sized (big_number n p.rest) lt)
+    subst (λ (x : ℤ × Place). Takes p x.1 (big_bytes n (cast_unsigned w x.0)) × FitsSigned w x.0) g.1 (
+      Takes-front n p (big_bytes n (cast_unsigned w (cast_signed w (big_number n p.rest)))) le fits
+          (ap (big_bytes n) (wide.there (big_number n p.rest) lt) ∙ wide.wide.back p.rest le fits),
+      wide.sized
+          (big_number n p.rest) lt,
+    )
 
 pub signed_again : (n : ℕ) (w : Width) → IsSignedWide n w → (at : ℕ) (v : ℤ) (rest : List ℕ) → FitsSigned w v
-    → signed_at n w (record { at = at; rest = big_bytes n (cast_unsigned w v) ++ rest }) ≡ Ok (v, record { at = at + length (big_bytes n (cast_unsigned w v)); rest = rest })
+    → signed_at n w (record { at = at; rest = big_bytes n (cast_unsigned w v) ++ rest })
+    ≡ Ok (v, record { at = at + length (big_bytes n (cast_unsigned w v)); rest = rest })
 signed_again n w wide at v rest sized =
     let len = wide.wide.len (cast_unsigned w v) in
-    rw (front_is_there n (big_bytes n (cast_unsigned w v)) rest len, wide.wide.again (cast_unsigned w v) rest (wide.below v sized), wide.back v sized, drop_front n (big_bytes n (cast_unsigned w v)) rest len, len) refl
+    rw (
+      front_is_there n (big_bytes n (cast_unsigned w v)) rest len,
+      wide.wide.again (cast_unsigned w v) rest
+          (wide.below v sized),
+      wide.back v sized,
+      drop_front n (big_bytes n (cast_unsigned w v)) rest len,
+      len,
+    ) refl
 
 signed_lawful : (n : ℕ) (w : Width) → IsSignedWide n w → Lawful (signed n w)
 signed_lawful n w wide = record {
-  takes = λ p q v fits e. let t = signed_takes n w wide p q v fits e in record { taken = t.0; within = tt; sized = t.1 };
+  takes = λ p q v fits e. let t = signed_takes n w wide p q v fits e in
+      record { taken = t.0; within = tt; sized = t.1 };
   again = λ at v rest within sized. signed_again n w wide at v rest sized;
   appends = λ out v. refl;
 }

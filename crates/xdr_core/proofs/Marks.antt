@@ -1,5 +1,27 @@
 -- The law of a piece behind its record mark.
-use Rattle.std.proofs.Common.{◌≡◌, ℕ, ◌+◌, ◌-◌, ◌^◌, ◌<◌, ◌≤◌, false, ltb, List, ◌++◌, length, take, Ok, refl, sym, ap, subst, ◌∙◌, append_assoc, arith}
+use Rattle.std.proofs.Common.{
+  ◌≡◌,
+  ℕ,
+  ◌+◌,
+  ◌-◌,
+  ◌^◌,
+  ◌<◌,
+  ◌≤◌,
+  false,
+  ltb,
+  List,
+  ◌++◌,
+  length,
+  take,
+  Ok,
+  refl,
+  sym,
+  ap,
+  subst,
+  ◌∙◌,
+  append_assoc,
+  arith,
+}
 use Rattle.std.proofs.lemmas.Bool.{ltb-false, le-ltb}
 use Rattle.std.proofs.lemmas.List.{length-take-le}
 use Rattle.byteorder.specs.Endian.{big_bytes}
@@ -14,7 +36,8 @@ use Rattle.xdr_core.proofs.LeafLaws.{number_takes, number_again}
 use Rattle.xdr_core.proofs.Opaque.{bytes_again}
 
 -- n bytes as they are
-pub bytes_takes : (n : ℕ) (p q : Place) (v : List ℕ) → IsBytes p.rest → bytes_at n p ≡ Ok (v, q) → Takes p q v × (length v ≡ n) × IsBytes v
+pub bytes_takes : (n : ℕ) (p q : Place) (v : List ℕ) → IsBytes p.rest → bytes_at n p ≡ Ok (v, q)
+    → Takes p q v × (length v ≡ n) × IsBytes v
 bytes_takes n p q v fits e =
     let g = guard_ok (ltb (length p.rest) n) (short_at p) (take n p.rest, onward n p) (v, q) e in
     let le : n ≤ length p.rest = ltb-false _ _ g.0 in
@@ -22,7 +45,8 @@ bytes_takes n p q v fits e =
     (Takes-front n p (take n p.rest) le fits refl, length-take-le n p.rest le, IsBytes-take n p.rest fits)
 
 -- a mark says how many bytes follow
-mark_says : (max : ℕ) (p m : Place) (word len : ℕ) (q : Place) → mark_len max p (word, m) ≡ Ok (len, q) → (word ≡ mark_word len) × (len ≤ max) × (m ≡ q)
+mark_says : (max : ℕ) (p m : Place) (word len : ℕ) (q : Place) → mark_len max p (word, m) ≡ Ok (len, q)
+    → (word ≡ mark_word len) × (len ≤ max) × (m ≡ q)
 mark_says max p m word len q e =
     let g = guarded_ok (ltb word (2 ^ 31)) (fault_at p BadMark) (bounded max p (word - 2 ^ 31, m)) (len, q) e in
     let h = guard_ok (ltb max (word - 2 ^ 31)) (fault_at p TooLong) (word - 2 ^ 31, m) (len, q) g.1 in
@@ -45,10 +69,13 @@ mark_lawful max lt = record {
       let w = bind_ok (number_at 4 p) (mark_len max p) n.0 n.1 in
       let word = number_takes 4 wide4 p w.0.1 w.0.0 fits w.1 in
       let says = mark_says max p w.0.1 w.0.0 n.0.0 n.0.1 w.2 in
-      let front : Takes p n.0.1 (big_bytes 4 (mark_word n.0.0)) = subst (λ (m : Place). Takes p m (big_bytes 4 (mark_word n.0.0))) says.2 (subst (λ (k : ℕ). Takes p w.0.1 (big_bytes 4 k)) says.0 word.0) in
+      let front : Takes p n.0.1 (big_bytes 4 (mark_word n.0.0)) =
+      subst (λ (m : Place). Takes p m (big_bytes 4 (mark_word n.0.0))) says.2
+      (subst (λ (k : ℕ). Takes p w.0.1 (big_bytes 4 k)) says.0 word.0) in
       let t = bytes_takes n.0.0 n.0.1 q v front.rest n.2 in
       record {
-        taken = subst (λ (k : ℕ). Takes p q (big_bytes 4 (mark_word k) ++ v)) (sym t.1) (Takes-then p n.0.1 q (big_bytes 4 (mark_word n.0.0)) v front t.0);
+        taken = subst (λ (k : ℕ). Takes p q (big_bytes 4 (mark_word k) ++ v)) (sym t.1)
+            (Takes-then p n.0.1 q (big_bytes 4 (mark_word n.0.0)) v front t.0);
         within = subst (λ (k : ℕ). k ≤ max) (sym t.1) says.1;
         sized = t.2;
       };
@@ -56,8 +83,10 @@ mark_lawful max lt = record {
       let word : ℕ = mark_word (length v) in
       let p : Place = record { at = at; rest = big_bytes 4 word ++ (v ++ rest) } in
       ap (λ (t : List ℕ). (mark max).read (record { at = at; rest = t })) (append_assoc (big_bytes 4 word) v rest)
-      ∙ ap (λ (r : Reading XdrFault ℕ). r >>= mark_len max p >>= λ n. bytes_at n.0 n.1) (number_again 4 wide4 at word (v ++ rest) (omega arith))
-      ∙ ap (λ (r : Reading XdrFault ℕ). r >>= λ n. bytes_at n.0 n.1) (mark_again max p (record { at = at + length (big_bytes 4 word); rest = v ++ rest }) (length v) within)
+      ∙ ap (λ (r : Reading XdrFault ℕ). r >>= mark_len max p >>= λ n. bytes_at n.0 n.1)
+      (number_again 4 wide4 at word (v ++ rest) (omega arith))
+      ∙ ap (λ (r : Reading XdrFault ℕ). r >>= λ n. bytes_at n.0 n.1)
+      (mark_again max p (record { at = at + length (big_bytes 4 word); rest = v ++ rest }) (length v) within)
       ∙ bytes_again (length v) (at + length (big_bytes 4 word)) v rest refl
       ∙ ap (λ (k : ℕ). Ok (v, record { at = k; rest = rest })) (place_of_two at (big_bytes 4 word) v rest _ refl);
   appends = λ out v. append_assoc out (big_bytes 4 (mark_word (length v))) v;

@@ -1,5 +1,29 @@
 -- Formats made of other formats: one behind another, constants, options, lists and unions.
-use Rattle.std.specs.Prelude.{◌≡◌, ℕ, zero, suc, ◌≤◌, ℤ, pos, List, [], ◌∷◌, ◌++◌, length, fold, if◌then◌else◌, Bool, true, false, Option, Some, None, IfSome, Ok, Err}
+use Rattle.std.specs.Prelude.{
+  ◌≡◌,
+  ℕ,
+  zero,
+  suc,
+  ◌≤◌,
+  ℤ,
+  pos,
+  List,
+  [],
+  ◌∷◌,
+  ◌++◌,
+  length,
+  fold,
+  if◌then◌else◌,
+  Bool,
+  true,
+  false,
+  Option,
+  Some,
+  None,
+  IfSome,
+  Ok,
+  Err,
+}
 use Rattle.std.specs.List.{flat_map, AllByRecursion}
 use Rattle.std.specs.Ordering.{int_eq}
 use Rattle.xdr_core.specs.declared.fault.XdrFault.{XdrFault}
@@ -43,6 +67,16 @@ struct_of fields f = record {
   read = λ p. f.read p >>= λ x. Ok (fields.to x.0, x.1);
   within = λ v. f.within (fields.from v);
   sized = λ v. f.sized (fields.from v);
+}
+
+-- the same format where writing puts the whole spelling at the end
+abbrev pub whole : {F V : Type 0} → Format F V → Format F V
+whole f = record {
+  spell = λ v. f.spell v;
+  onto = λ out v. out ++ f.spell v;
+  read = λ p. f.read p;
+  within = λ v. f.within v;
+  sized = λ v. f.sized v;
 }
 
 -- ---- nothing
@@ -114,7 +148,7 @@ spell_option f (Some v) = flag.spell true ++ f.spell v
 
 abbrev pub onto_option : {F A : Type 0} → Format F A → List ℕ → Option A → List ℕ
 onto_option f out None = flag.onto out false
-onto_option f out (Some v) = f.onto (flag.onto out true) v
+onto_option f out (Some v) = flag.onto out true ++ f.spell v
 
 -- a flag, and the value where the flag is set
 unfoldable pub option : {F A : Type 0} → (XdrFault → F) → Format F A → Format F (Option A)
@@ -137,7 +171,7 @@ many_at f (suc n) p = f.read p >>= λ x. many_at f n x.1 >>= λ xs. Ok (x.0 ∷ 
 unfoldable pub list : {F A : Type 0} → (XdrFault → F) → ℕ → Format F A → Format F (List A)
 list as_fault max f = record {
   spell = λ vs. (count max).spell (length vs) ++ flat_map f.spell vs;
-  onto = λ out vs. fold f.onto ((count max).onto out (length vs)) vs;
+  onto = λ out vs. (count max).onto out (length vs) ++ flat_map f.spell vs;
   read = λ p. with_fault as_fault ((count max).read p) >>= λ n. many_at f n.0 n.1;
   within = λ vs. (length vs ≤ max) × AllByRecursion f.within vs;
   sized = λ vs. AllByRecursion f.sized vs;
@@ -201,11 +235,12 @@ abbrev pub without : {F V : Type 0} → Arm F (Option V)
 without = record { Body = Unit {0}; mark = pos 0; body = empty; make = λ v. None }
 
 abbrev pub extended : {F V : Type 0} → ℤ → Format F V → Arm F (Option V)
-extended {F} {V} mark f = record { Body = V; mark = mark; body = f; make = λ v. Some v }
+extended {F} {V} mark f = record { Body = V; mark = mark; body = whole f; make = λ v. Some v }
 
 abbrev pub extension_part : {F V : Type 0} → ℤ → Format F V → Option V → Part F (Option V)
 extension_part mark f None = part without tt
 extension_part mark f (Some v) = part (extended mark f) v
 
 unfoldable pub extension : {F V : Type 0} → (XdrFault → F) → ℤ → Format F V → Format F (Option V)
-extension as_fault mark f = union as_fault (extension_part mark f) (without ∷ extended mark f ∷ []) (λ p d. as_fault (fault_at p BadEnum))
+extension as_fault mark f =
+    union as_fault (extension_part mark f) (without ∷ extended mark f ∷ []) (λ p d. as_fault (fault_at p BadEnum))

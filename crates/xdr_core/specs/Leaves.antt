@@ -1,5 +1,34 @@
 -- The formats of RFC 4506 that are made of no others: numbers, flags and opaque bytes.
-use Rattle.std.specs.Prelude.{◌≡◌, ℕ, ◌+◌, ◌-◌, ◌%◌, ◌^◌, ◌<◌, ◌≤◌, ℤ, List, ◌++◌, length, take, replicate, position, not, nat_lt, ◌==◌, if◌then◌else◌, Bool, true, false, Option, Some, None, Ok, Err, FitsSigned}
+use Rattle.std.specs.Prelude.{
+  ◌≡◌,
+  ℕ,
+  ◌+◌,
+  ◌-◌,
+  ◌%◌,
+  ◌^◌,
+  ◌<◌,
+  ◌≤◌,
+  ℤ,
+  List,
+  ◌++◌,
+  length,
+  take,
+  replicate,
+  position,
+  not,
+  nat_lt,
+  ◌==◌,
+  if◌then◌else◌,
+  Bool,
+  true,
+  false,
+  Option,
+  Some,
+  None,
+  Ok,
+  Err,
+  FitsSigned,
+}
 use Rattle.std.specs.Int.{Width, w32, w64, cast_signed, cast_unsigned}
 use Rattle.byteorder.specs.Endian.{big_number, big_bytes}
 use Rattle.xdr_core.specs.declared.fault.XdrFault.{XdrFault}
@@ -15,7 +44,8 @@ number_at n p = if nat_lt (length p.rest) n then Err (short_at p) else Ok (big_n
 
 -- the same as two's complement of width w
 abbrev pub signed_at : ℕ → Width → Place → Reading XdrFault ℤ
-signed_at n w p = if nat_lt (length p.rest) n then Err (short_at p) else Ok (cast_signed w (big_number n p.rest), onward n p)
+signed_at n w p =
+    if nat_lt (length p.rest) n then Err (short_at p) else Ok (cast_signed w (big_number n p.rest), onward n p)
 
 abbrev pub number : ℕ → Format XdrFault ℕ
 number n = record {
@@ -83,7 +113,8 @@ padding_of p k (Some i) = Err (record { at = p.at + i; kind = Padding })
 
 -- k zero bytes
 abbrev pub padding_at : ℕ → Place → Reading XdrFault (Unit {0})
-padding_at k p = if nat_lt (length p.rest) k then Err (short_at p) else padding_of p k (position (λ b. not (b == 0)) (take k p.rest))
+padding_at k p =
+    if nat_lt (length p.rest) k then Err (short_at p) else padding_of p k (position (λ b. not (b == 0)) (take k p.rest))
 
 -- n bytes and the zero bytes behind them
 unfoldable pub opaque_at : ℕ → Place → Reading XdrFault (List ℕ)

@@ -2,7 +2,7 @@
 
 ghost use Rattle.std.specs.Prelude.{◌≡◌, ◌==◌, length, position, not, IfOk};
 ghost use Rattle.xdr_core.specs.Place.{Reads, ReadsBy, itself, start_of, fault_at, short_at};
-ghost use Rattle.xdr_core.specs.Leaves.{u32 as u32_format, i32 as i32_format, u64 as u64_format, i64 as i64_format, flag as flag_format, fixed as fixed_format, count as count_format, var as var_format, mark as mark_format, bytes_at, padding_at, opaque_at};
+ghost use Rattle.xdr_core.specs.Leaves as leaf;
 ghost use Rattle.xdr_core.specs.Ending.{EndsAt};
 ghost use Rattle.xdr_core.specs.Xdr.{tag as tag_format};
 
@@ -75,7 +75,7 @@ impl<'a> Cursor<'a> {
 
     /// The next `n` bytes as they are, with no padding.
     pub fn bytes(&mut self, n: usize) -> Result<&'a [u8], XdrFault>
-        ensures reads { ReadsBy (λ bytes. bytes.now) itself result self.old self.new (bytes_at n self.old) }
+        ensures reads { ReadsBy (λ bytes. bytes.now) itself result self.old self.new (leaf.bytes_at n self.old) }
         ensures len { IfOk result (λ bytes. length bytes.now ≡ n) }
     {
         let rest = self.rest();
@@ -89,7 +89,7 @@ impl<'a> Cursor<'a> {
     /// An unsigned integer of 32 bits.
     #[tactic(auto, unfolding(crate::specs::Leaves::u32))]
     pub fn u32(&mut self) -> Result<u32, XdrFault>
-        ensures { Reads itself result self.old self.new (u32_format.read self.old) }
+        ensures { Reads itself result self.old self.new (leaf.u32.read self.old) }
     {
         let rest = self.rest();
         if rest.len() < 4 {
@@ -102,7 +102,7 @@ impl<'a> Cursor<'a> {
     /// A signed integer of 32 bits.
     #[tactic(auto, unfolding(crate::specs::Leaves::i32))]
     pub fn i32(&mut self) -> Result<i32, XdrFault>
-        ensures { Reads itself result self.old self.new (i32_format.read self.old) }
+        ensures { Reads itself result self.old self.new (leaf.i32.read self.old) }
     {
         let rest = self.rest();
         if rest.len() < 4 {
@@ -115,7 +115,7 @@ impl<'a> Cursor<'a> {
     /// An unsigned integer of 64 bits.
     #[tactic(auto, unfolding(crate::specs::Leaves::u64))]
     pub fn u64(&mut self) -> Result<u64, XdrFault>
-        ensures { Reads itself result self.old self.new (u64_format.read self.old) }
+        ensures { Reads itself result self.old self.new (leaf.u64.read self.old) }
     {
         let rest = self.rest();
         if rest.len() < 8 {
@@ -128,7 +128,7 @@ impl<'a> Cursor<'a> {
     /// A signed integer of 64 bits.
     #[tactic(auto, unfolding(crate::specs::Leaves::i64))]
     pub fn i64(&mut self) -> Result<i64, XdrFault>
-        ensures { Reads itself result self.old self.new (i64_format.read self.old) }
+        ensures { Reads itself result self.old self.new (leaf.i64.read self.old) }
     {
         let rest = self.rest();
         if rest.len() < 8 {
@@ -141,7 +141,7 @@ impl<'a> Cursor<'a> {
     /// A flag: 0 is false, 1 is true, and any other number is `BadFlag`.
     #[tactic(auto, unfolding(crate::specs::Leaves::flag, crate::specs::Leaves::u32))]
     pub fn flag(&mut self) -> Result<bool, XdrFault>
-        ensures { Reads itself result self.old self.new (flag_format.read self.old) }
+        ensures { Reads itself result self.old self.new (leaf.flag.read self.old) }
     {
         let mut ahead = self.fork();
         let value = match ahead.u32()? {
@@ -155,7 +155,7 @@ impl<'a> Cursor<'a> {
 
     /// `n` zero bytes, which fill up to a multiple of four.
     fn padding(&mut self, n: usize) -> Result<(), XdrFault>
-        ensures { Reads itself result self.old self.new (padding_at n self.old) }
+        ensures { Reads itself result self.old self.new (leaf.padding_at n self.old) }
     {
         let rest = self.rest();
         if rest.len() < n {
@@ -174,7 +174,7 @@ impl<'a> Cursor<'a> {
     /// `n` bytes and their padding up to a multiple of four. Its bytes must be zero.
     #[tactic(auto, unfolding(crate::specs::Leaves::opaque_at))]
     fn opaque(&mut self, n: usize) -> Result<&'a [u8], XdrFault>
-        ensures reads { ReadsBy (λ bytes. bytes.now) itself result self.old self.new (opaque_at n self.old) }
+        ensures reads { ReadsBy (λ bytes. bytes.now) itself result self.old self.new (leaf.opaque_at n self.old) }
         ensures len { IfOk result (λ bytes. length bytes.now ≡ n) }
     {
         let mut ahead = self.fork();
@@ -187,7 +187,7 @@ impl<'a> Cursor<'a> {
     /// `n` bytes and their padding, where both sides know `n`.
     #[tactic(auto, unfolding(crate::specs::Leaves::fixed))]
     pub fn fixed(&mut self, n: usize) -> Result<&'a [u8], XdrFault>
-        ensures reads { ReadsBy (λ bytes. bytes.now) itself result self.old self.new ((fixed_format n).read self.old) }
+        ensures reads { ReadsBy (λ bytes. bytes.now) itself result self.old self.new ((leaf.fixed n).read self.old) }
         ensures len { IfOk result (λ bytes. length bytes.now ≡ n) }
     {
         self.opaque(n)
@@ -195,7 +195,7 @@ impl<'a> Cursor<'a> {
 
     /// `N` bytes and their padding, where both sides know `N`, as an array.
     pub fn array<const N: usize>(&mut self) -> Result<[u8; N], XdrFault>
-        ensures { Reads itself result self.old self.new ((fixed_format N).read self.old) }
+        ensures { Reads itself result self.old self.new ((leaf.fixed N).read self.old) }
     {
         let bytes = self.fixed(N)?;
         let mut array = [0u8; N];
@@ -206,7 +206,7 @@ impl<'a> Cursor<'a> {
     /// A length of at most `max`. A greater one is `TooLong`.
     #[tactic(auto, unfolding(crate::specs::Leaves::count, crate::specs::Leaves::u32))]
     pub fn count(&mut self, max: u32) -> Result<u32, XdrFault>
-        ensures { Reads itself result self.old self.new ((count_format max).read self.old) }
+        ensures { Reads itself result self.old self.new ((leaf.count max).read self.old) }
     {
         let mut ahead = self.fork();
         let len = ahead.u32()?;
@@ -220,7 +220,7 @@ impl<'a> Cursor<'a> {
     /// At most `max` bytes behind their number, and their padding. A number above `max` is `TooLong`.
     #[tactic(auto, unfolding(crate::specs::Leaves::var))]
     pub fn var(&mut self, max: u32) -> Result<&'a [u8], XdrFault>
-        ensures { ReadsBy (λ bytes. bytes.now) itself result self.old self.new ((var_format max).read self.old) }
+        ensures { ReadsBy (λ bytes. bytes.now) itself result self.old self.new ((leaf.var max).read self.old) }
     {
         let mut ahead = self.fork();
         let len = ahead.count(max)?;
@@ -229,11 +229,11 @@ impl<'a> Cursor<'a> {
         Ok(bytes)
     }
 
-    /// At most `max` bytes behind their mark, which is their number with the top bit of four bytes set (RFC 5531, 11). A clear
-    /// top bit is `BadMark`, a number above `max` is `TooLong`.
+    /// At most `max` bytes behind their mark, which is their number with the top bit of four bytes set (RFC 5531, 11).
+    /// A clear top bit is `BadMark`, a number above `max` is `TooLong`.
     #[tactic(auto, unfolding(crate::specs::Leaves::mark, crate::specs::Leaves::u32))]
     pub fn mark(&mut self, max: u32) -> Result<&'a [u8], XdrFault>
-        ensures { ReadsBy (λ bytes. bytes.now) itself result self.old self.new ((mark_format max).read self.old) }
+        ensures { ReadsBy (λ bytes. bytes.now) itself result self.old self.new ((leaf.mark max).read self.old) }
     {
         let mut ahead = self.fork();
         let word = ahead.u32()?;

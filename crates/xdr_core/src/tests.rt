@@ -1,179 +1,314 @@
 //! Texts laid out by hand after RFC 4506 and RFC 5531.
 
-ghost use Rattle.xdr_core.specs.Leaves.{u32 as u32_format};
+ghost use Rattle.xdr_core.specs.Leaves as leaf;
 
 use super::*;
 use std::alloc::{AllocError, Global};
-use std::test::Fail;
 
 fn fault<T>(at: usize, kind: XdrKind) -> Result<T, XdrFault> {
     Err(XdrFault { at, kind })
 }
 
-#[test]
-fn numbers_of_32_bits_stand_highest_byte_first(rt: HostRuntime) -> Result<(), Fail> {
-    for (text, unsigned, signed) in [
-        (b"\x00\x00\x00\x00", 0, 0),
-        (b"\x01\x02\x03\x04", 16_909_060, 16_909_060),
-        (b"\x7f\xff\xff\xff", 2_147_483_647, 2_147_483_647),
-        (b"\x80\x00\x00\x00", 2_147_483_648, -2_147_483_648),
-        (b"\xff\xff\xff\xff", 4_294_967_295, -1),
-    ] {
-        let text = text.as_slice();
-        assert_eq!(rt; Cursor::new(text).u32(), Ok(unsigned), "{text:?}");
-        assert_eq!(rt; Cursor::new(text).i32(), Ok(signed), "{text:?}");
-        let mut builder = Builder::new(rt.alloc());
-        builder.u32(unsigned)?;
-        assert_eq!(rt; builder.as_slice(), text);
-        let mut builder = Builder::new(rt.alloc());
-        builder.i32(signed)?;
-        assert_eq!(rt; builder.as_slice(), text);
+/// A cursor behind the first bytes of a text.
+fn behind(text: &[u8], n: usize) -> Cursor<'_> {
+    let mut cursor = Cursor::new(text);
+    let _skipped = cursor.bytes(n);
+    cursor
+}
+
+/// Where a cursor stands.
+fn place(cursor: &Cursor<'_>) -> usize {
+    cursor.fault(XdrKind::Trailing).at
+}
+
+// ---- numbers
+
+const WORDS: &[u8] = b"\0\0\0\0\x01\x02\x03\x04\x7f\xff\xff\xff\x80\0\0\0\xff\xff\xff\xff";
+
+const UNSIGNED: [u32; 5] = [0, 16_909_060, 2_147_483_647, 2_147_483_648, 4_294_967_295];
+
+const SIGNED: [i32; 5] = [0, 16_909_060, 2_147_483_647, -2_147_483_648, -1];
+
+fn read_words(cursor: &mut Cursor<'_>) -> Result<[u32; 5], XdrFault> {
+    Ok([
+        cursor.u32()?,
+        cursor.u32()?,
+        cursor.u32()?,
+        cursor.u32()?,
+        cursor.u32()?,
+    ])
+}
+
+fn read_signed_words(cursor: &mut Cursor<'_>) -> Result<[i32; 5], XdrFault> {
+    Ok([
+        cursor.i32()?,
+        cursor.i32()?,
+        cursor.i32()?,
+        cursor.i32()?,
+        cursor.i32()?,
+    ])
+}
+
+fn write_words(builder: &mut Builder) -> Result<(), AllocError> {
+    for word in &UNSIGNED {
+        builder.u32(*word)?;
+    }
+    for word in &SIGNED {
+        builder.i32(*word)?;
     }
     Ok(())
 }
 
 #[test]
-fn numbers_of_64_bits_stand_highest_byte_first(rt: HostRuntime) -> Result<(), Fail> {
-    for (text, unsigned, signed) in [
-        (
-            b"\x00\x00\x00\x01\x00\x00\x00\x00",
-            4_294_967_296,
-            4_294_967_296,
-        ),
-        (
-            b"\x7f\xff\xff\xff\xff\xff\xff\xff",
-            9_223_372_036_854_775_807,
-            9_223_372_036_854_775_807,
-        ),
-        (
-            b"\x80\x00\x00\x00\x00\x00\x00\x00",
-            9_223_372_036_854_775_808,
-            -9_223_372_036_854_775_808,
-        ),
-        (
-            b"\xff\xff\xff\xff\xff\xff\xff\xff",
-            18_446_744_073_709_551_615,
-            -1,
-        ),
-    ] {
-        let text = text.as_slice();
-        assert_eq!(rt; Cursor::new(text).u64(), Ok(unsigned), "{text:?}");
-        assert_eq!(rt; Cursor::new(text).i64(), Ok(signed), "{text:?}");
-        let mut builder = Builder::new(rt.alloc());
-        builder.u64(unsigned)?;
-        assert_eq!(rt; builder.as_slice(), text);
-        let mut builder = Builder::new(rt.alloc());
-        builder.i64(signed)?;
-        assert_eq!(rt; builder.as_slice(), text);
+fn numbers_of_32_bits_are_read_highest_byte_first(rt: HostRuntime) {
+    assert!(rt; read_words(&mut Cursor::new(WORDS)) == Ok(UNSIGNED));
+    assert!(rt; read_signed_words(&mut Cursor::new(WORDS)) == Ok(SIGNED));
+}
+
+#[test]
+fn numbers_of_32_bits_are_written_highest_byte_first(rt: HostRuntime) {
+    let mut builder = Builder::new(rt.alloc());
+    assert!(rt; write_words(&mut builder).is_ok());
+    assert!(rt; builder.as_slice().split_at_checked(20) == Some((WORDS, WORDS)));
+}
+
+const LONG_WORDS: &[u8] =
+    b"\0\0\0\x01\0\0\0\0\x7f\xff\xff\xff\xff\xff\xff\xff\x80\0\0\0\0\0\0\0\xff\xff\xff\xff\xff\xff\xff\xff";
+
+const LONG_UNSIGNED: [u64; 4] = [
+    4_294_967_296,
+    9_223_372_036_854_775_807,
+    9_223_372_036_854_775_808,
+    18_446_744_073_709_551_615,
+];
+
+const LONG_SIGNED: [i64; 4] = [
+    4_294_967_296,
+    9_223_372_036_854_775_807,
+    -9_223_372_036_854_775_808,
+    -1,
+];
+
+fn read_long_words(cursor: &mut Cursor<'_>) -> Result<[u64; 4], XdrFault> {
+    Ok([cursor.u64()?, cursor.u64()?, cursor.u64()?, cursor.u64()?])
+}
+
+fn read_long_signed_words(cursor: &mut Cursor<'_>) -> Result<[i64; 4], XdrFault> {
+    Ok([cursor.i64()?, cursor.i64()?, cursor.i64()?, cursor.i64()?])
+}
+
+fn write_long_words(builder: &mut Builder) -> Result<(), AllocError> {
+    for word in &LONG_UNSIGNED {
+        builder.u64(*word)?;
+    }
+    for word in &LONG_SIGNED {
+        builder.i64(*word)?;
     }
     Ok(())
 }
 
-// A reader that faults answers the same once more, so it has not moved.
+#[test]
+fn numbers_of_64_bits_are_read_highest_byte_first(rt: HostRuntime) {
+    assert!(rt; read_long_words(&mut Cursor::new(LONG_WORDS)) == Ok(LONG_UNSIGNED));
+    assert!(rt; read_long_signed_words(&mut Cursor::new(LONG_WORDS)) == Ok(LONG_SIGNED));
+}
+
+#[test]
+fn numbers_of_64_bits_are_written_highest_byte_first(rt: HostRuntime) {
+    let mut builder = Builder::new(rt.alloc());
+    assert!(rt; write_long_words(&mut builder).is_ok());
+    assert!(rt; builder.as_slice().split_at_checked(32) == Some((LONG_WORDS, LONG_WORDS)));
+}
+
+// ---- opaque bytes, flags and lengths
+
+/// What a text of at most 64 bytes reads as, and the place behind it.
+fn at_most_64(text: &[u8]) -> (Result<&[u8], XdrFault>, usize) {
+    let mut cursor = Cursor::new(text);
+    let bytes = cursor.var(64);
+    (bytes, place(&cursor))
+}
+
+// The padding may end too early, whatever it has in it, and the length is tested before what follows.
 #[test]
 fn opaque_bytes_are_filled_up_with_zeros(rt: HostRuntime) {
-    for (text, want) in [
-        (b"\0\0\0\x00".as_slice(), Ok(b"".as_slice())),
-        (b"\0\0\0\x03abc\0", Ok(b"abc")),
-        (b"\0\0\0\x04abcd", Ok(b"abcd")),
-        (b"\0\0\0\x05hello\0\0\0", Ok(b"hello")),
-        (b"\0\0\0\x03abc\x01", fault(7, XdrKind::Padding)),
-        (b"\0\0\0\x01a\0\x01\x01", fault(6, XdrKind::Padding)),
-        (b"\0\0\0\x03ab", fault(6, XdrKind::Short)),
-        // The padding ends too early, whatever it has in it.
-        (b"\0\0\0\x01a\x01", fault(6, XdrKind::Short)),
-        // The length is tested before what follows.
-        (b"\0\0\0\x41", fault(0, XdrKind::TooLong)),
-        (b"\0\0\0", fault(3, XdrKind::Short)),
-    ] {
-        let mut cursor = Cursor::new(text);
-        assert_eq!(rt; cursor.var(64), want, "{text:?}");
-        match want {
-            Ok(_) => assert_eq!(rt; cursor.end(), Ok(()), "{text:?}"),
-            Err(_) => assert_eq!(rt; cursor.var(64), want, "{text:?}"),
-        }
-    }
+    let read = [
+        at_most_64(b"\0\0\0\0"),
+        at_most_64(b"\0\0\0\x03abc\0"),
+        at_most_64(b"\0\0\0\x04abcd"),
+        at_most_64(b"\0\0\0\x05hello\0\0\0"),
+        at_most_64(b"\0\0\0\x03abc\x01"),
+        at_most_64(b"\0\0\0\x01a\0\x01\x01"),
+        at_most_64(b"\0\0\0\x03ab"),
+        at_most_64(b"\0\0\0\x01a\x01"),
+        at_most_64(b"\0\0\0\x41"),
+        at_most_64(b"\0\0\0"),
+    ];
+    assert!(rt;
+        read == [
+            (Ok(b"".as_slice()), 4),
+            (Ok(b"abc".as_slice()), 8),
+            (Ok(b"abcd".as_slice()), 8),
+            (Ok(b"hello".as_slice()), 12),
+            (fault(7, XdrKind::Padding), 0),
+            (fault(6, XdrKind::Padding), 0),
+            (fault(6, XdrKind::Short), 0),
+            (fault(6, XdrKind::Short), 0),
+            (fault(0, XdrKind::TooLong), 0),
+            (fault(3, XdrKind::Short), 0),
+        ]
+    );
 }
 
-#[test]
+const FIELDS: &[u8] = b"\0\0\0\x01\0\0\0\0\0\0\0\x02hello\0\0\0abc\0\0\0\0\x02hi\0\0raw";
+
 #[tactic(auto, unfolding(crate::specs::Leaves::var))]
-fn fields_stand_one_behind_another(rt: HostRuntime) -> Result<(), Fail> {
-    let text = b"\0\0\0\x01\0\0\0\0\0\0\0\x02hello\0\0\0abc\0\0\0\0\x02hi\0\0raw";
-    let mut builder = Builder::new(rt.alloc());
+fn write_fields(builder: &mut Builder) -> Result<(), AllocError> {
     builder.flag(true)?;
     builder.flag(false)?;
     builder.count(2, 2)?;
     builder.fixed(b"hello")?;
     builder.fixed(b"abc")?;
     builder.var(b"hi", 2)?;
-    builder.raw(b"raw")?;
-    assert_eq!(rt; builder.as_slice(), text.as_slice());
-    assert_eq!(rt; builder.finish().as_slice(), text.as_slice());
-
-    let mut cursor = Cursor::new(text);
-    assert_eq!(rt; cursor.flag(), Ok(true));
-    assert_eq!(rt; cursor.flag(), Ok(false));
-    assert_eq!(rt; cursor.count(1), fault(8, XdrKind::TooLong));
-    assert_eq!(rt; cursor.flag(), fault(8, XdrKind::BadFlag));
-    assert_eq!(rt; cursor.fork().u32(), Ok(2));
-    assert_eq!(rt; cursor.count(2), Ok(2));
-    assert_eq!(rt; cursor.fixed(3), fault(15, XdrKind::Padding));
-    assert_eq!(rt; cursor.fixed(5), Ok(b"hello".as_slice()));
-    assert_eq!(rt; cursor.array(), Ok(*b"abc"));
-    assert_eq!(rt; cursor.var(2), Ok(b"hi".as_slice()));
-    assert_eq!(rt; cursor.end(), fault(32, XdrKind::Trailing));
-    assert_eq!(rt; cursor.u32(), fault(35, XdrKind::Short));
-    assert_eq!(rt; cursor.u64(), fault(35, XdrKind::Short));
-    assert_eq!(rt; cursor.fault(XdrKind::BadEnum).at, 32);
-
-    let stray = b"hello\0\x01\0";
-    assert_eq!(rt; Cursor::new(stray).fixed(5), fault(6, XdrKind::Padding));
-    Ok(())
+    builder.raw(b"raw")
 }
 
-// The place behind a record, or of the mark where the read faults. The kind of a mark and its length are tested before what
-// follows.
+type Fields<'a> = (bool, bool, u32, &'a [u8], [u8; 3], &'a [u8]);
+
+fn read_fields<'a>(cursor: &mut Cursor<'a>) -> Result<Fields<'a>, XdrFault> {
+    Ok((
+        cursor.flag()?,
+        cursor.flag()?,
+        cursor.count(2)?,
+        cursor.fixed(5)?,
+        cursor.array::<3>()?,
+        cursor.var(2)?,
+    ))
+}
+
+#[test]
+fn fields_stand_one_behind_another(rt: HostRuntime) {
+    let mut builder = Builder::new(rt.alloc());
+    assert!(rt; write_fields(&mut builder).is_ok());
+    assert!(rt; builder.finish().as_slice() == FIELDS);
+    assert!(rt;
+        read_fields(&mut Cursor::new(FIELDS))
+            == Ok((
+                true,
+                false,
+                2,
+                b"hello".as_slice(),
+                *b"abc",
+                b"hi".as_slice()
+            ))
+    );
+}
+
+// Places are counted from the start of the text.
+#[test]
+fn a_fault_names_its_place_in_the_whole_text(rt: HostRuntime) {
+    let faults = [
+        behind(FIELDS, 8).count(1).err(),
+        behind(FIELDS, 8).flag().err(),
+        behind(FIELDS, 12).fixed(3).err(),
+        behind(FIELDS, 32).end().err(),
+        behind(FIELDS, 35).end().err(),
+        behind(FIELDS, 35).u32().err(),
+        behind(FIELDS, 35).u64().err(),
+    ];
+    assert!(rt;
+        faults
+            == [
+                fault::<()>(8, XdrKind::TooLong).err(),
+                fault::<()>(8, XdrKind::BadFlag).err(),
+                fault::<()>(15, XdrKind::Padding).err(),
+                fault::<()>(32, XdrKind::Trailing).err(),
+                None,
+                fault::<()>(35, XdrKind::Short).err(),
+                fault::<()>(35, XdrKind::Short).err(),
+            ]
+    );
+}
+
+// ---- record marks and tags
+
+/// The record of at most four bytes behind a word, and the place behind it.
+fn marked(text: &[u8]) -> (Result<&[u8], XdrFault>, usize) {
+    let mut cursor = behind(text, 4);
+    let record = cursor.mark(4);
+    (record, place(&cursor))
+}
+
+// The kind of a mark and its length are tested before what follows.
 #[test]
 fn a_record_stands_behind_its_mark(rt: HostRuntime) {
-    for (text, want, place) in [
-        (b"word\x80\0\0\x02ab".as_slice(), Ok(b"ab".as_slice()), 10),
-        (b"word\x80\0\0\x04abcdef", Ok(b"abcd"), 12),
-        (b"word\x80\0\0\0", Ok(b""), 8),
-        (b"word\0\0\0\x02ab", fault(4, XdrKind::BadMark), 4),
-        (b"word\x7f\xff\xff\xff", fault(4, XdrKind::BadMark), 4),
-        (b"word\x80\0\0\x05", fault(4, XdrKind::TooLong), 4),
-        (b"word\xff\xff\xff\xff", fault(4, XdrKind::TooLong), 4),
-        (b"word\x80\0\0\x04abc", fault(11, XdrKind::Short), 4),
-        (b"word\x80\0\0", fault(7, XdrKind::Short), 4),
-    ] {
-        let mut cursor = Cursor::new(text);
-        assert!(rt; cursor.u32().is_ok());
-        assert_eq!(rt; cursor.mark(4), want, "{text:?}");
-        assert_eq!(rt; cursor.fault(XdrKind::BadMark).at, place, "{text:?}");
-    }
+    let read = [
+        marked(b"word\x80\0\0\x02ab"),
+        marked(b"word\x80\0\0\x04abcdef"),
+        marked(b"word\x80\0\0\0"),
+        marked(b"word\0\0\0\x02ab"),
+        marked(b"word\x7f\xff\xff\xff"),
+        marked(b"word\x80\0\0\x05"),
+        marked(b"word\xff\xff\xff\xff"),
+        marked(b"word\x80\0\0\x04abc"),
+        marked(b"word\x80\0\0"),
+    ];
+    assert!(rt;
+        read == [
+            (Ok(b"ab".as_slice()), 10),
+            (Ok(b"abcd".as_slice()), 12),
+            (Ok(b"".as_slice()), 8),
+            (fault(4, XdrKind::BadMark), 4),
+            (fault(4, XdrKind::BadMark), 4),
+            (fault(4, XdrKind::TooLong), 4),
+            (fault(4, XdrKind::TooLong), 4),
+            (fault(11, XdrKind::Short), 4),
+            (fault(7, XdrKind::Short), 4),
+        ]
+    );
+}
+
+#[tactic(auto, unfolding(crate::specs::Leaves::mark))]
+fn write_records(builder: &mut Builder) -> Result<(), AllocError> {
+    builder.mark(b"ab", 2)?;
+    builder.mark(b"", 0)
 }
 
 #[test]
-#[tactic(auto, unfolding(crate::specs::Leaves::mark))]
-fn a_record_is_written_behind_its_mark(rt: HostRuntime) -> Result<(), Fail> {
+fn a_record_is_written_behind_its_mark(rt: HostRuntime) {
     let mut builder = Builder::new(rt.alloc());
-    builder.mark(b"ab", 2)?;
-    builder.mark(b"", 0)?;
-    assert_eq!(rt; builder.as_slice(), b"\x80\0\0\x02ab\x80\0\0\0".as_slice());
-    Ok(())
+    assert!(rt; write_records(&mut builder).is_ok());
+    assert!(rt; builder.as_slice() == b"\x80\0\0\x02ab\x80\0\0\0".as_slice());
+}
+
+/// Whether a tag stands at the start, and the place behind it.
+fn tagged(text: &[u8], mark: i32) -> (Result<(), XdrFault>, usize) {
+    let mut cursor = Cursor::new(text);
+    let there = cursor.tag(mark);
+    (there, place(&cursor))
 }
 
 #[test]
 fn a_tag_is_one_number(rt: HostRuntime) {
-    let mut cursor = Cursor::new(b"\0\0\0\0\0\0\0\x01\xff\xff\xff\xff");
-    assert_eq!(rt; cursor.tag(0), Ok(()));
-    assert_eq!(rt; cursor.tag(0), fault(4, XdrKind::BadEnum));
-    assert_eq!(rt; cursor.tag(1), Ok(()));
-    assert_eq!(rt; cursor.end(), fault(8, XdrKind::Trailing));
-    assert_eq!(rt; cursor.tag(-1), Ok(()));
-    assert_eq!(rt; cursor.tag(0), fault(12, XdrKind::Short));
-    assert_eq!(rt; cursor.end(), Ok(()));
+    let read = [
+        tagged(b"\0\0\0\0", 0),
+        tagged(b"\0\0\0\x01", 0),
+        tagged(b"\0\0\0\x01", 1),
+        tagged(b"\xff\xff\xff\xff", -1),
+        tagged(b"\0\0\0", 0),
+    ];
+    assert!(rt;
+        read == [
+            (Ok(()), 4),
+            (fault(0, XdrKind::BadEnum), 0),
+            (Ok(()), 4),
+            (Ok(()), 4),
+            (fault(3, XdrKind::Short), 0),
+        ]
+    );
 }
+
+// ---- lists, options and extensions
 
 /// Words of 32 bits, as a format.
 enum Word {}
@@ -183,7 +318,7 @@ impl Decode for Word {
 
     type Failure = ReadFault;
 
-    ghost format = { u32_format };
+    ghost format = { leaf.u32 };
 
     fn decode(_alloc: Global, cursor: &mut Cursor<'_>) -> Result<u32, ReadFault> {
         Ok(cursor.u32()?)
@@ -191,108 +326,127 @@ impl Decode for Word {
 }
 
 impl Encode for Word {
+    #[tactic(auto, unfolding(crate::specs::Leaves::u32))]
     fn encode(value: &u32, builder: &mut Builder) -> Result<(), AllocError> {
         builder.u32(*value)
     }
 }
 
+/// How many words a list has, its first two, and the place behind it; or its fault, and the place.
+fn listed(
+    alloc: Global,
+    text: &[u8],
+    max: u32,
+) -> (Result<(usize, [Option<u32>; 2]), ReadFault>, usize) {
+    let mut cursor = Cursor::new(text);
+    let words = match read_list::<Word>(alloc, max, &mut cursor) {
+        Ok(words) => Ok(front(words.as_slice())),
+        Err(failure) => Err(failure),
+    };
+    (words, place(&cursor))
+}
+
+fn front(words: &[u32]) -> (usize, [Option<u32>; 2]) {
+    (words.len(), [words.first().copied(), words.get(1).copied()])
+}
+
+// The last list's count is far above what follows: memory is taken for a hundred words at most before any is read.
 #[test]
 fn a_list_stands_behind_its_length(rt: HostRuntime) {
-    for (text, max, want) in [
-        (b"\0\0\0\0".as_slice(), 0, Ok([].as_slice())),
-        (b"\0\0\0\x02\0\0\0\x07\0\0\0\x08", 2, Ok(&[7, 8])),
-        (b"\0\0\0\x03", 2, fault(0, XdrKind::TooLong)),
-        (b"\0\0\0\x02\0\0\0\x07\0\0", 2, fault(10, XdrKind::Short)),
-        // Memory is taken for the words that are there, and not for the number.
-        (
-            b"\xff\xff\xff\xff\0\0\0\x07\0\0\0\x08",
-            u32::MAX,
-            fault(12, XdrKind::Short),
-        ),
-    ] {
-        let mut cursor = Cursor::new(text);
-        match want {
-            Ok(words) => {
-                let list = read_list::<Word>(rt.alloc(), max, &mut cursor).expect(&rt, "a list");
-                assert_eq!(rt; list.as_slice(), words, "{text:?}");
-                assert_eq!(rt; cursor.end(), Ok(()), "{text:?}");
-            }
-            Err(fault) => {
-                for _ in 0..2 {
-                    let failure = read_list::<Word>(rt.alloc(), max, &mut cursor).err();
-                    assert_eq!(rt; failure, Some(ReadFault::Xdr(fault)), "{text:?}");
-                }
-            }
-        }
-    }
+    let alloc = rt.alloc();
+    let read = [
+        listed(alloc, b"\0\0\0\0", 0),
+        listed(alloc, b"\0\0\0\x02\0\0\0\x07\0\0\0\x08", 2),
+        listed(alloc, b"\0\0\0\x03", 2),
+        listed(alloc, b"\0\0\0\x02\0\0\0\x07\0\0", 2),
+        listed(alloc, b"\xff\xff\xff\xff\0\0\0\x07\0\0\0\x08", u32::MAX),
+    ];
+    assert!(rt;
+        read == [
+            (Ok((0, [None, None])), 4),
+            (Ok((2, [Some(7), Some(8)])), 12),
+            (fault(0, XdrKind::TooLong).map_err(ReadFault::Xdr), 0),
+            (fault(10, XdrKind::Short).map_err(ReadFault::Xdr), 0),
+            (fault(12, XdrKind::Short).map_err(ReadFault::Xdr), 0),
+        ]
+    );
+}
+
+fn optional(alloc: Global, text: &[u8]) -> (Result<Option<u32>, ReadFault>, usize) {
+    let mut cursor = Cursor::new(text);
+    let word = read_option::<Word>(alloc, &mut cursor);
+    (word, place(&cursor))
 }
 
 #[test]
 fn an_option_stands_behind_its_flag(rt: HostRuntime) {
-    for (text, want) in [
-        (b"\0\0\0\0".as_slice(), Ok(None)),
-        (b"\0\0\0\x01\0\0\0\x07", Ok(Some(7))),
-        (b"\0\0\0\x01", fault(4, XdrKind::Short)),
-        (b"\0\0\0\x02\0\0\0\x07", fault(0, XdrKind::BadFlag)),
-    ] {
-        let want = want.map_err(ReadFault::Xdr);
-        let mut cursor = Cursor::new(text);
-        assert_eq!(rt;
-            read_option::<Word>(rt.alloc(), &mut cursor),
-            want,
-            "{text:?}"
-        );
-        match want {
-            Ok(_) => assert_eq!(rt; cursor.end(), Ok(()), "{text:?}"),
-            Err(_) => assert_eq!(rt;
-                read_option::<Word>(rt.alloc(), &mut cursor),
-                want,
-                "{text:?}"
-            ),
-        }
-    }
+    let alloc = rt.alloc();
+    let read = [
+        optional(alloc, b"\0\0\0\0"),
+        optional(alloc, b"\0\0\0\x01\0\0\0\x07"),
+        optional(alloc, b"\0\0\0\x01"),
+        optional(alloc, b"\0\0\0\x02\0\0\0\x07"),
+    ];
+    assert!(rt;
+        read == [
+            (Ok(None), 4),
+            (Ok(Some(7)), 8),
+            (fault(4, XdrKind::Short).map_err(ReadFault::Xdr), 0),
+            (fault(0, XdrKind::BadFlag).map_err(ReadFault::Xdr), 0),
+        ]
+    );
+}
+
+fn extended(alloc: Global, text: &[u8]) -> (Result<Option<u32>, ReadFault>, usize) {
+    let mut cursor = Cursor::new(text);
+    let word = read_extension::<Word>(alloc, 1, &mut cursor);
+    (word, place(&cursor))
 }
 
 #[test]
 fn an_extension_stands_behind_its_discriminant(rt: HostRuntime) {
-    for (text, want, place) in [
-        (b"\0\0\0\0\0\0\0\x07".as_slice(), Ok(None), 4),
-        (b"\0\0\0\x01\0\0\0\x07", Ok(Some(7)), 8),
-        (b"\0\0\0\x02\0\0\0\x07", fault(0, XdrKind::BadEnum), 0),
-        (b"\0\0\0\x01\0\0", fault(6, XdrKind::Short), 0),
-    ] {
-        let mut cursor = Cursor::new(text);
-        assert_eq!(rt;
-            read_extension::<Word>(rt.alloc(), 1, &mut cursor),
-            want.map_err(ReadFault::Xdr),
-            "{text:?}"
-        );
-        assert_eq!(rt; cursor.fault(XdrKind::BadEnum).at, place, "{text:?}");
-    }
+    let alloc = rt.alloc();
+    let read = [
+        extended(alloc, b"\0\0\0\0\0\0\0\x07"),
+        extended(alloc, b"\0\0\0\x01\0\0\0\x07"),
+        extended(alloc, b"\0\0\0\x02\0\0\0\x07"),
+        extended(alloc, b"\0\0\0\x01\0\0"),
+    ];
+    assert!(rt;
+        read == [
+            (Ok(None), 4),
+            (Ok(Some(7)), 8),
+            (fault(0, XdrKind::BadEnum).map_err(ReadFault::Xdr), 0),
+            (fault(6, XdrKind::Short).map_err(ReadFault::Xdr), 0),
+        ]
+    );
+}
+
+#[tactic(auto, unfolding(crate::specs::Combinators::option, crate::specs::Leaves::u32))]
+fn write_options(builder: &mut Builder) -> Result<(), AllocError> {
+    write_option::<Word>(&None, builder)?;
+    write_option::<Word>(&Some(7), builder)
+}
+
+#[tactic(auto, unfolding(crate::specs::Combinators::extension, crate::specs::Leaves::u32))]
+fn write_extensions(builder: &mut Builder) -> Result<(), AllocError> {
+    write_extension::<Word>(&None, 2, builder)?;
+    write_extension::<Word>(&Some(7), 2, builder)
+}
+
+#[tactic(auto, unfolding(crate::specs::Combinators::list, crate::specs::Leaves::u32))]
+fn write_words_as_list(builder: &mut Builder) -> Result<(), AllocError> {
+    write_list::<Word>(&[7, 8], 2, builder)
 }
 
 #[test]
-#[tactic(auto, unfolding(crate::specs::Combinators::option, crate::specs::Combinators::list, crate::specs::Combinators::extension, crate::specs::Leaves::u32))]
-fn what_is_written_is_what_is_read(rt: HostRuntime) -> Result<(), Fail> {
+fn what_is_written_is_what_is_read(rt: HostRuntime) {
     let mut builder = Builder::new(rt.alloc());
-    write_option::<Word>(&None, &mut builder)?;
-    write_option::<Word>(&Some(7), &mut builder)?;
-    assert_eq!(rt;
-        builder.as_slice(),
-        b"\0\0\0\0\0\0\0\x01\0\0\0\x07".as_slice()
+    assert!(rt; write_options(&mut builder).is_ok());
+    assert!(rt; write_extensions(&mut builder).is_ok());
+    assert!(rt; write_words_as_list(&mut builder).is_ok());
+    assert!(rt;
+        builder.as_slice()
+            == b"\0\0\0\0\0\0\0\x01\0\0\0\x07\0\0\0\0\0\0\0\x02\0\0\0\x07\0\0\0\x02\0\0\0\x07\0\0\0\x08".as_slice()
     );
-    let mut builder = Builder::new(rt.alloc());
-    write_extension::<Word>(&None, 2, &mut builder)?;
-    write_extension::<Word>(&Some(7), 2, &mut builder)?;
-    assert_eq!(rt;
-        builder.as_slice(),
-        b"\0\0\0\0\0\0\0\x02\0\0\0\x07".as_slice()
-    );
-    let mut builder = Builder::new(rt.alloc());
-    write_list::<Word>(&[7, 8], 2, &mut builder)?;
-    assert_eq!(rt;
-        builder.as_slice(),
-        b"\0\0\0\x02\0\0\0\x07\0\0\0\x08".as_slice()
-    );
-    Ok(())
 }

@@ -1,8 +1,93 @@
 -- The laws of each format, and what follows of them, as one set.
 use Rattle.xdr_core.proofs.Grammar.{prefix_free, faults_rightly}
-use Rattle.xdr_entries.proofs.BasicLaws.{hash_lawful, account_id_lawful, claimable_balance_id_lawful, muxed_account_lawful, signer_key_lawful, signer_lawful, asset_lawful, trust_line_asset_lawful, pool_params_lawful, change_trust_asset_lawful, price_lawful, liabilities_lawful}
-use Rattle.xdr_entries.proofs.PredicateLaws.{claim_predicate_lawful}
-use Rattle.xdr_entries.proofs.EntryLaws.{account_extension_v2_lawful, account_extension_v1_lawful, account_entry_lawful, trust_line_extension_v2_lawful, trust_line_extension_v1_lawful, trust_line_entry_lawful, offer_entry_lawful, data_entry_lawful, claimant_lawful, claimable_balance_extension_v1_lawful, claimable_balance_entry_lawful, liquidity_pool_entry_lawful, ledger_entry_body_lawful, ledger_entry_extension_v1_lawful, ledger_entry_lawful}
-use Rattle.xdr_entries.proofs.KeyLaws.{ledger_key_lawful, bucket_entry_lawful}
+use Rattle.xdr_core.proofs.FormatLaws.{lawful_of, faults_placed, written, option_laws}
+use Rattle.xdr_entries.proofs.BasicLaws.{
+  hash_laws,
+  account_id_laws,
+  claimable_balance_id_laws,
+  muxed_account_laws,
+  signer_key_laws,
+  signer_laws,
+  asset_laws,
+  trust_line_asset_laws,
+  pool_params_laws,
+  change_trust_asset_laws,
+  price_laws,
+  liabilities_laws,
+}
+use Rattle.xdr_entries.proofs.PredicateLaws.{claim_predicate_laws}
+use Rattle.xdr_entries.proofs.EntryLaws.{
+  account_extension_v2_laws,
+  account_extension_v1_laws,
+  account_entry_laws,
+  trust_line_extension_v2_laws,
+  trust_line_extension_v1_laws,
+  trust_line_entry_laws,
+  offer_entry_laws,
+  data_entry_laws,
+  claimant_laws,
+  claimable_balance_extension_v1_laws,
+  claimable_balance_entry_laws,
+  liquidity_pool_entry_laws,
+  ledger_entry_body_laws,
+  ledger_entry_extension_v1_laws,
+  ledger_entry_laws,
+}
+use Rattle.xdr_entries.proofs.KeyLaws.{ledger_key_laws, bucket_entry_laws}
 
-pub ruleset all_laws = (prefix_free, faults_rightly, hash_lawful, account_id_lawful, claimable_balance_id_lawful, muxed_account_lawful, signer_key_lawful, signer_lawful, asset_lawful, trust_line_asset_lawful, pool_params_lawful, change_trust_asset_lawful, price_lawful, liabilities_lawful, claim_predicate_lawful, account_extension_v2_lawful, account_extension_v1_lawful, account_entry_lawful, trust_line_extension_v2_lawful, trust_line_extension_v1_lawful, trust_line_entry_lawful, offer_entry_lawful, data_entry_lawful, claimant_lawful, claimable_balance_extension_v1_lawful, claimable_balance_entry_lawful, liquidity_pool_entry_lawful, ledger_entry_body_lawful, ledger_entry_extension_v1_lawful, ledger_entry_lawful, ledger_key_lawful, bucket_entry_lawful)
+pub ruleset all_laws = (
+  prefix_free,
+  faults_rightly,
+  lawful_of,
+  faults_placed,
+  hash_laws,
+  account_id_laws,
+  claimable_balance_id_laws,
+  muxed_account_laws,
+  signer_key_laws,
+  signer_laws,
+  asset_laws,
+  trust_line_asset_laws,
+  pool_params_laws,
+  change_trust_asset_laws,
+  price_laws,
+  liabilities_laws,
+  claim_predicate_laws,
+  account_extension_v2_laws,
+  account_extension_v1_laws,
+  account_entry_laws,
+  trust_line_extension_v2_laws,
+  trust_line_extension_v1_laws,
+  trust_line_entry_laws,
+  offer_entry_laws,
+  data_entry_laws,
+  claimant_laws,
+  claimable_balance_extension_v1_laws,
+  claimable_balance_entry_laws,
+  liquidity_pool_entry_laws,
+  ledger_entry_body_laws,
+  ledger_entry_extension_v1_laws,
+  ledger_entry_laws,
+  ledger_key_laws,
+  bucket_entry_laws,
+)
+
+-- what the writers of whole values and of items of lists, options and extensions rest on
+pub ruleset written_values = (
+  written,
+  option_laws,
+  account_id_laws,
+  muxed_account_laws,
+  signer_laws,
+  asset_laws,
+  account_extension_v1_laws,
+  account_extension_v2_laws,
+  trust_line_extension_v1_laws,
+  trust_line_extension_v2_laws,
+  claimant_laws,
+  claimable_balance_extension_v1_laws,
+  ledger_entry_extension_v1_laws,
+  ledger_entry_laws,
+  ledger_key_laws,
+  bucket_entry_laws,
+)

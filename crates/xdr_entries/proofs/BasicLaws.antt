@@ -1,13 +1,22 @@
--- The laws of ids, signers, assets and prices: what is read is spelled so, what is spelled so is read, and writing puts the spelling at the end.
+-- The laws of ids, signers, assets and prices.
 use Rattle.std.proofs.Common.{pos, refl}
-use Rattle.xdr_core.specs.Format.{Lawful}
-use Rattle.xdr_core.specs.Xdr.{as_it_is, no_arm}
-use Rattle.xdr_core.proofs.LeafLaws.{u32_lawful, u64_lawful, i32_lawful, i64_lawful}
-use Rattle.xdr_core.proofs.Opaque.{fixed_lawful}
-use Rattle.xdr_core.proofs.Combining.{◌&◌, struct_law, marked_law}
-use Rattle.xdr_core.proofs.Unions.{IsFound, union_law}
-use Rattle.xdr_core.proofs.Extensions.{empty_law}
-use Rattle.xdr_core.proofs.Discriminants.{discriminant_fits, tag_law}
+use Rattle.xdr_core.proofs.FormatLaws.{
+  Laws,
+  u32_laws,
+  u64_laws,
+  i32_laws,
+  i64_laws,
+  fixed_laws,
+  empty_laws,
+  ◌&◌,
+  struct_laws,
+  marked_laws,
+  tag_laws,
+  arm_laws,
+  found,
+  union_laws,
+}
+use Rattle.xdr_core.proofs.Unions.{IsFound}
 use Rattle.ledger_types.specs.declared.ids.MuxedAccount.{MuxedAccount}
 use Rattle.ledger_types.specs.declared.ids.MuxedAccount.TheVariants as muxed
 use Rattle.ledger_types.specs.declared.signer.SignerKey.{SignerKey}
@@ -18,96 +27,179 @@ use Rattle.ledger_types.specs.declared.asset.TrustLineAsset.{TrustLineAsset}
 use Rattle.ledger_types.specs.declared.asset.TrustLineAsset.TheVariants as line
 use Rattle.ledger_types.specs.declared.asset.ChangeTrustAsset.{ChangeTrustAsset}
 use Rattle.ledger_types.specs.declared.asset.ChangeTrustAsset.TheVariants as change
-use Rattle.xdr_entries.specs.Basic.{hash_fields, hash, account_id_fields, account_id, balance_id_fields, claimable_balance_id, muxed_ed25519, muxed_with_id, muxed_arms, muxed_part, muxed_account, signer_ed25519, signer_pre_auth, signer_hash_x, signer_key_arms, signer_key_part, signer_key, signer_fields, signer, native, alphanum4, alphanum12, asset_arms, asset_part, asset, line_native, line_alphanum4, line_alphanum12, line_pool, trust_line_asset_arms, trust_line_asset_part, trust_line_asset, pool_params_fields, pool_params, change_native, change_alphanum4, change_alphanum12, change_pool, change_trust_asset_arms, change_trust_asset_part, change_trust_asset, price_fields, price, liabilities_fields, liabilities}
+use Rattle.xdr_entries.specs.Basic.{
+  hash_fields,
+  hash,
+  account_id_fields,
+  account_id,
+  balance_id_fields,
+  claimable_balance_id,
+  muxed_ed25519,
+  muxed_with_id,
+  muxed_arms,
+  muxed_part,
+  muxed_account,
+  signer_ed25519,
+  signer_pre_auth,
+  signer_hash_x,
+  signer_key_arms,
+  signer_key_part,
+  signer_key,
+  signer_fields,
+  signer,
+  native,
+  alphanum4,
+  alphanum12,
+  asset_arms,
+  asset_part,
+  asset,
+  line_native,
+  line_alphanum4,
+  line_alphanum12,
+  line_pool,
+  trust_line_asset_arms,
+  trust_line_asset_part,
+  trust_line_asset,
+  pool_params_fields,
+  pool_params,
+  change_native,
+  change_alphanum4,
+  change_alphanum12,
+  change_pool,
+  change_trust_asset_arms,
+  change_trust_asset_part,
+  change_trust_asset,
+  price_fields,
+  price,
+  liabilities_fields,
+  liabilities,
+}
 
 -- ---- ids
 
-pub hash_lawful : Lawful hash
+pub hash_laws : Laws hash
 unfolding hash
-hash_lawful = struct_law hash_fields (fixed_lawful 32)
+hash_laws = struct_laws hash_fields (fixed_laws 32)
 
-pub account_id_lawful : Lawful account_id
+pub account_id_laws : Laws account_id
 unfolding account_id
-account_id_lawful = struct_law account_id_fields (marked_law (tag_law (pos 0) tt) (fixed_lawful 32))
+account_id_laws = struct_laws account_id_fields (marked_laws (tag_laws (pos 0) tt) (fixed_laws 32))
 
-pub claimable_balance_id_lawful : Lawful claimable_balance_id
+pub claimable_balance_id_laws : Laws claimable_balance_id
 unfolding claimable_balance_id
-claimable_balance_id_lawful = struct_law balance_id_fields (marked_law (tag_law (pos 0) tt) hash_lawful)
+claimable_balance_id_laws = struct_laws balance_id_fields (marked_laws (tag_laws (pos 0) tt) hash_laws)
 
 muxed_account_found : (v : MuxedAccount) → IsFound muxed_part muxed_arms v
-muxed_account_found (muxed.Ed25519 key) = record { arm = muxed_ed25519; body = key; law = fixed_lawful 32; fits = discriminant_fits (pos 0) tt; is_part = refl; makes = refl; picked = λ wrong start p. refl }
-muxed_account_found (muxed.MuxedEd25519 id key) = record { arm = muxed_with_id; body = (id, key); law = u64_lawful & fixed_lawful 32; fits = discriminant_fits (pos 256) tt; is_part = refl; makes = refl; picked = λ wrong start p. refl }
+muxed_account_found (muxed.Ed25519 key) = found muxed_ed25519 key (fixed_laws 32) tt refl refl (λ _ _ _. refl)
+muxed_account_found (muxed.MuxedEd25519 id key) =
+    found muxed_with_id (id, key) (u64_laws & fixed_laws 32) tt refl refl (λ _ _ _. refl)
 
-pub muxed_account_lawful : Lawful muxed_account
+pub muxed_account_laws : Laws muxed_account
 unfolding muxed_account
-muxed_account_lawful = union_law as_it_is muxed_part muxed_arms no_arm
-    (record { law = fixed_lawful 32; is_part = λ x. refl }, (record { law = u64_lawful & fixed_lawful 32; is_part = λ x. refl }, tt))
+muxed_account_laws = union_laws (
+  arm_laws (fixed_laws 32) (λ x. refl),
+  (arm_laws (u64_laws & fixed_laws 32) (λ x. refl), tt),
+)
     muxed_account_found
 
 -- ---- signers
 
 signer_key_found : (v : SignerKey) → IsFound signer_key_part signer_key_arms v
-signer_key_found (signing.Ed25519 key) = record { arm = signer_ed25519; body = key; law = fixed_lawful 32; fits = discriminant_fits (pos 0) tt; is_part = refl; makes = refl; picked = λ wrong start p. refl }
-signer_key_found (signing.PreAuthTx digest) = record { arm = signer_pre_auth; body = digest; law = hash_lawful; fits = discriminant_fits (pos 1) tt; is_part = refl; makes = refl; picked = λ wrong start p. refl }
-signer_key_found (signing.HashX digest) = record { arm = signer_hash_x; body = digest; law = hash_lawful; fits = discriminant_fits (pos 2) tt; is_part = refl; makes = refl; picked = λ wrong start p. refl }
+signer_key_found (signing.Ed25519 key) = found signer_ed25519 key (fixed_laws 32) tt refl refl (λ _ _ _. refl)
+signer_key_found (signing.PreAuthTx digest) = found signer_pre_auth digest hash_laws tt refl refl (λ _ _ _. refl)
+signer_key_found (signing.HashX digest) = found signer_hash_x digest hash_laws tt refl refl (λ _ _ _. refl)
 
-pub signer_key_lawful : Lawful signer_key
+pub signer_key_laws : Laws signer_key
 unfolding signer_key
-signer_key_lawful = union_law as_it_is signer_key_part signer_key_arms no_arm
-    (record { law = fixed_lawful 32; is_part = λ x. refl }, (record { law = hash_lawful; is_part = λ x. refl }, (record { law = hash_lawful; is_part = λ x. refl }, tt)))
+signer_key_laws = union_laws (
+  arm_laws (fixed_laws 32) (λ x. refl),
+  (
+    arm_laws hash_laws (λ x. refl),
+    (arm_laws hash_laws (λ x. refl), tt),
+  ),
+)
     signer_key_found
 
-pub signer_lawful : Lawful signer
+pub signer_laws : Laws signer
 unfolding signer
-signer_lawful = struct_law signer_fields (signer_key_lawful & u32_lawful)
+signer_laws = struct_laws signer_fields (signer_key_laws & u32_laws)
 
 -- ---- assets
 
 asset_found : (v : Asset) → IsFound asset_part asset_arms v
-asset_found held.Native = record { arm = native; body = tt; law = empty_law; fits = discriminant_fits (pos 0) tt; is_part = refl; makes = refl; picked = λ wrong start p. refl }
-asset_found (held.Alphanum4 code issuer) = record { arm = alphanum4; body = (code, issuer); law = fixed_lawful 4 & account_id_lawful; fits = discriminant_fits (pos 1) tt; is_part = refl; makes = refl; picked = λ wrong start p. refl }
-asset_found (held.Alphanum12 code issuer) = record { arm = alphanum12; body = (code, issuer); law = fixed_lawful 12 & account_id_lawful; fits = discriminant_fits (pos 2) tt; is_part = refl; makes = refl; picked = λ wrong start p. refl }
+asset_found held.Native = found native tt empty_laws tt refl refl (λ _ _ _. refl)
+asset_found (held.Alphanum4 code issuer) =
+    found alphanum4 (code, issuer) (fixed_laws 4 & account_id_laws) tt refl refl (λ _ _ _. refl)
+asset_found (held.Alphanum12 code issuer) =
+    found alphanum12 (code, issuer) (fixed_laws 12 & account_id_laws) tt refl refl (λ _ _ _. refl)
 
-pub asset_lawful : Lawful asset
+pub asset_laws : Laws asset
 unfolding asset
-asset_lawful = union_law as_it_is asset_part asset_arms no_arm
-    (record { law = empty_law; is_part = λ x. refl }, (record { law = fixed_lawful 4 & account_id_lawful; is_part = λ x. refl }, (record { law = fixed_lawful 12 & account_id_lawful; is_part = λ x. refl }, tt)))
+asset_laws = union_laws (
+  arm_laws empty_laws (λ x. refl),
+  (
+    arm_laws (fixed_laws 4 & account_id_laws) (λ x. refl),
+    (arm_laws (fixed_laws 12 & account_id_laws) (λ x. refl), tt),
+  ),
+)
     asset_found
 
 trust_line_asset_found : (v : TrustLineAsset) → IsFound trust_line_asset_part trust_line_asset_arms v
-trust_line_asset_found line.Native = record { arm = line_native; body = tt; law = empty_law; fits = discriminant_fits (pos 0) tt; is_part = refl; makes = refl; picked = λ wrong start p. refl }
-trust_line_asset_found (line.Alphanum4 code issuer) = record { arm = line_alphanum4; body = (code, issuer); law = fixed_lawful 4 & account_id_lawful; fits = discriminant_fits (pos 1) tt; is_part = refl; makes = refl; picked = λ wrong start p. refl }
-trust_line_asset_found (line.Alphanum12 code issuer) = record { arm = line_alphanum12; body = (code, issuer); law = fixed_lawful 12 & account_id_lawful; fits = discriminant_fits (pos 2) tt; is_part = refl; makes = refl; picked = λ wrong start p. refl }
-trust_line_asset_found (line.PoolShare pool) = record { arm = line_pool; body = pool; law = hash_lawful; fits = discriminant_fits (pos 3) tt; is_part = refl; makes = refl; picked = λ wrong start p. refl }
+trust_line_asset_found line.Native = found line_native tt empty_laws tt refl refl (λ _ _ _. refl)
+trust_line_asset_found (line.Alphanum4 code issuer) =
+    found line_alphanum4 (code, issuer) (fixed_laws 4 & account_id_laws) tt refl refl (λ _ _ _. refl)
+trust_line_asset_found (line.Alphanum12 code issuer) =
+    found line_alphanum12 (code, issuer) (fixed_laws 12 & account_id_laws) tt refl refl (λ _ _ _. refl)
+trust_line_asset_found (line.PoolShare pool) = found line_pool pool hash_laws tt refl refl (λ _ _ _. refl)
 
-pub trust_line_asset_lawful : Lawful trust_line_asset
+pub trust_line_asset_laws : Laws trust_line_asset
 unfolding trust_line_asset
-trust_line_asset_lawful = union_law as_it_is trust_line_asset_part trust_line_asset_arms no_arm
-    (record { law = empty_law; is_part = λ x. refl }, (record { law = fixed_lawful 4 & account_id_lawful; is_part = λ x. refl }, (record { law = fixed_lawful 12 & account_id_lawful; is_part = λ x. refl }, (record { law = hash_lawful; is_part = λ x. refl }, tt))))
+trust_line_asset_laws = union_laws (
+  arm_laws empty_laws (λ x. refl),
+  (
+    arm_laws (fixed_laws 4 & account_id_laws) (λ x. refl),
+    (
+      arm_laws (fixed_laws 12 & account_id_laws) (λ x. refl),
+      (arm_laws hash_laws (λ x. refl), tt),
+    ),
+  ),
+)
     trust_line_asset_found
 
-pub pool_params_lawful : Lawful pool_params
+pub pool_params_laws : Laws pool_params
 unfolding pool_params
-pool_params_lawful = struct_law pool_params_fields (marked_law (tag_law (pos 0) tt) (asset_lawful & asset_lawful & i32_lawful))
+pool_params_laws = struct_laws pool_params_fields
+    (marked_laws (tag_laws (pos 0) tt) (asset_laws & asset_laws & i32_laws))
 
 change_trust_asset_found : (v : ChangeTrustAsset) → IsFound change_trust_asset_part change_trust_asset_arms v
-change_trust_asset_found change.Native = record { arm = change_native; body = tt; law = empty_law; fits = discriminant_fits (pos 0) tt; is_part = refl; makes = refl; picked = λ wrong start p. refl }
-change_trust_asset_found (change.Alphanum4 code issuer) = record { arm = change_alphanum4; body = (code, issuer); law = fixed_lawful 4 & account_id_lawful; fits = discriminant_fits (pos 1) tt; is_part = refl; makes = refl; picked = λ wrong start p. refl }
-change_trust_asset_found (change.Alphanum12 code issuer) = record { arm = change_alphanum12; body = (code, issuer); law = fixed_lawful 12 & account_id_lawful; fits = discriminant_fits (pos 2) tt; is_part = refl; makes = refl; picked = λ wrong start p. refl }
-change_trust_asset_found (change.PoolShare params) = record { arm = change_pool; body = params; law = pool_params_lawful; fits = discriminant_fits (pos 3) tt; is_part = refl; makes = refl; picked = λ wrong start p. refl }
+change_trust_asset_found change.Native = found change_native tt empty_laws tt refl refl (λ _ _ _. refl)
+change_trust_asset_found (change.Alphanum4 code issuer) =
+    found change_alphanum4 (code, issuer) (fixed_laws 4 & account_id_laws) tt refl refl (λ _ _ _. refl)
+change_trust_asset_found (change.Alphanum12 code issuer) =
+    found change_alphanum12 (code, issuer) (fixed_laws 12 & account_id_laws) tt refl refl (λ _ _ _. refl)
+change_trust_asset_found (change.PoolShare params) =
+    found change_pool params pool_params_laws tt refl refl (λ _ _ _. refl)
 
-pub change_trust_asset_lawful : Lawful change_trust_asset
+pub change_trust_asset_laws : Laws change_trust_asset
 unfolding change_trust_asset
-change_trust_asset_lawful = union_law as_it_is change_trust_asset_part change_trust_asset_arms no_arm
-    (record { law = empty_law; is_part = λ x. refl }, (record { law = fixed_lawful 4 & account_id_lawful; is_part = λ x. refl }, (record { law = fixed_lawful 12 & account_id_lawful; is_part = λ x. refl }, (record { law = pool_params_lawful; is_part = λ x. refl }, tt))))
+change_trust_asset_laws = union_laws (
+  arm_laws empty_laws (λ x. refl),
+  (
+    arm_laws (fixed_laws 4 & account_id_laws) (λ x. refl),
+    (
+      arm_laws (fixed_laws 12 & account_id_laws) (λ x. refl),
+      (arm_laws pool_params_laws (λ x. refl), tt),
+    ),
+  ),
+)
     change_trust_asset_found
 
 -- ---- prices
 
-pub price_lawful : Lawful price
+pub price_laws : Laws price
 unfolding price
-price_lawful = struct_law price_fields (i32_lawful & i32_lawful)
+price_laws = struct_laws price_fields (i32_laws & i32_laws)
 
-pub liabilities_lawful : Lawful liabilities
+pub liabilities_laws : Laws liabilities
 unfolding liabilities
-liabilities_lawful = struct_law liabilities_fields (i64_lawful & i64_lawful)
+liabilities_laws = struct_laws liabilities_fields (i64_laws & i64_laws)

@@ -1,87 +1,191 @@
--- The laws of ledger entries: what is read is spelled so, what is spelled so is read, and writing puts the spelling at the end.
+-- The laws of ledger entries.
 use Rattle.std.proofs.Common.{pos, refl, arith}
-use Rattle.xdr_core.specs.Format.{Lawful}
-use Rattle.xdr_core.specs.Xdr.{as_it_is, no_arm}
-use Rattle.xdr_core.proofs.LeafLaws.{u32_lawful, i32_lawful, i64_lawful}
-use Rattle.xdr_core.proofs.Opaque.{fixed_lawful, var_lawful}
-use Rattle.xdr_core.proofs.Combining.{◌&◌, struct_law, marked_law, closed_law, option_law, list_law}
-use Rattle.xdr_core.proofs.Unions.{IsFound, union_law}
-use Rattle.xdr_core.proofs.Extensions.{extension_law}
-use Rattle.xdr_core.proofs.Discriminants.{discriminant_fits, tag_law}
+use Rattle.xdr_core.proofs.FormatLaws.{
+  Laws,
+  u32_laws,
+  i32_laws,
+  i64_laws,
+  fixed_laws,
+  var_laws,
+  ◌&◌,
+  struct_laws,
+  whole_laws,
+  marked_laws,
+  closed_laws,
+  tag_laws,
+  option_laws,
+  list_laws,
+  arm_laws,
+  found,
+  union_laws,
+  extension_laws,
+}
+use Rattle.xdr_core.proofs.Unions.{IsFound}
+use Rattle.ledger_types.specs.declared.bounds.TheConstants.{MAX_SIGNERS, MAX_HOME_DOMAIN_LEN}
 use Rattle.ledger_types.specs.declared.entry.LedgerEntryBody.{LedgerEntryBody}
 use Rattle.ledger_types.specs.declared.entry.LedgerEntryBody.TheVariants as body
-use Rattle.xdr_entries.specs.Entries.{account_v2_fields, account_extension_v2, account_v1_fields, account_extension_v1, account_fields, account_entry, line_v2_fields, trust_line_extension_v2, line_v1_fields, trust_line_extension_v1, line_fields, trust_line_entry, offer_fields, offer_entry, data_fields, data_entry, claimant_fields, claimant, balance_v1_fields, claimable_balance_extension_v1, balance_fields, claimable_balance_entry, pool_fields, liquidity_pool_entry, account_arm, trust_line_arm, offer_arm, data_arm, claimable_balance_arm, liquidity_pool_arm, body_arms, body_part, ledger_entry_body, entry_v1_fields, ledger_entry_extension_v1, entry_fields, ledger_entry}
-use Rattle.xdr_entries.proofs.BasicLaws.{hash_lawful, account_id_lawful, claimable_balance_id_lawful, signer_lawful, asset_lawful, trust_line_asset_lawful, pool_params_lawful, price_lawful, liabilities_lawful}
-use Rattle.xdr_entries.proofs.PredicateLaws.{claim_predicate_lawful}
+use Rattle.xdr_entries.specs.Entries.{
+  account_v2_fields,
+  account_extension_v2,
+  account_v1_fields,
+  account_extension_v1,
+  account_head,
+  account_tail,
+  account_fields,
+  account_entry,
+  line_v2_fields,
+  trust_line_extension_v2,
+  line_v1_fields,
+  trust_line_extension_v1,
+  line_fields,
+  trust_line_entry,
+  offer_fields,
+  offer_entry,
+  data_fields,
+  data_entry,
+  claimant_fields,
+  claimant,
+  balance_v1_fields,
+  claimable_balance_extension_v1,
+  balance_fields,
+  claimable_balance_entry,
+  pool_fields,
+  liquidity_pool_entry,
+  account_arm,
+  trust_line_arm,
+  offer_arm,
+  data_arm,
+  claimable_balance_arm,
+  liquidity_pool_arm,
+  body_arms,
+  body_part,
+  ledger_entry_body,
+  entry_v1_fields,
+  ledger_entry_extension_v1,
+  entry_fields,
+  ledger_entry,
+}
+use Rattle.xdr_entries.proofs.BasicLaws.{
+  hash_laws,
+  account_id_laws,
+  claimable_balance_id_laws,
+  signer_laws,
+  asset_laws,
+  trust_line_asset_laws,
+  pool_params_laws,
+  price_laws,
+  liabilities_laws,
+}
+use Rattle.xdr_entries.proofs.PredicateLaws.{claim_predicate_laws}
 
-pub account_extension_v2_lawful : Lawful account_extension_v2
+pub account_extension_v2_laws : Laws account_extension_v2
 unfolding account_extension_v2
-account_extension_v2_lawful = struct_law account_v2_fields (u32_lawful & u32_lawful & closed_law (list_law as_it_is 20 (omega arith) (option_law as_it_is account_id_lawful)) (tag_law (pos 0) tt))
+account_extension_v2_laws = struct_laws account_v2_fields
+    (u32_laws & u32_laws
+    & closed_laws (list_laws MAX_SIGNERS (omega arith) (option_laws account_id_laws)) (tag_laws (pos 0) tt))
 
-pub account_extension_v1_lawful : Lawful account_extension_v1
+pub account_extension_v1_laws : Laws account_extension_v1
 unfolding account_extension_v1
-account_extension_v1_lawful = struct_law account_v1_fields (liabilities_lawful & extension_law as_it_is (pos 2) refl (discriminant_fits (pos 2) tt) account_extension_v2_lawful)
+account_extension_v1_laws = struct_laws account_v1_fields
+    (liabilities_laws & extension_laws (pos 2) refl tt account_extension_v2_laws)
 
-pub account_entry_lawful : Lawful account_entry
+account_head_laws : Laws account_head
+unfolding account_head
+account_head_laws = account_id_laws & i64_laws & i64_laws & u32_laws & option_laws account_id_laws & u32_laws
+
+account_tail_laws : Laws account_tail
+unfolding account_tail
+account_tail_laws =
+    var_laws MAX_HOME_DOMAIN_LEN (omega arith) & fixed_laws 4 & list_laws MAX_SIGNERS (omega arith) signer_laws
+    & extension_laws (pos 1) refl tt account_extension_v1_laws
+
+pub account_entry_laws : Laws account_entry
 unfolding account_entry
-account_entry_lawful = struct_law account_fields (
-    account_id_lawful & i64_lawful & i64_lawful & u32_lawful & option_law as_it_is account_id_lawful & u32_lawful & var_lawful 32 (omega arith)
-    & fixed_lawful 4 & list_law as_it_is 20 (omega arith) signer_lawful & extension_law as_it_is (pos 1) refl (discriminant_fits (pos 1) tt) account_extension_v1_lawful)
+account_entry_laws = struct_laws account_fields (account_head_laws & account_tail_laws)
 
-pub trust_line_extension_v2_lawful : Lawful trust_line_extension_v2
+pub trust_line_extension_v2_laws : Laws trust_line_extension_v2
 unfolding trust_line_extension_v2
-trust_line_extension_v2_lawful = struct_law line_v2_fields (closed_law i32_lawful (tag_law (pos 0) tt))
+trust_line_extension_v2_laws = struct_laws line_v2_fields (closed_laws i32_laws (tag_laws (pos 0) tt))
 
-pub trust_line_extension_v1_lawful : Lawful trust_line_extension_v1
+pub trust_line_extension_v1_laws : Laws trust_line_extension_v1
 unfolding trust_line_extension_v1
-trust_line_extension_v1_lawful = struct_law line_v1_fields (liabilities_lawful & extension_law as_it_is (pos 2) refl (discriminant_fits (pos 2) tt) trust_line_extension_v2_lawful)
+trust_line_extension_v1_laws = struct_laws line_v1_fields
+    (liabilities_laws & extension_laws (pos 2) refl tt trust_line_extension_v2_laws)
 
-pub trust_line_entry_lawful : Lawful trust_line_entry
+pub trust_line_entry_laws : Laws trust_line_entry
 unfolding trust_line_entry
-trust_line_entry_lawful = struct_law line_fields (account_id_lawful & trust_line_asset_lawful & i64_lawful & i64_lawful & u32_lawful & extension_law as_it_is (pos 1) refl (discriminant_fits (pos 1) tt) trust_line_extension_v1_lawful)
+trust_line_entry_laws = struct_laws line_fields
+    (account_id_laws & trust_line_asset_laws & i64_laws & i64_laws & u32_laws
+    & extension_laws (pos 1) refl tt trust_line_extension_v1_laws)
 
-pub offer_entry_lawful : Lawful offer_entry
+pub offer_entry_laws : Laws offer_entry
 unfolding offer_entry
-offer_entry_lawful = struct_law offer_fields (account_id_lawful & i64_lawful & asset_lawful & asset_lawful & i64_lawful & price_lawful & closed_law u32_lawful (tag_law (pos 0) tt))
+offer_entry_laws = struct_laws offer_fields
+    (account_id_laws & i64_laws & asset_laws & asset_laws & i64_laws & price_laws
+    & closed_laws u32_laws (tag_laws (pos 0) tt))
 
-pub data_entry_lawful : Lawful data_entry
+pub data_entry_laws : Laws data_entry
 unfolding data_entry
-data_entry_lawful = struct_law data_fields (account_id_lawful & var_lawful 64 (omega arith) & closed_law (var_lawful 64 (omega arith)) (tag_law (pos 0) tt))
+data_entry_laws = struct_laws data_fields
+    (account_id_laws & var_laws 64 (omega arith) & closed_laws (var_laws 64 (omega arith)) (tag_laws (pos 0) tt))
 
-pub claimant_lawful : Lawful claimant
+pub claimant_laws : Laws claimant
 unfolding claimant
-claimant_lawful = struct_law claimant_fields (marked_law (tag_law (pos 0) tt) (account_id_lawful & claim_predicate_lawful))
+claimant_laws = struct_laws claimant_fields
+    (marked_laws (tag_laws (pos 0) tt) (account_id_laws & whole_laws claim_predicate_laws))
 
-pub claimable_balance_extension_v1_lawful : Lawful claimable_balance_extension_v1
+pub claimable_balance_extension_v1_laws : Laws claimable_balance_extension_v1
 unfolding claimable_balance_extension_v1
-claimable_balance_extension_v1_lawful = struct_law balance_v1_fields (marked_law (tag_law (pos 0) tt) u32_lawful)
+claimable_balance_extension_v1_laws = struct_laws balance_v1_fields (marked_laws (tag_laws (pos 0) tt) u32_laws)
 
-pub claimable_balance_entry_lawful : Lawful claimable_balance_entry
+pub claimable_balance_entry_laws : Laws claimable_balance_entry
 unfolding claimable_balance_entry
-claimable_balance_entry_lawful = struct_law balance_fields (claimable_balance_id_lawful & list_law as_it_is 10 (omega arith) claimant_lawful & asset_lawful & i64_lawful & extension_law as_it_is (pos 1) refl (discriminant_fits (pos 1) tt) claimable_balance_extension_v1_lawful)
+claimable_balance_entry_laws = struct_laws balance_fields
+    (claimable_balance_id_laws & list_laws 10 (omega arith) claimant_laws & asset_laws & i64_laws
+    & extension_laws (pos 1) refl tt claimable_balance_extension_v1_laws)
 
-pub liquidity_pool_entry_lawful : Lawful liquidity_pool_entry
+pub liquidity_pool_entry_laws : Laws liquidity_pool_entry
 unfolding liquidity_pool_entry
-liquidity_pool_entry_lawful = struct_law pool_fields (hash_lawful & pool_params_lawful & i64_lawful & i64_lawful & i64_lawful & i64_lawful)
+liquidity_pool_entry_laws = struct_laws pool_fields
+    (hash_laws & pool_params_laws & i64_laws & i64_laws & i64_laws & i64_laws)
 
 ledger_entry_body_found : (v : LedgerEntryBody) → IsFound body_part body_arms v
-ledger_entry_body_found (body.Account entry) = record { arm = account_arm; body = entry; law = account_entry_lawful; fits = discriminant_fits (pos 0) tt; is_part = refl; makes = refl; picked = λ wrong start p. refl }
-ledger_entry_body_found (body.TrustLine entry) = record { arm = trust_line_arm; body = entry; law = trust_line_entry_lawful; fits = discriminant_fits (pos 1) tt; is_part = refl; makes = refl; picked = λ wrong start p. refl }
-ledger_entry_body_found (body.Offer entry) = record { arm = offer_arm; body = entry; law = offer_entry_lawful; fits = discriminant_fits (pos 2) tt; is_part = refl; makes = refl; picked = λ wrong start p. refl }
-ledger_entry_body_found (body.Data entry) = record { arm = data_arm; body = entry; law = data_entry_lawful; fits = discriminant_fits (pos 3) tt; is_part = refl; makes = refl; picked = λ wrong start p. refl }
-ledger_entry_body_found (body.ClaimableBalance entry) = record { arm = claimable_balance_arm; body = entry; law = claimable_balance_entry_lawful; fits = discriminant_fits (pos 4) tt; is_part = refl; makes = refl; picked = λ wrong start p. refl }
-ledger_entry_body_found (body.LiquidityPool entry) = record { arm = liquidity_pool_arm; body = entry; law = liquidity_pool_entry_lawful; fits = discriminant_fits (pos 5) tt; is_part = refl; makes = refl; picked = λ wrong start p. refl }
+ledger_entry_body_found (body.Account entry) = found account_arm entry account_entry_laws tt refl refl (λ _ _ _. refl)
+ledger_entry_body_found (body.TrustLine entry) =
+    found trust_line_arm entry trust_line_entry_laws tt refl refl (λ _ _ _. refl)
+ledger_entry_body_found (body.Offer entry) = found offer_arm entry offer_entry_laws tt refl refl (λ _ _ _. refl)
+ledger_entry_body_found (body.Data entry) = found data_arm entry data_entry_laws tt refl refl (λ _ _ _. refl)
+ledger_entry_body_found (body.ClaimableBalance entry) =
+    found claimable_balance_arm entry claimable_balance_entry_laws tt refl refl (λ _ _ _. refl)
+ledger_entry_body_found (body.LiquidityPool entry) =
+    found liquidity_pool_arm entry liquidity_pool_entry_laws tt refl refl (λ _ _ _. refl)
 
-pub ledger_entry_body_lawful : Lawful ledger_entry_body
+pub ledger_entry_body_laws : Laws ledger_entry_body
 unfolding ledger_entry_body
-ledger_entry_body_lawful = union_law as_it_is body_part body_arms no_arm
-    (record { law = account_entry_lawful; is_part = λ x. refl }, (record { law = trust_line_entry_lawful; is_part = λ x. refl }, (record { law = offer_entry_lawful; is_part = λ x. refl }, (record { law = data_entry_lawful; is_part = λ x. refl }, (record { law = claimable_balance_entry_lawful; is_part = λ x. refl }, (record { law = liquidity_pool_entry_lawful; is_part = λ x. refl }, tt))))))
+ledger_entry_body_laws = union_laws (
+  arm_laws account_entry_laws (λ x. refl),
+  (
+    arm_laws trust_line_entry_laws (λ x. refl),
+    (
+      arm_laws offer_entry_laws (λ x. refl),
+      (
+        arm_laws data_entry_laws (λ x. refl),
+        (
+          arm_laws claimable_balance_entry_laws (λ x. refl),
+          (arm_laws liquidity_pool_entry_laws (λ x. refl), tt),
+        ),
+      ),
+    ),
+  ),
+)
     ledger_entry_body_found
 
-pub ledger_entry_extension_v1_lawful : Lawful ledger_entry_extension_v1
+pub ledger_entry_extension_v1_laws : Laws ledger_entry_extension_v1
 unfolding ledger_entry_extension_v1
-ledger_entry_extension_v1_lawful = struct_law entry_v1_fields (closed_law (option_law as_it_is account_id_lawful) (tag_law (pos 0) tt))
+ledger_entry_extension_v1_laws = struct_laws entry_v1_fields
+    (closed_laws (option_laws account_id_laws) (tag_laws (pos 0) tt))
 
-pub ledger_entry_lawful : Lawful ledger_entry
+pub ledger_entry_laws : Laws ledger_entry
 unfolding ledger_entry
-ledger_entry_lawful = struct_law entry_fields (u32_lawful & ledger_entry_body_lawful & extension_law as_it_is (pos 1) refl (discriminant_fits (pos 1) tt) ledger_entry_extension_v1_lawful)
+ledger_entry_laws = struct_laws entry_fields
+    (u32_laws & ledger_entry_body_laws & extension_laws (pos 1) refl tt ledger_entry_extension_v1_laws)

@@ -1,42 +1,95 @@
--- The laws of keys and items of buckets: what is read is spelled so, what is spelled so is read, and writing puts the spelling at the end.
-use Rattle.std.proofs.Common.{pos, negsuc, refl, arith}
-use Rattle.xdr_core.specs.Format.{Lawful}
-use Rattle.xdr_core.specs.Xdr.{as_it_is, no_arm}
-use Rattle.xdr_core.proofs.LeafLaws.{u32_lawful, i64_lawful}
-use Rattle.xdr_core.proofs.Opaque.{var_lawful}
-use Rattle.xdr_core.proofs.Combining.{◌&◌, closed_law}
-use Rattle.xdr_core.proofs.Unions.{IsFound, union_law}
-use Rattle.xdr_core.proofs.Discriminants.{discriminant_fits, tag_law}
+-- The laws of keys and items of buckets.
+use Rattle.std.proofs.Common.{pos, refl, arith}
+use Rattle.xdr_core.proofs.FormatLaws.{
+  Laws,
+  u32_laws,
+  i64_laws,
+  var_laws,
+  ◌&◌,
+  whole_laws,
+  closed_laws,
+  tag_laws,
+  arm_laws,
+  found,
+  union_laws,
+}
+use Rattle.xdr_core.proofs.Unions.{IsFound}
 use Rattle.ledger_types.specs.declared.key.LedgerKey.{LedgerKey}
 use Rattle.ledger_types.specs.declared.key.LedgerKey.TheVariants as key
 use Rattle.ledger_types.specs.declared.bucket.BucketEntry.{BucketEntry}
 use Rattle.ledger_types.specs.declared.bucket.BucketEntry.TheVariants as bucket
-use Rattle.xdr_entries.specs.Keys.{account_key, trust_line_key, offer_key, data_key, claimable_balance_key, liquidity_pool_key, key_arms, key_part, ledger_key, meta_arm, live_arm, dead_arm, init_arm, bucket_arms, bucket_part, bucket_entry}
-use Rattle.xdr_entries.proofs.BasicLaws.{hash_lawful, account_id_lawful, claimable_balance_id_lawful, trust_line_asset_lawful}
-use Rattle.xdr_entries.proofs.EntryLaws.{ledger_entry_lawful}
+use Rattle.xdr_entries.specs.Keys.{
+  account_key,
+  trust_line_key,
+  offer_key,
+  data_key,
+  claimable_balance_key,
+  liquidity_pool_key,
+  key_arms,
+  key_part,
+  ledger_key,
+  meta_arm,
+  live_arm,
+  dead_arm,
+  init_arm,
+  bucket_arms,
+  bucket_part,
+  bucket_entry,
+}
+use Rattle.xdr_entries.proofs.BasicLaws.{hash_laws, account_id_laws, claimable_balance_id_laws, trust_line_asset_laws}
+use Rattle.xdr_entries.proofs.EntryLaws.{ledger_entry_laws}
 
 ledger_key_found : (v : LedgerKey) → IsFound key_part key_arms v
-ledger_key_found (key.Account id) = record { arm = account_key; body = id; law = account_id_lawful; fits = discriminant_fits (pos 0) tt; is_part = refl; makes = refl; picked = λ wrong start p. refl }
-ledger_key_found (key.TrustLine id asset) = record { arm = trust_line_key; body = (id, asset); law = account_id_lawful & trust_line_asset_lawful; fits = discriminant_fits (pos 1) tt; is_part = refl; makes = refl; picked = λ wrong start p. refl }
-ledger_key_found (key.Offer seller offer) = record { arm = offer_key; body = (seller, offer); law = account_id_lawful & i64_lawful; fits = discriminant_fits (pos 2) tt; is_part = refl; makes = refl; picked = λ wrong start p. refl }
-ledger_key_found (key.Data id name) = record { arm = data_key; body = (id, name); law = account_id_lawful & var_lawful 64 (omega arith); fits = discriminant_fits (pos 3) tt; is_part = refl; makes = refl; picked = λ wrong start p. refl }
-ledger_key_found (key.ClaimableBalance id) = record { arm = claimable_balance_key; body = id; law = claimable_balance_id_lawful; fits = discriminant_fits (pos 4) tt; is_part = refl; makes = refl; picked = λ wrong start p. refl }
-ledger_key_found (key.LiquidityPool id) = record { arm = liquidity_pool_key; body = id; law = hash_lawful; fits = discriminant_fits (pos 5) tt; is_part = refl; makes = refl; picked = λ wrong start p. refl }
+ledger_key_found (key.Account id) = found account_key id account_id_laws tt refl refl (λ _ _ _. refl)
+ledger_key_found (key.TrustLine id asset) =
+    found trust_line_key (id, asset) (account_id_laws & trust_line_asset_laws) tt refl refl (λ _ _ _. refl)
+ledger_key_found (key.Offer seller offer) =
+    found offer_key (seller, offer) (account_id_laws & i64_laws) tt refl refl (λ _ _ _. refl)
+ledger_key_found (key.Data id name) =
+    found data_key (id, name) (account_id_laws & var_laws 64 (omega arith)) tt refl refl (λ _ _ _. refl)
+ledger_key_found (key.ClaimableBalance id) =
+    found claimable_balance_key id claimable_balance_id_laws tt refl refl (λ _ _ _. refl)
+ledger_key_found (key.LiquidityPool id) = found liquidity_pool_key id hash_laws tt refl refl (λ _ _ _. refl)
 
-pub ledger_key_lawful : Lawful ledger_key
+pub ledger_key_laws : Laws ledger_key
 unfolding ledger_key
-ledger_key_lawful = union_law as_it_is key_part key_arms no_arm
-    (record { law = account_id_lawful; is_part = λ x. refl }, (record { law = account_id_lawful & trust_line_asset_lawful; is_part = λ x. refl }, (record { law = account_id_lawful & i64_lawful; is_part = λ x. refl }, (record { law = account_id_lawful & var_lawful 64 (omega arith); is_part = λ x. refl }, (record { law = claimable_balance_id_lawful; is_part = λ x. refl }, (record { law = hash_lawful; is_part = λ x. refl }, tt))))))
+ledger_key_laws = union_laws (
+  arm_laws account_id_laws (λ x. refl),
+  (
+    arm_laws (account_id_laws & trust_line_asset_laws) (λ x. refl),
+    (
+      arm_laws (account_id_laws & i64_laws) (λ x. refl),
+      (
+        arm_laws (account_id_laws & var_laws 64 (omega arith)) (λ x. refl),
+        (
+          arm_laws claimable_balance_id_laws (λ x. refl),
+          (arm_laws hash_laws (λ x. refl), tt),
+        ),
+      ),
+    ),
+  ),
+)
     ledger_key_found
 
 bucket_entry_found : (v : BucketEntry) → IsFound bucket_part bucket_arms v
-bucket_entry_found (bucket.Meta version) = record { arm = meta_arm; body = version; law = closed_law u32_lawful (tag_law (pos 0) tt); fits = discriminant_fits (negsuc 0) tt; is_part = refl; makes = refl; picked = λ wrong start p. refl }
-bucket_entry_found (bucket.Live entry) = record { arm = live_arm; body = entry; law = ledger_entry_lawful; fits = discriminant_fits (pos 0) tt; is_part = refl; makes = refl; picked = λ wrong start p. refl }
-bucket_entry_found (bucket.Dead gone) = record { arm = dead_arm; body = gone; law = ledger_key_lawful; fits = discriminant_fits (pos 1) tt; is_part = refl; makes = refl; picked = λ wrong start p. refl }
-bucket_entry_found (bucket.Init entry) = record { arm = init_arm; body = entry; law = ledger_entry_lawful; fits = discriminant_fits (pos 2) tt; is_part = refl; makes = refl; picked = λ wrong start p. refl }
+bucket_entry_found (bucket.Meta version) =
+    found meta_arm version (closed_laws u32_laws (tag_laws (pos 0) tt)) tt refl refl (λ _ _ _. refl)
+bucket_entry_found (bucket.Live entry) =
+    found live_arm entry (whole_laws ledger_entry_laws) tt refl refl (λ _ _ _. refl)
+bucket_entry_found (bucket.Dead gone) = found dead_arm gone (whole_laws ledger_key_laws) tt refl refl (λ _ _ _. refl)
+bucket_entry_found (bucket.Init entry) =
+    found init_arm entry (whole_laws ledger_entry_laws) tt refl refl (λ _ _ _. refl)
 
-pub bucket_entry_lawful : Lawful bucket_entry
+pub bucket_entry_laws : Laws bucket_entry
 unfolding bucket_entry
-bucket_entry_lawful = union_law as_it_is bucket_part bucket_arms no_arm
-    (record { law = closed_law u32_lawful (tag_law (pos 0) tt); is_part = λ x. refl }, (record { law = ledger_entry_lawful; is_part = λ x. refl }, (record { law = ledger_key_lawful; is_part = λ x. refl }, (record { law = ledger_entry_lawful; is_part = λ x. refl }, tt))))
+bucket_entry_laws = union_laws (
+  arm_laws (closed_laws u32_laws (tag_laws (pos 0) tt)) (λ x. refl),
+  (
+    arm_laws (whole_laws ledger_entry_laws) (λ x. refl),
+    (
+      arm_laws (whole_laws ledger_key_laws) (λ x. refl),
+      (arm_laws (whole_laws ledger_entry_laws) (λ x. refl), tt),
+    ),
+  ),
+)
     bucket_entry_found

@@ -1,14 +1,25 @@
 -- Predicates of a number of levels.
-use Rattle.std.proofs.Common.{◌≡◌, ℕ, zero, suc, ◌-◌, ◌<◌, List, refl, arith}
-use Rattle.xdr_core.specs.Place.{Place}
+use Rattle.std.proofs.Common.{◌≡◌, ℕ, zero, suc, ◌-◌, ◌<◌, List, ◌++◌, Err, refl, arith}
+use Rattle.xdr_core.specs.declared.fault.XdrKind.TheVariants.{TooDeep}
+use Rattle.xdr_core.specs.Place.{Place, fault_at}
 use Rattle.xdr_core.specs.Combinators.{refused}
 use Rattle.ledger_types.specs.declared.predicate.ClaimPredicate.{ClaimPredicate}
 use Rattle.xdr_entries.specs.Predicates.{predicate_of, predicate_below}
+use Rattle.xdr_entries.proofs.PredicateLaws.{predicate_below_laws}
 
-pub one_level_more : (levels : ℕ) (p : Place) → 0 < levels → (predicate_below levels).read p ≡ (predicate_of (predicate_below (levels - 1))).read p
+pub one_level_more : (levels : ℕ) (p : Place) → 0 < levels → (predicate_below levels).read p
+    ≡ (predicate_of (predicate_below (levels - 1))).read p
 unfolding predicate_below
 one_level_more zero p lt = absurd (omega arith)
 one_level_more (suc levels) p lt = let e : suc levels - 1 ≡ levels = omega arith in rw e refl
+
+-- a predicate of no level is refused
+pub no_level : (levels : ℕ) (p : Place) → levels ≡ 0 → (predicate_below levels).read p ≡ Err (fault_at p TooDeep)
+unfolding predicate_below refused
+no_level zero p e = refl
+no_level (suc levels) p e = absurd (omega arith)
+
+pub ruleset levels_read = (one_level_more, no_level)
 
 -- a predicate that has a spelling has a level
 pub some_level : (levels : ℕ) (v : ClaimPredicate) → (predicate_below levels).within v → 0 < levels
@@ -16,12 +27,16 @@ unfolding predicate_below refused
 some_level zero v h = absurd h
 some_level (suc levels) v h = omega arith
 
-pub write_one_level_more : (levels : ℕ) (out : List ℕ) (v : ClaimPredicate) → 0 < levels → (predicate_below levels).onto out v ≡ (predicate_of (predicate_below (levels - 1))).onto out v
+-- what is written behind some bytes is the spelling of a predicate of one level more
+pub written_one_level_more : (levels : ℕ) (out : List ℕ) (v : ClaimPredicate) → 0 < levels
+    → (predicate_of (predicate_below (levels - 1))).onto out v ≡ out ++ (predicate_below levels).spell v
 unfolding predicate_below
-write_one_level_more zero out v lt = absurd (omega arith)
-write_one_level_more (suc levels) out v lt = let e : suc levels - 1 ≡ levels = omega arith in rw e refl
+written_one_level_more zero out v lt = absurd (omega arith)
+written_one_level_more (suc levels) out v lt =
+    let e : suc levels - 1 ≡ levels = omega arith in rw e ((predicate_below_laws (suc levels)).lawful.appends out v)
 
-pub within_one_level_more : (levels : ℕ) (v : ClaimPredicate) → 0 < levels → (predicate_below levels).within v → (predicate_of (predicate_below (levels - 1))).within v
+pub within_one_level_more : (levels : ℕ) (v : ClaimPredicate) → 0 < levels → (predicate_below levels).within v
+    → (predicate_of (predicate_below (levels - 1))).within v
 unfolding predicate_below
 within_one_level_more zero v lt h = absurd (omega arith)
 within_one_level_more (suc levels) v lt h = let e : suc levels - 1 ≡ levels = omega arith in rw e h

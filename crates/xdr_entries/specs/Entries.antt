@@ -2,8 +2,9 @@
 use Rattle.std.specs.Prelude.{ℕ, ℤ, pos, List, [], ◌∷◌, Option, refl}
 use Rattle.xdr_core.specs.declared.fault.XdrFault.{XdrFault}
 use Rattle.xdr_core.specs.Leaves.{u32, i32, i64, fixed, var}
-use Rattle.xdr_core.specs.Combinators.{◌⨾◌, Fields, struct_of, marked, closed, Arm, Part, part}
+use Rattle.xdr_core.specs.Combinators.{◌⨾◌, Fields, struct_of, marked, closed, whole, Arm, Part, part}
 use Rattle.xdr_core.specs.Xdr.{Xdr, tag, optional, list_of, union_of, extension_of}
+use Rattle.ledger_types.specs.declared.bounds.TheConstants.{MAX_SIGNERS, MAX_HOME_DOMAIN_LEN}
 use Rattle.ledger_types.specs.declared.ids.AccountId.{AccountId}
 use Rattle.ledger_types.specs.declared.ids.Hash.{Hash}
 use Rattle.ledger_types.specs.declared.ids.ClaimableBalanceId.{ClaimableBalanceId}
@@ -23,28 +24,43 @@ use Rattle.ledger_types.specs.declared.trust_line.TrustLineEntry.{TrustLineEntry
 use Rattle.ledger_types.specs.declared.offer.OfferEntry.{OfferEntry}
 use Rattle.ledger_types.specs.declared.data_entry.DataEntry.{DataEntry}
 use Rattle.ledger_types.specs.declared.claimable_balance.Claimant.{Claimant}
-use Rattle.ledger_types.specs.declared.claimable_balance.ClaimableBalanceEntryExtensionV1.{ClaimableBalanceEntryExtensionV1}
+use Rattle.ledger_types.specs.declared.claimable_balance.ClaimableBalanceEntryExtensionV1.{
+  ClaimableBalanceEntryExtensionV1,
+}
 use Rattle.ledger_types.specs.declared.claimable_balance.ClaimableBalanceEntry.{ClaimableBalanceEntry}
 use Rattle.ledger_types.specs.declared.liquidity_pool.LiquidityPoolEntry.{LiquidityPoolEntry}
 use Rattle.ledger_types.specs.declared.entry.LedgerEntryBody.{LedgerEntryBody}
 use Rattle.ledger_types.specs.declared.entry.LedgerEntryBody.TheVariants as body
 use Rattle.ledger_types.specs.declared.entry.LedgerEntryExtensionV1.{LedgerEntryExtensionV1}
 use Rattle.ledger_types.specs.declared.entry.LedgerEntry.{LedgerEntry}
-use Rattle.xdr_entries.specs.Basic.{arm, hash, account_id, claimable_balance_id, signer, asset, trust_line_asset, pool_params, price, liabilities}
+use Rattle.xdr_entries.specs.Basic.{
+  arm,
+  hash,
+  account_id,
+  claimable_balance_id,
+  signer,
+  asset,
+  trust_line_asset,
+  pool_params,
+  price,
+  liabilities,
+}
 use Rattle.xdr_entries.specs.Predicates.{claim_predicate}
 
 -- ---- accounts
 
 abbrev pub account_v2_fields : Fields (ℕ × (ℕ × List (Option AccountId))) AccountEntryExtensionV2
 account_v2_fields = record {
-  to = λ (sponsored, (sponsoring, ids)). record { num_sponsored = sponsored; num_sponsoring = sponsoring; signer_sponsoring_ids = ids };
+  to = λ (sponsored, (sponsoring, ids)).
+      record { num_sponsored = sponsored; num_sponsoring = sponsoring; signer_sponsoring_ids = ids };
   from = λ e. (e.num_sponsored, (e.num_sponsoring, e.signer_sponsoring_ids));
   there = λ _. refl;
   back = λ _. refl;
 }
 
 unfoldable pub account_extension_v2 : Xdr AccountEntryExtensionV2
-account_extension_v2 = struct_of account_v2_fields (u32 ⨾ u32 ⨾ closed (list_of 20 (optional account_id)) (tag (pos 0)))
+account_extension_v2 =
+    struct_of account_v2_fields (u32 ⨾ u32 ⨾ closed (list_of MAX_SIGNERS (optional account_id)) (tag (pos 0)))
 
 abbrev pub account_v1_fields : Fields (Liabilities × Option AccountEntryExtensionV2) AccountEntryExtensionV1
 account_v1_fields = record {
@@ -57,12 +73,27 @@ account_v1_fields = record {
 unfoldable pub account_extension_v1 : Xdr AccountEntryExtensionV1
 account_extension_v1 = struct_of account_v1_fields (liabilities ⨾ extension_of (pos 2) account_extension_v2)
 
-abbrev pub AccountParts : Type 0
-AccountParts = AccountId × (ℤ × (ℤ × (ℕ × (Option AccountId × (ℕ × (List ℕ × (List ℕ × (List Signer × Option AccountEntryExtensionV1))))))))
+-- the fields of an account up to its flags
+abbrev pub AccountHead : Type 0
+AccountHead = AccountId × (ℤ × (ℤ × (ℕ × (Option AccountId × ℕ))))
 
-abbrev pub account_fields : Fields AccountParts AccountEntry
+unfoldable pub account_head : Xdr AccountHead
+account_head = account_id ⨾ i64 ⨾ i64 ⨾ u32 ⨾ optional account_id ⨾ u32
+
+-- the fields of an account from its home domain on
+abbrev pub AccountTail : Type 0
+AccountTail = List ℕ × (List ℕ × (List Signer × Option AccountEntryExtensionV1))
+
+unfoldable pub account_tail : Xdr AccountTail
+account_tail =
+    var MAX_HOME_DOMAIN_LEN ⨾ fixed 4 ⨾ list_of MAX_SIGNERS signer ⨾ extension_of (pos 1) account_extension_v1
+
+abbrev pub account_fields : Fields (AccountHead × AccountTail) AccountEntry
 account_fields = record {
-  to = λ (id, (balance, (seq_num, (num_sub_entries, (inflation_dest, (flags, (home_domain, (thresholds, (signers, ext))))))))). record {
+  to = λ (
+    (id, (balance, (seq_num, (num_sub_entries, (inflation_dest, flags))))),
+    (home_domain, (thresholds, (signers, ext))),
+  ). record {
     account_id = id;
     balance = balance;
     seq_num = seq_num;
@@ -74,39 +105,55 @@ account_fields = record {
     signers = signers;
     ext = ext;
   };
-  from = λ a. (a.account_id, (a.balance, (a.seq_num, (a.num_sub_entries, (a.inflation_dest, (a.flags, (a.home_domain, (a.thresholds, (a.signers, a.ext)))))))));
+  from = λ a. (
+    (a.account_id, (a.balance, (a.seq_num, (a.num_sub_entries, (a.inflation_dest, a.flags))))),
+    (a.home_domain, (a.thresholds, (a.signers, a.ext))),
+  );
   there = λ _. refl;
   back = λ _. refl;
 }
 
 unfoldable pub account_entry : Xdr AccountEntry
-account_entry = struct_of account_fields
-    (account_id ⨾ i64 ⨾ i64 ⨾ u32 ⨾ optional account_id ⨾ u32 ⨾ var 32 ⨾ fixed 4 ⨾ list_of 20 signer ⨾ extension_of (pos 1) account_extension_v1)
+account_entry = struct_of account_fields (account_head ⨾ account_tail)
 
 -- ---- trust lines
 
 abbrev pub line_v2_fields : Fields ℤ TrustLineEntryExtensionV2
-line_v2_fields = record { to = λ n. record { liquidity_pool_use_count = n }; from = λ e. e.liquidity_pool_use_count; there = λ _. refl; back = λ _. refl }
+line_v2_fields = record {
+  to = λ n. record { liquidity_pool_use_count = n };
+  from = λ e. e.liquidity_pool_use_count;
+  there = λ _. refl;
+  back = λ _. refl;
+}
 
 unfoldable pub trust_line_extension_v2 : Xdr TrustLineEntryExtensionV2
 trust_line_extension_v2 = struct_of line_v2_fields (closed i32 (tag (pos 0)))
 
 abbrev pub line_v1_fields : Fields (Liabilities × Option TrustLineEntryExtensionV2) TrustLineEntryExtensionV1
-line_v1_fields = record { to = λ v. record { liabilities = v.0; ext = v.1 }; from = λ e. (e.liabilities, e.ext); there = λ _. refl; back = λ _. refl }
+line_v1_fields = record {
+  to = λ v. record { liabilities = v.0; ext = v.1 };
+  from = λ e. (e.liabilities, e.ext);
+  there = λ _. refl;
+  back = λ _. refl;
+}
 
 unfoldable pub trust_line_extension_v1 : Xdr TrustLineEntryExtensionV1
 trust_line_extension_v1 = struct_of line_v1_fields (liabilities ⨾ extension_of (pos 2) trust_line_extension_v2)
 
-abbrev pub line_fields : Fields (AccountId × (TrustLineAsset × (ℤ × (ℤ × (ℕ × Option TrustLineEntryExtensionV1))))) TrustLineEntry
+abbrev pub line_fields : Fields (AccountId × (TrustLineAsset × (ℤ × (ℤ × (ℕ × Option TrustLineEntryExtensionV1)))))
+    TrustLineEntry
 line_fields = record {
-  to = λ (id, (asset, (balance, (limit, (flags, ext))))). record { account_id = id; asset = asset; balance = balance; limit = limit; flags = flags; ext = ext };
+  to = λ (id, (asset, (balance, (limit, (flags, ext))))).
+      record { account_id = id; asset = asset; balance = balance; limit = limit; flags = flags; ext = ext };
   from = λ t. (t.account_id, (t.asset, (t.balance, (t.limit, (t.flags, t.ext)))));
   there = λ _. refl;
   back = λ _. refl;
 }
 
 unfoldable pub trust_line_entry : Xdr TrustLineEntry
-trust_line_entry = struct_of line_fields (account_id ⨾ trust_line_asset ⨾ i64 ⨾ i64 ⨾ u32 ⨾ extension_of (pos 1) trust_line_extension_v1)
+trust_line_entry =
+    struct_of line_fields
+    (account_id ⨾ trust_line_asset ⨾ i64 ⨾ i64 ⨾ u32 ⨾ extension_of (pos 1) trust_line_extension_v1)
 
 -- ---- offers
 
@@ -145,21 +192,34 @@ data_entry = struct_of data_fields (account_id ⨾ var 64 ⨾ closed (var 64) (t
 -- ---- claimable balances
 
 abbrev pub claimant_fields : Fields (AccountId × ClaimPredicate) Claimant
-claimant_fields = record { to = λ v. record { destination = v.0; predicate = v.1 }; from = λ c. (c.destination, c.predicate); there = λ _. refl; back = λ _. refl }
+claimant_fields = record {
+  to = λ v. record { destination = v.0; predicate = v.1 };
+  from = λ c. (c.destination, c.predicate);
+  there = λ _. refl;
+  back = λ _. refl;
+}
 
 -- Claimant, whose one arm is CLAIMANT_TYPE_V0
 unfoldable pub claimant : Xdr Claimant
-claimant = struct_of claimant_fields (marked (tag (pos 0)) (account_id ⨾ claim_predicate))
+claimant = struct_of claimant_fields (marked (tag (pos 0)) (account_id ⨾ whole claim_predicate))
 
 abbrev pub balance_v1_fields : Fields ℕ ClaimableBalanceEntryExtensionV1
-balance_v1_fields = record { to = λ flags. record { flags = flags }; from = λ e. e.flags; there = λ _. refl; back = λ _. refl }
+balance_v1_fields = record {
+  to = λ flags. record { flags = flags };
+  from = λ e. e.flags;
+  there = λ _. refl;
+  back = λ _. refl;
+}
 
 unfoldable pub claimable_balance_extension_v1 : Xdr ClaimableBalanceEntryExtensionV1
 claimable_balance_extension_v1 = struct_of balance_v1_fields (marked (tag (pos 0)) u32)
 
-abbrev pub balance_fields : Fields (ClaimableBalanceId × (List Claimant × (Asset × (ℤ × Option ClaimableBalanceEntryExtensionV1)))) ClaimableBalanceEntry
+abbrev pub balance_fields : Fields
+    (ClaimableBalanceId × (List Claimant × (Asset × (ℤ × Option ClaimableBalanceEntryExtensionV1))))
+    ClaimableBalanceEntry
 balance_fields = record {
-  to = λ (id, (claimants, (asset, (amount, ext)))). record { balance_id = id; claimants = claimants; asset = asset; amount = amount; ext = ext };
+  to = λ (id, (claimants, (asset, (amount, ext)))).
+      record { balance_id = id; claimants = claimants; asset = asset; amount = amount; ext = ext };
   from = λ b. (b.balance_id, (b.claimants, (b.asset, (b.amount, b.ext))));
   there = λ _. refl;
   back = λ _. refl;
@@ -181,12 +241,16 @@ pool_fields = record {
     total_pool_shares = shares;
     pool_shares_trust_line_count = lines;
   };
-  from = λ p. (p.pool_id, (p.params, (p.reserve_a, (p.reserve_b, (p.total_pool_shares, p.pool_shares_trust_line_count)))));
+  from = λ p. (
+    p.pool_id,
+    (p.params, (p.reserve_a, (p.reserve_b, (p.total_pool_shares, p.pool_shares_trust_line_count)))),
+  );
   there = λ _. refl;
   back = λ _. refl;
 }
 
--- LiquidityPoolEntry: its body has the discriminant of the parameters, LIQUIDITY_POOL_CONSTANT_PRODUCT, and begins with them
+-- LiquidityPoolEntry: its body has the discriminant of the parameters, LIQUIDITY_POOL_CONSTANT_PRODUCT, and begins with
+-- them
 unfoldable pub liquidity_pool_entry : Xdr LiquidityPoolEntry
 liquidity_pool_entry = struct_of pool_fields (hash ⨾ pool_params ⨾ i64 ⨾ i64 ⨾ i64 ⨾ i64)
 
@@ -225,7 +289,12 @@ unfoldable pub ledger_entry_body : Xdr LedgerEntryBody
 ledger_entry_body = union_of body_part body_arms
 
 abbrev pub entry_v1_fields : Fields (Option AccountId) LedgerEntryExtensionV1
-entry_v1_fields = record { to = λ id. record { sponsoring_id = id }; from = λ e. e.sponsoring_id; there = λ _. refl; back = λ _. refl }
+entry_v1_fields = record {
+  to = λ id. record { sponsoring_id = id };
+  from = λ e. e.sponsoring_id;
+  there = λ _. refl;
+  back = λ _. refl;
+}
 
 unfoldable pub ledger_entry_extension_v1 : Xdr LedgerEntryExtensionV1
 ledger_entry_extension_v1 = struct_of entry_v1_fields (closed (optional account_id) (tag (pos 0)))

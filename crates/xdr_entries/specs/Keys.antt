@@ -1,10 +1,12 @@
--- The formats of keys (LedgerKey in Stellar-ledger-entries.x) and of the items of buckets (BucketEntry in Stellar-ledger.x;
+-- The formats of keys (LedgerKey in Stellar-ledger-entries.x) and of the items of buckets (BucketEntry in
+-- Stellar-ledger.x;
 -- CAP-0020).
-use Rattle.std.specs.Prelude.{pos, negsuc, List, [], ◌∷◌}
+use Rattle.std.specs.Prelude.{pos, List, [], ◌∷◌}
 use Rattle.xdr_core.specs.declared.fault.XdrFault.{XdrFault}
 use Rattle.xdr_core.specs.Leaves.{u32, i64, var}
-use Rattle.xdr_core.specs.Combinators.{◌⨾◌, closed, Arm, Part, part}
+use Rattle.xdr_core.specs.Combinators.{◌⨾◌, closed, whole, Arm, Part, part}
 use Rattle.xdr_core.specs.Xdr.{Xdr, tag, union_of}
+use Rattle.xdr_entries.specs.declared.bucket.TheConstants.{METAENTRY}
 use Rattle.ledger_types.specs.declared.key.LedgerKey.{LedgerKey}
 use Rattle.ledger_types.specs.declared.key.LedgerKey.TheVariants as key
 use Rattle.ledger_types.specs.declared.bucket.BucketEntry.{BucketEntry}
@@ -49,16 +51,16 @@ ledger_key = union_of key_part key_arms
 -- ---- items of buckets
 
 abbrev pub meta_arm : Arm XdrFault BucketEntry
-meta_arm = arm (negsuc 0) (closed u32 (tag (pos 0))) bucket.Meta
+meta_arm = arm METAENTRY (closed u32 (tag (pos 0))) bucket.Meta
 
 abbrev pub live_arm : Arm XdrFault BucketEntry
-live_arm = arm (pos 0) ledger_entry bucket.Live
+live_arm = arm (pos 0) (whole ledger_entry) bucket.Live
 
 abbrev pub dead_arm : Arm XdrFault BucketEntry
-dead_arm = arm (pos 1) ledger_key bucket.Dead
+dead_arm = arm (pos 1) (whole ledger_key) bucket.Dead
 
 abbrev pub init_arm : Arm XdrFault BucketEntry
-init_arm = arm (pos 2) ledger_entry bucket.Init
+init_arm = arm (pos 2) (whole ledger_entry) bucket.Init
 
 abbrev pub bucket_arms : List (Arm XdrFault BucketEntry)
 bucket_arms = meta_arm ∷ live_arm ∷ dead_arm ∷ init_arm ∷ []

@@ -5,7 +5,12 @@ use Rattle.xdr_core.specs.Leaves.{i64}
 use Rattle.xdr_core.specs.Combinators.{Fields, struct_of, empty, Arm, Part, part}
 use Rattle.xdr_core.specs.Xdr.{Xdr, optional, list_of, union_of, too_deep}
 use Rattle.ledger_types.specs.declared.predicate.ClaimPredicate.{ClaimPredicate}
-use Rattle.ledger_types.specs.declared.predicate.ClaimPredicate.TheViews.{out-ClaimPredicate, roll-ClaimPredicate, out-roll-ClaimPredicate, roll-out-ClaimPredicate}
+use Rattle.ledger_types.specs.declared.predicate.ClaimPredicate.TheViews.{
+  out-ClaimPredicate,
+  roll-ClaimPredicate,
+  out-roll-ClaimPredicate,
+  roll-out-ClaimPredicate,
+}
 use Rattle.ledger_types.specs.declared.predicate.ClaimPredicate.TheOpen.{ClaimPredicate-F}
 use Rattle.xdr_entries.specs.Basic.{arm}
 
@@ -30,7 +35,8 @@ abbrev pub before_relative_time : {P : Type 0} → Arm XdrFault (ClaimPredicate-
 before_relative_time = arm (pos 5) i64 ClaimPredicate-F.BeforeRelativeTime
 
 abbrev pub level_arms : {P : Type 0} → Xdr P → List (Arm XdrFault (ClaimPredicate-F P))
-level_arms below = unconditional ∷ and_arm below ∷ or_arm below ∷ not_arm below ∷ before_absolute_time ∷ before_relative_time ∷ []
+level_arms below =
+    unconditional ∷ and_arm below ∷ or_arm below ∷ not_arm below ∷ before_absolute_time ∷ before_relative_time ∷ []
 
 abbrev pub level_part : {P : Type 0} → Xdr P → ClaimPredicate-F P → Part XdrFault (ClaimPredicate-F P)
 level_part below ClaimPredicate-F.Unconditional = part unconditional tt
@@ -44,7 +50,12 @@ abbrev pub level : {P : Type 0} → Xdr P → Xdr (ClaimPredicate-F P)
 level below = union_of (level_part below) (level_arms below)
 
 abbrev pub level_fields : Fields (ClaimPredicate-F ClaimPredicate) ClaimPredicate
-level_fields = record { to = roll-ClaimPredicate; from = out-ClaimPredicate; there = out-roll-ClaimPredicate; back = roll-out-ClaimPredicate }
+level_fields = record {
+  to = roll-ClaimPredicate;
+  from = out-ClaimPredicate;
+  there = out-roll-ClaimPredicate;
+  back = roll-out-ClaimPredicate;
+}
 
 -- a predicate over those below it
 abbrev pub predicate_of : Xdr ClaimPredicate → Xdr ClaimPredicate

@@ -1,26 +1,23 @@
 //! Accounts.
 
 ghost use Rattle.std.specs.Prelude.{◌≡◌, OnOk};
-ghost use Rattle.xdr_core.specs.Place.{Reads};
+ghost use Rattle.xdr_core.specs.Place.{Reads, itself};
 ghost use Rattle.xdr_core.specs.ReadFault.{cause_of};
-ghost use Rattle.xdr_entries.specs.Entries.{account_extension_v2 as v2_format, account_extension_v1 as v1_format, account_entry as account_format};
+ghost use Rattle.xdr_entries.specs.Entries as spec;
 
 use crate::ids::{AccountIdFormat, OptionalAccountIdFormat, read_account_id, write_account_id};
 use crate::price::{read_liabilities, write_liabilities};
 use crate::signer::SignerFormat;
 use item_list::ItemList;
-use ledger_types::{AccountEntry, AccountEntryExtensionV1, AccountEntryExtensionV2};
+use ledger_types::{
+    AccountEntry, AccountEntryExtensionV1, AccountEntryExtensionV2, AccountId, MAX_HOME_DOMAIN_LEN,
+    MAX_SIGNERS, Signer,
+};
 use std::alloc::{AllocError, Global};
 use xdr_core::{
-    Builder, Cursor, Decode, Encode, ReadFault, read_extension, read_list, read_option,
-    write_extension, write_list, write_option,
+    Builder, Cursor, Decode, Encode, ReadFault, XdrFault, read_extension, read_list, read_option,
+    read_var, write_extension, write_list, write_option,
 };
-
-/// The most signers of an account (MAX_SIGNERS in Stellar-ledger-entries.x).
-const MAX_SIGNERS: u32 = 20;
-
-/// The most bytes of a home domain (string32 in Stellar-ledger-entries.x).
-const MAX_HOME_DOMAIN_LEN: u32 = 32;
 
 /// Reads what sponsorship adds to an account.
 #[tactic(auto, unfolding(crate::specs::Entries::account_extension_v2))]
@@ -28,7 +25,7 @@ pub fn read_account_extension_v2(
     alloc: Global,
     cursor: &mut Cursor<'_>,
 ) -> Result<AccountEntryExtensionV2, ReadFault>
-    ensures { Reads cause_of result cursor.old cursor.new (v2_format.read cursor.old) }
+    ensures { Reads cause_of result cursor.old cursor.new (spec.account_extension_v2.read cursor.old) }
 {
     let mut ahead = cursor.fork();
     let num_sponsored = ahead.u32()?;
@@ -48,13 +45,13 @@ pub fn read_account_extension_v2(
 }
 
 /// Writes what sponsorship adds to an account.
-#[tactic(auto, unfolding(crate::specs::Entries::account_extension_v2, xdr_core::specs::Combinators::constant))]
+#[tactic(auto, unfolding(crate::specs::Entries::account_extension_v2))]
 pub fn write_account_extension_v2(
     value: &AccountEntryExtensionV2,
     builder: &mut Builder,
 ) -> Result<(), AllocError>
-    requires { v2_format.within value.now }
-    ensures { OnOk result (builder.new ≡ v2_format.onto builder.old value.now) }
+    requires { spec.account_extension_v2.within value.now }
+    ensures { OnOk result (builder.new ≡ spec.account_extension_v2.onto builder.old value.now) }
 {
     builder.u32(value.num_sponsored)?;
     builder.u32(value.num_sponsoring)?;
@@ -63,7 +60,7 @@ pub fn write_account_extension_v2(
         MAX_SIGNERS,
         builder,
     )?;
-    builder.i32(0)
+    builder.tag(0)
 }
 
 /// Reads what liabilities add to an account.
@@ -72,7 +69,7 @@ pub fn read_account_extension_v1(
     alloc: Global,
     cursor: &mut Cursor<'_>,
 ) -> Result<AccountEntryExtensionV1, ReadFault>
-    ensures { Reads cause_of result cursor.old cursor.new (v1_format.read cursor.old) }
+    ensures { Reads cause_of result cursor.old cursor.new (spec.account_extension_v1.read cursor.old) }
 {
     let mut ahead = cursor.fork();
     let liabilities = read_liabilities(&mut ahead)?;
@@ -87,17 +84,20 @@ pub fn write_account_extension_v1(
     value: &AccountEntryExtensionV1,
     builder: &mut Builder,
 ) -> Result<(), AllocError>
-    requires { v1_format.within value.now }
-    ensures { OnOk result (builder.new ≡ v1_format.onto builder.old value.now) }
+    requires { spec.account_extension_v1.within value.now }
+    ensures { OnOk result (builder.new ≡ spec.account_extension_v1.onto builder.old value.now) }
 {
     write_liabilities(&value.liabilities, builder)?;
     write_extension::<AccountExtensionV2Format>(&value.ext, 2, builder)
 }
 
-/// Reads an account.
-#[tactic(auto, unfolding(crate::specs::Entries::account_entry))]
-pub fn read_account_entry(alloc: Global, cursor: &mut Cursor<'_>) -> Result<AccountEntry, ReadFault>
-    ensures { Reads cause_of result cursor.old cursor.new (account_format.read cursor.old) }
+/// The fields of an account up to its flags.
+type AccountHead = (AccountId, (i64, (i64, (u32, (Option<AccountId>, u32)))));
+
+/// Reads the fields of an account up to its flags.
+#[tactic(auto, unfolding(crate::specs::Entries::account_head))]
+fn read_account_head(alloc: Global, cursor: &mut Cursor<'_>) -> Result<AccountHead, XdrFault>
+    ensures { Reads itself result cursor.old cursor.new (spec.account_head.read cursor.old) }
 {
     let mut ahead = cursor.fork();
     let account_id = read_account_id(&mut ahead)?;
@@ -106,10 +106,45 @@ pub fn read_account_entry(alloc: Global, cursor: &mut Cursor<'_>) -> Result<Acco
     let num_sub_entries = ahead.u32()?;
     let inflation_dest = read_option::<AccountIdFormat>(alloc, &mut ahead)?;
     let flags = ahead.u32()?;
-    let home_domain = ItemList::from_slice(alloc, ahead.var(MAX_HOME_DOMAIN_LEN)?)?;
+    *cursor = ahead;
+    Ok((
+        account_id,
+        (
+            balance,
+            (seq_num, (num_sub_entries, (inflation_dest, flags))),
+        ),
+    ))
+}
+
+/// The fields of an account from its home domain on.
+type AccountTail = (
+    ItemList<u8>,
+    ([u8; 4], (ItemList<Signer>, Option<AccountEntryExtensionV1>)),
+);
+
+/// Reads the fields of an account from its home domain on.
+#[tactic(auto, unfolding(crate::specs::Entries::account_tail))]
+fn read_account_tail(alloc: Global, cursor: &mut Cursor<'_>) -> Result<AccountTail, ReadFault>
+    ensures { Reads cause_of result cursor.old cursor.new (spec.account_tail.read cursor.old) }
+{
+    let mut ahead = cursor.fork();
+    let home_domain = read_var(alloc, MAX_HOME_DOMAIN_LEN, &mut ahead)?;
     let thresholds = ahead.array::<4>()?;
     let signers = read_list::<SignerFormat>(alloc, MAX_SIGNERS, &mut ahead)?;
     let ext = read_extension::<AccountExtensionV1Format>(alloc, 1, &mut ahead)?;
+    *cursor = ahead;
+    Ok((home_domain, (thresholds, (signers, ext))))
+}
+
+/// Reads an account.
+#[tactic(auto, unfolding(crate::specs::Entries::account_entry))]
+pub fn read_account_entry(alloc: Global, cursor: &mut Cursor<'_>) -> Result<AccountEntry, ReadFault>
+    ensures { Reads cause_of result cursor.old cursor.new (spec.account_entry.read cursor.old) }
+{
+    let mut ahead = cursor.fork();
+    let (account_id, (balance, (seq_num, (num_sub_entries, (inflation_dest, flags))))) =
+        read_account_head(alloc, &mut ahead)?;
+    let (home_domain, (thresholds, (signers, ext))) = read_account_tail(alloc, &mut ahead)?;
     *cursor = ahead;
     Ok(AccountEntry {
         account_id,
@@ -125,22 +160,40 @@ pub fn read_account_entry(alloc: Global, cursor: &mut Cursor<'_>) -> Result<Acco
     })
 }
 
-/// Writes an account.
-#[tactic(auto, unfolding(crate::specs::Entries::account_entry))]
-pub fn write_account_entry(value: &AccountEntry, builder: &mut Builder) -> Result<(), AllocError>
-    requires { account_format.within value.now }
-    ensures { OnOk result (builder.new ≡ account_format.onto builder.old value.now) }
+/// Writes the fields of an account up to its flags.
+#[tactic(auto, unfolding(crate::specs::Entries::account_head))]
+fn write_account_head(value: &AccountEntry, builder: &mut Builder) -> Result<(), AllocError>
+    requires { spec.account_head.within (spec.account_fields.from value.now).0 }
+    ensures { OnOk result (builder.new ≡ spec.account_head.onto builder.old (spec.account_fields.from value.now).0) }
 {
     write_account_id(&value.account_id, builder)?;
     builder.i64(value.balance)?;
     builder.i64(value.seq_num)?;
     builder.u32(value.num_sub_entries)?;
     write_option::<AccountIdFormat>(&value.inflation_dest, builder)?;
-    builder.u32(value.flags)?;
+    builder.u32(value.flags)
+}
+
+/// Writes the fields of an account from its home domain on.
+#[tactic(auto, unfolding(crate::specs::Entries::account_tail))]
+fn write_account_tail(value: &AccountEntry, builder: &mut Builder) -> Result<(), AllocError>
+    requires { spec.account_tail.within (spec.account_fields.from value.now).1 }
+    ensures { OnOk result (builder.new ≡ spec.account_tail.onto builder.old (spec.account_fields.from value.now).1) }
+{
     builder.var(value.home_domain.as_slice(), MAX_HOME_DOMAIN_LEN)?;
     builder.fixed(&value.thresholds)?;
     write_list::<SignerFormat>(value.signers.as_slice(), MAX_SIGNERS, builder)?;
     write_extension::<AccountExtensionV1Format>(&value.ext, 1, builder)
+}
+
+/// Writes an account.
+#[tactic(auto, unfolding(crate::specs::Entries::account_entry))]
+pub fn write_account_entry(value: &AccountEntry, builder: &mut Builder) -> Result<(), AllocError>
+    requires { spec.account_entry.within value.now }
+    ensures { OnOk result (builder.new ≡ spec.account_entry.onto builder.old value.now) }
+{
+    write_account_head(value, builder)?;
+    write_account_tail(value, builder)
 }
 
 /// What sponsorship adds to accounts, as a format.
@@ -151,7 +204,7 @@ impl Decode for AccountExtensionV2Format {
 
     type Failure = ReadFault;
 
-    ghost format = { v2_format };
+    ghost format = { spec.account_extension_v2 };
 
     fn decode(
         alloc: Global,
@@ -162,6 +215,7 @@ impl Decode for AccountExtensionV2Format {
 }
 
 impl Encode for AccountExtensionV2Format {
+    #[tactic(auto, using(crate::proofs::AllLaws::written_values))]
     fn encode(value: &AccountEntryExtensionV2, builder: &mut Builder) -> Result<(), AllocError> {
         write_account_extension_v2(value, builder)
     }
@@ -175,7 +229,7 @@ impl Decode for AccountExtensionV1Format {
 
     type Failure = ReadFault;
 
-    ghost format = { v1_format };
+    ghost format = { spec.account_extension_v1 };
 
     fn decode(
         alloc: Global,
@@ -186,6 +240,7 @@ impl Decode for AccountExtensionV1Format {
 }
 
 impl Encode for AccountExtensionV1Format {
+    #[tactic(auto, using(crate::proofs::AllLaws::written_values))]
     fn encode(value: &AccountEntryExtensionV1, builder: &mut Builder) -> Result<(), AllocError> {
         write_account_extension_v1(value, builder)
     }

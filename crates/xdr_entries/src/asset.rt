@@ -2,10 +2,12 @@
 
 ghost use Rattle.std.specs.Prelude.{◌≡◌, OnOk};
 ghost use Rattle.xdr_core.specs.Place.{Reads, itself};
-ghost use Rattle.xdr_entries.specs.Basic.{asset as asset_format, trust_line_asset as trust_line_asset_format, pool_params as pool_params_format, change_trust_asset as change_trust_asset_format};
+ghost use Rattle.xdr_core.specs.Leaves.{fixed};
+ghost use Rattle.xdr_core.specs.Combinators.{◌⨾◌};
+ghost use Rattle.xdr_entries.specs.Basic as spec;
 
 use crate::ids::{read_account_id, read_hash, write_account_id, write_hash};
-use ledger_types::{Asset, ChangeTrustAsset, PoolParams, TrustLineAsset};
+use ledger_types::{AccountId, Asset, ChangeTrustAsset, PoolParams, TrustLineAsset};
 use std::alloc::{AllocError, Global};
 use xdr_core::{Builder, Cursor, Decode, Encode, ReadFault, XdrFault, XdrKind};
 
@@ -24,22 +26,35 @@ const ASSET_TYPE_POOL_SHARE: i32 = 3;
 /// LIQUIDITY_POOL_CONSTANT_PRODUCT (Stellar-ledger-entries.x).
 const LIQUIDITY_POOL_CONSTANT_PRODUCT: i32 = 0;
 
+/// Reads a code of `N` bytes and the issuer of its asset.
+fn read_code_and_issuer<const N: usize>(
+    cursor: &mut Cursor<'_>,
+) -> Result<([u8; N], AccountId), XdrFault>
+    ensures { Reads itself result cursor.old cursor.new ((fixed N ⨾ spec.account_id).read cursor.old) }
+{
+    let mut ahead = cursor.fork();
+    let code = ahead.array::<N>()?;
+    let issuer = read_account_id(&mut ahead)?;
+    *cursor = ahead;
+    Ok((code, issuer))
+}
+
 /// Reads an asset.
 #[tactic(auto, unfolding(crate::specs::Basic::asset))]
 pub fn read_asset(cursor: &mut Cursor<'_>) -> Result<Asset, XdrFault>
-    ensures { Reads itself result cursor.old cursor.new (asset_format.read cursor.old) }
+    ensures { Reads itself result cursor.old cursor.new (spec.asset.read cursor.old) }
 {
     let mut ahead = cursor.fork();
     let asset = match ahead.i32()? {
         ASSET_TYPE_NATIVE => Asset::Native,
-        ASSET_TYPE_CREDIT_ALPHANUM4 => Asset::Alphanum4 {
-            code: ahead.array::<4>()?,
-            issuer: read_account_id(&mut ahead)?,
-        },
-        ASSET_TYPE_CREDIT_ALPHANUM12 => Asset::Alphanum12 {
-            code: ahead.array::<12>()?,
-            issuer: read_account_id(&mut ahead)?,
-        },
+        ASSET_TYPE_CREDIT_ALPHANUM4 => {
+            let (code, issuer) = read_code_and_issuer::<4>(&mut ahead)?;
+            Asset::Alphanum4 { code, issuer }
+        }
+        ASSET_TYPE_CREDIT_ALPHANUM12 => {
+            let (code, issuer) = read_code_and_issuer::<12>(&mut ahead)?;
+            Asset::Alphanum12 { code, issuer }
+        }
         _ => return Err(cursor.fault(XdrKind::BadEnum)),
     };
     *cursor = ahead;
@@ -49,7 +64,7 @@ pub fn read_asset(cursor: &mut Cursor<'_>) -> Result<Asset, XdrFault>
 /// Writes an asset.
 #[tactic(auto, unfolding(crate::specs::Basic::asset))]
 pub fn write_asset(value: &Asset, builder: &mut Builder) -> Result<(), AllocError>
-    ensures { OnOk result (builder.new ≡ asset_format.onto builder.old value.now) }
+    ensures { OnOk result (builder.new ≡ spec.asset.onto builder.old value.now) }
 {
     match value {
         Asset::Native => builder.i32(ASSET_TYPE_NATIVE),
@@ -69,19 +84,19 @@ pub fn write_asset(value: &Asset, builder: &mut Builder) -> Result<(), AllocErro
 /// Reads what a trust line is in.
 #[tactic(auto, unfolding(crate::specs::Basic::trust_line_asset))]
 pub fn read_trust_line_asset(cursor: &mut Cursor<'_>) -> Result<TrustLineAsset, XdrFault>
-    ensures { Reads itself result cursor.old cursor.new (trust_line_asset_format.read cursor.old) }
+    ensures { Reads itself result cursor.old cursor.new (spec.trust_line_asset.read cursor.old) }
 {
     let mut ahead = cursor.fork();
     let asset = match ahead.i32()? {
         ASSET_TYPE_NATIVE => TrustLineAsset::Native,
-        ASSET_TYPE_CREDIT_ALPHANUM4 => TrustLineAsset::Alphanum4 {
-            code: ahead.array::<4>()?,
-            issuer: read_account_id(&mut ahead)?,
-        },
-        ASSET_TYPE_CREDIT_ALPHANUM12 => TrustLineAsset::Alphanum12 {
-            code: ahead.array::<12>()?,
-            issuer: read_account_id(&mut ahead)?,
-        },
+        ASSET_TYPE_CREDIT_ALPHANUM4 => {
+            let (code, issuer) = read_code_and_issuer::<4>(&mut ahead)?;
+            TrustLineAsset::Alphanum4 { code, issuer }
+        }
+        ASSET_TYPE_CREDIT_ALPHANUM12 => {
+            let (code, issuer) = read_code_and_issuer::<12>(&mut ahead)?;
+            TrustLineAsset::Alphanum12 { code, issuer }
+        }
         ASSET_TYPE_POOL_SHARE => TrustLineAsset::PoolShare(read_hash(&mut ahead)?),
         _ => return Err(cursor.fault(XdrKind::BadEnum)),
     };
@@ -95,7 +110,7 @@ pub fn write_trust_line_asset(
     value: &TrustLineAsset,
     builder: &mut Builder,
 ) -> Result<(), AllocError>
-    ensures { OnOk result (builder.new ≡ trust_line_asset_format.onto builder.old value.now) }
+    ensures { OnOk result (builder.new ≡ spec.trust_line_asset.onto builder.old value.now) }
 {
     match value {
         TrustLineAsset::Native => builder.i32(ASSET_TYPE_NATIVE),
@@ -119,7 +134,7 @@ pub fn write_trust_line_asset(
 /// Reads the parameters of a pool.
 #[tactic(auto, unfolding(crate::specs::Basic::pool_params))]
 pub fn read_pool_params(cursor: &mut Cursor<'_>) -> Result<PoolParams, XdrFault>
-    ensures { Reads itself result cursor.old cursor.new (pool_params_format.read cursor.old) }
+    ensures { Reads itself result cursor.old cursor.new (spec.pool_params.read cursor.old) }
 {
     let mut ahead = cursor.fork();
     ahead.tag(LIQUIDITY_POOL_CONSTANT_PRODUCT)?;
@@ -133,11 +148,11 @@ pub fn read_pool_params(cursor: &mut Cursor<'_>) -> Result<PoolParams, XdrFault>
 }
 
 /// Writes the parameters of a pool.
-#[tactic(auto, unfolding(crate::specs::Basic::pool_params, xdr_core::specs::Combinators::constant))]
+#[tactic(auto, unfolding(crate::specs::Basic::pool_params))]
 pub fn write_pool_params(value: &PoolParams, builder: &mut Builder) -> Result<(), AllocError>
-    ensures { OnOk result (builder.new ≡ pool_params_format.onto builder.old value.now) }
+    ensures { OnOk result (builder.new ≡ spec.pool_params.onto builder.old value.now) }
 {
-    builder.i32(LIQUIDITY_POOL_CONSTANT_PRODUCT)?;
+    builder.tag(LIQUIDITY_POOL_CONSTANT_PRODUCT)?;
     write_asset(&value.asset_a, builder)?;
     write_asset(&value.asset_b, builder)?;
     builder.i32(value.fee)
@@ -146,19 +161,19 @@ pub fn write_pool_params(value: &PoolParams, builder: &mut Builder) -> Result<()
 /// Reads what a trust line is asked for.
 #[tactic(auto, unfolding(crate::specs::Basic::change_trust_asset))]
 pub fn read_change_trust_asset(cursor: &mut Cursor<'_>) -> Result<ChangeTrustAsset, XdrFault>
-    ensures { Reads itself result cursor.old cursor.new (change_trust_asset_format.read cursor.old) }
+    ensures { Reads itself result cursor.old cursor.new (spec.change_trust_asset.read cursor.old) }
 {
     let mut ahead = cursor.fork();
     let asset = match ahead.i32()? {
         ASSET_TYPE_NATIVE => ChangeTrustAsset::Native,
-        ASSET_TYPE_CREDIT_ALPHANUM4 => ChangeTrustAsset::Alphanum4 {
-            code: ahead.array::<4>()?,
-            issuer: read_account_id(&mut ahead)?,
-        },
-        ASSET_TYPE_CREDIT_ALPHANUM12 => ChangeTrustAsset::Alphanum12 {
-            code: ahead.array::<12>()?,
-            issuer: read_account_id(&mut ahead)?,
-        },
+        ASSET_TYPE_CREDIT_ALPHANUM4 => {
+            let (code, issuer) = read_code_and_issuer::<4>(&mut ahead)?;
+            ChangeTrustAsset::Alphanum4 { code, issuer }
+        }
+        ASSET_TYPE_CREDIT_ALPHANUM12 => {
+            let (code, issuer) = read_code_and_issuer::<12>(&mut ahead)?;
+            ChangeTrustAsset::Alphanum12 { code, issuer }
+        }
         ASSET_TYPE_POOL_SHARE => ChangeTrustAsset::PoolShare(read_pool_params(&mut ahead)?),
         _ => return Err(cursor.fault(XdrKind::BadEnum)),
     };
@@ -172,7 +187,7 @@ pub fn write_change_trust_asset(
     value: &ChangeTrustAsset,
     builder: &mut Builder,
 ) -> Result<(), AllocError>
-    ensures { OnOk result (builder.new ≡ change_trust_asset_format.onto builder.old value.now) }
+    ensures { OnOk result (builder.new ≡ spec.change_trust_asset.onto builder.old value.now) }
 {
     match value {
         ChangeTrustAsset::Native => builder.i32(ASSET_TYPE_NATIVE),
@@ -201,7 +216,7 @@ impl Decode for AssetFormat {
 
     type Failure = ReadFault;
 
-    ghost format = { asset_format };
+    ghost format = { spec.asset };
 
     fn decode(_alloc: Global, cursor: &mut Cursor<'_>) -> Result<Asset, ReadFault> {
         Ok(read_asset(cursor)?)
@@ -209,6 +224,7 @@ impl Decode for AssetFormat {
 }
 
 impl Encode for AssetFormat {
+    #[tactic(auto, using(crate::proofs::AllLaws::written_values))]
     fn encode(value: &Asset, builder: &mut Builder) -> Result<(), AllocError> {
         write_asset(value, builder)
     }

@@ -1,9 +1,9 @@
 //! Items of buckets.
 
-ghost use Rattle.std.specs.Prelude.{◌≡◌, OnOk};
+ghost use Rattle.std.specs.Prelude.{◌≡◌, ◌++◌, OnOk};
 ghost use Rattle.xdr_core.specs.Place.{Reads, itself};
 ghost use Rattle.xdr_core.specs.ReadFault.{cause_of};
-ghost use Rattle.xdr_entries.specs.Keys.{meta_arm, bucket_entry as bucket_format};
+ghost use Rattle.xdr_entries.specs.Keys as spec;
 
 use crate::entry::{read_ledger_entry, write_ledger_entry};
 use crate::key::{read_ledger_key, write_ledger_key};
@@ -25,7 +25,7 @@ const INITENTRY: i32 = 2;
 
 /// Reads the protocol of a bucket's ledger, and its extension (BucketMetadata in Stellar-ledger.x).
 fn read_version(cursor: &mut Cursor<'_>) -> Result<u32, XdrFault>
-    ensures { Reads itself result cursor.old cursor.new (meta_arm.body.read cursor.old) }
+    ensures { Reads itself result cursor.old cursor.new (spec.meta_arm.body.read cursor.old) }
 {
     let mut ahead = cursor.fork();
     let ledger_version = ahead.u32()?;
@@ -37,7 +37,7 @@ fn read_version(cursor: &mut Cursor<'_>) -> Result<u32, XdrFault>
 /// Reads an item of a bucket.
 #[tactic(auto, unfolding(crate::specs::Keys::bucket_entry))]
 pub fn read_bucket_entry(alloc: Global, cursor: &mut Cursor<'_>) -> Result<BucketEntry, ReadFault>
-    ensures { Reads cause_of result cursor.old cursor.new (bucket_format.read cursor.old) }
+    ensures { Reads cause_of result cursor.old cursor.new (spec.bucket_entry.read cursor.old) }
 {
     let mut ahead = cursor.fork();
     let entry = match ahead.i32()? {
@@ -53,17 +53,26 @@ pub fn read_bucket_entry(alloc: Global, cursor: &mut Cursor<'_>) -> Result<Bucke
     Ok(entry)
 }
 
-/// Writes an item of a bucket.
-#[tactic(auto, unfolding(crate::specs::Keys::bucket_entry, xdr_core::specs::Combinators::constant))]
+/// Writes an item of a bucket: its spelling stands at the end.
+#[tactic(auto, using(crate::proofs::AllLaws::written_values))]
 pub fn write_bucket_entry(value: &BucketEntry, builder: &mut Builder) -> Result<(), AllocError>
-    requires { bucket_format.within value.now }
-    ensures { OnOk result (builder.new ≡ bucket_format.onto builder.old value.now) }
+    requires { spec.bucket_entry.within value.now }
+    ensures { OnOk result (builder.new ≡ builder.old ++ spec.bucket_entry.spell value.now) }
+{
+    write_arm(value, builder)
+}
+
+/// Writes the discriminant of an item, and what stands behind it.
+#[tactic(auto, unfolding(crate::specs::Keys::bucket_entry))]
+fn write_arm(value: &BucketEntry, builder: &mut Builder) -> Result<(), AllocError>
+    requires { spec.bucket_entry.within value.now }
+    ensures { OnOk result (builder.new ≡ spec.bucket_entry.onto builder.old value.now) }
 {
     match value {
         BucketEntry::Meta { ledger_version } => {
             builder.i32(METAENTRY)?;
             builder.u32(*ledger_version)?;
-            builder.i32(0)
+            builder.tag(0)
         }
         BucketEntry::Live(entry) => {
             builder.i32(LIVEENTRY)?;

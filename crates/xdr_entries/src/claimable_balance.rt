@@ -3,7 +3,7 @@
 ghost use Rattle.std.specs.Prelude.{◌≡◌, OnOk};
 ghost use Rattle.xdr_core.specs.Place.{Reads, itself};
 ghost use Rattle.xdr_core.specs.ReadFault.{cause_of};
-ghost use Rattle.xdr_entries.specs.Entries.{claimant as claimant_format, claimable_balance_extension_v1 as v1_format, claimable_balance_entry as balance_format};
+ghost use Rattle.xdr_entries.specs.Entries as spec;
 
 use crate::asset::{read_asset, write_asset};
 use crate::ids::{
@@ -26,7 +26,7 @@ pub const MAX_CLAIMANTS: u32 = 10;
 /// Reads a claimant.
 #[tactic(auto, unfolding(crate::specs::Entries::claimant))]
 pub fn read_claimant(alloc: Global, cursor: &mut Cursor<'_>) -> Result<Claimant, ReadFault>
-    ensures { Reads cause_of result cursor.old cursor.new (claimant_format.read cursor.old) }
+    ensures { Reads cause_of result cursor.old cursor.new (spec.claimant.read cursor.old) }
 {
     let mut ahead = cursor.fork();
     ahead.tag(CLAIMANT_TYPE_V0)?;
@@ -40,12 +40,12 @@ pub fn read_claimant(alloc: Global, cursor: &mut Cursor<'_>) -> Result<Claimant,
 }
 
 /// Writes a claimant.
-#[tactic(auto, unfolding(crate::specs::Entries::claimant, xdr_core::specs::Combinators::constant))]
+#[tactic(auto, unfolding(crate::specs::Entries::claimant))]
 pub fn write_claimant(value: &Claimant, builder: &mut Builder) -> Result<(), AllocError>
-    requires { claimant_format.within value.now }
-    ensures { OnOk result (builder.new ≡ claimant_format.onto builder.old value.now) }
+    requires { spec.claimant.within value.now }
+    ensures { OnOk result (builder.new ≡ spec.claimant.onto builder.old value.now) }
 {
-    builder.i32(CLAIMANT_TYPE_V0)?;
+    builder.tag(CLAIMANT_TYPE_V0)?;
     write_account_id(&value.destination, builder)?;
     write_claim_predicate(&value.predicate, builder)
 }
@@ -55,7 +55,7 @@ pub fn write_claimant(value: &Claimant, builder: &mut Builder) -> Result<(), All
 pub fn read_claimable_balance_extension_v1(
     cursor: &mut Cursor<'_>,
 ) -> Result<ClaimableBalanceEntryExtensionV1, XdrFault>
-    ensures { Reads itself result cursor.old cursor.new (v1_format.read cursor.old) }
+    ensures { Reads itself result cursor.old cursor.new (spec.claimable_balance_extension_v1.read cursor.old) }
 {
     let mut ahead = cursor.fork();
     ahead.tag(0)?;
@@ -65,14 +65,14 @@ pub fn read_claimable_balance_extension_v1(
 }
 
 /// Writes what clawback adds to a claimable balance.
-#[tactic(auto, unfolding(crate::specs::Entries::claimable_balance_extension_v1, xdr_core::specs::Combinators::constant))]
+#[tactic(auto, unfolding(crate::specs::Entries::claimable_balance_extension_v1))]
 pub fn write_claimable_balance_extension_v1(
     value: &ClaimableBalanceEntryExtensionV1,
     builder: &mut Builder,
 ) -> Result<(), AllocError>
-    ensures { OnOk result (builder.new ≡ v1_format.onto builder.old value.now) }
+    ensures { OnOk result (builder.new ≡ spec.claimable_balance_extension_v1.onto builder.old value.now) }
 {
-    builder.i32(0)?;
+    builder.tag(0)?;
     builder.u32(value.flags)
 }
 
@@ -82,7 +82,7 @@ pub fn read_claimable_balance_entry(
     alloc: Global,
     cursor: &mut Cursor<'_>,
 ) -> Result<ClaimableBalanceEntry, ReadFault>
-    ensures { Reads cause_of result cursor.old cursor.new (balance_format.read cursor.old) }
+    ensures { Reads cause_of result cursor.old cursor.new (spec.claimable_balance_entry.read cursor.old) }
 {
     let mut ahead = cursor.fork();
     let balance_id = read_claimable_balance_id(&mut ahead)?;
@@ -106,8 +106,8 @@ pub fn write_claimable_balance_entry(
     value: &ClaimableBalanceEntry,
     builder: &mut Builder,
 ) -> Result<(), AllocError>
-    requires { balance_format.within value.now }
-    ensures { OnOk result (builder.new ≡ balance_format.onto builder.old value.now) }
+    requires { spec.claimable_balance_entry.within value.now }
+    ensures { OnOk result (builder.new ≡ spec.claimable_balance_entry.onto builder.old value.now) }
 {
     write_claimable_balance_id(&value.balance_id, builder)?;
     write_list::<ClaimantFormat>(value.claimants.as_slice(), MAX_CLAIMANTS, builder)?;
@@ -124,7 +124,7 @@ impl Decode for ClaimantFormat {
 
     type Failure = ReadFault;
 
-    ghost format = { claimant_format };
+    ghost format = { spec.claimant };
 
     fn decode(alloc: Global, cursor: &mut Cursor<'_>) -> Result<Claimant, ReadFault> {
         read_claimant(alloc, cursor)
@@ -132,6 +132,7 @@ impl Decode for ClaimantFormat {
 }
 
 impl Encode for ClaimantFormat {
+    #[tactic(auto, using(crate::proofs::AllLaws::written_values))]
     fn encode(value: &Claimant, builder: &mut Builder) -> Result<(), AllocError> {
         write_claimant(value, builder)
     }
@@ -143,19 +144,20 @@ pub enum ClaimableBalanceExtensionV1Format {}
 impl Decode for ClaimableBalanceExtensionV1Format {
     type Value = ClaimableBalanceEntryExtensionV1;
 
-    type Failure = ReadFault;
+    type Failure = XdrFault;
 
-    ghost format = { v1_format };
+    ghost format = { spec.claimable_balance_extension_v1 };
 
     fn decode(
         _alloc: Global,
         cursor: &mut Cursor<'_>,
-    ) -> Result<ClaimableBalanceEntryExtensionV1, ReadFault> {
-        Ok(read_claimable_balance_extension_v1(cursor)?)
+    ) -> Result<ClaimableBalanceEntryExtensionV1, XdrFault> {
+        read_claimable_balance_extension_v1(cursor)
     }
 }
 
 impl Encode for ClaimableBalanceExtensionV1Format {
+    #[tactic(auto, using(crate::proofs::AllLaws::written_values))]
     fn encode(
         value: &ClaimableBalanceEntryExtensionV1,
         builder: &mut Builder,

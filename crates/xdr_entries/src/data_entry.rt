@@ -3,13 +3,12 @@
 ghost use Rattle.std.specs.Prelude.{◌≡◌, OnOk};
 ghost use Rattle.xdr_core.specs.Place.{Reads};
 ghost use Rattle.xdr_core.specs.ReadFault.{cause_of};
-ghost use Rattle.xdr_entries.specs.Entries.{data_entry as data_format};
+ghost use Rattle.xdr_entries.specs.Entries as spec;
 
 use crate::ids::{read_account_id, write_account_id};
-use item_list::ItemList;
 use ledger_types::DataEntry;
 use std::alloc::{AllocError, Global};
-use xdr_core::{Builder, Cursor, ReadFault};
+use xdr_core::{Builder, Cursor, ReadFault, read_var};
 
 /// The most bytes of a name (string64 in Stellar-ledger-entries.x).
 pub const MAX_DATA_NAME_LEN: u32 = 64;
@@ -20,12 +19,12 @@ pub const MAX_DATA_VALUE_LEN: u32 = 64;
 /// Reads data.
 #[tactic(auto, unfolding(crate::specs::Entries::data_entry))]
 pub fn read_data_entry(alloc: Global, cursor: &mut Cursor<'_>) -> Result<DataEntry, ReadFault>
-    ensures { Reads cause_of result cursor.old cursor.new (data_format.read cursor.old) }
+    ensures { Reads cause_of result cursor.old cursor.new (spec.data_entry.read cursor.old) }
 {
     let mut ahead = cursor.fork();
     let account_id = read_account_id(&mut ahead)?;
-    let data_name = ItemList::from_slice(alloc, ahead.var(MAX_DATA_NAME_LEN)?)?;
-    let data_value = ItemList::from_slice(alloc, ahead.var(MAX_DATA_VALUE_LEN)?)?;
+    let data_name = read_var(alloc, MAX_DATA_NAME_LEN, &mut ahead)?;
+    let data_value = read_var(alloc, MAX_DATA_VALUE_LEN, &mut ahead)?;
     ahead.tag(0)?;
     *cursor = ahead;
     Ok(DataEntry {
@@ -36,13 +35,13 @@ pub fn read_data_entry(alloc: Global, cursor: &mut Cursor<'_>) -> Result<DataEnt
 }
 
 /// Writes data.
-#[tactic(auto, unfolding(crate::specs::Entries::data_entry, xdr_core::specs::Combinators::constant))]
+#[tactic(auto, unfolding(crate::specs::Entries::data_entry))]
 pub fn write_data_entry(value: &DataEntry, builder: &mut Builder) -> Result<(), AllocError>
-    requires { data_format.within value.now }
-    ensures { OnOk result (builder.new ≡ data_format.onto builder.old value.now) }
+    requires { spec.data_entry.within value.now }
+    ensures { OnOk result (builder.new ≡ spec.data_entry.onto builder.old value.now) }
 {
     write_account_id(&value.account_id, builder)?;
     builder.var(value.data_name.as_slice(), MAX_DATA_NAME_LEN)?;
     builder.var(value.data_value.as_slice(), MAX_DATA_VALUE_LEN)?;
-    builder.i32(0)
+    builder.tag(0)
 }

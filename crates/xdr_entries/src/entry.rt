@@ -1,9 +1,9 @@
 //! Ledger entries.
 
-ghost use Rattle.std.specs.Prelude.{◌≡◌, OnOk};
-ghost use Rattle.xdr_core.specs.Place.{Reads};
+ghost use Rattle.std.specs.Prelude.{◌≡◌, ◌++◌, OnOk};
+ghost use Rattle.xdr_core.specs.Place.{Reads, itself};
 ghost use Rattle.xdr_core.specs.ReadFault.{cause_of};
-ghost use Rattle.xdr_entries.specs.Entries.{ledger_entry_body as body_format, ledger_entry_extension_v1 as v1_format, ledger_entry as entry_format};
+ghost use Rattle.xdr_entries.specs.Entries as spec;
 
 use crate::account::{read_account_entry, write_account_entry};
 use crate::claimable_balance::{read_claimable_balance_entry, write_claimable_balance_entry};
@@ -15,7 +15,7 @@ use crate::trust_line::{read_trust_line_entry, write_trust_line_entry};
 use ledger_types::{LedgerEntry, LedgerEntryBody, LedgerEntryExtensionV1};
 use std::alloc::{AllocError, Global};
 use xdr_core::{
-    Builder, Cursor, Decode, Encode, ReadFault, XdrKind, read_extension, read_option,
+    Builder, Cursor, Decode, Encode, ReadFault, XdrFault, XdrKind, read_extension, read_option,
     write_extension, write_option,
 };
 
@@ -43,7 +43,7 @@ pub fn read_ledger_entry_body(
     alloc: Global,
     cursor: &mut Cursor<'_>,
 ) -> Result<LedgerEntryBody, ReadFault>
-    ensures { Reads cause_of result cursor.old cursor.new (body_format.read cursor.old) }
+    ensures { Reads cause_of result cursor.old cursor.new (spec.ledger_entry_body.read cursor.old) }
 {
     let mut ahead = cursor.fork();
     let body = match ahead.i32()? {
@@ -67,8 +67,8 @@ pub fn write_ledger_entry_body(
     value: &LedgerEntryBody,
     builder: &mut Builder,
 ) -> Result<(), AllocError>
-    requires { body_format.within value.now }
-    ensures { OnOk result (builder.new ≡ body_format.onto builder.old value.now) }
+    requires { spec.ledger_entry_body.within value.now }
+    ensures { OnOk result (builder.new ≡ spec.ledger_entry_body.onto builder.old value.now) }
 {
     match value {
         LedgerEntryBody::Account(entry) => {
@@ -103,8 +103,8 @@ pub fn write_ledger_entry_body(
 pub fn read_ledger_entry_extension_v1(
     alloc: Global,
     cursor: &mut Cursor<'_>,
-) -> Result<LedgerEntryExtensionV1, ReadFault>
-    ensures { Reads cause_of result cursor.old cursor.new (v1_format.read cursor.old) }
+) -> Result<LedgerEntryExtensionV1, XdrFault>
+    ensures { Reads itself result cursor.old cursor.new (spec.ledger_entry_extension_v1.read cursor.old) }
 {
     let mut ahead = cursor.fork();
     let sponsoring_id = read_option::<AccountIdFormat>(alloc, &mut ahead)?;
@@ -114,22 +114,22 @@ pub fn read_ledger_entry_extension_v1(
 }
 
 /// Writes what sponsorship adds to an entry.
-#[tactic(auto, unfolding(crate::specs::Entries::ledger_entry_extension_v1, xdr_core::specs::Combinators::constant))]
+#[tactic(auto, unfolding(crate::specs::Entries::ledger_entry_extension_v1))]
 pub fn write_ledger_entry_extension_v1(
     value: &LedgerEntryExtensionV1,
     builder: &mut Builder,
 ) -> Result<(), AllocError>
-    requires { v1_format.within value.now }
-    ensures { OnOk result (builder.new ≡ v1_format.onto builder.old value.now) }
+    requires { spec.ledger_entry_extension_v1.within value.now }
+    ensures { OnOk result (builder.new ≡ spec.ledger_entry_extension_v1.onto builder.old value.now) }
 {
     write_option::<AccountIdFormat>(&value.sponsoring_id, builder)?;
-    builder.i32(0)
+    builder.tag(0)
 }
 
 /// Reads an entry.
 #[tactic(auto, unfolding(crate::specs::Entries::ledger_entry))]
 pub fn read_ledger_entry(alloc: Global, cursor: &mut Cursor<'_>) -> Result<LedgerEntry, ReadFault>
-    ensures { Reads cause_of result cursor.old cursor.new (entry_format.read cursor.old) }
+    ensures { Reads cause_of result cursor.old cursor.new (spec.ledger_entry.read cursor.old) }
 {
     let mut ahead = cursor.fork();
     let last_modified_ledger_seq = ahead.u32()?;
@@ -143,11 +143,20 @@ pub fn read_ledger_entry(alloc: Global, cursor: &mut Cursor<'_>) -> Result<Ledge
     })
 }
 
-/// Writes an entry.
-#[tactic(auto, unfolding(crate::specs::Entries::ledger_entry))]
+/// Writes an entry: its spelling stands at the end.
+#[tactic(auto, using(crate::proofs::AllLaws::written_values))]
 pub fn write_ledger_entry(value: &LedgerEntry, builder: &mut Builder) -> Result<(), AllocError>
-    requires { entry_format.within value.now }
-    ensures { OnOk result (builder.new ≡ entry_format.onto builder.old value.now) }
+    requires { spec.ledger_entry.within value.now }
+    ensures { OnOk result (builder.new ≡ builder.old ++ spec.ledger_entry.spell value.now) }
+{
+    write_fields(value, builder)
+}
+
+/// Writes the fields of an entry one behind another.
+#[tactic(auto, unfolding(crate::specs::Entries::ledger_entry))]
+fn write_fields(value: &LedgerEntry, builder: &mut Builder) -> Result<(), AllocError>
+    requires { spec.ledger_entry.within value.now }
+    ensures { OnOk result (builder.new ≡ spec.ledger_entry.onto builder.old value.now) }
 {
     builder.u32(value.last_modified_ledger_seq)?;
     write_ledger_entry_body(&value.body, builder)?;
@@ -160,16 +169,17 @@ pub enum LedgerEntryExtensionV1Format {}
 impl Decode for LedgerEntryExtensionV1Format {
     type Value = LedgerEntryExtensionV1;
 
-    type Failure = ReadFault;
+    type Failure = XdrFault;
 
-    ghost format = { v1_format };
+    ghost format = { spec.ledger_entry_extension_v1 };
 
-    fn decode(alloc: Global, cursor: &mut Cursor<'_>) -> Result<LedgerEntryExtensionV1, ReadFault> {
+    fn decode(alloc: Global, cursor: &mut Cursor<'_>) -> Result<LedgerEntryExtensionV1, XdrFault> {
         read_ledger_entry_extension_v1(alloc, cursor)
     }
 }
 
 impl Encode for LedgerEntryExtensionV1Format {
+    #[tactic(auto, using(crate::proofs::AllLaws::written_values))]
     fn encode(value: &LedgerEntryExtensionV1, builder: &mut Builder) -> Result<(), AllocError> {
         write_ledger_entry_extension_v1(value, builder)
     }

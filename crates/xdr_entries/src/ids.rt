@@ -3,7 +3,7 @@
 ghost use Rattle.std.specs.Prelude.{◌≡◌, OnOk};
 ghost use Rattle.xdr_core.specs.Place.{Reads, itself};
 ghost use Rattle.xdr_core.specs.Xdr.{optional};
-ghost use Rattle.xdr_entries.specs.Basic.{hash as hash_format, account_id as account_id_format, claimable_balance_id as balance_id_format, muxed_account as muxed_account_format};
+ghost use Rattle.xdr_entries.specs.Basic as spec;
 
 use ledger_types::{AccountId, ClaimableBalanceId, Hash, MuxedAccount};
 use std::alloc::{AllocError, Global};
@@ -23,7 +23,7 @@ const CLAIMABLE_BALANCE_ID_TYPE_V0: i32 = 0;
 /// Reads a hash.
 #[tactic(auto, unfolding(crate::specs::Basic::hash))]
 pub fn read_hash(cursor: &mut Cursor<'_>) -> Result<Hash, XdrFault>
-    ensures { Reads itself result cursor.old cursor.new (hash_format.read cursor.old) }
+    ensures { Reads itself result cursor.old cursor.new (spec.hash.read cursor.old) }
 {
     Ok(Hash(cursor.array::<32>()?))
 }
@@ -31,7 +31,7 @@ pub fn read_hash(cursor: &mut Cursor<'_>) -> Result<Hash, XdrFault>
 /// Writes a hash.
 #[tactic(auto, unfolding(crate::specs::Basic::hash))]
 pub fn write_hash(value: &Hash, builder: &mut Builder) -> Result<(), AllocError>
-    ensures { OnOk result (builder.new ≡ hash_format.onto builder.old value.now) }
+    ensures { OnOk result (builder.new ≡ spec.hash.onto builder.old value.now) }
 {
     builder.fixed(&value.0)
 }
@@ -39,7 +39,7 @@ pub fn write_hash(value: &Hash, builder: &mut Builder) -> Result<(), AllocError>
 /// Reads an account's id.
 #[tactic(auto, unfolding(crate::specs::Basic::account_id))]
 pub fn read_account_id(cursor: &mut Cursor<'_>) -> Result<AccountId, XdrFault>
-    ensures { Reads itself result cursor.old cursor.new (account_id_format.read cursor.old) }
+    ensures { Reads itself result cursor.old cursor.new (spec.account_id.read cursor.old) }
 {
     let mut ahead = cursor.fork();
     ahead.tag(KEY_TYPE_ED25519)?;
@@ -49,18 +49,18 @@ pub fn read_account_id(cursor: &mut Cursor<'_>) -> Result<AccountId, XdrFault>
 }
 
 /// Writes an account's id.
-#[tactic(auto, unfolding(crate::specs::Basic::account_id, xdr_core::specs::Combinators::constant))]
+#[tactic(auto, unfolding(crate::specs::Basic::account_id))]
 pub fn write_account_id(value: &AccountId, builder: &mut Builder) -> Result<(), AllocError>
-    ensures { OnOk result (builder.new ≡ account_id_format.onto builder.old value.now) }
+    ensures { OnOk result (builder.new ≡ spec.account_id.onto builder.old value.now) }
 {
-    builder.i32(KEY_TYPE_ED25519)?;
+    builder.tag(KEY_TYPE_ED25519)?;
     builder.fixed(&value.0)
 }
 
 /// Reads a claimable balance's id.
 #[tactic(auto, unfolding(crate::specs::Basic::claimable_balance_id))]
 pub fn read_claimable_balance_id(cursor: &mut Cursor<'_>) -> Result<ClaimableBalanceId, XdrFault>
-    ensures { Reads itself result cursor.old cursor.new (balance_id_format.read cursor.old) }
+    ensures { Reads itself result cursor.old cursor.new (spec.claimable_balance_id.read cursor.old) }
 {
     let mut ahead = cursor.fork();
     ahead.tag(CLAIMABLE_BALANCE_ID_TYPE_V0)?;
@@ -70,21 +70,21 @@ pub fn read_claimable_balance_id(cursor: &mut Cursor<'_>) -> Result<ClaimableBal
 }
 
 /// Writes a claimable balance's id.
-#[tactic(auto, unfolding(crate::specs::Basic::claimable_balance_id, xdr_core::specs::Combinators::constant))]
+#[tactic(auto, unfolding(crate::specs::Basic::claimable_balance_id))]
 pub fn write_claimable_balance_id(
     value: &ClaimableBalanceId,
     builder: &mut Builder,
 ) -> Result<(), AllocError>
-    ensures { OnOk result (builder.new ≡ balance_id_format.onto builder.old value.now) }
+    ensures { OnOk result (builder.new ≡ spec.claimable_balance_id.onto builder.old value.now) }
 {
-    builder.i32(CLAIMABLE_BALANCE_ID_TYPE_V0)?;
+    builder.tag(CLAIMABLE_BALANCE_ID_TYPE_V0)?;
     write_hash(&value.0, builder)
 }
 
 /// Reads an account, or one of the customers that share it.
 #[tactic(auto, unfolding(crate::specs::Basic::muxed_account))]
 pub fn read_muxed_account(cursor: &mut Cursor<'_>) -> Result<MuxedAccount, XdrFault>
-    ensures { Reads itself result cursor.old cursor.new (muxed_account_format.read cursor.old) }
+    ensures { Reads itself result cursor.old cursor.new (spec.muxed_account.read cursor.old) }
 {
     let mut ahead = cursor.fork();
     let account = match ahead.i32()? {
@@ -102,7 +102,7 @@ pub fn read_muxed_account(cursor: &mut Cursor<'_>) -> Result<MuxedAccount, XdrFa
 /// Writes an account, or one of the customers that share it.
 #[tactic(auto, unfolding(crate::specs::Basic::muxed_account))]
 pub fn write_muxed_account(value: &MuxedAccount, builder: &mut Builder) -> Result<(), AllocError>
-    ensures { OnOk result (builder.new ≡ muxed_account_format.onto builder.old value.now) }
+    ensures { OnOk result (builder.new ≡ spec.muxed_account.onto builder.old value.now) }
 {
     match value {
         MuxedAccount::Ed25519(key) => {
@@ -123,16 +123,17 @@ pub enum AccountIdFormat {}
 impl Decode for AccountIdFormat {
     type Value = AccountId;
 
-    type Failure = ReadFault;
+    type Failure = XdrFault;
 
-    ghost format = { account_id_format };
+    ghost format = { spec.account_id };
 
-    fn decode(_alloc: Global, cursor: &mut Cursor<'_>) -> Result<AccountId, ReadFault> {
-        Ok(read_account_id(cursor)?)
+    fn decode(_alloc: Global, cursor: &mut Cursor<'_>) -> Result<AccountId, XdrFault> {
+        read_account_id(cursor)
     }
 }
 
 impl Encode for AccountIdFormat {
+    #[tactic(auto, using(crate::proofs::AllLaws::written_values))]
     fn encode(value: &AccountId, builder: &mut Builder) -> Result<(), AllocError> {
         write_account_id(value, builder)
     }
@@ -146,14 +147,15 @@ impl Decode for OptionalAccountIdFormat {
 
     type Failure = ReadFault;
 
-    ghost format = { optional account_id_format };
+    ghost format = { optional spec.account_id };
 
     fn decode(alloc: Global, cursor: &mut Cursor<'_>) -> Result<Option<AccountId>, ReadFault> {
-        read_option::<AccountIdFormat>(alloc, cursor)
+        Ok(read_option::<AccountIdFormat>(alloc, cursor)?)
     }
 }
 
 impl Encode for OptionalAccountIdFormat {
+    #[tactic(auto, using(crate::proofs::AllLaws::written_values))]
     fn encode(value: &Option<AccountId>, builder: &mut Builder) -> Result<(), AllocError> {
         write_option::<AccountIdFormat>(value, builder)
     }
@@ -167,7 +169,7 @@ impl Decode for MuxedAccountFormat {
 
     type Failure = ReadFault;
 
-    ghost format = { muxed_account_format };
+    ghost format = { spec.muxed_account };
 
     fn decode(_alloc: Global, cursor: &mut Cursor<'_>) -> Result<MuxedAccount, ReadFault> {
         Ok(read_muxed_account(cursor)?)
@@ -175,6 +177,7 @@ impl Decode for MuxedAccountFormat {
 }
 
 impl Encode for MuxedAccountFormat {
+    #[tactic(auto, using(crate::proofs::AllLaws::written_values))]
     fn encode(value: &MuxedAccount, builder: &mut Builder) -> Result<(), AllocError> {
         write_muxed_account(value, builder)
     }

@@ -1,8 +1,10 @@
 //! The spellings of ledger entries, their keys and the items of buckets, read and written (protocol 18, over RFC 4506).
 //!
-//! A reader answers the value that a front of the text spells, and the cursor stands behind it; else it answers the first fault in
-//! reading order, and the cursor stands where it stood. A writer puts the spelling at the end of a text. A reader whose error is
-//! `XdrFault` takes no memory, and answers no want of it.
+//! A reader answers the value that a front of the text spells, and the cursor stands behind it; else it answers the
+//! first fault in reading order, and the cursor stands where it stood. A reader whose error is `XdrFault` takes no
+//! memory, and answers no want of it. A writer puts the spelling at the end of a text. The writers of entries, keys,
+//! items of buckets and predicates say so themselves; the others, whose values stand inside of wider ones, say it as
+//! `onto`, which the laws show to be the same.
 #![tactic(auto)]
 
 mod account;

@@ -2,7 +2,7 @@
 
 ghost use Rattle.std.specs.Prelude.{◌≡◌, OnOk};
 ghost use Rattle.xdr_core.specs.Place.{Reads, itself};
-ghost use Rattle.xdr_entries.specs.Entries.{liquidity_pool_entry as pool_format};
+ghost use Rattle.xdr_entries.specs.Entries as spec;
 
 use crate::asset::{read_pool_params, write_pool_params};
 use crate::ids::{read_hash, write_hash};
@@ -13,7 +13,7 @@ use xdr_core::{Builder, Cursor, XdrFault};
 /// Reads a pool.
 #[tactic(auto, unfolding(crate::specs::Entries::liquidity_pool_entry))]
 pub fn read_liquidity_pool_entry(cursor: &mut Cursor<'_>) -> Result<LiquidityPoolEntry, XdrFault>
-    ensures { Reads itself result cursor.old cursor.new (pool_format.read cursor.old) }
+    ensures { Reads itself result cursor.old cursor.new (spec.liquidity_pool_entry.read cursor.old) }
 {
     let mut ahead = cursor.fork();
     let pool = LiquidityPoolEntry {
@@ -34,7 +34,7 @@ pub fn write_liquidity_pool_entry(
     value: &LiquidityPoolEntry,
     builder: &mut Builder,
 ) -> Result<(), AllocError>
-    ensures { OnOk result (builder.new ≡ pool_format.onto builder.old value.now) }
+    ensures { OnOk result (builder.new ≡ spec.liquidity_pool_entry.onto builder.old value.now) }
 {
     write_hash(&value.pool_id, builder)?;
     write_pool_params(&value.params, builder)?;

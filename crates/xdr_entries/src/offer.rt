@@ -2,7 +2,7 @@
 
 ghost use Rattle.std.specs.Prelude.{◌≡◌, OnOk};
 ghost use Rattle.xdr_core.specs.Place.{Reads, itself};
-ghost use Rattle.xdr_entries.specs.Entries.{offer_entry as offer_format};
+ghost use Rattle.xdr_entries.specs.Entries as spec;
 
 use crate::asset::{read_asset, write_asset};
 use crate::ids::{read_account_id, write_account_id};
@@ -14,7 +14,7 @@ use xdr_core::{Builder, Cursor, XdrFault};
 /// Reads an offer.
 #[tactic(auto, unfolding(crate::specs::Entries::offer_entry))]
 pub fn read_offer_entry(cursor: &mut Cursor<'_>) -> Result<OfferEntry, XdrFault>
-    ensures { Reads itself result cursor.old cursor.new (offer_format.read cursor.old) }
+    ensures { Reads itself result cursor.old cursor.new (spec.offer_entry.read cursor.old) }
 {
     let mut ahead = cursor.fork();
     let offer = OfferEntry {
@@ -32,9 +32,9 @@ pub fn read_offer_entry(cursor: &mut Cursor<'_>) -> Result<OfferEntry, XdrFault>
 }
 
 /// Writes an offer.
-#[tactic(auto, unfolding(crate::specs::Entries::offer_entry, xdr_core::specs::Combinators::constant))]
+#[tactic(auto, unfolding(crate::specs::Entries::offer_entry))]
 pub fn write_offer_entry(value: &OfferEntry, builder: &mut Builder) -> Result<(), AllocError>
-    ensures { OnOk result (builder.new ≡ offer_format.onto builder.old value.now) }
+    ensures { OnOk result (builder.new ≡ spec.offer_entry.onto builder.old value.now) }
 {
     write_account_id(&value.seller_id, builder)?;
     builder.i64(value.offer_id)?;
@@ -43,5 +43,5 @@ pub fn write_offer_entry(value: &OfferEntry, builder: &mut Builder) -> Result<()
     builder.i64(value.amount)?;
     write_price(&value.price, builder)?;
     builder.u32(value.flags)?;
-    builder.i32(0)
+    builder.tag(0)
 }

@@ -1,6 +1,6 @@
 //! Predicates.
 
-ghost use Rattle.std.specs.Prelude.{◌≡◌, ◌+◌, ◌≤◌, OnOk};
+ghost use Rattle.std.specs.Prelude.{◌≡◌, ◌+◌, ◌≤◌, ◌++◌, OnOk};
 ghost use Rattle.std.specs.List.{AllByRecursion};
 ghost use Rattle.xdr_core.specs.Place.{Reads};
 ghost use Rattle.xdr_core.specs.Combinators.{many_at};
@@ -49,7 +49,7 @@ pub fn read_claim_predicate(
 
 /// Reads a predicate of at most so many levels.
 #[cycle(predicate)]
-#[tactic(auto, using(crate::proofs::Levels::one_level_more), unfolding(crate::specs::Predicates::predicate_below, xdr_core::specs::Combinators::refused))]
+#[tactic(auto, using(crate::proofs::Levels::levels_read))]
 fn read_below(
     alloc: Global,
     levels: u32,
@@ -94,7 +94,8 @@ fn read_parts(
     levels: u32,
     cursor: &mut Cursor<'_>,
 ) -> Result<ItemList<ClaimPredicate>, ReadFault>
-    ensures { Reads cause_of result cursor.old cursor.new ((list_of MAX_PARTS (predicate_below levels)).read cursor.old) }
+    ensures { Reads cause_of result cursor.old cursor.new
+        ((list_of MAX_PARTS (predicate_below levels)).read cursor.old) }
 {
     let mut ahead = cursor.fork();
     let len = ahead.count(MAX_PARTS)?;
@@ -114,7 +115,7 @@ fn read_many(
     ensures { Reads cause_of result cursor.old cursor.new (many_at (predicate_below levels) len cursor.old) }
 {
     let mut ahead = cursor.fork();
-    let mut parts = ItemList::new(alloc);
+    let mut parts = ItemList::with_capacity(alloc, len.min(MAX_PARTS) as usize)?;
     for _ in 0..len {
         parts.push(read_below(alloc, levels, &mut ahead)?)?;
     }
@@ -142,23 +143,23 @@ fn read_inner(
     Ok(Some(inner))
 }
 
-/// Writes a predicate of at most 32 levels.
+/// Writes a predicate of at most 32 levels: its spelling stands at the end.
 pub fn write_claim_predicate(
     value: &ClaimPredicate,
     builder: &mut Builder,
 ) -> Result<(), AllocError>
     requires { claim_predicate.within value.now }
-    ensures { OnOk result (builder.new ≡ claim_predicate.onto builder.old value.now) }
+    ensures { OnOk result (builder.new ≡ builder.old ++ claim_predicate.spell value.now) }
 {
     write_below(value, MAX_LEVELS, builder)
 }
 
 /// Writes a predicate of at most so many levels.
 #[cycle(predicate_out)]
-#[tactic(auto, using(crate::proofs::Levels::write_one_level_more, crate::proofs::Levels::some_level))]
+#[tactic(auto, using(crate::proofs::Levels::written_one_level_more, crate::proofs::Levels::some_level))]
 fn write_below(value: &ClaimPredicate, levels: u32, builder: &mut Builder) -> Result<(), AllocError>
     requires { (predicate_below levels).within value.now }
-    ensures { OnOk result (builder.new ≡ (predicate_below levels).onto builder.old value.now) }
+    ensures { OnOk result (builder.new ≡ builder.old ++ (predicate_below levels).spell value.now) }
 {
     write_level(value, levels - 1, builder)
 }

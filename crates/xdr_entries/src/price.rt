@@ -2,7 +2,7 @@
 
 ghost use Rattle.std.specs.Prelude.{◌≡◌, OnOk};
 ghost use Rattle.xdr_core.specs.Place.{Reads, itself};
-ghost use Rattle.xdr_entries.specs.Basic.{price as price_format, liabilities as liabilities_format};
+ghost use Rattle.xdr_entries.specs.Basic as spec;
 
 use ledger_types::{Liabilities, Price};
 use std::alloc::AllocError;
@@ -11,7 +11,7 @@ use xdr_core::{Builder, Cursor, XdrFault};
 /// Reads a price.
 #[tactic(auto, unfolding(crate::specs::Basic::price))]
 pub fn read_price(cursor: &mut Cursor<'_>) -> Result<Price, XdrFault>
-    ensures { Reads itself result cursor.old cursor.new (price_format.read cursor.old) }
+    ensures { Reads itself result cursor.old cursor.new (spec.price.read cursor.old) }
 {
     let mut ahead = cursor.fork();
     let price = Price {
@@ -25,7 +25,7 @@ pub fn read_price(cursor: &mut Cursor<'_>) -> Result<Price, XdrFault>
 /// Writes a price.
 #[tactic(auto, unfolding(crate::specs::Basic::price))]
 pub fn write_price(value: &Price, builder: &mut Builder) -> Result<(), AllocError>
-    ensures { OnOk result (builder.new ≡ price_format.onto builder.old value.now) }
+    ensures { OnOk result (builder.new ≡ spec.price.onto builder.old value.now) }
 {
     builder.i32(value.n)?;
     builder.i32(value.d)
@@ -34,7 +34,7 @@ pub fn write_price(value: &Price, builder: &mut Builder) -> Result<(), AllocErro
 /// Reads liabilities.
 #[tactic(auto, unfolding(crate::specs::Basic::liabilities))]
 pub fn read_liabilities(cursor: &mut Cursor<'_>) -> Result<Liabilities, XdrFault>
-    ensures { Reads itself result cursor.old cursor.new (liabilities_format.read cursor.old) }
+    ensures { Reads itself result cursor.old cursor.new (spec.liabilities.read cursor.old) }
 {
     let mut ahead = cursor.fork();
     let liabilities = Liabilities {
@@ -48,7 +48,7 @@ pub fn read_liabilities(cursor: &mut Cursor<'_>) -> Result<Liabilities, XdrFault
 /// Writes liabilities.
 #[tactic(auto, unfolding(crate::specs::Basic::liabilities))]
 pub fn write_liabilities(value: &Liabilities, builder: &mut Builder) -> Result<(), AllocError>
-    ensures { OnOk result (builder.new ≡ liabilities_format.onto builder.old value.now) }
+    ensures { OnOk result (builder.new ≡ spec.liabilities.onto builder.old value.now) }
 {
     builder.i64(value.buying)?;
     builder.i64(value.selling)

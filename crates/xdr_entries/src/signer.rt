@@ -2,7 +2,7 @@
 
 ghost use Rattle.std.specs.Prelude.{◌≡◌, OnOk};
 ghost use Rattle.xdr_core.specs.Place.{Reads, itself};
-ghost use Rattle.xdr_entries.specs.Basic.{signer_key as signer_key_format, signer as signer_format};
+ghost use Rattle.xdr_entries.specs.Basic as spec;
 
 use crate::ids::{read_hash, write_hash};
 use ledger_types::{Signer, SignerKey};
@@ -21,7 +21,7 @@ const SIGNER_KEY_TYPE_HASH_X: i32 = 2;
 /// Reads a signer's key.
 #[tactic(auto, unfolding(crate::specs::Basic::signer_key))]
 pub fn read_signer_key(cursor: &mut Cursor<'_>) -> Result<SignerKey, XdrFault>
-    ensures { Reads itself result cursor.old cursor.new (signer_key_format.read cursor.old) }
+    ensures { Reads itself result cursor.old cursor.new (spec.signer_key.read cursor.old) }
 {
     let mut ahead = cursor.fork();
     let key = match ahead.i32()? {
@@ -37,7 +37,7 @@ pub fn read_signer_key(cursor: &mut Cursor<'_>) -> Result<SignerKey, XdrFault>
 /// Writes a signer's key.
 #[tactic(auto, unfolding(crate::specs::Basic::signer_key))]
 pub fn write_signer_key(value: &SignerKey, builder: &mut Builder) -> Result<(), AllocError>
-    ensures { OnOk result (builder.new ≡ signer_key_format.onto builder.old value.now) }
+    ensures { OnOk result (builder.new ≡ spec.signer_key.onto builder.old value.now) }
 {
     match value {
         SignerKey::Ed25519(key) => {
@@ -58,7 +58,7 @@ pub fn write_signer_key(value: &SignerKey, builder: &mut Builder) -> Result<(), 
 /// Reads a signer.
 #[tactic(auto, unfolding(crate::specs::Basic::signer))]
 pub fn read_signer(cursor: &mut Cursor<'_>) -> Result<Signer, XdrFault>
-    ensures { Reads itself result cursor.old cursor.new (signer_format.read cursor.old) }
+    ensures { Reads itself result cursor.old cursor.new (spec.signer.read cursor.old) }
 {
     let mut ahead = cursor.fork();
     let key = read_signer_key(&mut ahead)?;
@@ -70,7 +70,7 @@ pub fn read_signer(cursor: &mut Cursor<'_>) -> Result<Signer, XdrFault>
 /// Writes a signer.
 #[tactic(auto, unfolding(crate::specs::Basic::signer))]
 pub fn write_signer(value: &Signer, builder: &mut Builder) -> Result<(), AllocError>
-    ensures { OnOk result (builder.new ≡ signer_format.onto builder.old value.now) }
+    ensures { OnOk result (builder.new ≡ spec.signer.onto builder.old value.now) }
 {
     write_signer_key(&value.key, builder)?;
     builder.u32(value.weight)
@@ -84,7 +84,7 @@ impl Decode for SignerFormat {
 
     type Failure = ReadFault;
 
-    ghost format = { signer_format };
+    ghost format = { spec.signer };
 
     fn decode(_alloc: Global, cursor: &mut Cursor<'_>) -> Result<Signer, ReadFault> {
         Ok(read_signer(cursor)?)
@@ -92,6 +92,7 @@ impl Decode for SignerFormat {
 }
 
 impl Encode for SignerFormat {
+    #[tactic(auto, using(crate::proofs::AllLaws::written_values))]
     fn encode(value: &Signer, builder: &mut Builder) -> Result<(), AllocError> {
         write_signer(value, builder)
     }

@@ -1,23 +1,22 @@
 //! Trust lines.
 
 ghost use Rattle.std.specs.Prelude.{◌≡◌, OnOk};
-ghost use Rattle.xdr_core.specs.Place.{Reads};
-ghost use Rattle.xdr_core.specs.ReadFault.{cause_of};
-ghost use Rattle.xdr_entries.specs.Entries.{trust_line_extension_v2 as v2_format, trust_line_extension_v1 as v1_format, trust_line_entry as line_format};
+ghost use Rattle.xdr_core.specs.Place.{Reads, itself};
+ghost use Rattle.xdr_entries.specs.Entries as spec;
 
 use crate::asset::{read_trust_line_asset, write_trust_line_asset};
 use crate::ids::{read_account_id, write_account_id};
 use crate::price::{read_liabilities, write_liabilities};
 use ledger_types::{TrustLineEntry, TrustLineEntryExtensionV1, TrustLineEntryExtensionV2};
 use std::alloc::{AllocError, Global};
-use xdr_core::{Builder, Cursor, Decode, Encode, ReadFault, read_extension, write_extension};
+use xdr_core::{Builder, Cursor, Decode, Encode, XdrFault, read_extension, write_extension};
 
 /// Reads what pools add to a trust line.
 #[tactic(auto, unfolding(crate::specs::Entries::trust_line_extension_v2))]
 pub fn read_trust_line_extension_v2(
     cursor: &mut Cursor<'_>,
-) -> Result<TrustLineEntryExtensionV2, ReadFault>
-    ensures { Reads cause_of result cursor.old cursor.new (v2_format.read cursor.old) }
+) -> Result<TrustLineEntryExtensionV2, XdrFault>
+    ensures { Reads itself result cursor.old cursor.new (spec.trust_line_extension_v2.read cursor.old) }
 {
     let mut ahead = cursor.fork();
     let liquidity_pool_use_count = ahead.i32()?;
@@ -29,15 +28,15 @@ pub fn read_trust_line_extension_v2(
 }
 
 /// Writes what pools add to a trust line.
-#[tactic(auto, unfolding(crate::specs::Entries::trust_line_extension_v2, xdr_core::specs::Combinators::constant))]
+#[tactic(auto, unfolding(crate::specs::Entries::trust_line_extension_v2))]
 pub fn write_trust_line_extension_v2(
     value: &TrustLineEntryExtensionV2,
     builder: &mut Builder,
 ) -> Result<(), AllocError>
-    ensures { OnOk result (builder.new ≡ v2_format.onto builder.old value.now) }
+    ensures { OnOk result (builder.new ≡ spec.trust_line_extension_v2.onto builder.old value.now) }
 {
     builder.i32(value.liquidity_pool_use_count)?;
-    builder.i32(0)
+    builder.tag(0)
 }
 
 /// Reads what liabilities add to a trust line.
@@ -45,8 +44,8 @@ pub fn write_trust_line_extension_v2(
 pub fn read_trust_line_extension_v1(
     alloc: Global,
     cursor: &mut Cursor<'_>,
-) -> Result<TrustLineEntryExtensionV1, ReadFault>
-    ensures { Reads cause_of result cursor.old cursor.new (v1_format.read cursor.old) }
+) -> Result<TrustLineEntryExtensionV1, XdrFault>
+    ensures { Reads itself result cursor.old cursor.new (spec.trust_line_extension_v1.read cursor.old) }
 {
     let mut ahead = cursor.fork();
     let liabilities = read_liabilities(&mut ahead)?;
@@ -61,8 +60,8 @@ pub fn write_trust_line_extension_v1(
     value: &TrustLineEntryExtensionV1,
     builder: &mut Builder,
 ) -> Result<(), AllocError>
-    requires { v1_format.within value.now }
-    ensures { OnOk result (builder.new ≡ v1_format.onto builder.old value.now) }
+    requires { spec.trust_line_extension_v1.within value.now }
+    ensures { OnOk result (builder.new ≡ spec.trust_line_extension_v1.onto builder.old value.now) }
 {
     write_liabilities(&value.liabilities, builder)?;
     write_extension::<TrustLineExtensionV2Format>(&value.ext, 2, builder)
@@ -73,8 +72,8 @@ pub fn write_trust_line_extension_v1(
 pub fn read_trust_line_entry(
     alloc: Global,
     cursor: &mut Cursor<'_>,
-) -> Result<TrustLineEntry, ReadFault>
-    ensures { Reads cause_of result cursor.old cursor.new (line_format.read cursor.old) }
+) -> Result<TrustLineEntry, XdrFault>
+    ensures { Reads itself result cursor.old cursor.new (spec.trust_line_entry.read cursor.old) }
 {
     let mut ahead = cursor.fork();
     let account_id = read_account_id(&mut ahead)?;
@@ -100,8 +99,8 @@ pub fn write_trust_line_entry(
     value: &TrustLineEntry,
     builder: &mut Builder,
 ) -> Result<(), AllocError>
-    requires { line_format.within value.now }
-    ensures { OnOk result (builder.new ≡ line_format.onto builder.old value.now) }
+    requires { spec.trust_line_entry.within value.now }
+    ensures { OnOk result (builder.new ≡ spec.trust_line_entry.onto builder.old value.now) }
 {
     write_account_id(&value.account_id, builder)?;
     write_trust_line_asset(&value.asset, builder)?;
@@ -117,19 +116,20 @@ pub enum TrustLineExtensionV2Format {}
 impl Decode for TrustLineExtensionV2Format {
     type Value = TrustLineEntryExtensionV2;
 
-    type Failure = ReadFault;
+    type Failure = XdrFault;
 
-    ghost format = { v2_format };
+    ghost format = { spec.trust_line_extension_v2 };
 
     fn decode(
         _alloc: Global,
         cursor: &mut Cursor<'_>,
-    ) -> Result<TrustLineEntryExtensionV2, ReadFault> {
-        Ok(read_trust_line_extension_v2(cursor)?)
+    ) -> Result<TrustLineEntryExtensionV2, XdrFault> {
+        read_trust_line_extension_v2(cursor)
     }
 }
 
 impl Encode for TrustLineExtensionV2Format {
+    #[tactic(auto, using(crate::proofs::AllLaws::written_values))]
     fn encode(value: &TrustLineEntryExtensionV2, builder: &mut Builder) -> Result<(), AllocError> {
         write_trust_line_extension_v2(value, builder)
     }
@@ -141,19 +141,20 @@ pub enum TrustLineExtensionV1Format {}
 impl Decode for TrustLineExtensionV1Format {
     type Value = TrustLineEntryExtensionV1;
 
-    type Failure = ReadFault;
+    type Failure = XdrFault;
 
-    ghost format = { v1_format };
+    ghost format = { spec.trust_line_extension_v1 };
 
     fn decode(
         alloc: Global,
         cursor: &mut Cursor<'_>,
-    ) -> Result<TrustLineEntryExtensionV1, ReadFault> {
+    ) -> Result<TrustLineEntryExtensionV1, XdrFault> {
         read_trust_line_extension_v1(alloc, cursor)
     }
 }
 
 impl Encode for TrustLineExtensionV1Format {
+    #[tactic(auto, using(crate::proofs::AllLaws::written_values))]
     fn encode(value: &TrustLineEntryExtensionV1, builder: &mut Builder) -> Result<(), AllocError> {
         write_trust_line_extension_v1(value, builder)
     }

@@ -12,6 +12,8 @@ answered digest = Ok (record { 0 = digest })
 
 pub returns : goal.returns
 returns c =
-    let whole : take c.loop-envelope.envelope-index c.args.envelopes.now ≡ c.args.envelopes.now = take_all c.loop-envelope.envelope-index c.args.envelopes.now c.loop-envelope-test.false in
+    let whole : take c.loop-envelope.envelope-index c.args.envelopes.now
+    ≡ c.args.envelopes.now =
+    take_all c.loop-envelope.envelope-index c.args.envelopes.now c.loop-envelope-test.false in
     let text = ap (flat_map (λ e. e.items)) whole ∙ sym (flat_map-map (λ e. e.items) c.args.envelopes.now) in
     ap answered (c.finalize.ensures _ c.loop-envelope.invariant ∙ ap (λ t. sha256 (c.args.previous.now.0 ++ t)) text)

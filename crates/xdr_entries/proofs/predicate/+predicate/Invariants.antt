@@ -19,7 +19,8 @@ decreases-read_parts l = 4 * l.levels + 2
 
 -- the parts read so far, and those that follow, are what is read from the front
 abbrev pub invariant-read_many-loop : goal.invariant-read_many-loop
-invariant-read_many-loop l = with_front l.parts (many_at (predicate_below l.levels) (l.len - l.counter) l.ahead) ≡ many_at (predicate_below l.levels) l.len l.fn.cursor
+invariant-read_many-loop l = with_front l.parts (many_at (predicate_below l.levels) (l.len - l.counter) l.ahead)
+    ≡ many_at (predicate_below l.levels) l.len l.fn.cursor
 
 abbrev pub decreases-read_level : goal.decreases-read_level
 decreases-read_level l = 4 * l.below + 3

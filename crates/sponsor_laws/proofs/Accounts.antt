@@ -2,7 +2,6 @@
 use Rattle.std.proofs.Common.{◌≡◌, refl, sym, ap, ◌∙◌, ℕ, suc, ◌+◌, true, false, cond, List, [], ◌∷◌, length, map, Option, Some, None, nat_eq, arith}
 use Rattle.std.specs.Prelude.{if◌then◌else◌}
 use Rattle.std.specs.List.{count_by}
-use Rattle.std.proofs.lemmas.Slice.Eq.{bytes_eq-Decides}
 use borrow.Author.Tests.{eqb-true}
 use Rattle.ledger_types.specs.declared.ids.AccountId.{AccountId}
 use Rattle.ledger_types.specs.declared.signer.Signer.{Signer}
@@ -11,21 +10,14 @@ use Rattle.ledger_types.specs.declared.account.AccountEntryExtensionV2.{AccountE
 use Rattle.ledger_types.specs.declared.entry.LedgerEntry.{LedgerEntry}
 use Rattle.ledger_types.specs.declared.entry.LedgerEntryBody.{LedgerEntryBody}
 use Rattle.ledger_types.specs.declared.entry.LedgerEntryBody.TheVariants as body
-use Rattle.reserve_rules.specs.Reserve.{second_in, sponsored_in, sponsoring_in}
+use Rattle.entry_slots.specs.AccountExtensions.{second_in, sponsored_in, sponsoring_in, sponsorship_in}
+use Rattle.entry_slots.specs.EntrySponsor.{sponsor_of}
+use Rattle.sponsor_rules.specs.Charge.{multiplicity, owner_of}
+use Rattle.sponsor_rules.specs.Counting.{count_in, with_count, with_new_count}
+use Rattle.sponsor_rules.specs.Payers.{is_account}
 use Rattle.sponsor_rules.specs.declared.count.Count.{Count}
 use Rattle.sponsor_rules.specs.declared.count.Count.TheVariants.{SubEntries, Sponsoring, Sponsored}
-use Rattle.sponsor_rules.specs.Counts.{count_in, with_count, with_new_count, sponsorship_in, multiplicity, owner_of}
-use Rattle.sponsor_rules.specs.Entries.{sponsor_of}
-use Rattle.sponsor_rules.specs.Payers.{is_account}
 use Rattle.sponsor_laws.specs.Sums.{signer_sponsors, is_this, is_there, subentries_for, sponsored_signers, sponsoring_signers, counted_for, HasItems}
-
--- ---- ids
-
-pub same_account : (a b : AccountId) → is_account a b ≡ true → a ≡ b
-same_account a b h = ap (λ (x : List ℕ). (record { 0 = x })) ((bytes_eq-Decides a.0 b.0).0 h)
-
-pub is_itself : (a : AccountId) → is_account a a ≡ true
-is_itself a = (bytes_eq-Decides a.0 a.0).1 refl
 
 -- ---- counts
 

@@ -17,18 +17,20 @@ use Rattle.sponsor_rules.specs.declared.context.Ctx.{Ctx}
 use Rattle.sponsor_rules.specs.declared.fault.AddFault.TheVariants.{LowReserve}
 use Rattle.sponsor_rules.specs.declared.count.Count.{Count}
 use Rattle.sponsor_rules.specs.declared.count.Count.TheVariants.{SubEntries, Sponsoring, Sponsored}
-use Rattle.sponsor_rules.specs.Accounts.{account_in, Stands}
-use Rattle.sponsor_rules.specs.Counts.{count_in, line_multiplicity, multiplicity, owner_of, raise, raised, subentry_counted}
-use Rattle.sponsor_rules.specs.Entries.{sponsor_of, sponsored_by, with_sponsor, adding_account, adding_balance, adding_subentry, adding_by}
+use Rattle.entry_slots.specs.Accounts.{account_in, HasAccount}
+use Rattle.entry_slots.specs.EntrySponsor.{sponsor_of, with_sponsor}
+use Rattle.sponsor_rules.specs.Charge.{charge_of, line_multiplicity, multiplicity, owner_of}
+use Rattle.sponsor_rules.specs.Counting.{count_in, with_more}
 use Rattle.sponsor_rules.specs.Payers.{is_account, open_sponsor, payer_of, payer_by, payer_tests, subentry_tests}
+use Rattle.sponsor_rules.specs.Adding.{own_tests, map_after_counting, sponsored_entry, map_after_adding_account, map_after_adding_balance, map_after_adding_subentry, map_after_adding_by}
+use Rattle.sponsor_laws.proofs.Changes.{map_with_more, shifted_raise, elsewhere_none, instead_plus, here}
 use Rattle.sponsor_laws.specs.Sums.{HasItems, is_this, is_there, signer_sponsors, total, counted_for}
 use Rattle.sponsor_laws.specs.Laws.{IsApart, IsNewAccount, HaveToStand, IsAddable, AddingKeeps}
 use Rattle.sponsor_laws.proofs.Totals.{part_of}
 use Rattle.sponsor_laws.proofs.Accounts.{share, own_part, counted_split, as_many, has_items, with_count-keeps, with_count-count}
 use Rattle.sponsor_laws.proofs.Even.{IsEven, Names, NamesSigner, even, kept_of, all_few, all_fit, nothing_if, unstanding_total, account_key, account_entry}
 use Rattle.sponsor_laws.proofs.Shifts.{Shift, at_one, plus, no_shift, IsShifted, unshifted, apart_ids, shifted_as}
-use Rattle.sponsor_laws.proofs.Changes.{shifted_raise, elsewhere_none, instead_plus, here}
-use Rattle.sponsor_laws.proofs.Paying.{shared, shared_none, shared_both, shared_payer, shifted_paying}
+use Rattle.sponsor_laws.proofs.Paying.{shared, shared_none, shared_both, shared_payer, shifted_counting}
 use Rattle.sponsor_laws.proofs.Settling.{placed, stands_after, stands_put, stands_placed}
 use Rattle.sponsor_laws.proofs.Parts.{IsSubentry, line_is, offer_is, data_is, balance_part, pool_part, share_nothing, no_items}
 use Rattle.sponsor_laws.proofs.Bounds.{done_by, payer_passed, have_passed, has_few, has_room, few_more, both_more, pays_more, HasRoom}
@@ -41,7 +43,7 @@ module _ (old : EntryMap) (h : IsEven old) where
 
   -- a new entry, for which counts went up by what it counts
   added : (p : Shift) (m : EntryMap) (e : LedgerEntry) → IsShifted p no_shift old m → get old (key_of e) ≡ None → account_in e.body ≡ None → ((count : Count) (id : AccountId) → counted_for count id e ≡ p count id)
-      → ((id : AccountId) → Names e id → Stands old id) → ((id : AccountId) → total SubEntries id old + p SubEntries id ≤ 1000)
+      → ((id : AccountId) → Names e id → HasAccount old id) → ((id : AccountId) → total SubEntries id old + p SubEntries id ≤ 1000)
       → ((id : AccountId) → total SubEntries id old + total Sponsoring id old + (p SubEntries id + p Sponsoring id) ≤ 4294967295) → IsEven (put m e)
   added p m e s free plain balanced names few fits = placed p no_shift old m e h s (record {
     balanced = λ count id. let none : part_of (counted_for count id) (get old (key_of e)) ≡ 0 = ap (part_of (counted_for count id)) free in let is = balanced count id in omega arith;
@@ -55,24 +57,23 @@ module _ (old : EntryMap) (h : IsEven old) where
   no_signer_named : {P : Type 0} (e : LedgerEntry) (id : AccountId) → account_in e.body ≡ None → NamesSigner e id → P
   no_signer_named e id plain n = absurd (let is = n.is in cc)
 
-  sponsored_body : (s : Option AccountId) (e : LedgerEntry) → (sponsored_by s e).body ≡ e.body
+  sponsored_body : (s : Option AccountId) (e : LedgerEntry) → (sponsored_entry s e).body ≡ e.body
   sponsored_body None e = refl
   sponsored_body (Some s) e = refl
 
-  sponsored_sponsor : (s : Option AccountId) (e : LedgerEntry) → sponsor_of e ≡ None → sponsor_of (sponsored_by s e) ≡ s
+  sponsored_sponsor : (s : Option AccountId) (e : LedgerEntry) → sponsor_of e ≡ None → sponsor_of (sponsored_entry s e) ≡ s
   sponsored_sponsor None e none = none
   sponsored_sponsor (Some s) e none = refl
 
   added_subentry : (ctx : Ctx) (owner : AccountId) (k : ℕ) (e : LedgerEntry) (new : EntryMap) → IsSubentry e.body owner k → get old (key_of e) ≡ None → sponsor_of e ≡ None
-      → Stands old owner → Stands old (payer_of ctx owner) → IsApart ctx owner → adding_subentry ctx e owner k old ≡ Ok new → IsEven new
+      → HasAccount old owner → HasAccount old (payer_of ctx owner) → IsApart ctx owner → map_after_adding_subentry ctx e owner k old ≡ Ok new → IsEven new
   added_subentry ctx owner k e new is free none stands payer_stands apart done =
       let s = open_sponsor ctx owner in
-      let e' = sponsored_by s e in
-      let m = subentry_counted k owner s old in
+      let e' = sponsored_entry s e in
+      let m = map_after_counting owner k s old in
       let tests = have_passed ctx old owner k (put m e') new done in
-      let first = shifted_raise no_shift no_shift SubEntries k owner old old h.own (unshifted old h.own) in
       let p : Shift = plus no_shift (at_one SubEntries k owner) in
-      let second = shifted_paying p no_shift k old (raise SubEntries k owner old) h.own first owner s in
+      let second = shifted_counting no_shift no_shift k old old h.own (unshifted old h.own) owner s in
       let same_body = sponsored_body s e in
       let payer_is : (x : AccountId) → s ≡ Some x → payer_of ctx owner ≡ x = λ x pays. ap (payer_by owner) pays in
       subst IsEven (done_by (subentry_tests ctx old owner k) (put m e') new done) (added (plus p (shared k (Some owner) s)) m e' second (ap (λ b. get old (key_of_body b)) same_body ∙ free) (ap account_in same_body ∙ is.no_account)
@@ -83,8 +84,8 @@ module _ (old : EntryMap) (h : IsEven old) where
       let part : own_part count id e'.body ≡ at_one SubEntries k owner count id = ap (own_part count id) same_body ∙ is.parts count id in
       omega arith)
       (λ id names. elim names [
-        | inl owns ↦ let same : owner ≡ id = (let is_owner = sym (ap owner_of same_body ∙ is.owns) ∙ owns in cc) in subst (Stands old) same stands
-        | inr (inl pays) ↦ subst (Stands old) (payer_is id (sym (sponsored_sponsor s e none) ∙ pays)) payer_stands
+        | inl owns ↦ let same : owner ≡ id = (let is_owner = sym (ap owner_of same_body ∙ is.owns) ∙ owns in cc) in subst (HasAccount old) same stands
+        | inr (inl pays) ↦ subst (HasAccount old) (payer_is id (sym (sponsored_sponsor s e none) ∙ pays)) payer_stands
         | inr (inr n) ↦ no_signer_named e' id (ap account_in same_body ∙ is.no_account) n
       ])
       (λ id. let le = few_more old owner id k h (has_few old owner k h stands tests.not_full) in omega arith)
@@ -94,11 +95,11 @@ module _ (old : EntryMap) (h : IsEven old) where
       )) in omega arith))
 
   added_balance : (ctx : Ctx) (payer : AccountId) (balance : ClaimableBalanceEntry) (e : LedgerEntry) (new : EntryMap) → e.body ≡ body.ClaimableBalance balance → get old (key_of e) ≡ None
-      → Stands old payer → adding_balance ctx e payer (length balance.claimants) old ≡ Ok new → IsEven new
+      → HasAccount old payer → map_after_adding_balance ctx e payer (length balance.claimants) old ≡ Ok new → IsEven new
   added_balance ctx payer balance e new is free stands done =
       let k : ℕ = length balance.claimants in
       let e' = with_sponsor (Some payer) e in
-      let m = raise Sponsoring k payer old in
+      let m = map_with_more Sponsoring k payer old in
       let first = shifted_raise no_shift no_shift Sponsoring k payer old old h.own (unshifted old h.own) in
       let over = payer_passed ctx old payer k (put m e') new done in
       subst IsEven (done_by (payer_tests ctx old payer k) (put m e') new done) (added (plus no_shift (at_one Sponsoring k payer)) m e' first free (ap account_in is)
@@ -109,7 +110,7 @@ module _ (old : EntryMap) (h : IsEven old) where
       omega arith)
       (λ id names. elim names [
         | inl owns ↦ absurd (let none : owner_of e.body ≡ None = ap owner_of is in cc)
-        | inr (inl pays) ↦ let same : payer ≡ id = cc in subst (Stands old) same stands
+        | inr (inl pays) ↦ let same : payer ≡ id = cc in subst (HasAccount old) same stands
         | inr (inr n) ↦ no_signer_named e' id (ap account_in is) n
       ])
       (λ id. let le = all_few old id h in omega arith)
@@ -144,7 +145,7 @@ module _ (old : EntryMap) (h : IsEven old) where
   -- a new account, whose counts are what its entry counts
   added_account : (p : Shift) (m : EntryMap) (e : LedgerEntry) (account : AccountEntry) → IsShifted p no_shift old m → get old (key_of e) ≡ None → e.body ≡ body.Account account
       → account.signers ≡ [] → signer_sponsors account ≡ [] → ((count : Count) (id : AccountId) → share count id 2 (Some account.account_id) (sponsor_of e) ≡ p count id)
-      → ((count : Count) → count_in count account ≡ p count account.account_id) → ((s : AccountId) → sponsor_of e ≡ Some s → Stands old s) → ((id : AccountId) → p SubEntries id ≡ 0)
+      → ((count : Count) → count_in count account ≡ p count account.account_id) → ((s : AccountId) → sponsor_of e ≡ Some s → HasAccount old s) → ((id : AccountId) → p SubEntries id ≡ 0)
       → ((id : AccountId) → total SubEntries id old + total Sponsoring id old + p Sponsoring id ≤ 4294967295) → IsEven (put m e)
   added_account p m e account s free is none unsponsored balanced counts stands no_subs fits = placed p no_shift old m e h s (record {
     balanced = λ count id.
@@ -166,7 +167,7 @@ module _ (old : EntryMap) (h : IsEven old) where
         omega arith);
     items = λ other holds. let same : account ≡ other = (let its = ap account_in is in cc) in subst HasItems same (has_items account (ap length unsponsored ∙ sym (ap length none)));
     names = λ id names. elim names [
-      | inl owns ↦ let same : account.account_id ≡ id = (let its = ap owner_of is in cc) in subst (Stands (put m e)) same (stands_placed m e account (ap account_in is))
+      | inl owns ↦ let same : account.account_id ≡ id = (let its = ap owner_of is in cc) in subst (HasAccount (put m e)) same (stands_placed m e account (ap account_in is))
       | inr (inl pays) ↦ stands_put m e id (stands_after p no_shift old m id s (stands id pays))
       | inr (inr n) ↦ absurd (let same : account ≡ n.account = (let its = ap account_in is in let holds = n.is in cc) in
           no_contained (Some id) (subst (λ xs. Contains xs (Some id)) (sym (ap signer_sponsors same) ∙ unsponsored) n.sponsor))
@@ -180,12 +181,12 @@ module _ (old : EntryMap) (h : IsEven old) where
       (λ count id. ap (share count id 2 (Some account.account_id)) none ∙ shared_none count id 2 (Some account.account_id)) fresh.counts (λ s pays. absurd (cc)) (λ id. refl)
       (λ id. let le = all_fit old id h in omega arith)
 
-  added_sponsored : (ctx : Ctx) (s : AccountId) (e : LedgerEntry) (account : AccountEntry) (new : EntryMap) → e.body ≡ body.Account account → get old (key_of e) ≡ None → IsNewAccount account → Stands old s
-      → s ≢ account.account_id → adding_account ctx e account (Some s) old ≡ Ok new → IsEven new
+  added_sponsored : (ctx : Ctx) (s : AccountId) (e : LedgerEntry) (account : AccountEntry) (new : EntryMap) → e.body ≡ body.Account account → get old (key_of e) ≡ None → IsNewAccount account → HasAccount old s
+      → s ≢ account.account_id → map_after_adding_account ctx e account (Some s) old ≡ Ok new → IsEven new
   added_sponsored ctx s e account new is free fresh stands apart done =
-      let more = raised Sponsored 2 account in
+      let more = with_more Sponsored 2 account in
       let e' : LedgerEntry = with_sponsor (Some s) (record e { body = body.Account more }) in
-      let m = raise Sponsoring 2 s old in
+      let m = map_with_more Sponsoring 2 s old in
       let parts = with_count-keeps Sponsored (count_in Sponsored account + 2) account in
       let p : Shift = shared 2 (Some account.account_id) (Some s) in
       let own_free : get old (key.Account account.account_id) ≡ None = ap (get old) (sym (ap key_of_body is)) ∙ free in
@@ -209,7 +210,7 @@ module _ (old : EntryMap) (h : IsEven old) where
       let mine = here Sponsored count 2 account.account_id more.account_id parts.id in
       let none = elsewhere_none Sponsoring count 2 s more.account_id (apart_ids s more.account_id (λ same. apart (same ∙ parts.id))) in
       omega arith)
-      (λ x pays. let same : s ≡ x = cc in subst (Stands old) same stands)
+      (λ x pays. let same : s ≡ x = cc in subst (HasAccount old) same stands)
       (λ id. refl)
       (λ id. pays_more old id (Some s) 2 h (λ x pays. let same : s ≡ x = cc in subst (λ y. HasRoom old y 2) same (has_room old s 2 h stands (payer_passed ctx old s 2 (put m e') new done)))))
 
@@ -219,15 +220,15 @@ module _ (ctx : Ctx) (owner : AccountId) (e : LedgerEntry) (old new : EntryMap) 
   subentry_of : (b : LedgerEntryBody) (own : AccountId) (k : ℕ) → e.body ≡ b → IsSubentry e.body own k → IsSubentry e.body owner k
   subentry_of b own k is sub = subst (λ x. IsSubentry e.body x k) (addable.owned own sub.owns) sub
 
-  account_added : (account : AccountEntry) → e.body ≡ body.Account account → ((s : AccountId) → open_sponsor ctx owner ≡ Some s → Stands old s) → adding_account ctx e account (open_sponsor ctx owner) old ≡ Ok new → IsEven new
+  account_added : (account : AccountEntry) → e.body ≡ body.Account account → ((s : AccountId) → open_sponsor ctx owner ≡ Some s → HasAccount old s) → map_after_adding_account ctx e account (open_sponsor ctx owner) old ≡ Ok new → IsEven new
   account_added account is stands done =
       let fresh = addable.new_account account (ap account_in is) in
-      elim (open_sponsor ctx owner) as (λ o. open_sponsor ctx owner ≡ o → adding_account ctx e account o old ≡ Ok new → IsEven new) [
-        | None ↦ λ none added. subst IsEven (done_by ((is_lt (int_cmp account.balance (pos (2 * ctx.base_reserve))), LowReserve) ∷ []) (put old e) new added) (added_unsponsored old h e account is addable.free addable.unsponsored fresh)
+      elim (open_sponsor ctx owner) as (λ o. open_sponsor ctx owner ≡ o → map_after_adding_account ctx e account o old ≡ Ok new → IsEven new) [
+        | None ↦ λ none added. subst IsEven (done_by (own_tests ctx account) (put old e) new added) (added_unsponsored old h e account is addable.free addable.unsponsored fresh)
         | Some s ↦ λ some added. added_sponsored old h ctx s e account new is addable.free fresh (stands s some) (λ same. addable.apart s some (same ∙ addable.owned account.account_id (ap owner_of is))) added
       ] refl done
 
-  added_by : (b : LedgerEntryBody) → e.body ≡ b → HaveToStand ctx owner b old → adding_by ctx owner e b old ≡ Ok new → IsEven new
+  added_by : (b : LedgerEntryBody) → e.body ≡ b → HaveToStand ctx owner b old → map_after_adding_by ctx owner e (charge_of b) (account_in b) old ≡ Ok new → IsEven new
   added_by (body.Account account) is stand done = account_added account is stand done
   added_by (body.ClaimableBalance balance) is stand done = added_balance old h ctx (payer_of ctx owner) balance e new is addable.free stand done
   added_by (body.LiquidityPool pool) is stand done = subst IsEven (cc) (added_pool old h pool e is addable.free addable.unsponsored)

@@ -9,22 +9,23 @@ use Rattle.sponsor_rules.specs.declared.count.Count.TheVariants.{SubEntries, Spo
 use Rattle.sponsor_rules.specs.declared.context.Ctx.{Ctx}
 use Rattle.sponsor_rules.specs.declared.fault.AddFault.{AddFault}
 use Rattle.sponsor_rules.specs.declared.fault.AddFault.TheVariants.{TooManySubentries, TooManySponsoring, LowReserve}
-use Rattle.sponsor_rules.specs.Accounts.{Stands}
-use Rattle.sponsor_rules.specs.Counts.{count_at, count_if}
-use Rattle.sponsor_rules.specs.Payers.{Tests, first_fault, unless_fault, unless_first, is_full, is_over, is_short, payer_of, payer_tests, subentry_tests, is_account}
+use Rattle.entry_slots.specs.Accounts.{account_at, HasAccount}
+use Rattle.entry_slots.specs.Tests.{Tests, first_fault, unless_fault, unless_first}
+use Rattle.sponsor_rules.specs.Counting.{count_at, count_if}
+use Rattle.sponsor_rules.specs.Payers.{is_full, is_over, is_short, payer_of, payer_tests, subentry_tests, is_account}
 use Rattle.sponsor_laws.specs.Sums.{is_this, total}
-use Rattle.sponsor_laws.proofs.Accounts.{same_account}
+use Rattle.sponsor_rules.proofs.Ids.{same_account}
 use Rattle.sponsor_laws.proofs.Even.{IsEven, sums_of, all_few, all_fit, this_is}
 
 -- ---- tests that let a change through
 
-passed : (tests : Tests) (m new : EntryMap) → unless_first tests m ≡ Ok new → (first_fault tests ≡ None) × (m ≡ new)
+passed : (tests : Tests AddFault) (m new : EntryMap) → unless_first tests m ≡ Ok new → (first_fault tests ≡ None) × (m ≡ new)
 passed tests m new is = elim (first_fault tests) as (λ o. first_fault tests ≡ o → unless_fault o m ≡ Ok new → (first_fault tests ≡ None) × (m ≡ new)) [
   | None ↦ λ none done. (none, cc)
   | Some fault ↦ λ some done. absurd (cc)
 ] refl is
 
-first_passed : (b : Bool) (fault : AddFault) (tests : Tests) → first_fault ((b, fault) ∷ tests) ≡ None → (b ≡ false) × (first_fault tests ≡ None)
+first_passed : (b : Bool) (fault : AddFault) (tests : Tests AddFault) → first_fault ((b, fault) ∷ tests) ≡ None → (b ≡ false) × (first_fault tests ≡ None)
 first_passed true fault tests is = absurd (cc)
 first_passed false fault tests is = (refl, is)
 
@@ -32,35 +33,35 @@ neither : (a b : Bool) → (a || b) ≡ false → (a ≡ false) × (b ≡ false)
 neither true b is = absurd (cc)
 neither false b is = (refl, is)
 
-pub done_by : (tests : Tests) (m new : EntryMap) → unless_first tests m ≡ Ok new → m ≡ new
+pub done_by : (tests : Tests AddFault) (m new : EntryMap) → unless_first tests m ≡ Ok new → m ≡ new
 done_by tests m new is = (passed tests m new is).1
 
 -- a payer that passed
-pub payer_passed : (ctx : Ctx) (m : EntryMap) (payer : AccountId) (k : ℕ) (after new : EntryMap) → unless_first (payer_tests ctx m payer k) after ≡ Ok new → is_over m payer k ≡ false
-payer_passed ctx m payer k after new is = (first_passed (is_over m payer k) TooManySponsoring ((is_short ctx m payer k, LowReserve) ∷ []) (passed (payer_tests ctx m payer k) after new is).0).0
+pub payer_passed : (ctx : Ctx) (m : EntryMap) (payer : AccountId) (k : ℕ) (after new : EntryMap) → unless_first (payer_tests ctx m payer k) after ≡ Ok new → is_over (account_at m payer) k ≡ false
+payer_passed ctx m payer k after new is = (first_passed (is_over (account_at m payer) k) TooManySponsoring ((is_short ctx.base_reserve (account_at m payer) k, LowReserve) ∷ []) (passed (payer_tests ctx m payer k) after new is).0).0
 
 -- an owner and a payer that passed
 pub record HavePassed (ctx : Ctx) (m : EntryMap) (id : AccountId) (k : ℕ) : Type 0 where
-  pub not_full : is_full m id k ≡ false
-  pub payer : is_over m (payer_of ctx id) k ≡ false
-  pub owner : is_over m id k ≡ false
+  pub not_full : is_full (account_at m id) k ≡ false
+  pub payer : is_over (account_at m (payer_of ctx id)) k ≡ false
+  pub owner : is_over (account_at m id) k ≡ false
 
 pub have_passed : (ctx : Ctx) (m : EntryMap) (owner : AccountId) (k : ℕ) (after new : EntryMap) → unless_first (subentry_tests ctx m owner k) after ≡ Ok new → HavePassed ctx m owner k
 have_passed ctx m owner k after new is =
-    let short : Tests = (is_short ctx m (payer_of ctx owner) k, LowReserve) ∷ [] in
-    let full = first_passed (is_full m owner k) TooManySubentries ((is_over m (payer_of ctx owner) k || is_over m owner k, TooManySponsoring) ∷ short) (passed (subentry_tests ctx m owner k) after new is).0 in
-    let over = neither (is_over m (payer_of ctx owner) k) (is_over m owner k) (first_passed (is_over m (payer_of ctx owner) k || is_over m owner k) TooManySponsoring short full.1).0 in
+    let short : Tests AddFault = (is_short ctx.base_reserve (account_at m (payer_of ctx owner)) k, LowReserve) ∷ [] in
+    let full = first_passed (is_full (account_at m owner) k) TooManySubentries ((is_over (account_at m (payer_of ctx owner)) k || is_over (account_at m owner) k, TooManySponsoring) ∷ short) (passed (subentry_tests ctx m owner k) after new is).0 in
+    let over = neither (is_over (account_at m (payer_of ctx owner)) k) (is_over (account_at m owner) k) (first_passed (is_over (account_at m (payer_of ctx owner)) k || is_over (account_at m owner) k) TooManySponsoring short full.1).0 in
     record { not_full = full.0; payer = over.0; owner = over.1 }
 
 -- ---- room
 
-count_at_total : (m : EntryMap) (id : AccountId) (count : Count) → IsEven m → Stands m id → count_at m id count ≡ total count id m
+count_at_total : (m : EntryMap) (id : AccountId) (count : Count) → IsEven m → HasAccount m id → count_at m id count ≡ total count id m
 count_at_total m id count h stands = ap (count_if count) stands.1 ∙ sums_of m h id stands.0 count stands.1
 
-pub has_few : (m : EntryMap) (id : AccountId) (k : ℕ) → IsEven m → Stands m id → is_full m id k ≡ false → total SubEntries id m + k ≤ 1000
+pub has_few : (m : EntryMap) (id : AccountId) (k : ℕ) → IsEven m → HasAccount m id → is_full (account_at m id) k ≡ false → total SubEntries id m + k ≤ 1000
 has_few m id k h stands not_full = let count = count_at_total m id SubEntries h stands in let le = ltb-false _ _ not_full in omega arith
 
-pub has_room : (m : EntryMap) (id : AccountId) (k : ℕ) → IsEven m → Stands m id → is_over m id k ≡ false → total SubEntries id m + total Sponsoring id m + k ≤ 4294967295
+pub has_room : (m : EntryMap) (id : AccountId) (k : ℕ) → IsEven m → HasAccount m id → is_over (account_at m id) k ≡ false → total SubEntries id m + total Sponsoring id m + k ≤ 4294967295
 has_room m id k h stands not_over =
     let subs = count_at_total m id SubEntries h stands in
     let pays = count_at_total m id Sponsoring h stands in

@@ -2,7 +2,7 @@
 use Rattle.std.proofs.Common.{◌≡◌, ◌≢◌, ◌⊎◌, inl, inr, refl, sym, ap, subst, ◌∙◌, ℕ, ◌+◌, ◌-◌, ◌≤◌, true, false, cond, Option, Some, None, arith}
 use Rattle.std.specs.Prelude.{if◌then◌else◌}
 use Rattle.std.specs.Ordering.{eq_by_cmp}
-use Rattle.std.specs.FinMap.{get, get-insert}
+use Rattle.std.specs.FinMap.{get, get-insert, same_map}
 use Rattle.ledger_types.specs.declared.ids.AccountId.{AccountId}
 use Rattle.ledger_types.specs.declared.account.AccountEntry.{AccountEntry}
 use Rattle.ledger_types.specs.declared.entry.LedgerEntry.{LedgerEntry}
@@ -12,18 +12,19 @@ use Rattle.ledger_types.specs.declared.key.LedgerKey.{LedgerKey}
 use Rattle.ledger_types.specs.declared.key.LedgerKey.TheVariants as key
 use Rattle.ledger_types.specs.Keys.{key_of, key_of_body}
 use Rattle.ledger_types.specs.KeyOrder.{key_cmp}
-use Rattle.ledger_types.proofs.KeyOrdering.{keys_total}
+use Rattle.ledger_types.proofs.KeyOrdering.{keys_total, keys_exact}
 use Rattle.entry_map.specs.EntryMap.{EntryMap, put}
 use Rattle.entry_map.proofs.KeyMaps.{same_keys, same_itself}
 use Rattle.entry_map.proofs.Layers.{after_insert}
 use Rattle.sponsor_rules.specs.declared.count.Count.{Count}
 use Rattle.sponsor_rules.specs.declared.count.Count.TheVariants.{SubEntries, Sponsoring, Sponsored}
-use Rattle.sponsor_rules.specs.Accounts.{account_in, account_of, account_at, with_account, with_account_of, with_account_in}
-use Rattle.sponsor_rules.specs.Counts.{count_in, raised, lowered, raise, lower}
+use Rattle.entry_slots.specs.Accounts.{account_in, account_of, account_at, with_account, with_account_of, with_account_in}
+use Rattle.sponsor_rules.specs.Counting.{count_in, with_more, with_less}
 use Rattle.sponsor_rules.specs.Payers.{is_account}
 use Rattle.sponsor_laws.specs.Sums.{total, counted_for}
 use Rattle.sponsor_laws.proofs.Totals.{part_of, sum_in-insert}
-use Rattle.sponsor_laws.proofs.Accounts.{KeepsParts, keeps_twice, with_count-keeps, with_count-count, instead, is_itself, counted-keeps}
+use Rattle.sponsor_rules.proofs.Ids.{is_itself}
+use Rattle.sponsor_laws.proofs.Accounts.{KeepsParts, keeps_twice, with_count-keeps, with_count-count, instead, counted-keeps}
 use Rattle.sponsor_laws.proofs.Even.{AreOwn, account_key, stands_in}
 use Rattle.sponsor_laws.proofs.Shifts.{Shift, at_one, plus, IsShiftedAccount, AlikeBodies, Alike, IsShifted, apart_ids, account_after, entry_after, shifted_as, alike_agree}
 
@@ -74,6 +75,72 @@ changed_at m id f own = elim (get m (key.Account id)) as (ChangeOf m id f) [
   | None ↦ λ none. inl (ap account_of none, ap (with_account_of m f) none)
   | Some e ↦ λ there. changed_by m id f e e.body refl own there
 ] refl
+
+-- ---- two changes of one account
+
+put_both : (k q : LedgerKey) (m : EntryMap) (e f : LedgerEntry) → key_of f ≡ key_of e → get (put (put m e) f) q ≡ get (put m f) q
+put_both k q m e f same = put_get (put m e) f q
+    ∙ elim (eq_by_cmp key_cmp q (key_of f)) as (λ b. eq_by_cmp key_cmp q (key_of f) ≡ b → cond b (Some f) (get (put m e) q) ≡ cond b (Some f) (get m q)) [
+      | true ↦ λ tied. refl
+      | false ↦ λ apart. put_get m e q ∙ ap (λ b. cond b (Some e) (get m q)) (ap (eq_by_cmp key_cmp q) (sym same) ∙ apart)
+    ] refl
+    ∙ sym (put_get m f q)
+
+-- an entry that is put in place of another one
+put_twice : (m : EntryMap) (e f : LedgerEntry) → key_of f ≡ key_of e → put (put m e) f ≡ put m f
+put_twice m e f same = same_map keys_total keys_exact _ _ (λ q. put_both (key_of e) q m e f same)
+
+put_found : (m : EntryMap) (e : LedgerEntry) (id : AccountId) → key_of e ≡ key.Account id → get (put m e) (key.Account id) ≡ Some e
+put_found m e id named = put_get m e (key.Account id) ∙ ap (λ b. cond b (Some e) (get m (key.Account id))) (ap (λ k. eq_by_cmp key_cmp k (key_of e)) (sym named) ∙ same_itself (key_of e))
+
+changed_again : (m : EntryMap) (id : AccountId) (f g : AccountEntry → AccountEntry) → ((a : AccountEntry) → (f a).account_id ≡ a.account_id) → ((a : AccountEntry) → (g a).account_id ≡ a.account_id)
+    → IsChangedAt m id f → IsChangedAt m id (λ a. g (f a)) → with_account (with_account m id f) id g ≡ with_account m id (λ a. g (f a))
+unfolding with_account
+changed_again m id f g keeps_f keeps_g first both =
+    let e : LedgerEntry = record first.entry { body = body.Account (f first.account) } in
+    let named : key_of e ≡ key.Account id = ap key.Account (keeps_f first.account ∙ first.own_id) in
+    let same_entry : first.entry ≡ both.entry = (let one = first.there in let other = both.there in cc) in
+    let same_body : body.Account first.account ≡ body.Account both.account = sym first.is ∙ ap (λ (x : LedgerEntry). x.body) same_entry ∙ both.is in
+    let same_of : first.account ≡ both.account = cc in
+    let last : LedgerEntry = record e { body = body.Account (g (f first.account)) } in
+    ap (λ n. with_account n id g) first.is_put
+    ∙ ap (with_account_of (put m e) g) (put_found m e id named)
+    ∙ put_twice m e last (ap key.Account (keeps_g (f first.account)))
+    ∙ (λ i. put m (record (same_entry i) { body = body.Account (g (f (same_of i))) }))
+    ∙ sym both.is_put
+
+-- an account that is changed twice
+pub twice : (m : EntryMap) (id : AccountId) (f g : AccountEntry → AccountEntry) → AreOwn m → ((a : AccountEntry) → (f a).account_id ≡ a.account_id) → ((a : AccountEntry) → (g a).account_id ≡ a.account_id)
+    → with_account (with_account m id f) id g ≡ with_account m id (λ a. g (f a))
+twice m id f g own keeps_f keeps_g = elim (changed_at m id f own) [
+  | inl none ↦ elim (changed_at m id (λ a. g (f a)) own) [
+    | inl both ↦ ap (λ n. with_account n id g) none.1 ∙ unchanged m id g own none.0 ∙ sym both.1
+    | inr both ↦ absurd (missing_not m id (λ a. g (f a)) none.0 both)
+  ]
+  | inr first ↦ elim (changed_at m id (λ a. g (f a)) own) [
+    | inl both ↦ absurd (missing_not m id f both.0 first)
+    | inr both ↦ changed_again m id f g keeps_f keeps_g first both
+  ]
+]
+  where
+    missing_not : (m : EntryMap) (id : AccountId) (f : AccountEntry → AccountEntry) → account_at m id ≡ None → IsChangedAt m id f → ⊥
+    missing_not m id f none c = let stands = stands_in m id c.entry c.account c.there (ap account_in c.is) in absurd (cc)
+
+    unchanged : (m : EntryMap) (id : AccountId) (g : AccountEntry → AccountEntry) → AreOwn m → account_at m id ≡ None → with_account m id g ≡ m
+    unchanged m id g own none = elim (changed_at m id g own) [ inl missing ↦ missing.1 | inr c ↦ absurd (missing_not m id g none c) ]
+
+-- the map with a count of an account raised, or lowered
+abbrev pub map_with_more : Count → ℕ → AccountId → EntryMap → EntryMap
+map_with_more count k id m = with_account m id (with_more count k)
+
+abbrev pub map_with_less : Count → ℕ → AccountId → EntryMap → EntryMap
+map_with_less count k id m = with_account m id (with_less count k)
+
+pub more_keeps : (count : Count) (k : ℕ) (a : AccountEntry) → (with_more count k a).account_id ≡ a.account_id
+more_keeps count k a = (with_count-keeps count (count_in count a + k) a).id
+
+pub less_keeps : (count : Count) (k : ℕ) (a : AccountEntry) → (with_less count k a).account_id ≡ a.account_id
+less_keeps count k a = (with_count-keeps count (count_in count a - k) a).id
 
 -- ---- a change that moves counts
 
@@ -176,10 +243,10 @@ pub elsewhere_none : (count other : Count) (k : ℕ) (id i : AccountId) → is_a
 elsewhere_none count other k id i apart = ap (λ t. instead count other (if t then k else 0) 0) apart ∙ instead_none count other
 
 module _ (p q : Shift) (count : Count) (k : ℕ) (id : AccountId) (old m : EntryMap) (own : AreOwn old) (h : IsShifted p q old m) where
-  pub shifted_raise : IsShifted (plus p (at_one count k id)) q old (raise count k id m)
-  shifted_raise = shifted_change p q (plus p (at_one count k id)) q id (raised count k) old m own h (λ a. with_count-keeps count (count_in count a + k) a)
+  pub shifted_raise : IsShifted (plus p (at_one count k id)) q old (map_with_more count k id m)
+  shifted_raise = shifted_change p q (plus p (at_one count k id)) q id (with_more count k) old m own h (λ a. with_count-keeps count (count_in count a + k) a)
       (λ was account stands same s. record {
-        parts = keeps_twice was account (raised count k account) s.parts (with_count-keeps count (count_in count account + k) account);
+        parts = keeps_twice was account (with_more count k account) s.parts (with_count-keeps count (count_in count account + k) account);
         counts = λ other.
             let is = with_count-count count other (count_in count account + k) account in
             let moved = instead_plus count other (count_in count account) (count_in other account) k (λ e. ap (λ c. count_in c account) e) in
@@ -189,10 +256,10 @@ module _ (p q : Shift) (count : Count) (k : ℕ) (id : AccountId) (old m : Entry
       })
       (λ i apart other. let none = elsewhere_none count other k id i apart in (omega arith, refl))
 
-  pub shifted_lower : ((was : AccountEntry) → account_at old id ≡ Some was → q count id + k ≤ count_in count was + p count id) → IsShifted p (plus q (at_one count k id)) old (lower count k id m)
-  shifted_lower enough = shifted_change p q p (plus q (at_one count k id)) id (lowered count k) old m own h (λ a. with_count-keeps count (count_in count a - k) a)
+  pub shifted_lower : ((was : AccountEntry) → account_at old id ≡ Some was → q count id + k ≤ count_in count was + p count id) → IsShifted p (plus q (at_one count k id)) old (map_with_less count k id m)
+  shifted_lower enough = shifted_change p q p (plus q (at_one count k id)) id (with_less count k) old m own h (λ a. with_count-keeps count (count_in count a - k) a)
       (λ was account stands same s. record {
-        parts = keeps_twice was account (lowered count k account) s.parts (with_count-keeps count (count_in count account - k) account);
+        parts = keeps_twice was account (with_less count k account) s.parts (with_count-keeps count (count_in count account - k) account);
         counts = λ other.
             let is = with_count-count count other (count_in count account - k) account in
             let le : k ≤ count_in count account = (let at_id = enough was stands in let mine = s.counts count in let q_at = ap (q count) same in let p_at = ap (p count) same in omega arith) in

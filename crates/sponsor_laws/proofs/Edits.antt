@@ -13,13 +13,15 @@ use Rattle.ledger_types.specs.Keys.{key_of, key_of_body}
 use Rattle.entry_map.specs.EntryMap.{EntryMap, put}
 use Rattle.sponsor_rules.specs.declared.count.Count.{Count}
 use Rattle.sponsor_rules.specs.declared.count.Count.TheVariants.{SubEntries, Sponsoring, Sponsored}
-use Rattle.sponsor_rules.specs.Accounts.{account_in, with_account, Stands}
-use Rattle.sponsor_rules.specs.Counts.{count_in, multiplicity, owner_of}
-use Rattle.sponsor_rules.specs.Entries.{sponsor_of}
+use Rattle.entry_slots.specs.Accounts.{account_in, with_account, HasAccount}
+use Rattle.entry_slots.specs.EntrySponsor.{sponsor_of}
+use Rattle.sponsor_rules.specs.Charge.{multiplicity, owner_of}
+use Rattle.sponsor_rules.specs.Counting.{count_in}
 use Rattle.sponsor_rules.specs.Payers.{is_account}
 use Rattle.sponsor_laws.specs.Sums.{HasItems, is_this, is_there, signer_sponsors, total, counted_for}
 use Rattle.sponsor_laws.proofs.Totals.{part_of}
-use Rattle.sponsor_laws.proofs.Accounts.{share, own_part, counted_split, is_itself, has_items}
+use Rattle.sponsor_rules.proofs.Ids.{is_itself}
+use Rattle.sponsor_laws.proofs.Accounts.{share, own_part, counted_split, has_items}
 use Rattle.sponsor_laws.proofs.Even.{IsEven, count_none, stands_or_not, not_this}
 use Rattle.sponsor_laws.proofs.Shifts.{Shift, at_one, IsShifted, IsShiftedAccount, AlikeBodies, entry_after}
 use Rattle.sponsor_laws.proofs.Changes.{IsChangedAt, changed_at}
@@ -31,7 +33,7 @@ pub record IsEdited (p q : Shift) (old : EntryMap) (a c : AccountEntry) : Type 0
   pub counts : (count : Count) → count_in count c + q count a.account_id ≡ count_in count a + p count a.account_id
   pub items : length (signer_sponsors c) ≡ length c.signers
   pub parts : (count : Count) (i : AccountId) → p count i + own_part count i (body.Account a) ≡ q count i + own_part count i (body.Account c)
-  pub names : (i : AccountId) → Contains (signer_sponsors c) (Some i) → Stands old i
+  pub names : (i : AccountId) → Contains (signer_sponsors c) (Some i) → HasAccount old i
 
 module _ (p q : Shift) (id : AccountId) (f : AccountEntry → AccountEntry) (old m : EntryMap) (h : IsEven old) (s : IsShifted p q old m) (e : LedgerEntry) (a : AccountEntry)
     (there : get old (key.Account id) ≡ Some e) (is : e.body ≡ body.Account a) (edits : (b : AccountEntry) → IsShiftedAccount p q a b → IsEdited p q old a (f b))
@@ -75,7 +77,7 @@ module _ (p q : Shift) (id : AccountId) (f : AccountEntry → AccountEntry) (old
               subst (λ i. count_in count c + q count i ≡ total count i old + p count i) (sym edit.id) (omega arith));
           items = λ account holds. let same : c ≡ account = cc in subst HasItems same (has_items c edit.items);
           names = λ i names. elim names [
-            | inl owns ↦ let same : c.account_id ≡ i = cc in subst (Stands (put m e')) same (stands_placed m e' c refl)
+            | inl owns ↦ let same : c.account_id ≡ i = cc in subst (HasAccount (put m e')) same (stands_placed m e' c refl)
             | inr (inl pays) ↦ stands_put m e' i (stands_after p q old m i s (h.names (key.Account id) e i there (inr (inl (sym same_sponsor ∙ pays)))))
             | inr (inr n) ↦ let same : c ≡ n.account = (let holds = n.is in cc) in
                 stands_put m e' i (stands_after p q old m i s (edit.names i (subst (λ (y : AccountEntry). Contains (signer_sponsors y) (Some i)) (sym same) n.sponsor)))
@@ -102,8 +104,8 @@ counted_once xs i has =
 
 -- where a list has one sponsor more at most, who is named in it stands
 pub named_stands : (old : EntryMap) (xs more : List (Option AccountId)) (s : Option AccountId) (i : AccountId) → count_by (is_this i) more ≤ count_by (is_this i) xs + cond (is_this i s) 1 0
-    → (s ≡ Some i → Stands old i) → (Contains xs (Some i) → Stands old i) → Contains more (Some i) → Stands old i
-named_stands old xs more s i le new before has = stands_or_not (Stands old i) old i (λ stands. stands) (λ apart.
+    → (s ≡ Some i → HasAccount old i) → (Contains xs (Some i) → HasAccount old i) → Contains more (Some i) → HasAccount old i
+named_stands old xs more s i le new before has = stands_or_not (HasAccount old i) old i (λ stands. stands) (λ apart.
     let once = counted_once more i has in
     let none = count_none i xs (λ there. apart (before there)) in
     let other : ◌≡◌ {A = ℕ} (cond (is_this i s) 1 0) 0 = ap (λ t. cond t 1 0) (not_this i s (λ is. apart (new is))) in

@@ -16,13 +16,14 @@ use Rattle.ledger_types.proofs.KeyOrdering.{keys_total}
 use Rattle.entry_map.specs.EntryMap.{EntryMap, IsKeyed}
 use Rattle.sponsor_rules.specs.declared.count.Count.{Count}
 use Rattle.sponsor_rules.specs.declared.count.Count.TheVariants.{SubEntries, Sponsoring, Sponsored}
-use Rattle.sponsor_rules.specs.Accounts.{account_in, account_of, account_at, Stands}
-use Rattle.sponsor_rules.specs.Counts.{count_in, multiplicity, owner_of}
-use Rattle.sponsor_rules.specs.Entries.{sponsor_of}
+use Rattle.entry_slots.specs.Accounts.{account_in, account_of, account_at, HasAccount}
+use Rattle.entry_slots.specs.EntrySponsor.{sponsor_of}
+use Rattle.sponsor_rules.specs.Charge.{multiplicity, owner_of}
+use Rattle.sponsor_rules.specs.Counting.{count_in}
 use Rattle.sponsor_laws.specs.Sums.{HasItems, signer_sponsors, subentries_for, sponsored_signers, sponsoring_signers, total, counted_for, is_this, is_there}
 use Rattle.sponsor_laws.specs.Laws.{AreKept}
 use Rattle.sponsor_laws.proofs.Totals.{sum_in-none}
-use Rattle.sponsor_laws.proofs.Accounts.{same_account}
+use Rattle.sponsor_rules.proofs.Ids.{same_account}
 
 -- an entry names an account as its owner, its sponsor or the sponsor of a signer
 pub record NamesSigner (e : LedgerEntry) (id : AccountId) : Type 0 where
@@ -42,9 +43,9 @@ pub record IsEven (m : EntryMap) : Type 0 where
   pub own : AreOwn m
   pub sums : (k : LedgerKey) (e : LedgerEntry) (account : AccountEntry) (count : Count) → get m k ≡ Some e → account_in e.body ≡ Some account → count_in count account ≡ total count account.account_id m
   pub items : (k : LedgerKey) (e : LedgerEntry) (account : AccountEntry) → get m k ≡ Some e → account_in e.body ≡ Some account → HasItems account
-  pub names : (k : LedgerKey) (e : LedgerEntry) (id : AccountId) → get m k ≡ Some e → Names e id → Stands m id
-  pub few : (id : AccountId) → Stands m id → total SubEntries id m ≤ 1000
-  pub fits : (id : AccountId) → Stands m id → total SubEntries id m + total Sponsoring id m ≤ 4294967295
+  pub names : (k : LedgerKey) (e : LedgerEntry) (id : AccountId) → get m k ≡ Some e → Names e id → HasAccount m id
+  pub few : (id : AccountId) → HasAccount m id → total SubEntries id m ≤ 1000
+  pub fits : (id : AccountId) → HasAccount m id → total SubEntries id m + total Sponsoring id m ≤ 4294967295
 
 -- ---- keys
 
@@ -184,12 +185,12 @@ unnamed_counts_nothing Sponsored id e apart =
 unnamed_total : (count : Count) (id : AccountId) (m : EntryMap) → ((k : LedgerKey) (e : LedgerEntry) → get m k ≡ Some e → Names e id → ⊥) → total count id m ≡ 0
 unnamed_total count id m apart = sum_in-none keys_total (counted_for count id) m (λ k e there. unnamed_counts_nothing count id e (apart k e there))
 
-pub unstanding_total : (count : Count) (id : AccountId) (m : EntryMap) → IsEven m → (Stands m id → ⊥) → total count id m ≡ 0
+pub unstanding_total : (count : Count) (id : AccountId) (m : EntryMap) → IsEven m → (HasAccount m id → ⊥) → total count id m ≡ 0
 unstanding_total count id m h apart = unnamed_total count id m (λ k e there names. apart (h.names k e id there names))
 
 -- ---- bounds of all totals
 
-pub stands_or_not : (P : Type 0) (m : EntryMap) (id : AccountId) → (Stands m id → P) → ((Stands m id → ⊥) → P) → P
+pub stands_or_not : (P : Type 0) (m : EntryMap) (id : AccountId) → (HasAccount m id → P) → ((HasAccount m id → ⊥) → P) → P
 stands_or_not P m id f g = elim (account_at m id) as (λ o. account_at m id ≡ o → P) [
   | None ↦ λ none. g (λ stands. let there = stands.1 in absurd (cc))
   | Some account ↦ λ there. f (account, there)

@@ -21,12 +21,13 @@ use Rattle.ledger_types.specs.Keys.{key_of_body}
 use Rattle.entry_map.specs.EntryMap.{EntryMap}
 use Rattle.sponsor_rules.specs.declared.count.Count.{Count}
 use Rattle.sponsor_rules.specs.declared.count.Count.TheVariants.{SubEntries, Sponsoring, Sponsored}
-use Rattle.sponsor_rules.specs.Accounts.{account_in}
-use Rattle.sponsor_rules.specs.Counts.{line_multiplicity, multiplicity, owner_of}
-use Rattle.sponsor_rules.specs.Entries.{sponsor_of}
+use Rattle.entry_slots.specs.Accounts.{account_in}
+use Rattle.entry_slots.specs.EntrySponsor.{sponsor_of}
+use Rattle.sponsor_rules.specs.Charge.{line_multiplicity, multiplicity, owner_of}
 use Rattle.sponsor_rules.specs.Payers.{is_account}
 use Rattle.sponsor_laws.specs.Sums.{is_this, is_there, signer_sponsors, subentries_for, total, counted_for}
-use Rattle.sponsor_laws.proofs.Accounts.{is_itself, share, own_part, counted_split}
+use Rattle.sponsor_rules.proofs.Ids.{is_itself}
+use Rattle.sponsor_laws.proofs.Accounts.{share, own_part, counted_split}
 use Rattle.sponsor_laws.proofs.Even.{IsEven, sums_of, nothing_if}
 use Rattle.sponsor_laws.proofs.Shifts.{Shift, at_one, no_shift}
 use Rattle.sponsor_laws.proofs.Paying.{HasEnough}

@@ -16,8 +16,8 @@ use Rattle.entry_map.specs.EntryMap.{EntryMap, put, erase}
 use Rattle.entry_map.proofs.KeyMaps.{same_keys, same_itself}
 use Rattle.sponsor_rules.specs.declared.count.Count.{Count}
 use Rattle.sponsor_rules.specs.declared.count.Count.TheVariants.{SubEntries, Sponsoring}
-use Rattle.sponsor_rules.specs.Accounts.{account_in, Stands}
-use Rattle.sponsor_rules.specs.Counts.{count_in}
+use Rattle.entry_slots.specs.Accounts.{account_in, HasAccount}
+use Rattle.sponsor_rules.specs.Counting.{count_in}
 use Rattle.sponsor_laws.specs.Sums.{HasItems, total, counted_for}
 use Rattle.sponsor_laws.proofs.Totals.{part_of, sum_in-remove}
 use Rattle.sponsor_laws.proofs.Accounts.{as_many, has_items}
@@ -38,7 +38,7 @@ part_alike p q count id None (Some y) h = absurd h
 part_alike p q count id (Some x) None h = absurd h
 part_alike p q count id (Some x) (Some y) h = same_counted p q count id x y h
 
-pub stands_after : (p q : Shift) (old m : EntryMap) (id : AccountId) → IsShifted p q old m → Stands old id → Stands m id
+pub stands_after : (p q : Shift) (old m : EntryMap) (id : AccountId) → IsShifted p q old m → HasAccount old id → HasAccount m id
 stands_after p q old m id h stands =
     let entry = account_entry old id stands.0 stands.1 in
     let now = entry_after p q old m (key.Account id) entry.0 h entry.1.0 in
@@ -51,21 +51,21 @@ pub record IsSettledEntry (p q : Shift) (old new : EntryMap) (k : LedgerKey) (e 
   pub sums : (account : AccountEntry) (count : Count) → account_in e.body ≡ Some account
       → count_in count account + q count account.account_id ≡ total count account.account_id old + p count account.account_id
   pub items : (account : AccountEntry) → account_in e.body ≡ Some account → HasItems account
-  pub names : (id : AccountId) → Names e id → Stands new id
+  pub names : (id : AccountId) → Names e id → HasAccount new id
 
 -- `new` is `m` with something else under a key, or nothing, and that settles what counts moved by
 pub record Settles (p q : Shift) (old m new : EntryMap) (k : LedgerKey) (after : Option LedgerEntry) : Type 0 where
   pub got : (x : LedgerKey) → get new x ≡ cond (eq_by_cmp key_cmp x k) after (get m x)
   pub summed : (count : Count) (id : AccountId) → total count id new + part_of (counted_for count id) (get m k) ≡ total count id m + part_of (counted_for count id) after
-  pub balanced : (count : Count) (id : AccountId) → Stands new id → p count id + part_of (counted_for count id) (get old k) ≡ q count id + part_of (counted_for count id) after
+  pub balanced : (count : Count) (id : AccountId) → HasAccount new id → p count id + part_of (counted_for count id) (get old k) ≡ q count id + part_of (counted_for count id) after
   pub entry : (e : LedgerEntry) → after ≡ Some e → IsSettledEntry p q old new k e
-  pub rest : (x : LedgerKey) (e : LedgerEntry) (id : AccountId) → x ≢ k → get old x ≡ Some e → Names e id → Stands new id
-  pub few : (id : AccountId) → Stands new id → total SubEntries id old + p SubEntries id ≤ 1000 + q SubEntries id
-  pub fits : (id : AccountId) → Stands new id
+  pub rest : (x : LedgerKey) (e : LedgerEntry) (id : AccountId) → x ≢ k → get old x ≡ Some e → Names e id → HasAccount new id
+  pub few : (id : AccountId) → HasAccount new id → total SubEntries id old + p SubEntries id ≤ 1000 + q SubEntries id
+  pub fits : (id : AccountId) → HasAccount new id
       → total SubEntries id old + total Sponsoring id old + (p SubEntries id + p Sponsoring id) ≤ 4294967295 + (q SubEntries id + q Sponsoring id)
 
 module _ (p q : Shift) (old m new : EntryMap) (k : LedgerKey) (after : Option LedgerEntry) (even : IsEven old) (h : IsShifted p q old m) (s : Settles p q old m new k after) where
-  total_new : (count : Count) (id : AccountId) → Stands new id → total count id new + q count id ≡ total count id old + p count id
+  total_new : (count : Count) (id : AccountId) → HasAccount new id → total count id new + q count id ≡ total count id old + p count id
   total_new count id stands =
       let summed = s.summed count id in
       let balanced = s.balanced count id stands in
@@ -111,7 +111,7 @@ module _ (p q : Shift) (old m new : EntryMap) (k : LedgerKey) (after : Option Le
         has_items account (ap length was.2.parts.sponsors ∙ as_many was.0 (even.items x was_entry.0 was.0 was_entry.1 was.1) ∙ sym (ap length was.2.parts.signers))
   ]
 
-  names_new : (x : LedgerKey) (e : LedgerEntry) (id : AccountId) → get new x ≡ Some e → Names e id → Stands new id
+  names_new : (x : LedgerKey) (e : LedgerEntry) (id : AccountId) → get new x ≡ Some e → Names e id → HasAccount new id
   names_new x e id there names = elim (from x e there) [
     | inl here ↦ (s.entry e here.1).names id names
     | inr other ↦
@@ -147,7 +147,7 @@ left_over m k x e there = elim (eq_by_cmp key_cmp x k) as (λ b. eq_by_cmp key_c
   | false ↦ λ apart is. (λ same. let none : get (erase m k) x ≡ None = ap (get (erase m k)) same ∙ none_left m k in absurd (cc), is)
 ] refl (sym (erase_get m k x) ∙ there)
 
-pub stands_erased : (m : EntryMap) (k : LedgerKey) (id : AccountId) → key.Account id ≢ k → Stands m id → Stands (erase m k) id
+pub stands_erased : (m : EntryMap) (k : LedgerKey) (id : AccountId) → key.Account id ≢ k → HasAccount m id → HasAccount (erase m k) id
 stands_erased m k id apart stands =
     let entry = account_entry m id stands.0 stands.1 in
     let left : get (erase m k) (key.Account id) ≡ get m (key.Account id) = erase_get m k (key.Account id)
@@ -159,8 +159,8 @@ stands_erased m k id apart stands =
 
 -- an entry is taken away, for which counts went down
 pub erased : (q : Shift) (old m : EntryMap) (k : LedgerKey) (e : LedgerEntry) → IsEven old → IsShifted no_shift q old m → get old k ≡ Some e
-    → ((count : Count) (id : AccountId) → Stands (erase m k) id → counted_for count id e ≡ q count id)
-    → ((x : LedgerKey) (y : LedgerEntry) (id : AccountId) → x ≢ k → get old x ≡ Some y → Names y id → Stands (erase m k) id) → IsEven (erase m k)
+    → ((count : Count) (id : AccountId) → HasAccount (erase m k) id → counted_for count id e ≡ q count id)
+    → ((x : LedgerKey) (y : LedgerEntry) (id : AccountId) → x ≢ k → get old x ≡ Some y → Names y id → HasAccount (erase m k) id) → IsEven (erase m k)
 erased q old m k e even h there balanced rest = settled no_shift q old m (erase m k) k None even h (record {
   got = erase_get m k;
   summed = λ count id.
@@ -184,15 +184,15 @@ account_body_of other id is = absurd (cc)
 put_there : (m : EntryMap) (e : LedgerEntry) → get (put m e) (key_of e) ≡ Some e
 put_there m e = put_get m e (key_of e) ∙ ap (λ b. cond b (Some e) (get m (key_of e))) (same_itself (key_of e))
 
-pub stands_put : (m : EntryMap) (e : LedgerEntry) (id : AccountId) → Stands m id → Stands (put m e) id
+pub stands_put : (m : EntryMap) (e : LedgerEntry) (id : AccountId) → HasAccount m id → HasAccount (put m e) id
 stands_put m e id stands =
     let entry = account_entry m id stands.0 stands.1 in
-    elim (eq_by_cmp key_cmp (key.Account id) (key_of e)) as (λ b. eq_by_cmp key_cmp (key.Account id) (key_of e) ≡ b → get (put m e) (key.Account id) ≡ cond b (Some e) (get m (key.Account id)) → Stands (put m e) id) [
+    elim (eq_by_cmp key_cmp (key.Account id) (key_of e)) as (λ b. eq_by_cmp key_cmp (key.Account id) (key_of e) ≡ b → get (put m e) (key.Account id) ≡ cond b (Some e) (get m (key.Account id)) → HasAccount (put m e) id) [
       | true ↦ λ tied is. let new = account_body_of e.body id (sym (same_keys _ (key_of e) tied)) in (new.0, stands_in (put m e) id e new.0 is new.1)
       | false ↦ λ apart is. (stands.0, stands_in (put m e) id entry.0 stands.0 (is ∙ entry.1.0) entry.1.1)
     ] refl (put_get m e (key.Account id))
 
-pub stands_placed : (m : EntryMap) (e : LedgerEntry) (account : AccountEntry) → account_in e.body ≡ Some account → Stands (put m e) account.account_id
+pub stands_placed : (m : EntryMap) (e : LedgerEntry) (account : AccountEntry) → account_in e.body ≡ Some account → HasAccount (put m e) account.account_id
 stands_placed m e account is = (account, stands_in (put m e) account.account_id e account (ap (get (put m e)) (sym (account_key e.body account is)) ∙ put_there m e) is)
 
 -- what an entry that is put must meet, for which counts went up by p and down by q
@@ -201,7 +201,7 @@ pub record IsPlaced (p q : Shift) (old m : EntryMap) (e : LedgerEntry) : Type 0 
   pub sums : (account : AccountEntry) (count : Count) → account_in e.body ≡ Some account
       → count_in count account + q count account.account_id ≡ total count account.account_id old + p count account.account_id
   pub items : (account : AccountEntry) → account_in e.body ≡ Some account → HasItems account
-  pub names : (id : AccountId) → Names e id → Stands (put m e) id
+  pub names : (id : AccountId) → Names e id → HasAccount (put m e) id
   pub few : (id : AccountId) → total SubEntries id old + p SubEntries id ≤ 1000 + q SubEntries id
   pub fits : (id : AccountId) → total SubEntries id old + total Sponsoring id old + (p SubEntries id + p Sponsoring id) ≤ 4294967295 + (q SubEntries id + q Sponsoring id)
 

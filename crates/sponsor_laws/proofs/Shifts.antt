@@ -12,12 +12,14 @@ use Rattle.ledger_types.specs.declared.key.LedgerKey.TheVariants as key
 use Rattle.ledger_types.specs.Keys.{key_of_body}
 use Rattle.entry_map.specs.EntryMap.{EntryMap}
 use Rattle.sponsor_rules.specs.declared.count.Count.{Count}
-use Rattle.sponsor_rules.specs.Accounts.{account_in}
-use Rattle.sponsor_rules.specs.Counts.{count_in, multiplicity, owner_of}
-use Rattle.sponsor_rules.specs.Entries.{sponsor_of}
+use Rattle.entry_slots.specs.Accounts.{account_in}
+use Rattle.entry_slots.specs.EntrySponsor.{sponsor_of}
+use Rattle.sponsor_rules.specs.Charge.{multiplicity, owner_of}
+use Rattle.sponsor_rules.specs.Counting.{count_in}
 use Rattle.sponsor_rules.specs.Payers.{is_account}
 use Rattle.sponsor_laws.specs.Sums.{total, counted_for}
-use Rattle.sponsor_laws.proofs.Accounts.{KeepsParts, keeps_all, instead, same_account, share, own_part, own_part-keeps, counted_split}
+use Rattle.sponsor_rules.proofs.Ids.{same_account}
+use Rattle.sponsor_laws.proofs.Accounts.{KeepsParts, keeps_all, instead, share, own_part, own_part-keeps, counted_split}
 use Rattle.sponsor_laws.proofs.Even.{AreOwn}
 
 -- ---- numbers for each count of each account

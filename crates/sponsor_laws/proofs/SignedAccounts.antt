@@ -15,11 +15,14 @@ use Rattle.ledger_types.specs.declared.key.LedgerKey.TheVariants as key
 use Rattle.entry_map.specs.EntryMap.{EntryMap}
 use Rattle.sponsor_rules.specs.declared.count.Count.{Count}
 use Rattle.sponsor_rules.specs.declared.count.Count.TheVariants.{SubEntries, Sponsoring, Sponsored}
-use Rattle.sponsor_rules.specs.Accounts.{account_in, account_at, Stands}
-use Rattle.sponsor_rules.specs.Counts.{count_in, owner_of}
-use Rattle.sponsor_rules.specs.Signers.{place_of, signer_sponsor}
+use Rattle.entry_slots.specs.Accounts.{account_in, account_at, HasAccount}
+use Rattle.entry_slots.specs.AccountExtensions.{signer_sponsor}
+use Rattle.sponsor_rules.specs.Charge.{owner_of}
+use Rattle.sponsor_rules.specs.Counting.{count_in}
+use Rattle.sponsor_rules.specs.SignerPlace.{place_of}
 use Rattle.sponsor_laws.specs.Sums.{is_this, is_there, signer_sponsors, total, counted_for}
-use Rattle.sponsor_laws.proofs.Accounts.{share, own_part, counted_split, is_itself, as_many}
+use Rattle.sponsor_rules.proofs.Ids.{is_itself}
+use Rattle.sponsor_laws.proofs.Accounts.{share, own_part, counted_split, as_many}
 use Rattle.sponsor_laws.proofs.Even.{IsEven, account_body, account_entry, same_id}
 use Rattle.sponsor_laws.proofs.Shifts.{Shift, no_shift}
 use Rattle.sponsor_laws.proofs.Paying.{HasEnough}
@@ -44,13 +47,13 @@ module _ (old : EntryMap) (h : IsEven old) (id : AccountId) (a : AccountEntry) (
   pub own_id : a.account_id ≡ id
   own_id = same_id old id held.entry a h.own held.there (ap account_in held.is)
 
-  pub own_stands : Stands old id
+  pub own_stands : HasAccount old id
   own_stands = h.names (key.Account id) held.entry id held.there (inl (ap owner_of held.is ∙ ap Some own_id))
 
   pub as_many_sponsors : length (signer_sponsors a) ≡ length a.signers
   as_many_sponsors = as_many a (h.items (key.Account id) held.entry a held.there (ap account_in held.is))
 
-  pub signer_stands : (i : AccountId) → Contains (signer_sponsors a) (Some i) → Stands old i
+  pub signer_stands : (i : AccountId) → Contains (signer_sponsors a) (Some i) → HasAccount old i
   signer_stands i has = h.names (key.Account id) held.entry i held.there (inr (inr (record { account = a; is = ap account_in held.is; sponsor = has })))
 
   pub own_sum : (count : Count) → count_in count a ≡ total count id old

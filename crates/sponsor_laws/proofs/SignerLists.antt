@@ -8,11 +8,12 @@ use Rattle.ledger_types.specs.declared.signer.Signer.{Signer}
 use Rattle.ledger_types.specs.declared.account.AccountEntry.{AccountEntry}
 use Rattle.ledger_types.specs.declared.account.AccountEntryExtensionV1.{AccountEntryExtensionV1}
 use Rattle.ledger_types.specs.declared.account.AccountEntryExtensionV2.{AccountEntryExtensionV2}
-use Rattle.reserve_rules.specs.Reserve.{second_in, sponsored_in, sponsoring_in}
+use Rattle.entry_slots.specs.AccountExtensions.{second_in, sponsored_in, sponsoring_in, sponsorship_in, signer_sponsor}
+use Rattle.sponsor_rules.specs.Counting.{count_in}
+use Rattle.sponsor_rules.specs.SignerPlace.{with_sponsors, with_sponsors_in, with_signer_at, without_signer, with_signer_sponsor}
 use Rattle.sponsor_rules.specs.declared.count.Count.{Count}
 use Rattle.sponsor_rules.specs.declared.count.Count.TheVariants.{SubEntries, Sponsoring, Sponsored}
-use Rattle.sponsor_rules.specs.Counts.{count_in, sponsorship_in}
-use Rattle.sponsor_rules.specs.Signers.{signer_sponsor, with_sponsors, with_sponsors_in, with_signer_at, without_signer, with_signer_sponsor}
+use Rattle.sponsor_rules.proofs.Keeping.{second_edited}
 use Rattle.sponsor_laws.specs.Sums.{signer_sponsors}
 
 -- ---- lists without sponsors
@@ -39,10 +40,6 @@ none_set (x ∷ xs) (suc place) = ap (λ ys. None ∷ ys) (none_set xs place)
 -- ---- edited accounts
 
 module _ (change : List (Option AccountId) → List (Option AccountId)) where
-  second_edited : (ext : Option AccountEntryExtensionV1) → second_in (with_sponsors change ext) ≡ with_sponsors_in change (second_in ext)
-  second_edited None = refl
-  second_edited (Some ext) = refl
-
   ids_edited : (signers more : List Signer) (o : Option AccountEntryExtensionV2) → (o ≡ None → none_each more ≡ change (none_each signers))
       → (sponsorship_in more (with_sponsors_in change o)).signer_sponsoring_ids ≡ change (sponsorship_in signers o).signer_sponsoring_ids
   ids_edited signers more None same = same refl
@@ -50,20 +47,7 @@ module _ (change : List (Option AccountId) → List (Option AccountId)) where
 
   sponsors_edited : (signers more : List Signer) (ext : Option AccountEntryExtensionV1) → (second_in ext ≡ None → none_each more ≡ change (none_each signers))
       → (sponsorship_in more (second_in (with_sponsors change ext))).signer_sponsoring_ids ≡ change (sponsorship_in signers (second_in ext)).signer_sponsoring_ids
-  sponsors_edited signers more ext same = ap (λ o. (sponsorship_in more o).signer_sponsoring_ids) (second_edited ext) ∙ ids_edited signers more (second_in ext) same
-
-  sponsoring_edited : (o : Option AccountEntryExtensionV2) → sponsoring_in (with_sponsors_in change o) ≡ sponsoring_in o
-  sponsoring_edited None = refl
-  sponsoring_edited (Some ext) = refl
-
-  sponsored_edited : (o : Option AccountEntryExtensionV2) → sponsored_in (with_sponsors_in change o) ≡ sponsored_in o
-  sponsored_edited None = refl
-  sponsored_edited (Some ext) = refl
-
-  pub counts_edited : (count : Count) (a : AccountEntry) (more : List Signer) → count_in count (record a { signers = more; ext = with_sponsors change a.ext }) ≡ count_in count a
-  counts_edited SubEntries a more = refl
-  counts_edited Sponsoring a more = ap sponsoring_in (second_edited a.ext) ∙ sponsoring_edited (second_in a.ext)
-  counts_edited Sponsored a more = ap sponsored_in (second_edited a.ext) ∙ sponsored_edited (second_in a.ext)
+  sponsors_edited signers more ext same = ap (λ o. (sponsorship_in more o).signer_sponsoring_ids) (second_edited change ext) ∙ ids_edited signers more (second_in ext) same
 
 -- an account has the extension, where something is paid for it
 extended : (a : AccountEntry) → 1 ≤ count_in Sponsored a → second_in a.ext ≢ None

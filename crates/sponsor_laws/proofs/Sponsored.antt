@@ -12,9 +12,9 @@ use Rattle.ledger_types.specs.declared.key.LedgerKey.TheVariants as key
 use Rattle.ledger_types.proofs.KeyOrdering.{keys_total}
 use Rattle.entry_map.specs.EntryMap.{EntryMap, erase}
 use Rattle.sponsor_rules.specs.declared.count.Count.TheVariants.{SubEntries, Sponsored}
-use Rattle.sponsor_rules.specs.Accounts.{account_in}
-use Rattle.sponsor_rules.specs.Counts.{multiplicity, owner_of}
-use Rattle.sponsor_rules.specs.Entries.{sponsor_of}
+use Rattle.entry_slots.specs.Accounts.{account_in}
+use Rattle.entry_slots.specs.EntrySponsor.{sponsor_of}
+use Rattle.sponsor_rules.specs.Charge.{multiplicity, owner_of}
 use Rattle.sponsor_rules.specs.Payers.{is_account}
 use Rattle.sponsor_laws.specs.Sums.{HasItems, is_this, is_there, signer_sponsors, subentries_for, sponsored_signers, counted_for, total}
 use Rattle.sponsor_laws.specs.Laws.{SponsoredAtMost}

@@ -10,8 +10,8 @@ use Rattle.ledger_types.specs.declared.key.LedgerKey.{LedgerKey}
 use Rattle.ledger_types.specs.declared.key.LedgerKey.TheVariants as key
 use Rattle.entry_map.specs.EntryMap.{EntryMap}
 use Rattle.sponsor_rules.specs.declared.count.Count.TheVariants.{Sponsoring}
-use Rattle.sponsor_rules.specs.Counts.{multiplicity}
-use Rattle.sponsor_rules.specs.Entries.{sponsor_of}
+use Rattle.entry_slots.specs.EntrySponsor.{sponsor_of}
+use Rattle.sponsor_rules.specs.Charge.{multiplicity}
 use Rattle.sponsor_laws.specs.Sums.{is_this, signer_sponsors, total}
 use Rattle.sponsor_laws.specs.Laws.{SponsoredEntriesCount, ZeroSponsorsNothing}
 use Rattle.sponsor_laws.proofs.Accounts.{own_part, counted_split}

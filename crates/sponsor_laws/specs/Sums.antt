@@ -11,13 +11,14 @@ use Rattle.ledger_types.specs.declared.entry.LedgerEntryBody.{LedgerEntryBody}
 use Rattle.ledger_types.specs.declared.entry.LedgerEntryBody.TheVariants as body
 use Rattle.ledger_types.specs.declared.key.LedgerKey.{LedgerKey}
 use Rattle.entry_map.specs.EntryMap.{EntryMap, IsKeyed}
-use Rattle.reserve_rules.specs.Reserve.{second_in}
+use Rattle.entry_slots.specs.Accounts.{account_at, HasAccount}
+use Rattle.entry_slots.specs.AccountExtensions.{second_in, sponsorship_of}
+use Rattle.entry_slots.specs.EntrySponsor.{sponsor_of}
+use Rattle.sponsor_rules.specs.Charge.{multiplicity, owner_of}
+use Rattle.sponsor_rules.specs.Counting.{count_in}
+use Rattle.sponsor_rules.specs.Payers.{is_account}
 use Rattle.sponsor_rules.specs.declared.count.Count.{Count}
 use Rattle.sponsor_rules.specs.declared.count.Count.TheVariants.{SubEntries, Sponsoring, Sponsored}
-use Rattle.sponsor_rules.specs.Accounts.{account_at, Stands}
-use Rattle.sponsor_rules.specs.Counts.{multiplicity, owner_of, sponsorship_of, count_in}
-use Rattle.sponsor_rules.specs.Entries.{sponsor_of}
-use Rattle.sponsor_rules.specs.Payers.{is_account}
 
 -- ---- what an entry counts for an account
 
@@ -76,9 +77,9 @@ pub record AreCounted (m : EntryMap) : Type 0 where
   pub sums : (id : AccountId) (account : AccountEntry) (count : Count) → account_at m id ≡ Some account → count_in count account ≡ total count id m
   pub few : (id : AccountId) (account : AccountEntry) → account_at m id ≡ Some account → account.num_sub_entries ≤ 1000
   pub fits : (id : AccountId) (account : AccountEntry) → account_at m id ≡ Some account → count_in SubEntries account + count_in Sponsoring account ≤ 4294967295
-  pub owners : (key : LedgerKey) (entry : LedgerEntry) (id : AccountId) → get m key ≡ Some entry → owner_of entry.body ≡ Some id → Stands m id
-  pub sponsors : (key : LedgerKey) (entry : LedgerEntry) (id : AccountId) → get m key ≡ Some entry → sponsor_of entry ≡ Some id → Stands m id
-  pub signers : (of : AccountId) (account : AccountEntry) (id : AccountId) → account_at m of ≡ Some account → Contains (signer_sponsors account) (Some id) → Stands m id
+  pub owners : (key : LedgerKey) (entry : LedgerEntry) (id : AccountId) → get m key ≡ Some entry → owner_of entry.body ≡ Some id → HasAccount m id
+  pub sponsors : (key : LedgerKey) (entry : LedgerEntry) (id : AccountId) → get m key ≡ Some entry → sponsor_of entry ≡ Some id → HasAccount m id
+  pub signers : (of : AccountId) (account : AccountEntry) (id : AccountId) → account_at m of ≡ Some account → Contains (signer_sponsors account) (Some id) → HasAccount m id
 
 -- where an account has the extension of sponsorship, it has one item for each signer
 abbrev pub HasItems : AccountEntry → Type 0

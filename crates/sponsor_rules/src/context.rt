@@ -5,7 +5,7 @@ use ledger_types::AccountId;
 
 /// A sponsorship that is open: `sponsor` pays the reserves of what `sponsored` adds (CAP-0033). No account is sponsored twice or by
 /// itself.
-#[derive(Clone, Copy, Debug, PartialEq, Eq)]
+#[derive(Clone, Copy)]
 pub struct Sponsorship {
     pub sponsored: AccountId,
     pub sponsor: AccountId,
@@ -13,7 +13,7 @@ pub struct Sponsorship {
 
 /// What an operation is applied in: the header's terms, the transaction and the operation that it belongs to, and the sponsorships
 /// that are open.
-#[derive(Debug, PartialEq, Eq, Drop)]
+#[derive(Drop)]
 pub struct Ctx {
     /// The header's `ledger_seq`.
     pub seq: u32,

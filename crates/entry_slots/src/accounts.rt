@@ -7,7 +7,9 @@ ghost use Rattle.entry_map.specs.Undo.{with_current};
 ghost use Rattle.entry_slots.specs.Accounts as spec;
 
 use entry_map::{Base, Entries};
-use ledger_types::{AccountEntry, AccountId, LedgerEntry, LedgerEntryBody, LedgerEntryExtensionV1, LedgerKey};
+use ledger_types::{
+    AccountEntry, AccountId, LedgerEntry, LedgerEntryBody, LedgerEntryExtensionV1, LedgerKey,
+};
 use std::alloc::AllocError;
 
 /// The entry of an account, taken apart.
@@ -36,16 +38,13 @@ pub fn account_slot_in(entry: LedgerEntry) -> Option<AccountSlot>
 
 /// The account with this id, if it stands.
 #[tactic(auto, unfolding(crate::specs::Accounts::account_at))]
-pub fn load_account<B: Base>(entries: &Entries<'_, B>, account_id: &AccountId) -> Result<Option<AccountSlot>, AllocError>
-    ensures slot {
-        IfOk result (λ slot. slot ≡ spec.account_slot_at entries.now.current account_id.now)
-    }
-    ensures account {
-        IfOk result (λ slot. spec.account_at entries.now.current account_id.now ≡ spec.account_of_slot slot)
-    }
-    ensures keyed {
-        IfOk result (λ slot. IfSome slot (λ s. s.account.account_id ≡ account_id.now))
-    }
+pub fn load_account<B: Base>(
+    entries: &Entries<'_, B>,
+    account_id: &AccountId,
+) -> Result<Option<AccountSlot>, AllocError>
+    ensures slot { IfOk result (λ slot. slot ≡ spec.account_slot_at entries.now.current account_id.now) }
+    ensures account { IfOk result (λ slot. spec.account_at entries.now.current account_id.now ≡ spec.account_of_slot slot) }
+    ensures keyed { IfOk result (λ slot. IfSome slot (λ s. s.account.account_id ≡ account_id.now)) }
 {
     let key = LedgerKey::Account {
         account_id: *account_id,
@@ -57,10 +56,11 @@ pub fn load_account<B: Base>(entries: &Entries<'_, B>, account_id: &AccountId) -
 }
 
 /// Puts the entry of an account under its key, in place of what stood there.
-pub fn store_account<B: Base>(entries: &mut Entries<'_, B>, slot: AccountSlot) -> Result<(), AllocError>
-    ensures {
-        OnOk result (entries.new ≡ with_current entries.old (put entries.old.current (spec.entry_of_account slot)))
-    }
+pub fn store_account<B: Base>(
+    entries: &mut Entries<'_, B>,
+    slot: AccountSlot,
+) -> Result<(), AllocError>
+    ensures { OnOk result (entries.new ≡ with_current entries.old (put entries.old.current (spec.entry_of_account slot))) }
 {
     let AccountSlot {
         last_modified_ledger_seq,
@@ -75,10 +75,11 @@ pub fn store_account<B: Base>(entries: &mut Entries<'_, B>, slot: AccountSlot) -
 }
 
 /// Removes the account with this id, if it stands.
-pub fn erase_account<B: Base>(entries: &mut Entries<'_, B>, account_id: &AccountId) -> Result<(), AllocError>
-    ensures {
-        OnOk result (entries.new ≡ with_current entries.old (erase entries.old.current (key.Account account_id.now)))
-    }
+pub fn erase_account<B: Base>(
+    entries: &mut Entries<'_, B>,
+    account_id: &AccountId,
+) -> Result<(), AllocError>
+    ensures { OnOk result (entries.new ≡ with_current entries.old (erase entries.old.current (key.Account account_id.now))) }
 {
     entries.erase(&LedgerKey::Account {
         account_id: *account_id,

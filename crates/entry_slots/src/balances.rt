@@ -7,7 +7,10 @@ ghost use Rattle.entry_map.specs.Undo.{with_current};
 ghost use Rattle.entry_slots.specs.Balances as spec;
 
 use entry_map::{Base, Entries};
-use ledger_types::{ClaimableBalanceEntry, ClaimableBalanceId, LedgerEntry, LedgerEntryBody, LedgerEntryExtensionV1, LedgerKey};
+use ledger_types::{
+    ClaimableBalanceEntry, ClaimableBalanceId, LedgerEntry, LedgerEntryBody,
+    LedgerEntryExtensionV1, LedgerKey,
+};
 use std::alloc::AllocError;
 
 /// The entry of a claimable balance, taken apart.
@@ -36,16 +39,13 @@ pub fn balance_slot_in(entry: LedgerEntry) -> Option<BalanceSlot>
 
 /// The claimable balance with this id, if it stands.
 #[tactic(auto, unfolding(crate::specs::Balances::balance_at))]
-pub fn load_balance<B: Base>(entries: &Entries<'_, B>, balance_id: &ClaimableBalanceId) -> Result<Option<BalanceSlot>, AllocError>
-    ensures slot {
-        IfOk result (λ slot. slot ≡ spec.balance_slot_at entries.now.current balance_id.now)
-    }
-    ensures balance {
-        IfOk result (λ slot. spec.balance_at entries.now.current balance_id.now ≡ spec.balance_of_slot slot)
-    }
-    ensures keyed {
-        IfOk result (λ slot. IfSome slot (λ s. s.balance.balance_id ≡ balance_id.now))
-    }
+pub fn load_balance<B: Base>(
+    entries: &Entries<'_, B>,
+    balance_id: &ClaimableBalanceId,
+) -> Result<Option<BalanceSlot>, AllocError>
+    ensures slot { IfOk result (λ slot. slot ≡ spec.balance_slot_at entries.now.current balance_id.now) }
+    ensures balance { IfOk result (λ slot. spec.balance_at entries.now.current balance_id.now ≡ spec.balance_of_slot slot) }
+    ensures keyed { IfOk result (λ slot. IfSome slot (λ s. s.balance.balance_id ≡ balance_id.now)) }
 {
     let key = LedgerKey::ClaimableBalance {
         balance_id: *balance_id,
@@ -57,10 +57,11 @@ pub fn load_balance<B: Base>(entries: &Entries<'_, B>, balance_id: &ClaimableBal
 }
 
 /// Puts the entry of a claimable balance under its key, in place of what stood there.
-pub fn store_balance<B: Base>(entries: &mut Entries<'_, B>, slot: BalanceSlot) -> Result<(), AllocError>
-    ensures {
-        OnOk result (entries.new ≡ with_current entries.old (put entries.old.current (spec.entry_of_balance slot)))
-    }
+pub fn store_balance<B: Base>(
+    entries: &mut Entries<'_, B>,
+    slot: BalanceSlot,
+) -> Result<(), AllocError>
+    ensures { OnOk result (entries.new ≡ with_current entries.old (put entries.old.current (spec.entry_of_balance slot))) }
 {
     let BalanceSlot {
         last_modified_ledger_seq,
@@ -75,10 +76,11 @@ pub fn store_balance<B: Base>(entries: &mut Entries<'_, B>, slot: BalanceSlot) -
 }
 
 /// Removes the claimable balance with this id, if it stands.
-pub fn erase_balance<B: Base>(entries: &mut Entries<'_, B>, balance_id: &ClaimableBalanceId) -> Result<(), AllocError>
-    ensures {
-        OnOk result (entries.new ≡ with_current entries.old (erase entries.old.current (key.ClaimableBalance balance_id.now)))
-    }
+pub fn erase_balance<B: Base>(
+    entries: &mut Entries<'_, B>,
+    balance_id: &ClaimableBalanceId,
+) -> Result<(), AllocError>
+    ensures { OnOk result (entries.new ≡ with_current entries.old (erase entries.old.current (key.ClaimableBalance balance_id.now))) }
 {
     entries.erase(&LedgerKey::ClaimableBalance {
         balance_id: *balance_id,

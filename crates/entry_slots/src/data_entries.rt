@@ -8,7 +8,9 @@ ghost use Rattle.entry_slots.specs.DataEntries as spec;
 
 use entry_map::{Base, Entries};
 use item_list::ItemList;
-use ledger_types::{AccountId, DataEntry, LedgerEntry, LedgerEntryBody, LedgerEntryExtensionV1, LedgerKey};
+use ledger_types::{
+    AccountId, DataEntry, LedgerEntry, LedgerEntryBody, LedgerEntryExtensionV1, LedgerKey,
+};
 use std::alloc::AllocError;
 
 /// The entry of a data entry, taken apart.
@@ -37,16 +39,14 @@ pub fn data_slot_in(entry: LedgerEntry) -> Option<DataSlot>
 
 /// The account's data entry with this name, if it stands.
 #[tactic(auto, unfolding(crate::specs::DataEntries::data_at))]
-pub fn load_data<B: Base>(entries: &Entries<'_, B>, account_id: &AccountId, data_name: &ItemList<u8>) -> Result<Option<DataSlot>, AllocError>
-    ensures slot {
-        IfOk result (λ slot. slot ≡ spec.data_slot_at entries.now.current account_id.now data_name.now)
-    }
-    ensures data_entry {
-        IfOk result (λ slot. spec.data_at entries.now.current account_id.now data_name.now ≡ spec.data_of_slot slot)
-    }
-    ensures keyed {
-        IfOk result (λ slot. IfSome slot (λ s. (s.data_entry.account_id ≡ account_id.now) × (s.data_entry.data_name ≡ data_name.now)))
-    }
+pub fn load_data<B: Base>(
+    entries: &Entries<'_, B>,
+    account_id: &AccountId,
+    data_name: &ItemList<u8>,
+) -> Result<Option<DataSlot>, AllocError>
+    ensures slot { IfOk result (λ slot. slot ≡ spec.data_slot_at entries.now.current account_id.now data_name.now) }
+    ensures data_entry { IfOk result (λ slot. spec.data_at entries.now.current account_id.now data_name.now ≡ spec.data_of_slot slot) }
+    ensures keyed { IfOk result (λ slot. IfSome slot (λ s. (s.data_entry.account_id ≡ account_id.now) × (s.data_entry.data_name ≡ data_name.now))) }
 {
     let key = LedgerKey::Data {
         account_id: *account_id,
@@ -60,9 +60,7 @@ pub fn load_data<B: Base>(entries: &Entries<'_, B>, account_id: &AccountId, data
 
 /// Puts the entry of a data entry under its key, in place of what stood there.
 pub fn store_data<B: Base>(entries: &mut Entries<'_, B>, slot: DataSlot) -> Result<(), AllocError>
-    ensures {
-        OnOk result (entries.new ≡ with_current entries.old (put entries.old.current (spec.entry_of_data slot)))
-    }
+    ensures { OnOk result (entries.new ≡ with_current entries.old (put entries.old.current (spec.entry_of_data slot))) }
 {
     let DataSlot {
         last_modified_ledger_seq,
@@ -77,10 +75,12 @@ pub fn store_data<B: Base>(entries: &mut Entries<'_, B>, slot: DataSlot) -> Resu
 }
 
 /// Removes the account's data entry with this name, if it stands.
-pub fn erase_data<B: Base>(entries: &mut Entries<'_, B>, account_id: &AccountId, data_name: &ItemList<u8>) -> Result<(), AllocError>
-    ensures {
-        OnOk result (entries.new ≡ with_current entries.old (erase entries.old.current (key.Data account_id.now data_name.now)))
-    }
+pub fn erase_data<B: Base>(
+    entries: &mut Entries<'_, B>,
+    account_id: &AccountId,
+    data_name: &ItemList<u8>,
+) -> Result<(), AllocError>
+    ensures { OnOk result (entries.new ≡ with_current entries.old (erase entries.old.current (key.Data account_id.now data_name.now))) }
 {
     entries.erase(&LedgerKey::Data {
         account_id: *account_id,

@@ -12,7 +12,8 @@ mod offers;
 mod pools;
 
 pub use account_extensions::{
-    account_liabilities, both_extensions, num_sponsored, num_sponsoring, set_account_liabilities, signer_sponsor,
+    account_liabilities, both_extensions, num_sponsored, num_sponsoring, set_account_liabilities,
+    signer_sponsor,
 };
 pub use accounts::{AccountSlot, account_slot_in, erase_account, load_account, store_account};
 pub use balances::{BalanceSlot, balance_slot_in, erase_balance, load_balance, store_balance};

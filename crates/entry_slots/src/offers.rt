@@ -7,7 +7,9 @@ ghost use Rattle.entry_map.specs.Undo.{with_current};
 ghost use Rattle.entry_slots.specs.Offers as spec;
 
 use entry_map::{Base, Entries};
-use ledger_types::{AccountId, LedgerEntry, LedgerEntryBody, LedgerEntryExtensionV1, LedgerKey, OfferEntry};
+use ledger_types::{
+    AccountId, LedgerEntry, LedgerEntryBody, LedgerEntryExtensionV1, LedgerKey, OfferEntry,
+};
 use std::alloc::AllocError;
 
 /// The entry of an offer, taken apart.
@@ -36,16 +38,14 @@ pub fn offer_slot_in(entry: LedgerEntry) -> Option<OfferSlot>
 
 /// The seller's offer with this id, if it stands.
 #[tactic(auto, unfolding(crate::specs::Offers::offer_at))]
-pub fn load_offer<B: Base>(entries: &Entries<'_, B>, seller_id: &AccountId, offer_id: i64) -> Result<Option<OfferSlot>, AllocError>
-    ensures slot {
-        IfOk result (λ slot. slot ≡ spec.offer_slot_at entries.now.current seller_id.now offer_id)
-    }
-    ensures offer {
-        IfOk result (λ slot. spec.offer_at entries.now.current seller_id.now offer_id ≡ spec.offer_of_slot slot)
-    }
-    ensures keyed {
-        IfOk result (λ slot. IfSome slot (λ s. (s.offer.seller_id ≡ seller_id.now) × (s.offer.offer_id ≡ offer_id)))
-    }
+pub fn load_offer<B: Base>(
+    entries: &Entries<'_, B>,
+    seller_id: &AccountId,
+    offer_id: i64,
+) -> Result<Option<OfferSlot>, AllocError>
+    ensures slot { IfOk result (λ slot. slot ≡ spec.offer_slot_at entries.now.current seller_id.now offer_id) }
+    ensures offer { IfOk result (λ slot. spec.offer_at entries.now.current seller_id.now offer_id ≡ spec.offer_of_slot slot) }
+    ensures keyed { IfOk result (λ slot. IfSome slot (λ s. (s.offer.seller_id ≡ seller_id.now) × (s.offer.offer_id ≡ offer_id))) }
 {
     let key = LedgerKey::Offer {
         seller_id: *seller_id,
@@ -59,9 +59,7 @@ pub fn load_offer<B: Base>(entries: &Entries<'_, B>, seller_id: &AccountId, offe
 
 /// Puts the entry of an offer under its key, in place of what stood there.
 pub fn store_offer<B: Base>(entries: &mut Entries<'_, B>, slot: OfferSlot) -> Result<(), AllocError>
-    ensures {
-        OnOk result (entries.new ≡ with_current entries.old (put entries.old.current (spec.entry_of_offer slot)))
-    }
+    ensures { OnOk result (entries.new ≡ with_current entries.old (put entries.old.current (spec.entry_of_offer slot))) }
 {
     let OfferSlot {
         last_modified_ledger_seq,
@@ -76,10 +74,12 @@ pub fn store_offer<B: Base>(entries: &mut Entries<'_, B>, slot: OfferSlot) -> Re
 }
 
 /// Removes the seller's offer with this id, if it stands.
-pub fn erase_offer<B: Base>(entries: &mut Entries<'_, B>, seller_id: &AccountId, offer_id: i64) -> Result<(), AllocError>
-    ensures {
-        OnOk result (entries.new ≡ with_current entries.old (erase entries.old.current (key.Offer seller_id.now offer_id)))
-    }
+pub fn erase_offer<B: Base>(
+    entries: &mut Entries<'_, B>,
+    seller_id: &AccountId,
+    offer_id: i64,
+) -> Result<(), AllocError>
+    ensures { OnOk result (entries.new ≡ with_current entries.old (erase entries.old.current (key.Offer seller_id.now offer_id))) }
 {
     entries.erase(&LedgerKey::Offer {
         seller_id: *seller_id,

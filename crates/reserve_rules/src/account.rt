@@ -39,9 +39,7 @@ pub fn room(account: &AccountEntry) -> i64
 /// take, or a debit passes what it can spend.
 pub fn add_balance(account: &mut AccountEntry, delta: i64, base_reserve: u32) -> bool
     requires { spec.IsInRange account.old }
-    ensures refused {
-        (result ≡ false) ↔ spec.Passes delta (spec.room account.old) (spec.available account.old base_reserve)
-    }
+    ensures refused { (result ≡ false) ↔ spec.Passes delta (spec.room account.old) (spec.available account.old base_reserve) }
     ensures done { result ≡ true → account.new ≡ record account.old { balance = account.old.balance +ℤ delta } }
     ensures left { result ≡ false → account.new ≡ account.old }
 {

@@ -1,0 +1,251 @@
+//! Which fault is answered, and which comes first where several tests hold. At a base reserve of 5,000,000 stroops an account keeps
+//! 10,000,000, and 5,000,000 more for each subentry.
+
+use crate::asking::{add, add_key, move_to};
+use crate::ledger::{
+    Means, NEW, OTHER, OWNER, SPONSOR, account, alone, means, no_entries, sponsored,
+};
+use crate::things::{Thing, made};
+use entry_map::{Entries, MapBase};
+use ledger_types::{AccountId, Hash, LedgerKey, SignerKey};
+use sponsor_rules::{AddFault, Ctx};
+use std::alloc::{AllocError, Global};
+use std::io;
+use std::rt::Print;
+
+const NONE: Means = Means {
+    balance: 0,
+    sub_entries: 0,
+    sponsoring: 0,
+};
+
+/// Enough for each test.
+const ENOUGH: Means = Means {
+    balance: 1_000_000_000,
+    sub_entries: 0,
+    sponsoring: 0,
+};
+
+// ---- adding
+
+fn put_two(
+    alloc: Global,
+    entries: &mut Entries<'_, MapBase>,
+    owner: Means,
+    sponsor: Means,
+) -> Result<(), AllocError> {
+    entries.put(account(alloc, OWNER, owner))?;
+    entries.put(account(alloc, SPONSOR, sponsor))
+}
+
+/// Adds a thing to a ledger of an owner and a sponsor.
+fn add_to(
+    alloc: Global,
+    entries: &mut Entries<'_, MapBase>,
+    ctx: &Ctx,
+    thing: Thing,
+) -> Result<(), AddFault> {
+    let id = if let Thing::Account = thing {
+        NEW
+    } else {
+        OWNER
+    };
+    add(entries, ctx, &id, made(alloc, thing)?)
+}
+
+fn added(
+    alloc: Global,
+    ctx: &Ctx,
+    thing: Thing,
+    owner: Means,
+    sponsor: Means,
+) -> Result<(), AddFault> {
+    let base = no_entries(alloc)?;
+    let mut entries = Entries::new(alloc, &base)?;
+    put_two(alloc, &mut entries, owner, sponsor)?;
+    add_to(alloc, &mut entries, ctx, thing)
+}
+
+/// Tells what an owner without sponsor is answered.
+fn tell_own<R: Print + AllocGlobal>(rt: &R, thing: Thing, owner: Means) -> io::Result<()> {
+    let answer = added(rt.alloc(), &alone(rt.alloc()), thing, owner, NONE);
+    println!(rt; "{thing:?} of {owner:?}: {answer:?}")
+}
+
+/// Tells what an owner is answered whose sponsor pays.
+fn tell_paid<R: Print + AllocGlobal>(
+    rt: &R,
+    thing: Thing,
+    owner: Means,
+    sponsor: Means,
+) -> io::Result<()> {
+    let answer = added(rt.alloc(), &sponsored(rt.alloc())?, thing, owner, sponsor);
+    println!(rt; "{thing:?} of {owner:?}, paid by {sponsor:?}: {answer:?}")
+}
+
+/// An owner without sponsor pays for its data and its share lines. 1000 subentries are the most, whatever else is short.
+fn tell_owners<R: Print + AllocGlobal>(rt: &R) -> io::Result<()> {
+    for owner in [
+        means(0, 1000, u32::MAX),
+        means(10_000_000_000, 1000, 0),
+        means(5_010_000_000, 999, 0),
+        means(0, 999, 4_294_966_296),
+        means(0, 999, 4_294_966_295),
+        means(15_000_000, 1, 0),
+        means(19_999_999, 1, 0),
+        means(20_000_000, 1, 0),
+    ] {
+        tell_own(rt, Thing::Data, owner)?;
+    }
+    for owner in [
+        means(0, 999, 0),
+        means(5_010_000_000, 998, 0),
+        means(19_999_999, 0, 0),
+        means(20_000_000, 0, 0),
+    ] {
+        tell_own(rt, Thing::ShareLine, owner)?;
+    }
+    Ok(())
+}
+
+/// A sponsor pays for its owner's data, and for each kind of thing as often as that counts.
+fn tell_sponsors<R: Print + AllocGlobal>(rt: &R) -> io::Result<()> {
+    for (owner, sponsor) in [
+        (means(0, 1000, 0), ENOUGH),
+        (means(0, 0, u32::MAX), ENOUGH),
+        (NONE, means(0, 0, u32::MAX)),
+        (NONE, means(0, 0, u32::MAX - 1)),
+        (NONE, means(14_999_999, 0, 0)),
+        (NONE, means(15_000_000, 0, 0)),
+        (NONE, means(24_999_999, 1, 1)),
+        (NONE, means(25_000_000, 1, 1)),
+    ] {
+        tell_paid(rt, Thing::Data, owner, sponsor)?;
+    }
+    for (thing, enough) in [
+        (Thing::Account, 20_000_000),
+        (Thing::Line, 15_000_000),
+        (Thing::ShareLine, 20_000_000),
+        (Thing::Offer, 15_000_000),
+        (Thing::Balance, 20_000_000),
+    ] {
+        tell_paid(rt, thing, NONE, means(enough, 0, 0))?;
+        tell_paid(rt, thing, NONE, means(enough - 1, 0, 0))?;
+    }
+    Ok(())
+}
+
+// ---- a new account
+
+fn added_account(alloc: Global, balance: i64) -> Result<(), AddFault> {
+    let base = no_entries(alloc)?;
+    let mut entries = Entries::new(alloc, &base)?;
+    let new = account(alloc, NEW, means(balance, 0, 0));
+    add(&mut entries, &alone(alloc), &NEW, new)
+}
+
+/// A new account without sponsor pays out of its own balance.
+fn tell_new<R: Print + AllocGlobal>(rt: &R) -> io::Result<()> {
+    for balance in [9_999_999, 10_000_000] {
+        let answer = added_account(rt.alloc(), balance);
+        println!(rt; "a new account with {balance}: {answer:?}")?;
+    }
+    Ok(())
+}
+
+// ---- a signer
+
+fn added_signer(alloc: Global, owner: Means) -> Result<(), AddFault> {
+    let base = no_entries(alloc)?;
+    let mut entries = Entries::new(alloc, &base)?;
+    entries.put(account(alloc, OWNER, owner))?;
+    let key = SignerKey::HashX(Hash([5; 32]));
+    add_key(&mut entries, &alone(alloc), &OWNER, key)
+}
+
+/// A signer is a subentry and takes a reserve.
+fn tell_signers<R: Print + AllocGlobal>(rt: &R) -> io::Result<()> {
+    for owner in [
+        means(10_000_000_000, 1000, 0),
+        means(5_010_000_000, 999, 0),
+        means(14_999_999, 0, 0),
+        means(15_000_000, 0, 0),
+    ] {
+        let answer = added_signer(rt.alloc(), owner);
+        println!(rt; "a signer of {owner:?}: {answer:?}")?;
+    }
+    Ok(())
+}
+
+// ---- moving
+
+/// The owner's data that the sponsor pays for is moved, once the owner and the other payer have these means.
+fn move_data(
+    alloc: Global,
+    entries: &mut Entries<'_, MapBase>,
+    ctx: &Ctx,
+    key: &LedgerKey,
+    payer: Option<AccountId>,
+) -> Result<(), AddFault> {
+    add(entries, ctx, &OWNER, made(alloc, Thing::Data)?)?;
+    move_to(entries, ctx, key, payer)
+}
+
+fn moved(
+    alloc: Global,
+    owner: Means,
+    other: Means,
+    payer: Option<AccountId>,
+) -> Result<(), AddFault> {
+    let base = no_entries(alloc)?;
+    let mut entries = Entries::new(alloc, &base)?;
+    put_two(alloc, &mut entries, owner, ENOUGH)?;
+    entries.put(account(alloc, OTHER, other))?;
+    let key = made(alloc, Thing::Data)?.key()?;
+    move_data(alloc, &mut entries, &sponsored(alloc)?, &key, payer)
+}
+
+/// The new payer alone is tested where something moves. The sponsor pays for the data, so the owner keeps 10,000,000 until it moves.
+fn tell_moved<R: Print + AllocGlobal>(rt: &R) -> io::Result<()> {
+    for other in [
+        means(14_999_999, 0, 0),
+        means(0, 0, u32::MAX),
+        means(0, 0, u32::MAX - 1),
+        means(15_000_000, 0, 0),
+    ] {
+        let answer = moved(rt.alloc(), NONE, other, Some(OTHER));
+        println!(rt; "data moved to {other:?}: {answer:?}")?;
+    }
+    for owner in [means(14_999_999, 0, 0), means(15_000_000, 0, 0)] {
+        let answer = moved(rt.alloc(), owner, NONE, None);
+        println!(rt; "data moved to its owner with {owner:?}: {answer:?}")?;
+    }
+    Ok(())
+}
+
+/// An owner's data without sponsor, which was put there, is moved to its owner.
+fn stayed(alloc: Global, owner: Means) -> Result<(), AddFault> {
+    let base = no_entries(alloc)?;
+    let mut entries = Entries::new(alloc, &base)?;
+    entries.put(account(alloc, OWNER, owner))?;
+    entries.put(made(alloc, Thing::Data)?)?;
+    let key = made(alloc, Thing::Data)?.key()?;
+    move_to(&mut entries, &alone(alloc), &key, None)
+}
+
+/// What has no sponsor stays with its owner, who isn't tested.
+fn tell_stayed<R: Print + AllocGlobal>(rt: &R) -> io::Result<()> {
+    let owner = NONE;
+    let answer = stayed(rt.alloc(), owner);
+    println!(rt; "data that its owner pays for, moved to its owner with {owner:?}: {answer:?}")
+}
+
+/// Tells each answer.
+pub fn tell_all<R: Print + AllocGlobal>(rt: &R) -> io::Result<()> {
+    tell_owners(rt)?;
+    tell_sponsors(rt)?;
+    tell_new(rt)?;
+    tell_signers(rt)?;
+    tell_moved(rt)?;
+    tell_stayed(rt)
+}

@@ -51,7 +51,11 @@ account_of_slot (Some slot) = Some slot.account
 
 abbrev pub entry_of_account : AccountSlot → LedgerEntry
 entry_of_account slot =
-    record { last_modified_ledger_seq = slot.last_modified_ledger_seq; body = body.Account slot.account; ext = slot.ext }
+    record {
+      last_modified_ledger_seq = slot.last_modified_ledger_seq;
+      body = body.Account slot.account;
+      ext = slot.ext;
+    }
 
 -- ---- changes
 

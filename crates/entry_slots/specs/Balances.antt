@@ -47,12 +47,18 @@ balance_of_slot (Some slot) = Some slot.balance
 
 abbrev pub entry_of_balance : BalanceSlot → LedgerEntry
 entry_of_balance slot =
-    record { last_modified_ledger_seq = slot.last_modified_ledger_seq; body = body.ClaimableBalance slot.balance; ext = slot.ext }
+    record {
+      last_modified_ledger_seq = slot.last_modified_ledger_seq;
+      body = body.ClaimableBalance slot.balance;
+      ext = slot.ext;
+    }
 
 -- ---- changes
 
-abbrev pub with_balance_in : EntryMap → LedgerEntry → (ClaimableBalanceEntry → ClaimableBalanceEntry) → LedgerEntryBody → EntryMap
-with_balance_in m entry change (body.ClaimableBalance balance) = put m (record entry { body = body.ClaimableBalance (change balance) })
+abbrev pub with_balance_in : EntryMap → LedgerEntry → (ClaimableBalanceEntry → ClaimableBalanceEntry) → LedgerEntryBody
+    → EntryMap
+with_balance_in m entry change (body.ClaimableBalance balance) =
+    put m (record entry { body = body.ClaimableBalance (change balance) })
 with_balance_in m entry change other = m
 
 abbrev pub with_balance_of : EntryMap → (ClaimableBalanceEntry → ClaimableBalanceEntry) → Option LedgerEntry → EntryMap

@@ -1,4 +1,4 @@
--- Data entries among the entries of a ledger.
+-- Data among the entries of a ledger.
 use Rattle.std.specs.Prelude.{ℕ, List, Option, Some, None}
 use Rattle.std.specs.FinMap.{get}
 use Rattle.ledger_types.specs.declared.ids.AccountId.{AccountId}
@@ -10,7 +10,7 @@ use Rattle.ledger_types.specs.declared.key.LedgerKey.TheVariants as key
 use Rattle.entry_map.specs.EntryMap.{EntryMap, put}
 use Rattle.entry_slots.specs.declared.data_entries.DataSlot.{DataSlot}
 
--- a data entry, where the body is one
+-- data, where the body is that
 abbrev pub data_in : LedgerEntryBody → Option DataEntry
 data_in (body.Data data_entry) = Some data_entry
 data_in other = None
@@ -19,7 +19,7 @@ abbrev pub data_of : Option LedgerEntry → Option DataEntry
 data_of None = None
 data_of (Some entry) = data_in entry.body
 
--- the account's data entry with this name, if it stands
+-- the account's data with this name, if it stands
 unfoldable pub data_at : EntryMap → AccountId → List ℕ → Option DataEntry
 data_at m account_id data_name = data_of (get m (key.Data account_id data_name))
 
@@ -27,10 +27,14 @@ data_at m account_id data_name = data_of (get m (key.Data account_id data_name))
 
 abbrev pub data_slot_by : LedgerEntry → LedgerEntryBody → Option DataSlot
 data_slot_by entry (body.Data data_entry) =
-    Some (record { last_modified_ledger_seq = entry.last_modified_ledger_seq; data_entry = data_entry; ext = entry.ext })
+    Some (record {
+      last_modified_ledger_seq = entry.last_modified_ledger_seq;
+      data_entry = data_entry;
+      ext = entry.ext;
+    })
 data_slot_by entry other = None
 
--- the parts of an entry, where it is that of a data entry
+-- the parts of an entry, where it is one of data
 abbrev pub data_slot_in : LedgerEntry → Option DataSlot
 data_slot_in entry = data_slot_by entry entry.body
 
@@ -47,7 +51,11 @@ data_of_slot (Some slot) = Some slot.data_entry
 
 abbrev pub entry_of_data : DataSlot → LedgerEntry
 entry_of_data slot =
-    record { last_modified_ledger_seq = slot.last_modified_ledger_seq; body = body.Data slot.data_entry; ext = slot.ext }
+    record {
+      last_modified_ledger_seq = slot.last_modified_ledger_seq;
+      body = body.Data slot.data_entry;
+      ext = slot.ext;
+    }
 
 -- ---- changes
 
@@ -59,6 +67,6 @@ abbrev pub with_data_of : EntryMap → (DataEntry → DataEntry) → Option Ledg
 with_data_of m change None = m
 with_data_of m change (Some entry) = with_data_in m entry change entry.body
 
--- the map, in which the account's data entry with this name is changed; the rest of its entry stays
+-- the map, in which the account's data with this name is changed; the rest of its entry stays
 unfoldable pub with_data : EntryMap → AccountId → List ℕ → (DataEntry → DataEntry) → EntryMap
 with_data m account_id data_name change = with_data_of m change (get m (key.Data account_id data_name))

@@ -47,11 +47,16 @@ pool_of_slot (Some slot) = Some slot.pool
 
 abbrev pub entry_of_pool : PoolSlot → LedgerEntry
 entry_of_pool slot =
-    record { last_modified_ledger_seq = slot.last_modified_ledger_seq; body = body.LiquidityPool slot.pool; ext = slot.ext }
+    record {
+      last_modified_ledger_seq = slot.last_modified_ledger_seq;
+      body = body.LiquidityPool slot.pool;
+      ext = slot.ext;
+    }
 
 -- ---- changes
 
-abbrev pub with_pool_in : EntryMap → LedgerEntry → (LiquidityPoolEntry → LiquidityPoolEntry) → LedgerEntryBody → EntryMap
+abbrev pub with_pool_in : EntryMap → LedgerEntry → (LiquidityPoolEntry → LiquidityPoolEntry) → LedgerEntryBody
+    → EntryMap
 with_pool_in m entry change (body.LiquidityPool pool) = put m (record entry { body = body.LiquidityPool (change pool) })
 with_pool_in m entry change other = m
 

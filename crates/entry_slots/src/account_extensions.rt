@@ -116,7 +116,8 @@ pub fn both_extensions(
     signers: &ItemList<Signer>,
     ext: Option<AccountEntryExtensionV1>,
 ) -> Result<(Liabilities, AccountEntryExtensionV2), AllocError>
-    ensures { IfOk result (λ both. both ≡ (spec.liabilities_in ext, spec.sponsorship_in signers.now (spec.second_in ext))) }
+    ensures { IfOk result (λ both.
+        both ≡ (spec.liabilities_in ext, spec.sponsorship_in signers.now (spec.second_in ext))) }
 {
     match ext {
         None => Ok((NO_LIABILITIES, no_sponsorship(signers)?)),

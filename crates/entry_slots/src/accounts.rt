@@ -43,7 +43,8 @@ pub fn load_account<B: Base>(
     account_id: &AccountId,
 ) -> Result<Option<AccountSlot>, AllocError>
     ensures slot { IfOk result (λ slot. slot ≡ spec.account_slot_at entries.now.current account_id.now) }
-    ensures account { IfOk result (λ slot. spec.account_at entries.now.current account_id.now ≡ spec.account_of_slot slot) }
+    ensures account { IfOk result (λ slot.
+        spec.account_at entries.now.current account_id.now ≡ spec.account_of_slot slot) }
     ensures keyed { IfOk result (λ slot. IfSome slot (λ s. s.account.account_id ≡ account_id.now)) }
 {
     let key = LedgerKey::Account {
@@ -60,7 +61,8 @@ pub fn store_account<B: Base>(
     entries: &mut Entries<'_, B>,
     slot: AccountSlot,
 ) -> Result<(), AllocError>
-    ensures { OnOk result (entries.new ≡ with_current entries.old (put entries.old.current (spec.entry_of_account slot))) }
+    ensures { OnOk result (
+        entries.new ≡ with_current entries.old (put entries.old.current (spec.entry_of_account slot))) }
 {
     let AccountSlot {
         last_modified_ledger_seq,
@@ -79,7 +81,8 @@ pub fn erase_account<B: Base>(
     entries: &mut Entries<'_, B>,
     account_id: &AccountId,
 ) -> Result<(), AllocError>
-    ensures { OnOk result (entries.new ≡ with_current entries.old (erase entries.old.current (key.Account account_id.now))) }
+    ensures { OnOk result (
+        entries.new ≡ with_current entries.old (erase entries.old.current (key.Account account_id.now))) }
 {
     entries.erase(&LedgerKey::Account {
         account_id: *account_id,

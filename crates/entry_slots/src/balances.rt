@@ -44,7 +44,8 @@ pub fn load_balance<B: Base>(
     balance_id: &ClaimableBalanceId,
 ) -> Result<Option<BalanceSlot>, AllocError>
     ensures slot { IfOk result (λ slot. slot ≡ spec.balance_slot_at entries.now.current balance_id.now) }
-    ensures balance { IfOk result (λ slot. spec.balance_at entries.now.current balance_id.now ≡ spec.balance_of_slot slot) }
+    ensures balance { IfOk result (λ slot.
+        spec.balance_at entries.now.current balance_id.now ≡ spec.balance_of_slot slot) }
     ensures keyed { IfOk result (λ slot. IfSome slot (λ s. s.balance.balance_id ≡ balance_id.now)) }
 {
     let key = LedgerKey::ClaimableBalance {
@@ -61,7 +62,8 @@ pub fn store_balance<B: Base>(
     entries: &mut Entries<'_, B>,
     slot: BalanceSlot,
 ) -> Result<(), AllocError>
-    ensures { OnOk result (entries.new ≡ with_current entries.old (put entries.old.current (spec.entry_of_balance slot))) }
+    ensures { OnOk result (
+        entries.new ≡ with_current entries.old (put entries.old.current (spec.entry_of_balance slot))) }
 {
     let BalanceSlot {
         last_modified_ledger_seq,
@@ -80,7 +82,8 @@ pub fn erase_balance<B: Base>(
     entries: &mut Entries<'_, B>,
     balance_id: &ClaimableBalanceId,
 ) -> Result<(), AllocError>
-    ensures { OnOk result (entries.new ≡ with_current entries.old (erase entries.old.current (key.ClaimableBalance balance_id.now))) }
+    ensures { OnOk result (
+        entries.new ≡ with_current entries.old (erase entries.old.current (key.ClaimableBalance balance_id.now))) }
 {
     entries.erase(&LedgerKey::ClaimableBalance {
         balance_id: *balance_id,

@@ -1,4 +1,4 @@
-//! Data entries among the entries of a ledger.
+//! Data among the entries of a ledger.
 
 ghost use Rattle.std.specs.Prelude.{◌≡◌, IfOk, IfSome, OnOk};
 ghost use Rattle.ledger_types.specs.declared.key.LedgerKey.TheVariants as key;
@@ -13,7 +13,7 @@ use ledger_types::{
 };
 use std::alloc::AllocError;
 
-/// The entry of a data entry, taken apart.
+/// An entry of data, taken apart.
 #[derive(Drop)]
 pub struct DataSlot {
     pub last_modified_ledger_seq: u32,
@@ -21,7 +21,7 @@ pub struct DataSlot {
     pub ext: Option<LedgerEntryExtensionV1>,
 }
 
-/// The parts of an entry, where it is that of a data entry.
+/// The parts of an entry, where it is one of data.
 pub fn data_slot_in(entry: LedgerEntry) -> Option<DataSlot>
     ensures slot { result ≡ spec.data_slot_in entry }
     ensures data_entry { spec.data_in entry.body ≡ spec.data_of_slot result }
@@ -37,7 +37,7 @@ pub fn data_slot_in(entry: LedgerEntry) -> Option<DataSlot>
     }
 }
 
-/// The account's data entry with this name, if it stands.
+/// The account's data with this name, if it stands.
 #[tactic(auto, unfolding(crate::specs::DataEntries::data_at))]
 pub fn load_data<B: Base>(
     entries: &Entries<'_, B>,
@@ -45,8 +45,10 @@ pub fn load_data<B: Base>(
     data_name: &ItemList<u8>,
 ) -> Result<Option<DataSlot>, AllocError>
     ensures slot { IfOk result (λ slot. slot ≡ spec.data_slot_at entries.now.current account_id.now data_name.now) }
-    ensures data_entry { IfOk result (λ slot. spec.data_at entries.now.current account_id.now data_name.now ≡ spec.data_of_slot slot) }
-    ensures keyed { IfOk result (λ slot. IfSome slot (λ s. (s.data_entry.account_id ≡ account_id.now) × (s.data_entry.data_name ≡ data_name.now))) }
+    ensures data_entry { IfOk result (λ slot.
+        spec.data_at entries.now.current account_id.now data_name.now ≡ spec.data_of_slot slot) }
+    ensures keyed { IfOk result (λ slot.
+        IfSome slot (λ s. (s.data_entry.account_id ≡ account_id.now) × (s.data_entry.data_name ≡ data_name.now))) }
 {
     let key = LedgerKey::Data {
         account_id: *account_id,
@@ -58,7 +60,7 @@ pub fn load_data<B: Base>(
     }
 }
 
-/// Puts the entry of a data entry under its key, in place of what stood there.
+/// Puts an entry of data under its key, in place of what stood there.
 pub fn store_data<B: Base>(entries: &mut Entries<'_, B>, slot: DataSlot) -> Result<(), AllocError>
     ensures { OnOk result (entries.new ≡ with_current entries.old (put entries.old.current (spec.entry_of_data slot))) }
 {
@@ -74,13 +76,14 @@ pub fn store_data<B: Base>(entries: &mut Entries<'_, B>, slot: DataSlot) -> Resu
     })
 }
 
-/// Removes the account's data entry with this name, if it stands.
+/// Removes the account's data with this name, if it stands.
 pub fn erase_data<B: Base>(
     entries: &mut Entries<'_, B>,
     account_id: &AccountId,
     data_name: &ItemList<u8>,
 ) -> Result<(), AllocError>
-    ensures { OnOk result (entries.new ≡ with_current entries.old (erase entries.old.current (key.Data account_id.now data_name.now))) }
+    ensures { OnOk result (
+        entries.new ≡ with_current entries.old (erase entries.old.current (key.Data account_id.now data_name.now))) }
 {
     entries.erase(&LedgerKey::Data {
         account_id: *account_id,

@@ -45,8 +45,10 @@ pub fn load_line<B: Base>(
     asset: &TrustLineAsset,
 ) -> Result<Option<LineSlot>, AllocError>
     ensures slot { IfOk result (λ slot. slot ≡ spec.line_slot_at entries.now.current account_id.now asset.now) }
-    ensures line { IfOk result (λ slot. spec.line_at entries.now.current account_id.now asset.now ≡ spec.line_of_slot slot) }
-    ensures keyed { IfOk result (λ slot. IfSome slot (λ s. (s.line.account_id ≡ account_id.now) × (s.line.asset ≡ asset.now))) }
+    ensures line { IfOk result (λ slot.
+        spec.line_at entries.now.current account_id.now asset.now ≡ spec.line_of_slot slot) }
+    ensures keyed { IfOk result (λ slot.
+        IfSome slot (λ s. (s.line.account_id ≡ account_id.now) × (s.line.asset ≡ asset.now))) }
 {
     let key = LedgerKey::TrustLine {
         account_id: *account_id,
@@ -80,7 +82,8 @@ pub fn erase_line<B: Base>(
     account_id: &AccountId,
     asset: &TrustLineAsset,
 ) -> Result<(), AllocError>
-    ensures { OnOk result (entries.new ≡ with_current entries.old (erase entries.old.current (key.TrustLine account_id.now asset.now))) }
+    ensures { OnOk result (
+        entries.new ≡ with_current entries.old (erase entries.old.current (key.TrustLine account_id.now asset.now))) }
 {
     entries.erase(&LedgerKey::TrustLine {
         account_id: *account_id,

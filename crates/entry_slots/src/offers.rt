@@ -44,8 +44,10 @@ pub fn load_offer<B: Base>(
     offer_id: i64,
 ) -> Result<Option<OfferSlot>, AllocError>
     ensures slot { IfOk result (λ slot. slot ≡ spec.offer_slot_at entries.now.current seller_id.now offer_id) }
-    ensures offer { IfOk result (λ slot. spec.offer_at entries.now.current seller_id.now offer_id ≡ spec.offer_of_slot slot) }
-    ensures keyed { IfOk result (λ slot. IfSome slot (λ s. (s.offer.seller_id ≡ seller_id.now) × (s.offer.offer_id ≡ offer_id))) }
+    ensures offer { IfOk result (λ slot.
+        spec.offer_at entries.now.current seller_id.now offer_id ≡ spec.offer_of_slot slot) }
+    ensures keyed { IfOk result (λ slot.
+        IfSome slot (λ s. (s.offer.seller_id ≡ seller_id.now) × (s.offer.offer_id ≡ offer_id))) }
 {
     let key = LedgerKey::Offer {
         seller_id: *seller_id,
@@ -59,7 +61,8 @@ pub fn load_offer<B: Base>(
 
 /// Puts the entry of an offer under its key, in place of what stood there.
 pub fn store_offer<B: Base>(entries: &mut Entries<'_, B>, slot: OfferSlot) -> Result<(), AllocError>
-    ensures { OnOk result (entries.new ≡ with_current entries.old (put entries.old.current (spec.entry_of_offer slot))) }
+    ensures { OnOk result (
+        entries.new ≡ with_current entries.old (put entries.old.current (spec.entry_of_offer slot))) }
 {
     let OfferSlot {
         last_modified_ledger_seq,
@@ -79,7 +82,8 @@ pub fn erase_offer<B: Base>(
     seller_id: &AccountId,
     offer_id: i64,
 ) -> Result<(), AllocError>
-    ensures { OnOk result (entries.new ≡ with_current entries.old (erase entries.old.current (key.Offer seller_id.now offer_id))) }
+    ensures { OnOk result (
+        entries.new ≡ with_current entries.old (erase entries.old.current (key.Offer seller_id.now offer_id))) }
 {
     entries.erase(&LedgerKey::Offer {
         seller_id: *seller_id,

@@ -71,7 +71,8 @@ pub fn store_pool<B: Base>(entries: &mut Entries<'_, B>, slot: PoolSlot) -> Resu
 
 /// Removes the pool with this id, if it stands.
 pub fn erase_pool<B: Base>(entries: &mut Entries<'_, B>, pool_id: &Hash) -> Result<(), AllocError>
-    ensures { OnOk result (entries.new ≡ with_current entries.old (erase entries.old.current (key.LiquidityPool pool_id.now))) }
+    ensures { OnOk result (
+        entries.new ≡ with_current entries.old (erase entries.old.current (key.LiquidityPool pool_id.now))) }
 {
     entries.erase(&LedgerKey::LiquidityPool { pool_id: *pool_id })
 }

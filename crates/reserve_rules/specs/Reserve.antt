@@ -19,7 +19,8 @@ min_balance account base_reserve =
 
 -- what the account can spend; it may be below 0
 abbrev pub available : AccountEntry → ℕ → ℤ
-available account base_reserve = account.balance -ℤ min_balance account base_reserve -ℤ (account_liabilities account).selling
+available account base_reserve = account.balance -ℤ min_balance account base_reserve -ℤ
+    (account_liabilities account).selling
 
 -- what the account can take
 abbrev pub room : AccountEntry → ℤ

@@ -8,15 +8,16 @@ use crate::change::changed;
 use entry_slots::{account_liabilities, num_sponsored, num_sponsoring};
 use ledger_types::AccountEntry;
 
-/// What an account has to keep, in stroops: two reserves, one for each subentry and each reserve that it pays for others, less
-/// those that others pay. `base_reserve` is in stroops.
+/// What an account has to keep, in stroops: two reserves, one for each subentry and each reserve that it pays for
+/// others, less those that others pay. `base_reserve` is in stroops.
 pub fn min_balance(account: &AccountEntry, base_reserve: u32) -> i128
     ensures { result ≡ spec.min_balance account.now base_reserve }
 {
     kept(account, base_reserve)
 }
 
-/// What an account can spend, in stroops: its balance less what it has to keep and what its offers would give. It may be below 0.
+/// What an account can spend, in stroops: its balance less what it has to keep and what its offers would give. It may
+/// be below 0.
 pub fn available(account: &AccountEntry, base_reserve: u32) -> i128
     ensures { result ≡ spec.available account.now base_reserve }
 {
@@ -35,11 +36,12 @@ pub fn room(account: &AccountEntry) -> i64
     i64::MAX - account.balance - account_liabilities(account).buying
 }
 
-/// Changes an account's balance. It answers false, and leaves the account, exactly where a credit passes what the account can
-/// take, or a debit passes what it can spend.
+/// Changes an account's balance. It answers false, and leaves the account, exactly where a credit passes what the
+/// account can take, or a debit passes what it can spend.
 pub fn add_balance(account: &mut AccountEntry, delta: i64, base_reserve: u32) -> bool
     requires { spec.IsInRange account.old }
-    ensures refused { (result ≡ false) ↔ spec.Passes delta (spec.room account.old) (spec.available account.old base_reserve) }
+    ensures refused { (result ≡ false) ↔
+        spec.Passes delta (spec.room account.old) (spec.available account.old base_reserve) }
     ensures done { result ≡ true → account.new ≡ record account.old { balance = account.old.balance +ℤ delta } }
     ensures left { result ≡ false → account.new ≡ account.old }
 {

@@ -23,8 +23,8 @@ pub fn line_room(line: &TrustLineEntry) -> i64
     line.limit - line.balance - line_liabilities(line).buying
 }
 
-/// Changes a trust line's balance. It answers false, and leaves the line, exactly where a credit passes what the line can take, or
-/// a debit passes what can be spent of it.
+/// Changes a trust line's balance. It answers false, and leaves the line, exactly where a credit passes what the line
+/// can take, or a debit passes what can be spent of it.
 pub fn line_add(line: &mut TrustLineEntry, delta: i64) -> bool
     requires { spec.IsLineInRange line.old }
     ensures refused { (result ≡ false) ↔ spec.Passes delta (spec.line_room line.old) (spec.line_available line.old) }

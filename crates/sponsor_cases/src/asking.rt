@@ -1,4 +1,5 @@
-//! Calls that are made where they may be made: of whoever others are to pay for, at most 4294967293 reserves are paid by others.
+//! Calls that are made where they may be made: of whoever others are to pay for, at most 4294967293 reserves are paid
+//! by others.
 
 ghost use Rattle.std.specs.Prelude.{◌≡◌, true, Some, IfOk};
 ghost use Rattle.std.specs.FinMap.{get};

@@ -1,5 +1,5 @@
-//! Which fault is answered, and which comes first where several tests hold. At a base reserve of 5,000,000 stroops an account keeps
-//! 10,000,000, and 5,000,000 more for each subentry.
+//! Which fault is answered, and which comes first where several tests hold. At a base reserve of 5,000,000 stroops an
+//! account keeps 10,000,000, and 5,000,000 more for each subentry.
 
 use crate::asking::{add, add_key, move_to};
 use crate::ledger::{
@@ -11,7 +11,6 @@ use ledger_types::{AccountId, Hash, LedgerKey, SignerKey};
 use sponsor_rules::{AddFault, Ctx};
 use std::alloc::{AllocError, Global};
 use std::io;
-use std::rt::Print;
 
 const NONE: Means = Means {
     balance: 0,
@@ -83,7 +82,8 @@ fn tell_paid<R: Print + AllocGlobal>(
     println!(rt; "{thing:?} of {owner:?}, paid by {sponsor:?}: {answer:?}")
 }
 
-/// An owner without sponsor pays for its data and its share lines. 1000 subentries are the most, whatever else is short.
+/// An owner without sponsor pays for its data and its share lines. 1000 subentries are the most, whatever else is
+/// short.
 fn tell_owners<R: Print + AllocGlobal>(rt: &R) -> io::Result<()> {
     for owner in [
         means(0, 1000, u32::MAX),
@@ -205,7 +205,8 @@ fn moved(
     move_data(alloc, &mut entries, &sponsored(alloc)?, &key, payer)
 }
 
-/// The new payer alone is tested where something moves. The sponsor pays for the data, so the owner keeps 10,000,000 until it moves.
+/// The new payer alone is tested where something moves. The sponsor pays for the data, so the owner keeps 10,000,000
+/// until it moves.
 fn tell_moved<R: Print + AllocGlobal>(rt: &R) -> io::Result<()> {
     for other in [
         means(14_999_999, 0, 0),

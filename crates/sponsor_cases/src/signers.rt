@@ -8,7 +8,6 @@ use ledger_types::{AccountEntry, AccountId, Hash, SignerKey};
 use sponsor_rules::{AddFault, Ctx, remove_preauth, remove_signer};
 use std::alloc::Global;
 use std::io;
-use std::rt::Print;
 
 const LOW: SignerKey = SignerKey::HashX(Hash([5; 32]));
 
@@ -34,8 +33,8 @@ enum Step {
     PreauthRemoved,
 }
 
-/// What signers go through: they stand in the order of their keys with their sponsors, one moves to other payers and back, and a
-/// pre-authorised one goes with its transaction.
+/// What signers go through: they stand in the order of their keys with their sponsors, one moves to other payers and
+/// back, and a pre-authorised one goes with its transaction.
 const STEPS: [Step; 13] = [
     Step::HighAddedAlone,
     Step::LowAddedSponsored,
@@ -53,6 +52,7 @@ const STEPS: [Step; 13] = [
 ];
 
 /// What operations are applied in, without and with open sponsorships.
+#[derive(Clone, Copy)]
 struct Terms<'a> {
     alone: &'a Ctx,
     sponsored: &'a Ctx,
@@ -70,7 +70,11 @@ fn preauth_removed(
     Ok(remove_preauth(entries, ctx, &OWNER, hash)?)
 }
 
-fn step(entries: &mut Entries<'_, MapBase>, terms: &Terms<'_>, step: Step) -> Result<(), AddFault> {
+fn take_step(
+    entries: &mut Entries<'_, MapBase>,
+    terms: &Terms<'_>,
+    step: Step,
+) -> Result<(), AddFault> {
     match step {
         Step::HighAddedAlone => add_key(entries, terms.alone, &OWNER, HIGH),
         Step::LowAddedAlone => add_key(entries, terms.alone, &OWNER, LOW),
@@ -130,14 +134,15 @@ fn tell_owner<R: Print>(rt: &R, entries: &Entries<'_, MapBase>) -> io::Result<()
     }
 }
 
-/// Takes a step, and tells its answer, the counts of the owner, of the sponsor and of the other payer, and the owner's signers.
+/// Takes a step, and tells its answer, the counts of the owner, of the sponsor and of the other payer, and the owner's
+/// signers.
 fn tell_step<R: Print>(
     rt: &R,
     entries: &mut Entries<'_, MapBase>,
     terms: &Terms<'_>,
     next: Step,
 ) -> io::Result<()> {
-    let answer = step(entries, terms, next);
+    let answer = take_step(entries, terms, next);
     let owner = counts_of(entries, &OWNER)?;
     let sponsor = counts_of(entries, &SPONSOR)?;
     let other = counts_of(entries, &OTHER)?;

@@ -10,7 +10,6 @@ use ledger_types::{AccountId, LedgerKey};
 use sponsor_rules::{AddFault, Ctx, remove_entry};
 use std::alloc::Global;
 use std::io;
-use std::rt::Print;
 
 /// What happens to a thing.
 #[derive(Clone, Copy, Debug)]
@@ -33,6 +32,7 @@ const STEPS: [Step; 6] = [
 ];
 
 /// Whose a thing is, its key, and what operations are applied in, without and with open sponsorships.
+#[derive(Clone, Copy)]
 struct Story<'a> {
     alloc: Global,
     thing: Thing,
@@ -51,7 +51,11 @@ fn removed(entries: &mut Entries<'_, MapBase>, story: &Story<'_>) -> Result<(), 
     Ok(remove_entry(entries, story.alone, story.key)?)
 }
 
-fn step(entries: &mut Entries<'_, MapBase>, story: &Story<'_>, step: Step) -> Result<(), AddFault> {
+fn take_step(
+    entries: &mut Entries<'_, MapBase>,
+    story: &Story<'_>,
+    step: Step,
+) -> Result<(), AddFault> {
     match step {
         Step::AddedAlone => added(entries, story, story.alone),
         Step::AddedSponsored => added(entries, story, story.sponsored),
@@ -68,7 +72,7 @@ fn tell_step<R: Print>(
     story: &Story<'_>,
     next: Step,
 ) -> io::Result<()> {
-    let answer = step(entries, story, next);
+    let answer = take_step(entries, story, next);
     let owner = counts_of(entries, story.owner)?;
     let sponsor = counts_of(entries, &SPONSOR)?;
     let other = counts_of(entries, &OTHER)?;

@@ -14,6 +14,12 @@ const DOLLARS: Asset = Asset::Alphanum4 {
     issuer: OTHER,
 };
 
+/// What the line is in.
+pub const DOLLAR_LINE: TrustLineAsset = TrustLineAsset::Alphanum4 {
+    code: *b"USD\0",
+    issuer: OTHER,
+};
+
 /// A thing to add.
 #[derive(Clone, Copy, Debug)]
 pub enum Thing {
@@ -97,10 +103,7 @@ fn balance(alloc: Global) -> Result<LedgerEntry, AllocError> {
 pub fn made(alloc: Global, thing: Thing) -> Result<LedgerEntry, AllocError> {
     match thing {
         Thing::Account => Ok(account(alloc, NEW, means(20_000_000, 0, 0))),
-        Thing::Line => Ok(line(TrustLineAsset::Alphanum4 {
-            code: *b"USD\0",
-            issuer: OTHER,
-        })),
+        Thing::Line => Ok(line(DOLLAR_LINE)),
         Thing::ShareLine => Ok(line(TrustLineAsset::PoolShare(Hash([8; 32])))),
         Thing::Offer => Ok(offer()),
         Thing::Data => data(alloc),

@@ -18,9 +18,9 @@ use Rattle.entry_slots.specs.EntrySponsor.{sponsor_of, with_sponsor}
 use Rattle.entry_slots.specs.Tests.{unless_first}
 use Rattle.sponsor_rules.specs.Charge.{charge_of, line_multiplicity, multiplicity, owner_of}
 use Rattle.sponsor_rules.specs.Counting.{count_in}
-use Rattle.sponsor_rules.specs.Paying.{map_after_releasing}
+use Rattle.sponsor_rules.specs.Paying.{map_after_releasing, map_after_exchange}
 use Rattle.sponsor_rules.specs.Payers.{is_account, other_than, payer_tests, move_tests}
-use Rattle.sponsor_rules.specs.Moving.{map_after_exchange, map_with_other_payer, map_with_sponsor, recorded_in, map_after_moving_between, map_after_moving_owned, map_after_moving_balance, map_after_moving_by, map_after_moving_entry}
+use Rattle.sponsor_rules.specs.Moving.{map_with_other_payer, map_with_sponsor, recorded_in, map_after_moving_between, map_after_moving_owned, map_after_moving_balance, map_after_moving_by, map_after_moving_entry}
 use Rattle.sponsor_laws.specs.Sums.{total, counted_for}
 use Rattle.sponsor_laws.specs.Laws.{PayerStands, MovingKeeps}
 use Rattle.sponsor_laws.proofs.Totals.{part_of}

@@ -12,9 +12,9 @@ use Rattle.entry_slots.specs.Accounts.{account_at, with_account, HasAccount}
 use Rattle.entry_slots.specs.AccountExtensions.{signer_sponsor}
 use Rattle.sponsor_rules.specs.Counting.{count_in, with_less}
 use Rattle.entry_slots.specs.Tests.{unless_first}
-use Rattle.sponsor_rules.specs.Paying.{map_after_releasing, with_other_payer}
+use Rattle.sponsor_rules.specs.Paying.{map_after_releasing, map_after_exchange, with_other_payer}
 use Rattle.sponsor_rules.specs.Payers.{other_than, move_tests}
-use Rattle.sponsor_rules.specs.Moving.{map_after_exchange, map_with_other_payer}
+use Rattle.sponsor_rules.specs.Moving.{map_with_other_payer}
 use Rattle.sponsor_rules.specs.SignerPlace.{found_at, place_of, with_signer_sponsor, found_signer}
 use Rattle.sponsor_rules.specs.Signers.{map_after_moving_found, map_after_moving_signer_between, with_moved_signer}
 use Rattle.sponsor_laws.specs.Sums.{is_this, is_there, signer_sponsors}

@@ -11,4 +11,5 @@ pub is_itself : (a : AccountId) → is_account a a ≡ true
 is_itself a = (bytes_eq-Decides a.0 a.0).1 refl
 
 pub apart_accounts : (a b : AccountId) → is_account a b ≡ false → a ≢ b
-apart_accounts a b h same = let tied = ap (is_account a) same in let itself = is_itself a in absurd (let other = ap (λ x. is_account x b) same in let own = is_itself b in cc)
+apart_accounts a b h same = let tied = ap (is_account a) same in let itself = is_itself a in
+    absurd (let other = ap (λ x. is_account x b) same in let own = is_itself b in cc)

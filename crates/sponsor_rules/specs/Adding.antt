@@ -36,7 +36,8 @@ abbrev pub own_tests : Ctx → AccountEntry → Tests AddFault
 own_tests ctx account = (is_lt (int_cmp account.balance (pos (2 * ctx.base_reserve))), LowReserve) ∷ []
 
 -- An account pays two reserves out of its own balance, or a sponsor pays them.
-abbrev pub map_after_adding_account : Ctx → LedgerEntry → AccountEntry → Option AccountId → EntryMap → Result EntryMap AddFault
+abbrev pub map_after_adding_account : Ctx → LedgerEntry → AccountEntry → Option AccountId → EntryMap
+    → Result EntryMap AddFault
 map_after_adding_account ctx entry account None m = unless_first (own_tests ctx account) (put m entry)
 map_after_adding_account ctx entry account (Some sponsor) m =
     unless_first (payer_tests ctx m sponsor 2)
@@ -45,7 +46,8 @@ map_after_adding_account ctx entry account (Some sponsor) m =
 -- The payer of a claimable balance is always recorded.
 abbrev pub map_after_adding_balance : Ctx → LedgerEntry → AccountId → ℕ → EntryMap → Result EntryMap AddFault
 map_after_adding_balance ctx entry payer k m =
-    unless_first (payer_tests ctx m payer k) (put (map_after_charging k (Some payer) m) (with_sponsor (Some payer) entry))
+    unless_first (payer_tests ctx m payer k) (put (map_after_charging k (Some payer) m)
+    (with_sponsor (Some payer) entry))
 
 -- the map with the counts of a subentry's owner and of its sponsor
 abbrev pub map_after_counting : AccountId → ℕ → Option AccountId → EntryMap → EntryMap
@@ -56,20 +58,24 @@ map_after_adding_subentry ctx entry owner k m =
     unless_first (subentry_tests ctx m owner k)
     (put (map_after_counting owner k (open_sponsor ctx owner) m) (sponsored_entry (open_sponsor ctx owner) entry))
 
-abbrev pub map_after_adding_own : Ctx → LedgerEntry → Option AccountEntry → Option AccountId → EntryMap → Result EntryMap AddFault
+abbrev pub map_after_adding_own : Ctx → LedgerEntry → Option AccountEntry → Option AccountId → EntryMap
+    → Result EntryMap AddFault
 map_after_adding_own ctx entry None sponsor m = Ok m
 map_after_adding_own ctx entry (Some account) sponsor m = map_after_adding_account ctx entry account sponsor m
 
 -- What charges itself is an account. A pool is put as it is: nobody pays for it.
-abbrev pub map_after_adding_by : Ctx → AccountId → LedgerEntry → Charge → Option AccountEntry → EntryMap → Result EntryMap AddFault
+abbrev pub map_after_adding_by : Ctx → AccountId → LedgerEntry → Charge → Option AccountEntry → EntryMap
+    → Result EntryMap AddFault
 map_after_adding_by ctx owner entry (charge.Itself id) account m =
     map_after_adding_own ctx entry account (open_sponsor ctx owner) m
 map_after_adding_by ctx owner entry (charge.Subentry id k) account m = map_after_adding_subentry ctx entry owner k m
-map_after_adding_by ctx owner entry (charge.Payer k) account m = map_after_adding_balance ctx entry (payer_of ctx owner) k m
+map_after_adding_by ctx owner entry (charge.Payer k) account m =
+    map_after_adding_balance ctx entry (payer_of ctx owner) k m
 map_after_adding_by ctx owner entry charge.Nobody account m = Ok (put m entry)
 
 abbrev pub map_after_adding : Ctx → AccountId → LedgerEntry → EntryMap → Result EntryMap AddFault
-map_after_adding ctx owner entry m = map_after_adding_by ctx owner entry (charge_of entry.body) (account_in entry.body) m
+map_after_adding ctx owner entry m = map_after_adding_by ctx owner entry (charge_of entry.body)
+    (account_in entry.body) m
 
 abbrev pub IsReadyToAdd : Option AccountEntry → Type 0
 IsReadyToAdd None = Unit {0}

@@ -1,5 +1,5 @@
--- How many reserves a thing charges, and whom (CAP-0033, CAP-0023 for claimable balances, CAP-0038 for pool shares; SponsorshipUtils in
--- stellar-core).
+-- How many reserves a thing charges, and whom (CAP-0033, CAP-0023 for claimable balances, CAP-0038 for pool shares;
+-- SponsorshipUtils in stellar-core).
 use Rattle.std.specs.Prelude.{ℕ, Option, Some, None, length}
 use Rattle.ledger_types.specs.declared.ids.AccountId.{AccountId}
 use Rattle.ledger_types.specs.declared.asset.TrustLineAsset.{TrustLineAsset}

@@ -79,4 +79,5 @@ pub record LeavesBalances (old new : EntryMap) : Type 0 where
 
 -- the same of each account but the one under a key
 pub record LeavesOtherBalances (k : LedgerKey) (old new : EntryMap) : Type 0 where
-  pub kept : (id : AccountId) (was : AccountEntry) → key.Account id ≢ k → account_at old id ≡ Some was → HasMeans new id was
+  pub kept : (id : AccountId) (was : AccountEntry) → key.Account id ≢ k → account_at old id ≡ Some was
+      → HasMeans new id was

@@ -1,5 +1,6 @@
 -- Who pays a reserve, and whether it can (CAP-0033; SponsorshipUtils in stellar-core).
-use Rattle.std.specs.Prelude.{◌≡◌, ℕ, ◌+◌, ◌*◌, ◌≤◌, pos, nat_lt, Bool, false, ◌||◌, [], ◌∷◌, Option, Some, None, if◌then◌else◌}
+use Rattle.std.specs.Prelude.{◌≡◌, ℕ, ◌+◌, ◌*◌, ◌≤◌, pos, nat_lt, Bool, false, ◌||◌, [], ◌∷◌, Option, Some, None}
+use Rattle.std.specs.Prelude.{if◌then◌else◌}
 use Rattle.std.specs.List.{find}
 use Rattle.std.specs.Option.{option_map}
 use Rattle.std.specs.Ordering.{is_lt, int_cmp}
@@ -25,7 +26,8 @@ is_account a b = bytes_eq a.0 b.0
 -- who opened a sponsorship for an account, if somebody did
 unfoldable pub open_sponsor : Ctx → AccountId → Option AccountId
 open_sponsor ctx id =
-    option_map (λ sponsorship. sponsorship.sponsor) (find (λ sponsorship. is_account sponsorship.sponsored id) ctx.sponsorships)
+    option_map (λ sponsorship. sponsorship.sponsor)
+    (find (λ sponsorship. is_account sponsorship.sponsored id) ctx.sponsorships)
 
 abbrev pub payer_by : AccountId → Option AccountId → AccountId
 payer_by owner None = owner
@@ -56,7 +58,8 @@ is_short base_reserve None k = false
 is_short base_reserve (Some payer) k = is_lt (int_cmp (available payer base_reserve) (pos (k * base_reserve)))
 
 abbrev pub tests_of_payer : ℕ → Option AccountEntry → ℕ → Tests AddFault
-tests_of_payer base_reserve payer k = (is_over payer k, TooManySponsoring) ∷ (is_short base_reserve payer k, LowReserve) ∷ []
+tests_of_payer base_reserve payer k = (is_over payer k, TooManySponsoring) ∷
+    (is_short base_reserve payer k, LowReserve) ∷ []
 
 abbrev pub tests_of_subentry : ℕ → (owner payer : Option AccountEntry) → ℕ → Tests AddFault
 tests_of_subentry base_reserve owner payer k =
@@ -73,7 +76,8 @@ payer_tests ctx m payer k = tests_of_payer ctx.base_reserve (account_at m payer)
 
 -- the tests of a subentry that is added
 abbrev pub subentry_tests : Ctx → EntryMap → AccountId → ℕ → Tests AddFault
-subentry_tests ctx m owner k = tests_of_subentry ctx.base_reserve (account_at m owner) (account_at m (payer_of ctx owner)) k
+subentry_tests ctx m owner k = tests_of_subentry ctx.base_reserve (account_at m owner)
+    (account_at m (payer_of ctx owner)) k
 
 -- the tests of something that moves to another payer, or to its owner
 abbrev pub move_tests : Ctx → EntryMap → AccountId → Option AccountId → ℕ → Tests AddFault

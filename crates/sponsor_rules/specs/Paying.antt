@@ -1,4 +1,5 @@
--- Who pays how many reserves (CAP-0033; SponsorshipUtils in stellar-core). A payer's account changes first, and then the owner's.
+-- Who pays how many reserves (CAP-0033; SponsorshipUtils in stellar-core). A payer's account changes first, and then
+-- the owner's.
 use Rattle.std.specs.Prelude.{ℕ, Option, Some, None}
 use Rattle.ledger_types.specs.declared.ids.AccountId.{AccountId}
 use Rattle.ledger_types.specs.declared.account.AccountEntry.{AccountEntry}
@@ -18,6 +19,10 @@ map_after_charging k (Some sponsor) m = with_account m sponsor (with_more Sponso
 abbrev pub map_after_releasing : ℕ → Option AccountId → EntryMap → EntryMap
 map_after_releasing k None m = m
 map_after_releasing k (Some sponsor) m = with_account m sponsor (with_less Sponsoring k)
+
+-- The old sponsor, if there was one, pays k reserves less, and the new one, if there is one, k more.
+abbrev pub map_after_exchange : ℕ → (old new : Option AccountId) → EntryMap → EntryMap
+map_after_exchange k old new m = map_after_charging k new (map_after_releasing k old m)
 
 -- ---- owners
 

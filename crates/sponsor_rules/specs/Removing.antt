@@ -14,7 +14,8 @@ use Rattle.sponsor_rules.specs.Paying.{map_after_releasing, without_subentry}
 
 -- the map without the counts of a subentry's owner and of its sponsor
 abbrev pub map_after_discounting : AccountId → ℕ → Option AccountId → EntryMap → EntryMap
-map_after_discounting owner k sponsor m = with_account (map_after_releasing k sponsor m) owner (without_subentry k sponsor)
+map_after_discounting owner k sponsor m = with_account (map_after_releasing k sponsor m) owner
+    (without_subentry k sponsor)
 
 -- An account's own counts go with it.
 abbrev pub map_after_release : Charge → Option AccountId → EntryMap → EntryMap

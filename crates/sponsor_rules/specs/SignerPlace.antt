@@ -1,31 +1,16 @@
 -- Where signers stand, and an account with other signers.
 use Rattle.std.specs.Prelude.{ℕ, List, Option, Some, None, slice_set}
 use Rattle.std.specs.List.{insert, remove, position, prefix_len}
-use Rattle.std.specs.declared.cmp.Ordering.{Ordering}
-use Rattle.std.specs.Ordering.{nat_cmp, is_lt, is_eq}
+use Rattle.std.specs.Ordering.{is_lt, is_eq}
 use Rattle.ledger_types.specs.declared.ids.AccountId.{AccountId}
 use Rattle.ledger_types.specs.declared.signer.Signer.{Signer}
 use Rattle.ledger_types.specs.declared.signer.SignerKey.{SignerKey}
-use Rattle.ledger_types.specs.declared.signer.SignerKey.TheVariants.{Ed25519, PreAuthTx, HashX}
 use Rattle.ledger_types.specs.declared.account.AccountEntry.{AccountEntry}
 use Rattle.ledger_types.specs.declared.account.AccountEntryExtensionV1.{AccountEntryExtensionV1}
 use Rattle.ledger_types.specs.declared.account.AccountEntryExtensionV2.{AccountEntryExtensionV2}
-use Rattle.ledger_types.specs.KeyOrder.{bytes_cmp, hash_cmp}
+use Rattle.ledger_types.specs.KeyOrder.{signer_key_cmp}
 use Rattle.entry_slots.specs.AccountExtensions.{signer_sponsor}
 use Rattle.sponsor_rules.specs.declared.signer_place.FoundSigner.{FoundSigner}
-
--- ---- the order of signers' keys: by arm, and then by bytes
-
-abbrev pub signer_key_kind : SignerKey → ℕ
-signer_key_kind (Ed25519 key) = 0
-signer_key_kind (PreAuthTx hash) = 1
-signer_key_kind (HashX hash) = 2
-
-abbrev pub signer_key_cmp : SignerKey → SignerKey → Ordering
-signer_key_cmp (Ed25519 a) (Ed25519 b) = bytes_cmp a b
-signer_key_cmp (PreAuthTx a) (PreAuthTx b) = hash_cmp a b
-signer_key_cmp (HashX a) (HashX b) = hash_cmp a b
-signer_key_cmp a b = nat_cmp (signer_key_kind a) (signer_key_kind b)
 
 -- ---- places
 
@@ -48,12 +33,14 @@ found_signer key (Some account) = found_at account (place_of key account.signers
 
 -- ---- an account with other signers
 
-abbrev pub with_sponsors_in : (List (Option AccountId) → List (Option AccountId)) → Option AccountEntryExtensionV2 → Option AccountEntryExtensionV2
+abbrev pub with_sponsors_in : (List (Option AccountId) → List (Option AccountId)) → Option AccountEntryExtensionV2
+    → Option AccountEntryExtensionV2
 with_sponsors_in change None = None
 with_sponsors_in change (Some ext) = Some (record ext { signer_sponsoring_ids = change ext.signer_sponsoring_ids })
 
 -- an extension with other sponsors of signers, where there is one
-abbrev pub with_sponsors : (List (Option AccountId) → List (Option AccountId)) → Option AccountEntryExtensionV1 → Option AccountEntryExtensionV1
+abbrev pub with_sponsors : (List (Option AccountId) → List (Option AccountId)) → Option AccountEntryExtensionV1
+    → Option AccountEntryExtensionV1
 with_sponsors change None = None
 with_sponsors change (Some ext) = Some (record ext { ext = with_sponsors_in change ext.ext })
 
@@ -64,7 +51,8 @@ with_signer_at place signer sponsor account =
       ext = with_sponsors (λ sponsors. insert sponsors place sponsor) account.ext;
     }
 
--- An account with one signer more. A sponsor is recorded where the account has the extension, which it gets as its count is raised.
+-- An account with one signer more. A sponsor is recorded where the account has the extension, which it gets as its
+-- count is raised.
 abbrev pub with_signer : Signer → Option AccountId → AccountEntry → AccountEntry
 with_signer signer sponsor account = with_signer_at (place_for signer.key account.signers) signer sponsor account
 

@@ -1,5 +1,5 @@
--- Adding, removing and moving a signer: the new map, or why there is none (CAP-0033; SponsorshipUtils in stellar-core). A signer counts
--- as a subentry, and its sponsor stands at its place among those of the account's signers.
+-- Adding, removing and moving a signer: the new map, or why there is none (CAP-0033; SponsorshipUtils in stellar-core).
+-- A signer counts as a subentry, and its sponsor stands at its place among those of the account's signers.
 use Rattle.std.specs.Prelude.{ℕ, Option, Some, None, Result, Ok}
 use Rattle.ledger_types.specs.declared.ids.AccountId.{AccountId}
 use Rattle.ledger_types.specs.declared.ids.Hash.{Hash}
@@ -13,8 +13,8 @@ use Rattle.entry_slots.specs.Tests.{unless_first}
 use Rattle.sponsor_rules.specs.declared.context.Ctx.{Ctx}
 use Rattle.sponsor_rules.specs.declared.fault.AddFault.{AddFault}
 use Rattle.sponsor_rules.specs.declared.signer_place.FoundSigner.{FoundSigner}
-use Rattle.sponsor_rules.specs.Moving.{map_after_exchange}
-use Rattle.sponsor_rules.specs.Paying.{map_after_charging, map_after_releasing, with_subentry, without_subentry, with_other_payer}
+use Rattle.sponsor_rules.specs.Paying.{map_after_charging, map_after_releasing, map_after_exchange, with_subentry}
+use Rattle.sponsor_rules.specs.Paying.{without_subentry, with_other_payer}
 use Rattle.sponsor_rules.specs.Payers.{open_sponsor, other_than, subentry_tests, move_tests}
 use Rattle.sponsor_rules.specs.SignerPlace.{found_signer, with_signer, without_signer, with_signer_sponsor}
 
@@ -25,7 +25,8 @@ abbrev pub with_counted_signer : Signer → Option AccountId → AccountEntry �
 with_counted_signer signer sponsor account = with_signer signer sponsor (with_subentry 1 sponsor account)
 
 abbrev pub map_with_signer : AccountId → Signer → Option AccountId → EntryMap → EntryMap
-map_with_signer id signer sponsor m = with_account (map_after_charging 1 sponsor m) id (with_counted_signer signer sponsor)
+map_with_signer id signer sponsor m = with_account (map_after_charging 1 sponsor m) id
+    (with_counted_signer signer sponsor)
 
 abbrev pub map_after_adding_signer : Ctx → AccountId → Signer → EntryMap → Result EntryMap AddFault
 map_after_adding_signer ctx id signer m =
@@ -39,7 +40,8 @@ without_counted_signer found account = without_signer found.place (without_suben
 
 abbrev pub map_without_signer : AccountId → EntryMap → Option FoundSigner → EntryMap
 map_without_signer id m None = m
-map_without_signer id m (Some found) = with_account (map_after_releasing 1 found.sponsor m) id (without_counted_signer found)
+map_without_signer id m (Some found) = with_account (map_after_releasing 1 found.sponsor m) id
+    (without_counted_signer found)
 
 -- nothing changes where there is no such signer
 abbrev pub map_after_removing_signer : AccountId → SignerKey → EntryMap → EntryMap
@@ -56,16 +58,20 @@ abbrev pub with_moved_signer : ℕ → (old new : Option AccountId) → AccountE
 with_moved_signer place old new account = with_signer_sponsor place new (with_other_payer 1 old new account)
 
 -- A signer that had no sponsor and gets none stays as it is, and nothing is tested.
-abbrev pub map_after_moving_signer_between : Ctx → AccountId → ℕ → (old new : Option AccountId) → EntryMap → Result EntryMap AddFault
+abbrev pub map_after_moving_signer_between : Ctx → AccountId → ℕ → (old new : Option AccountId) → EntryMap
+    → Result EntryMap AddFault
 map_after_moving_signer_between ctx id place None None m = Ok m
 map_after_moving_signer_between ctx id place old new m =
-    unless_first (move_tests ctx m id new 1) (with_account (map_after_exchange 1 old new m) id (with_moved_signer place old new))
+    unless_first (move_tests ctx m id new 1) (with_account (map_after_exchange 1 old new m) id
+    (with_moved_signer place old new))
 
-abbrev pub map_after_moving_found : Ctx → AccountId → Option AccountId → EntryMap → Option FoundSigner → Result EntryMap AddFault
+abbrev pub map_after_moving_found : Ctx → AccountId → Option AccountId → EntryMap → Option FoundSigner
+    → Result EntryMap AddFault
 map_after_moving_found ctx id payer m None = Ok m
 map_after_moving_found ctx id payer m (Some found) =
     map_after_moving_signer_between ctx id found.place found.sponsor (other_than id payer) m
 
 -- nothing changes where there is no such signer
-abbrev pub map_after_moving_signer : Ctx → AccountId → SignerKey → Option AccountId → EntryMap → Result EntryMap AddFault
+abbrev pub map_after_moving_signer : Ctx → AccountId → SignerKey → Option AccountId → EntryMap
+    → Result EntryMap AddFault
 map_after_moving_signer ctx id key payer m = map_after_moving_found ctx id payer m (found_signer key (account_at m id))

@@ -16,7 +16,7 @@ use crate::context::Ctx;
 use crate::count::Count;
 use crate::counting::raise;
 use crate::fault::AddFault;
-use crate::owner::add_subentry as add_to_account;
+use crate::owner::gain_subentry;
 use crate::payers::{open_sponsor, payer_by, payer_fault};
 use crate::paying::{charge_payer, pay_for_subentry};
 use crate::stored::{load, put_entry, store_changed};
@@ -25,9 +25,9 @@ use entry_slots::{AccountSlot, account_slot_in, set_sponsor, store_account};
 use ledger_types::{AccountId, LedgerEntry, LedgerEntryExtensionV1};
 use std::alloc::AllocError;
 
-/// Adds an entry, for which its owner or that account's open sponsor pays: the counts change, and a sponsor is recorded in the entry.
-/// The `owner` of a claimable balance is the account that makes it. A pool is put without payer. Where it answers one of the first
-/// three faults, nothing has changed.
+/// Adds an entry, for which its owner or that account's open sponsor pays: the counts change, and a sponsor is recorded
+/// in the entry. The `owner` of a claimable balance is the account that makes it. A pool is put without payer. Where it
+/// answers one of the first three faults, nothing has changed.
 pub fn add_entry<B: Base>(
     entries: &mut Entries<'_, B>,
     ctx: &Ctx,
@@ -35,12 +35,10 @@ pub fn add_entry<B: Base>(
     entry: LedgerEntry,
 ) -> Result<(), AddFault>
     requires { spec.AreReady owner.now entry.body entries.old.current }
-    ensures outcome {
-        IsOutcome result entries.old entries.new (spec.map_after_adding ctx.now owner.now entry entries.old.current)
-    }
-    ensures balances {
-        OnOk result (keeping.LeavesOtherBalances (key_of entry) entries.old.current entries.new.current)
-    }
+    ensures outcome { IsOutcome result entries.old entries.new (
+        spec.map_after_adding ctx.now owner.now entry entries.old.current) }
+    ensures balances { OnOk result (
+        keeping.LeavesOtherBalances (key_of entry) entries.old.current entries.new.current) }
 {
     match charge_of(&entry.body) {
         Charge::Itself { owner: _ } => match account_slot_in(entry) {
@@ -68,9 +66,8 @@ fn sponsored_entry(sponsor: Option<AccountId>, entry: LedgerEntry) -> LedgerEntr
 /// Adds a pool.
 fn add_pool<B: Base>(entries: &mut Entries<'_, B>, entry: LedgerEntry) -> Result<(), AddFault>
     ensures outcome { IsOutcome result entries.old entries.new (Ok (put entries.old.current entry)) }
-    ensures balances {
-        OnOk result (keeping.LeavesOtherBalances (key_of entry) entries.old.current entries.new.current)
-    }
+    ensures balances { OnOk result (
+        keeping.LeavesOtherBalances (key_of entry) entries.old.current entries.new.current) }
 {
     Ok(put_entry(entries, entry)?)
 }
@@ -85,13 +82,10 @@ fn add_subentry<B: Base>(
 ) -> Result<(), AddFault>
     requires count { count ≤ 2 }
     requires owner { payers.IsReady entries.old.current owner.now }
-    ensures outcome {
-        IsOutcome result entries.old entries.new (
-            spec.map_after_adding_subentry ctx.now entry owner.now count entries.old.current)
-    }
-    ensures balances {
-        OnOk result (keeping.LeavesOtherBalances (key_of entry) entries.old.current entries.new.current)
-    }
+    ensures outcome { IsOutcome result entries.old entries.new (
+        spec.map_after_adding_subentry ctx.now entry owner.now count entries.old.current) }
+    ensures balances { OnOk result (
+        keeping.LeavesOtherBalances (key_of entry) entries.old.current entries.new.current) }
 {
     let sponsor = open_sponsor(ctx, owner);
     let slot = pay_for_subentry(entries, ctx, owner, &sponsor, count)?;
@@ -110,18 +104,16 @@ fn count_subentry<B: Base>(
 ) -> Result<(), AllocError>
     requires loaded { keeping.IsLoaded entries.old.current owner.now slot }
     requires fits { keeping.FitsSubentry by (account_of_slot slot) }
-    ensures counted {
-        OnOk result (
-            entries.new ≡
-                with_current entries.old (
-                    with_account entries.old.current owner.now (paying.with_subentry by sponsor.now)))
-    }
+    ensures counted { OnOk result (
+        entries.new ≡
+        with_current entries.old (
+        with_account entries.old.current owner.now (paying.with_subentry by sponsor.now))) }
     ensures balances { OnOk result (keeping.LeavesBalances entries.old.current entries.new.current) }
 {
     let Some(mut slot) = slot else {
         return Ok(());
     };
-    add_to_account(&mut slot.account, by, sponsor)?;
+    gain_subentry(&mut slot.account, by, sponsor)?;
     store_changed(entries, owner, slot)
 }
 
@@ -133,13 +125,10 @@ fn add_balance<B: Base>(
     entry: LedgerEntry,
     count: u64,
 ) -> Result<(), AddFault>
-    ensures outcome {
-        IsOutcome result entries.old entries.new (
-            spec.map_after_adding_balance ctx.now entry (payers.payer_of ctx.now owner.now) count entries.old.current)
-    }
-    ensures balances {
-        OnOk result (keeping.LeavesOtherBalances (key_of entry) entries.old.current entries.new.current)
-    }
+    ensures outcome { IsOutcome result entries.old entries.new (
+        spec.map_after_adding_balance ctx.now entry (payers.payer_of ctx.now owner.now) count entries.old.current) }
+    ensures balances { OnOk result (
+        keeping.LeavesOtherBalances (key_of entry) entries.old.current entries.new.current) }
 {
     let payer = payer_by(owner, open_sponsor(ctx, owner));
     let slot = load(entries, &payer)?;
@@ -159,15 +148,11 @@ fn add_account<B: Base>(
     slot: AccountSlot,
 ) -> Result<(), AddFault>
     requires { payers.IsReadyAccount slot.account }
-    ensures outcome {
-        IsOutcome result entries.old entries.new (
-            spec.map_after_adding_account ctx.now (entry_of_account slot) slot.account (
-                payers.open_sponsor ctx.now owner.now) entries.old.current)
-    }
-    ensures balances {
-        OnOk result (
-            keeping.LeavesOtherBalances (key_of (entry_of_account slot)) entries.old.current entries.new.current)
-    }
+    ensures outcome { IsOutcome result entries.old entries.new (
+        spec.map_after_adding_account ctx.now (entry_of_account slot) slot.account (
+        payers.open_sponsor ctx.now owner.now) entries.old.current) }
+    ensures balances { OnOk result (
+        keeping.LeavesOtherBalances (key_of (entry_of_account slot)) entries.old.current entries.new.current) }
 {
     match open_sponsor(ctx, owner) {
         Some(sponsor) => add_sponsored_account(entries, ctx, &sponsor, slot),
@@ -186,14 +171,11 @@ fn add_sponsored_account<B: Base>(
     slot: AccountSlot,
 ) -> Result<(), AddFault>
     requires { payers.IsReadyAccount slot.account }
-    ensures outcome {
-        IsOutcome result entries.old entries.new (
-            spec.map_after_adding_account ctx.now (entry_of_account slot) slot.account (Some sponsor.now) entries.old.current)
-    }
-    ensures balances {
-        OnOk result (
-            keeping.LeavesOtherBalances (key_of (entry_of_account slot)) entries.old.current entries.new.current)
-    }
+    ensures outcome { IsOutcome result entries.old entries.new (
+        spec.map_after_adding_account ctx.now (entry_of_account slot) slot.account (Some sponsor.now)
+        entries.old.current) }
+    ensures balances { OnOk result (
+        keeping.LeavesOtherBalances (key_of (entry_of_account slot)) entries.old.current entries.new.current) }
 {
     let payer = load(entries, sponsor)?;
     if let Some(fault) = payer_fault(ctx.base_reserve, &payer, 2) {
@@ -207,11 +189,10 @@ fn add_sponsored_account<B: Base>(
 
 /// Puts an account's entry under its key. No other account changes.
 fn put_account<B: Base>(entries: &mut Entries<'_, B>, slot: AccountSlot) -> Result<(), AllocError>
-    ensures put { OnOk result (entries.new ≡ with_current entries.old (put entries.old.current (entry_of_account slot))) }
-    ensures balances {
-        OnOk result (
-            keeping.LeavesOtherBalances (key_of (entry_of_account slot)) entries.old.current entries.new.current)
-    }
+    ensures put { OnOk result (
+        entries.new ≡ with_current entries.old (put entries.old.current (entry_of_account slot))) }
+    ensures balances { OnOk result (
+        keeping.LeavesOtherBalances (key_of (entry_of_account slot)) entries.old.current entries.new.current) }
 {
     store_account(entries, slot)
 }
@@ -219,10 +200,8 @@ fn put_account<B: Base>(entries: &mut Entries<'_, B>, slot: AccountSlot) -> Resu
 /// The account's entry with its sponsor, who pays two of its reserves.
 fn sponsored_account(sponsor: &AccountId, slot: AccountSlot) -> Result<AccountSlot, AllocError>
     requires { payers.IsReadyAccount slot.account }
-    ensures sponsored {
-        IfOk result (λ new.
-            entry_of_account new ≡ spec.sponsored_account_entry sponsor.now (entry_of_account slot) slot.account)
-    }
+    ensures sponsored { IfOk result (λ new.
+        entry_of_account new ≡ spec.sponsored_account_entry sponsor.now (entry_of_account slot) slot.account) }
     ensures named { IfOk result (λ new. key_of (entry_of_account new) ≡ key_of (entry_of_account slot)) }
 {
     let mut slot = slot;

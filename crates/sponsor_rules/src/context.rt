@@ -3,16 +3,16 @@
 use item_list::ItemList;
 use ledger_types::AccountId;
 
-/// A sponsorship that is open: `sponsor` pays the reserves of what `sponsored` adds (CAP-0033). No account is sponsored twice or by
-/// itself.
+/// A sponsorship that is open: `sponsor` pays the reserves of what `sponsored` adds (CAP-0033). No account is sponsored
+/// twice or by itself.
 #[derive(Clone, Copy)]
 pub struct Sponsorship {
     pub sponsored: AccountId,
     pub sponsor: AccountId,
 }
 
-/// What an operation is applied in: the header's terms, the transaction and the operation that it belongs to, and the sponsorships
-/// that are open.
+/// What an operation is applied in: the header's terms, the transaction and the operation that it belongs to, and the
+/// sponsorships that are open.
 #[derive(Drop)]
 pub struct Ctx {
     /// The header's `ledger_seq`.

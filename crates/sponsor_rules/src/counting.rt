@@ -34,10 +34,8 @@ fn set_in_sponsorship(sponsorship: &mut AccountEntryExtensionV2, count: Count, v
 
 /// Gives an account another count of its sponsorship.
 fn set_sponsorship(account: &mut AccountEntry, count: Count, value: u32) -> Result<(), AllocError>
-    ensures {
-        OnOk result (
-            account.new ≡ with_sponsorship (spec.with_count_in count value (sponsorship_of account.old)) account.old)
-    }
+    ensures { OnOk result (
+        account.new ≡ with_sponsorship (spec.with_count_in count value (sponsorship_of account.old)) account.old) }
 {
     let (liabilities, mut sponsorship) = both_extensions(&account.signers, account.ext.take())?;
     set_in_sponsorship(&mut sponsorship, count, value);

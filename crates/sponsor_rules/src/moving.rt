@@ -27,23 +27,20 @@ use entry_slots::{AccountSlot, set_sponsor, sponsor_in};
 use ledger_types::{AccountId, LedgerKey};
 use std::alloc::AllocError;
 
-/// Moves the entry with a key to another payer, or to its owner where none is given: the counts of those that pay for it change, and
-/// the new sponsor is recorded. A claimable balance stays as it is where no payer is given; a pool always does, and so does what had
-/// no sponsor and gets none. Nothing changes where there is no such entry. Where it answers one of the faults that aren't want of
-/// memory, nothing has changed.
+/// Moves the entry with a key to another payer, or to its owner where none is given: the counts of those that pay for
+/// it change, and the new sponsor is recorded. A claimable balance stays as it is where no payer is given; a pool
+/// always does, and so does what had no sponsor and gets none. Nothing changes where there is no such entry. Where it
+/// answers one of the faults that aren't want of memory, nothing has changed.
 pub fn move_entry<B: Base>(
     entries: &mut Entries<'_, B>,
     ctx: &Ctx,
     key: &LedgerKey,
     payer: Option<AccountId>,
 ) -> Result<(), AddFault>
-    requires {
-        (entry : AnEntry) → get entries.old.current key.now ≡ Some entry →
-        (owner : AnId) → owner_of entry.body ≡ Some owner → payers.IsReady entries.old.current owner
-    }
-    ensures outcome {
-        IsOutcome result entries.old entries.new (spec.map_after_moving ctx.now key.now payer entries.old.current)
-    }
+    requires { (entry : AnEntry) → get entries.old.current key.now ≡ Some entry →
+        (owner : AnId) → owner_of entry.body ≡ Some owner → payers.IsReady entries.old.current owner }
+    ensures outcome { IsOutcome result entries.old entries.new (
+        spec.map_after_moving ctx.now key.now payer entries.old.current) }
     ensures balances { OnOk result (keeping.LeavesBalances entries.old.current entries.new.current) }
 {
     let Some(entry) = entries.get(key)? else {
@@ -76,10 +73,8 @@ fn move_owned<B: Base>(
 ) -> Result<(), AddFault>
     requires count { count ≤ 2 }
     requires owner { payers.IsReady entries.old.current owner.now }
-    ensures outcome {
-        IsOutcome result entries.old entries.new (
-            spec.map_after_moving_between ctx.now key.now owner.now count old.now new.now entries.old.current)
-    }
+    ensures outcome { IsOutcome result entries.old entries.new (
+        spec.map_after_moving_between ctx.now key.now owner.now count old.now new.now entries.old.current) }
     ensures balances { OnOk result (keeping.LeavesBalances entries.old.current entries.new.current) }
 {
     if old.is_none() && new.is_none() {
@@ -102,12 +97,10 @@ fn pay_otherwise<B: Base>(
 ) -> Result<(), AllocError>
     requires loaded { keeping.IsLoaded entries.old.current owner.now slot }
     requires fits { count_if Sponsored (account_of_slot slot) + by < 2 ^ 32 }
-    ensures changed {
-        OnOk result (
-            entries.new ≡
-                with_current entries.old (
-                    with_account entries.old.current owner.now (paying.with_other_payer by old.now new.now)))
-    }
+    ensures changed { OnOk result (
+        entries.new ≡
+        with_current entries.old (
+        with_account entries.old.current owner.now (paying.with_other_payer by old.now new.now))) }
     ensures balances { OnOk result (keeping.LeavesBalances entries.old.current entries.new.current) }
 {
     let Some(mut slot) = slot else {
@@ -126,10 +119,8 @@ fn move_balance<B: Base>(
     old: &Option<AccountId>,
     payer: Option<AccountId>,
 ) -> Result<(), AddFault>
-    ensures outcome {
-        IsOutcome result entries.old entries.new (
-            spec.map_after_moving_balance ctx.now key.now count old.now payer entries.old.current)
-    }
+    ensures outcome { IsOutcome result entries.old entries.new (
+        spec.map_after_moving_balance ctx.now key.now count old.now payer entries.old.current) }
     ensures balances { OnOk result (keeping.LeavesBalances entries.old.current entries.new.current) }
 {
     let Some(payer) = payer else {
@@ -147,10 +138,8 @@ fn record_sponsor<B: Base>(
     key: &LedgerKey,
     sponsor: Option<AccountId>,
 ) -> Result<(), AllocError>
-    ensures recorded {
-        OnOk result (
-            entries.new ≡ with_current entries.old (spec.map_with_sponsor key.now sponsor entries.old.current))
-    }
+    ensures recorded { OnOk result (
+        entries.new ≡ with_current entries.old (spec.map_with_sponsor key.now sponsor entries.old.current)) }
     ensures balances { OnOk result (keeping.LeavesBalances entries.old.current entries.new.current) }
 {
     let Some(mut entry) = entries.get(key)? else {

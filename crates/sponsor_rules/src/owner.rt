@@ -44,13 +44,13 @@ fn pay_less(
 }
 
 /// An account has a subentry more, which counts `by` times.
-pub fn add_subentry(
+pub fn gain_subentry(
     account: &mut AccountEntry,
     by: u64,
     sponsor: &Option<AccountId>,
 ) -> Result<(), AllocError>
     requires { FitsSubentry by (Some account.old) }
-    ensures added { OnOk result (account.new ≡ spec.with_subentry by sponsor.now account.old) }
+    ensures gained { OnOk result (account.new ≡ spec.with_subentry by sponsor.now account.old) }
     ensures means { OnOk result (KeepsMeans account.old account.new) }
 {
     raise(account, Count::SubEntries, by)?;
@@ -58,12 +58,12 @@ pub fn add_subentry(
 }
 
 /// An account has a subentry less.
-pub fn remove_subentry(
+pub fn lose_subentry(
     account: &mut AccountEntry,
     by: u64,
     sponsor: &Option<AccountId>,
 ) -> Result<(), AllocError>
-    ensures removed { OnOk result (account.new ≡ spec.without_subentry by sponsor.now account.old) }
+    ensures lost { OnOk result (account.new ≡ spec.without_subentry by sponsor.now account.old) }
     ensures low { OnOk result (RaisesNoCount account.old account.new) }
     ensures means { OnOk result (KeepsMeans account.old account.new) }
 {

@@ -58,16 +58,12 @@ pub fn other_than(owner: &AccountId, payer: Option<AccountId>) -> Option<Account
 
 /// The subentries of an account, and the reserves that it pays for others: 0 where it doesn't stand.
 fn reserves(slot: &Option<AccountSlot>) -> (u32, u32)
-    ensures {
-        result ≡ (count_if SubEntries (account_of_slot slot.now), count_if Sponsoring (account_of_slot slot.now))
-    }
+    ensures { result ≡
+        (count_if SubEntries (account_of_slot slot.now), count_if Sponsoring (account_of_slot slot.now)) }
 {
     match slot {
         None => (0, 0),
-        Some(slot) => (
-            slot.account.num_sub_entries,
-            num_sponsoring(&slot.account),
-        ),
+        Some(slot) => (slot.account.num_sub_entries, num_sponsoring(&slot.account)),
     }
 }
 
@@ -125,10 +121,8 @@ pub fn subentry_fault(
     payer: &Option<AccountSlot>,
     more: u64,
 ) -> Option<AddFault>
-    ensures fault {
-        result ≡ first_fault (
-            spec.tests_of_subentry base_reserve (account_of_slot owner.now) (account_of_slot payer.now) more)
-    }
+    ensures fault { result ≡ first_fault (
+        spec.tests_of_subentry base_reserve (account_of_slot owner.now) (account_of_slot payer.now) more) }
     ensures few { IfNone result (count_if SubEntries (account_of_slot owner.now) + more ≤ 1000) }
     ensures room { IfNone result (count_if Sponsoring (account_of_slot payer.now) + more ≤ 4294967295) }
 {

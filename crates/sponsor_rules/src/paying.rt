@@ -8,7 +8,6 @@ ghost use Rattle.sponsor_rules.specs.declared.count.Count.TheVariants.{Sponsorin
 ghost use Rattle.ledger_types.specs.declared.ids.AccountId.{AccountId as AnId};
 ghost use Rattle.sponsor_rules.specs.Counting.{count_at, count_if};
 ghost use Rattle.sponsor_rules.specs.Keeping as keeping;
-ghost use Rattle.sponsor_rules.specs.Moving as moving;
 ghost use Rattle.sponsor_rules.specs.Outcome.{IsFound};
 ghost use Rattle.sponsor_rules.specs.Payers as payers;
 ghost use Rattle.sponsor_rules.specs.Paying as spec;
@@ -33,10 +32,8 @@ pub fn charge_payer<B: Base>(
 ) -> Result<(), AllocError>
     requires loaded { keeping.IsLoaded entries.old.current sponsor.now slot }
     requires fits { count_if Sponsoring (account_of_slot slot) + by < 2 ^ 32 }
-    ensures charged {
-        OnOk result (
-            entries.new ≡ with_current entries.old (spec.map_after_charging by (Some sponsor.now) entries.old.current))
-    }
+    ensures charged { OnOk result (
+        entries.new ≡ with_current entries.old (spec.map_after_charging by (Some sponsor.now) entries.old.current)) }
     ensures kept { OnOk result (keeping.KeepsOthers Sponsoring entries.old.current entries.new.current) }
     ensures others { OnOk result (keeping.ChangesAtMost (Some sponsor.now) entries.old.current entries.new.current) }
     ensures balances { OnOk result (keeping.LeavesBalances entries.old.current entries.new.current) }
@@ -54,10 +51,8 @@ pub fn release_payer<B: Base>(
     by: u64,
     sponsor: &Option<AccountId>,
 ) -> Result<(), AllocError>
-    ensures released {
-        OnOk result (
-            entries.new ≡ with_current entries.old (spec.map_after_releasing by sponsor.now entries.old.current))
-    }
+    ensures released { OnOk result (
+        entries.new ≡ with_current entries.old (spec.map_after_releasing by sponsor.now entries.old.current)) }
     ensures low { OnOk result (keeping.RaisesNone entries.old.current entries.new.current) }
     ensures others { OnOk result (keeping.ChangesAtMost sponsor.now entries.old.current entries.new.current) }
     ensures balances { OnOk result (keeping.LeavesBalances entries.old.current entries.new.current) }
@@ -74,10 +69,8 @@ fn release_sponsor<B: Base>(
     by: u64,
     sponsor: &AccountId,
 ) -> Result<(), AllocError>
-    ensures released {
-        OnOk result (
-            entries.new ≡ with_current entries.old (spec.map_after_releasing by (Some sponsor.now) entries.old.current))
-    }
+    ensures released { OnOk result (
+        entries.new ≡ with_current entries.old (spec.map_after_releasing by (Some sponsor.now) entries.old.current)) }
     ensures low { OnOk result (keeping.RaisesNone entries.old.current entries.new.current) }
     ensures others { OnOk result (keeping.ChangesAtMost (Some sponsor.now) entries.old.current entries.new.current) }
     ensures balances { OnOk result (keeping.LeavesBalances entries.old.current entries.new.current) }
@@ -89,8 +82,8 @@ fn release_sponsor<B: Base>(
     store_changed(entries, sponsor, slot)
 }
 
-/// Tests whether an account can have a subentry more, and charges the sponsor, if there is one. It gives what then stands under the
-/// owner's id.
+/// Tests whether an account can have a subentry more, and charges the sponsor, if there is one. It gives what then
+/// stands under the owner's id.
 pub fn pay_for_subentry<B: Base>(
     entries: &mut Entries<'_, B>,
     ctx: &Ctx,
@@ -101,16 +94,13 @@ pub fn pay_for_subentry<B: Base>(
     requires count { count ≤ 2 }
     requires sponsor { sponsor.now ≡ payers.open_sponsor ctx.now owner.now }
     requires owner { payers.IsReady entries.old.current owner.now }
-    ensures refused {
-        IfErr result (λ fault.
-            IsFound fault entries.old entries.new (
-                first_fault (payers.subentry_tests ctx.now entries.old.current owner.now count)))
-    }
-    ensures passed { OnOk result (first_fault (payers.subentry_tests ctx.now entries.old.current owner.now count) ≡ None) }
-    ensures charged {
-        OnOk result (
-            entries.new ≡ with_current entries.old (spec.map_after_charging count sponsor.now entries.old.current))
-    }
+    ensures refused { IfErr result (λ fault.
+        IsFound fault entries.old entries.new (
+        first_fault (payers.subentry_tests ctx.now entries.old.current owner.now count))) }
+    ensures passed { OnOk result (
+        first_fault (payers.subentry_tests ctx.now entries.old.current owner.now count) ≡ None) }
+    ensures charged { OnOk result (
+        entries.new ≡ with_current entries.old (spec.map_after_charging count sponsor.now entries.old.current)) }
     ensures loaded { IfOk result (keeping.IsLoaded entries.new.current owner.now) }
     ensures fits { IfOk result (λ slot. keeping.FitsSubentry count (account_of_slot slot)) }
     ensures balances { OnOk result (keeping.LeavesBalances entries.old.current entries.new.current) }
@@ -138,16 +128,13 @@ fn charge_sponsor<B: Base>(
     requires sponsor { payers.payer_of ctx.now owner.now ≡ sponsor.now }
     requires owner { payers.IsReady entries.old.current owner.now }
     requires loaded { keeping.IsLoaded entries.old.current owner.now slot }
-    ensures refused {
-        IfErr result (λ fault.
-            IsFound fault entries.old entries.new (
-                first_fault (payers.subentry_tests ctx.now entries.old.current owner.now count)))
-    }
-    ensures passed { OnOk result (first_fault (payers.subentry_tests ctx.now entries.old.current owner.now count) ≡ None) }
-    ensures charged {
-        OnOk result (
-            entries.new ≡ with_current entries.old (spec.map_after_charging count (Some sponsor.now) entries.old.current))
-    }
+    ensures refused { IfErr result (λ fault.
+        IsFound fault entries.old entries.new (
+        first_fault (payers.subentry_tests ctx.now entries.old.current owner.now count))) }
+    ensures passed { OnOk result (
+        first_fault (payers.subentry_tests ctx.now entries.old.current owner.now count) ≡ None) }
+    ensures charged { OnOk result (
+        entries.new ≡ with_current entries.old (spec.map_after_charging count (Some sponsor.now) entries.old.current)) }
     ensures loaded { IfOk result (keeping.IsLoaded entries.new.current owner.now) }
     ensures fits { IfOk result (λ slot. keeping.FitsSubentry count (account_of_slot slot)) }
     ensures balances { OnOk result (keeping.LeavesBalances entries.old.current entries.new.current) }
@@ -160,8 +147,8 @@ fn charge_sponsor<B: Base>(
     Ok(still_loaded(entries, owner, slot, &Some(*sponsor))?)
 }
 
-/// Tests whether another sponsor, or the owner, can pay for something, releases the old sponsor, and charges the new one. It gives
-/// what then stands under the owner's id.
+/// Tests whether another sponsor, or the owner, can pay for something, releases the old sponsor, and charges the new
+/// one. It gives what then stands under the owner's id.
 pub fn exchange_payers<B: Base>(
     entries: &mut Entries<'_, B>,
     ctx: &Ctx,
@@ -172,19 +159,14 @@ pub fn exchange_payers<B: Base>(
 ) -> Result<Option<AccountSlot>, AddFault>
     requires count { count ≤ 2 }
     requires owner { payers.IsReady entries.old.current owner.now }
-    ensures refused {
-        IfErr result (λ fault.
-            IsFound fault entries.old entries.new (
-                first_fault (payers.move_tests ctx.now entries.old.current owner.now new.now count)))
-    }
-    ensures passed {
-        OnOk result (first_fault (payers.move_tests ctx.now entries.old.current owner.now new.now count) ≡ None)
-    }
-    ensures charged {
-        OnOk result (
-            entries.new ≡
-                with_current entries.old (moving.map_after_exchange count old.now new.now entries.old.current))
-    }
+    ensures refused { IfErr result (λ fault.
+        IsFound fault entries.old entries.new (
+        first_fault (payers.move_tests ctx.now entries.old.current owner.now new.now count))) }
+    ensures passed { OnOk result (
+        first_fault (payers.move_tests ctx.now entries.old.current owner.now new.now count) ≡ None) }
+    ensures charged { OnOk result (
+        entries.new ≡
+        with_current entries.old (spec.map_after_exchange count old.now new.now entries.old.current)) }
     ensures loaded { IfOk result (keeping.IsLoaded entries.new.current owner.now) }
     ensures fits { IfOk result (λ slot. count_if Sponsored (account_of_slot slot) + count < 2 ^ 32) }
     ensures balances { OnOk result (keeping.LeavesBalances entries.old.current entries.new.current) }
@@ -208,18 +190,13 @@ fn release_to_owner<B: Base>(
 ) -> Result<Option<AccountSlot>, AddFault>
     requires count { count ≤ 2 }
     requires owner { payers.IsReady entries.old.current owner.now }
-    ensures refused {
-        IfErr result (λ fault.
-            IsFound fault entries.old entries.new (
-                first_fault (payers.move_tests ctx.now entries.old.current owner.now None count)))
-    }
-    ensures passed {
-        OnOk result (first_fault (payers.move_tests ctx.now entries.old.current owner.now None count) ≡ None)
-    }
-    ensures released {
-        OnOk result (
-            entries.new ≡ with_current entries.old (spec.map_after_releasing count old.now entries.old.current))
-    }
+    ensures refused { IfErr result (λ fault.
+        IsFound fault entries.old entries.new (
+        first_fault (payers.move_tests ctx.now entries.old.current owner.now None count))) }
+    ensures passed { OnOk result (
+        first_fault (payers.move_tests ctx.now entries.old.current owner.now None count) ≡ None) }
+    ensures released { OnOk result (
+        entries.new ≡ with_current entries.old (spec.map_after_releasing count old.now entries.old.current)) }
     ensures loaded { IfOk result (keeping.IsLoaded entries.new.current owner.now) }
     ensures fits { IfOk result (λ slot. count_if Sponsored (account_of_slot slot) + count < 2 ^ 32) }
     ensures balances { OnOk result (keeping.LeavesBalances entries.old.current entries.new.current) }
@@ -232,7 +209,8 @@ fn release_to_owner<B: Base>(
     Ok(still_loaded(entries, owner, slot, old)?)
 }
 
-/// Tests whether another sponsor can pay for something, releases the old one, if there was one, and charges the new one.
+/// Tests whether another sponsor can pay for something, releases the old one, if there was one, and charges the new
+/// one.
 pub fn exchange_sponsors<B: Base>(
     entries: &mut Entries<'_, B>,
     ctx: &Ctx,
@@ -240,21 +218,15 @@ pub fn exchange_sponsors<B: Base>(
     old: &Option<AccountId>,
     new: &AccountId,
 ) -> Result<(), AddFault>
-    ensures refused {
-        IfErr result (λ fault.
-            IsFound fault entries.old entries.new (
-                first_fault (payers.payer_tests ctx.now entries.old.current new.now count)))
-    }
+    ensures refused { IfErr result (λ fault.
+        IsFound fault entries.old entries.new (
+        first_fault (payers.payer_tests ctx.now entries.old.current new.now count))) }
     ensures passed { OnOk result (first_fault (payers.payer_tests ctx.now entries.old.current new.now count) ≡ None) }
-    ensures charged {
-        OnOk result (
-            entries.new ≡
-                with_current entries.old (moving.map_after_exchange count old.now (Some new.now) entries.old.current))
-    }
-    ensures kept {
-        OnOk result (
-            (id : AnId) → count_at entries.new.current id Sponsored ≤ count_at entries.old.current id Sponsored)
-    }
+    ensures charged { OnOk result (
+        entries.new ≡
+        with_current entries.old (spec.map_after_exchange count old.now (Some new.now) entries.old.current)) }
+    ensures kept { OnOk result (
+        (id : AnId) → count_at entries.new.current id Sponsored ≤ count_at entries.old.current id Sponsored) }
     ensures balances { OnOk result (keeping.LeavesBalances entries.old.current entries.new.current) }
 {
     let payer = load(entries, new)?;

@@ -9,7 +9,7 @@ ghost use Rattle.sponsor_rules.specs.Removing as spec;
 
 use crate::charge::{Charge, charge_of};
 use crate::context::Ctx;
-use crate::owner::remove_subentry;
+use crate::owner::lose_subentry;
 use crate::paying::release_payer;
 use crate::stored::{erase_entry, load, store_changed};
 use entry_map::{Base, Entries};
@@ -17,15 +17,15 @@ use entry_slots::sponsor_in;
 use ledger_types::{AccountId, LedgerKey};
 use std::alloc::AllocError;
 
-/// Removes the entry with a key: the counts of its owner and of its sponsor fall. Nothing changes where there is no such entry.
+/// Removes the entry with a key: the counts of its owner and of its sponsor fall. Nothing changes where there is no
+/// such entry.
 pub fn remove_entry<B: Base>(
     entries: &mut Entries<'_, B>,
     _ctx: &Ctx,
     key: &LedgerKey,
 ) -> Result<(), AllocError>
-    ensures removed {
-        OnOk result (entries.new ≡ with_current entries.old (spec.map_after_removing key.now entries.old.current))
-    }
+    ensures removed { OnOk result (
+        entries.new ≡ with_current entries.old (spec.map_after_removing key.now entries.old.current)) }
     ensures low { OnOk result (keeping.RaisesNone entries.old.current entries.new.current) }
     ensures balances { OnOk result (keeping.LeavesOtherBalances key.now entries.old.current entries.new.current) }
 {
@@ -42,10 +42,8 @@ fn release<B: Base>(
     charge: Charge,
     sponsor: &Option<AccountId>,
 ) -> Result<(), AllocError>
-    ensures released {
-        OnOk result (
-            entries.new ≡ with_current entries.old (spec.map_after_release charge sponsor.now entries.old.current))
-    }
+    ensures released { OnOk result (
+        entries.new ≡ with_current entries.old (spec.map_after_release charge sponsor.now entries.old.current)) }
     ensures low { OnOk result (keeping.RaisesNone entries.old.current entries.new.current) }
     ensures balances { OnOk result (keeping.LeavesBalances entries.old.current entries.new.current) }
 {
@@ -64,11 +62,9 @@ fn release_subentry<B: Base>(
     owner: &AccountId,
     sponsor: &Option<AccountId>,
 ) -> Result<(), AllocError>
-    ensures released {
-        OnOk result (
-            entries.new ≡
-                with_current entries.old (spec.map_after_discounting owner.now by sponsor.now entries.old.current))
-    }
+    ensures released { OnOk result (
+        entries.new ≡
+        with_current entries.old (spec.map_after_discounting owner.now by sponsor.now entries.old.current)) }
     ensures low { OnOk result (keeping.RaisesNone entries.old.current entries.new.current) }
     ensures balances { OnOk result (keeping.LeavesBalances entries.old.current entries.new.current) }
 {
@@ -83,18 +79,16 @@ fn discount_subentry<B: Base>(
     owner: &AccountId,
     sponsor: &Option<AccountId>,
 ) -> Result<(), AllocError>
-    ensures discounted {
-        OnOk result (
-            entries.new ≡
-                with_current entries.old (
-                    with_account entries.old.current owner.now (paying.without_subentry by sponsor.now)))
-    }
+    ensures discounted { OnOk result (
+        entries.new ≡
+        with_current entries.old (
+        with_account entries.old.current owner.now (paying.without_subentry by sponsor.now))) }
     ensures low { OnOk result (keeping.RaisesNone entries.old.current entries.new.current) }
     ensures balances { OnOk result (keeping.LeavesBalances entries.old.current entries.new.current) }
 {
     let Some(mut slot) = load(entries, owner)? else {
         return Ok(());
     };
-    remove_subentry(&mut slot.account, by, sponsor)?;
+    lose_subentry(&mut slot.account, by, sponsor)?;
     store_changed(entries, owner, slot)
 }

@@ -1,6 +1,7 @@
 //! Where signers stand, and who pays for them.
 
 ghost use Rattle.std.specs.Prelude.{◌≡◌, ◌≤◌, length};
+ghost use Rattle.ledger_types.specs.KeyOrder.{signer_key_cmp};
 ghost use Rattle.entry_slots.specs.Accounts.{account_of_slot};
 ghost use Rattle.sponsor_rules.specs.SignerPlace as spec;
 
@@ -16,26 +17,11 @@ pub struct FoundSigner {
 }
 
 /// The order of signers' keys: by arm, and then by bytes.
+#[tactic(auto, using(ledger_types::proofs::KeyOrdering::signer_key_laws))]
 fn compare(a: &SignerKey, b: &SignerKey) -> Ordering
-    ensures { result ≡ spec.signer_key_cmp a.now b.now }
+    ensures { result ≡ signer_key_cmp a.now b.now }
 {
-    match (a, b) {
-        (SignerKey::Ed25519(a), SignerKey::Ed25519(b)) => a.cmp(b),
-        (SignerKey::PreAuthTx(a), SignerKey::PreAuthTx(b)) => a.0.cmp(&b.0),
-        (SignerKey::HashX(a), SignerKey::HashX(b)) => a.0.cmp(&b.0),
-        (a, b) => kind(a).cmp(&kind(b)),
-    }
-}
-
-/// The arm of a key.
-fn kind(key: &SignerKey) -> u8
-    ensures { result ≡ spec.signer_key_kind key.now }
-{
-    match key {
-        SignerKey::Ed25519(_) => 0,
-        SignerKey::PreAuthTx(_) => 1,
-        SignerKey::HashX(_) => 2,
-    }
+    a.cmp(b)
 }
 
 /// Where a new signer with this key stands: behind those with lower keys.

@@ -12,7 +12,7 @@ ghost use Rattle.sponsor_rules.specs.Signers as spec;
 
 use crate::context::Ctx;
 use crate::fault::AddFault;
-use crate::owner::{add_subentry, change_payer, remove_subentry};
+use crate::owner::{change_payer, gain_subentry, lose_subentry};
 use crate::payers::{open_sponsor, other_than};
 use crate::paying::{exchange_payers, pay_for_subentry, release_payer};
 use crate::signer_edits::{insert_signer, remove_signer_at, set_signer_sponsor};
@@ -23,8 +23,9 @@ use entry_slots::AccountSlot;
 use ledger_types::{AccountId, Hash, Signer, SignerKey};
 use std::alloc::AllocError;
 
-/// Adds a signer to an account, for which the account or its open sponsor pays: the counts change, the signer stands behind those with
-/// lower keys, and a sponsor is recorded at its place. Where it answers one of the first three faults, nothing has changed.
+/// Adds a signer to an account, for which the account or its open sponsor pays: the counts change, the signer stands
+/// behind those with lower keys, and a sponsor is recorded at its place. Where it answers one of the first three
+/// faults, nothing has changed.
 pub fn add_signer<B: Base>(
     entries: &mut Entries<'_, B>,
     ctx: &Ctx,
@@ -32,10 +33,8 @@ pub fn add_signer<B: Base>(
     signer: Signer,
 ) -> Result<(), AddFault>
     requires { payers.IsReady entries.old.current account.now }
-    ensures outcome {
-        IsOutcome result entries.old entries.new (
-            spec.map_after_adding_signer ctx.now account.now signer entries.old.current)
-    }
+    ensures outcome { IsOutcome result entries.old entries.new (
+        spec.map_after_adding_signer ctx.now account.now signer entries.old.current) }
     ensures balances { OnOk result (keeping.LeavesBalances entries.old.current entries.new.current) }
 {
     let sponsor = open_sponsor(ctx, account);
@@ -54,35 +53,31 @@ fn put_signer<B: Base>(
 ) -> Result<(), AllocError>
     requires loaded { keeping.IsLoaded entries.old.current account.now slot }
     requires fits { keeping.FitsSubentry 1 (account_of_slot slot) }
-    ensures added {
-        OnOk result (
-            entries.new ≡
-                with_current entries.old (
-                    with_account entries.old.current account.now (spec.with_counted_signer signer sponsor)))
-    }
+    ensures added { OnOk result (
+        entries.new ≡
+        with_current entries.old (
+        with_account entries.old.current account.now (spec.with_counted_signer signer sponsor))) }
     ensures balances { OnOk result (keeping.LeavesBalances entries.old.current entries.new.current) }
 {
     let Some(mut slot) = slot else {
         return Ok(());
     };
-    add_subentry(&mut slot.account, 1, &sponsor)?;
+    gain_subentry(&mut slot.account, 1, &sponsor)?;
     insert_signer(&mut slot.account, signer, sponsor)?;
     store_changed(entries, account, slot)
 }
 
-/// Removes the signer with a key from an account: the counts of the account and of the signer's sponsor fall. Nothing changes where
-/// there is no such signer.
+/// Removes the signer with a key from an account: the counts of the account and of the signer's sponsor fall. Nothing
+/// changes where there is no such signer.
 pub fn remove_signer<B: Base>(
     entries: &mut Entries<'_, B>,
     _ctx: &Ctx,
     account: &AccountId,
     key: &SignerKey,
 ) -> Result<(), AllocError>
-    ensures removed {
-        OnOk result (
-            entries.new ≡
-                with_current entries.old (spec.map_after_removing_signer account.now key.now entries.old.current))
-    }
+    ensures removed { OnOk result (
+        entries.new ≡
+        with_current entries.old (spec.map_after_removing_signer account.now key.now entries.old.current)) }
     ensures low { OnOk result (keeping.RaisesNone entries.old.current entries.new.current) }
     ensures balances { OnOk result (keeping.LeavesBalances entries.old.current entries.new.current) }
 {
@@ -103,44 +98,42 @@ fn take_signer<B: Base>(
     found: FoundSigner,
 ) -> Result<(), AllocError>
     requires { keeping.IsLoaded entries.old.current account.now slot }
-    ensures taken {
-        OnOk result (
-            entries.new ≡
-                with_current entries.old (
-                    with_account entries.old.current account.now (spec.without_counted_signer found)))
-    }
+    ensures taken { OnOk result (
+        entries.new ≡
+        with_current entries.old (
+        with_account entries.old.current account.now (spec.without_counted_signer found))) }
     ensures low { OnOk result (keeping.RaisesNone entries.old.current entries.new.current) }
     ensures balances { OnOk result (keeping.LeavesBalances entries.old.current entries.new.current) }
 {
     let Some(mut slot) = slot else {
         return Ok(());
     };
-    remove_subentry(&mut slot.account, 1, &found.sponsor)?;
+    lose_subentry(&mut slot.account, 1, &found.sponsor)?;
     remove_signer_at(&mut slot.account, found.place);
     store_changed(entries, account, slot)
 }
 
-/// Removes the pre-authorised signer for the transaction with this hash from an account. Nothing changes where there is none.
+/// Removes the pre-authorised signer for the transaction with this hash from an account. Nothing changes where there is
+/// none.
 pub fn remove_preauth<B: Base>(
     entries: &mut Entries<'_, B>,
     ctx: &Ctx,
     account: &AccountId,
     hash: &Hash,
 ) -> Result<(), AllocError>
-    ensures removed {
-        OnOk result (
-            entries.new ≡
-                with_current entries.old (spec.map_after_removing_preauth account.now hash.now entries.old.current))
-    }
+    ensures removed { OnOk result (
+        entries.new ≡
+        with_current entries.old (spec.map_after_removing_preauth account.now hash.now entries.old.current)) }
     ensures low { OnOk result (keeping.RaisesNone entries.old.current entries.new.current) }
     ensures balances { OnOk result (keeping.LeavesBalances entries.old.current entries.new.current) }
 {
     remove_signer(entries, ctx, account, &SignerKey::PreAuthTx(*hash))
 }
 
-/// Moves the signer with a key to another payer, or to the account itself where none is given: the counts of those that pay for it
-/// change, and the new sponsor is recorded at its place. Nothing changes where there is no such signer, nor where it had no sponsor
-/// and gets none. Where it answers one of the faults that aren't want of memory, nothing has changed.
+/// Moves the signer with a key to another payer, or to the account itself where none is given: the counts of those that
+/// pay for it change, and the new sponsor is recorded at its place. Nothing changes where there is no such signer, nor
+/// where it had no sponsor and gets none. Where it answers one of the faults that aren't want of memory, nothing has
+/// changed.
 pub fn move_signer<B: Base>(
     entries: &mut Entries<'_, B>,
     ctx: &Ctx,
@@ -149,10 +142,8 @@ pub fn move_signer<B: Base>(
     payer: Option<AccountId>,
 ) -> Result<(), AddFault>
     requires { payers.IsReady entries.old.current account.now }
-    ensures outcome {
-        IsOutcome result entries.old entries.new (
-            spec.map_after_moving_signer ctx.now account.now key.now payer entries.old.current)
-    }
+    ensures outcome { IsOutcome result entries.old entries.new (
+        spec.map_after_moving_signer ctx.now account.now key.now payer entries.old.current) }
     ensures balances { OnOk result (keeping.LeavesBalances entries.old.current entries.new.current) }
 {
     let Some(found) = found_signer(key, &load(entries, account)?) else {
@@ -172,10 +163,8 @@ fn move_between<B: Base>(
     new: &Option<AccountId>,
 ) -> Result<(), AddFault>
     requires { payers.IsReady entries.old.current account.now }
-    ensures outcome {
-        IsOutcome result entries.old entries.new (
-            spec.map_after_moving_signer_between ctx.now account.now place old.now new.now entries.old.current)
-    }
+    ensures outcome { IsOutcome result entries.old entries.new (
+        spec.map_after_moving_signer_between ctx.now account.now place old.now new.now entries.old.current) }
     ensures balances { OnOk result (keeping.LeavesBalances entries.old.current entries.new.current) }
 {
     if old.is_none() && new.is_none() {
@@ -197,12 +186,10 @@ fn record_signer_sponsor<B: Base>(
 ) -> Result<(), AllocError>
     requires loaded { keeping.IsLoaded entries.old.current account.now slot }
     requires fits { count_if Sponsored (account_of_slot slot) + 1 < 2 ^ 32 }
-    ensures recorded {
-        OnOk result (
-            entries.new ≡
-                with_current entries.old (
-                    with_account entries.old.current account.now (spec.with_moved_signer place old.now new.now)))
-    }
+    ensures recorded { OnOk result (
+        entries.new ≡
+        with_current entries.old (
+        with_account entries.old.current account.now (spec.with_moved_signer place old.now new.now))) }
     ensures balances { OnOk result (keeping.LeavesBalances entries.old.current entries.new.current) }
 {
     let Some(mut slot) = slot else {

@@ -51,29 +51,26 @@ pub fn store_changed<B: Base>(
 ) -> Result<(), AllocError>
     requires named { slot.account.account_id ≡ id.now }
     requires change { spec.IsChangeOf entries.old.current id.now slot.account }
-    ensures stored {
-        OnOk result (entries.new ≡ with_current entries.old (put entries.old.current (entry_of_account slot)))
-    }
+    ensures stored { OnOk result (
+        entries.new ≡ with_current entries.old (put entries.old.current (entry_of_account slot))) }
     ensures balances { OnOk result (spec.LeavesBalances entries.old.current entries.new.current) }
     ensures others { OnOk result (spec.ChangesAtMost (Some id.now) entries.old.current entries.new.current) }
-    ensures kept {
-        (count : ACount) → spec.IsChanged (spec.KeepsOtherCounts count) entries.old.current id.now slot.account →
-        OnOk result (spec.KeepsOthers count entries.old.current entries.new.current)
-    }
-    ensures low {
-        spec.IsChanged spec.RaisesNoCount entries.old.current id.now slot.account →
-        OnOk result (spec.RaisesNone entries.old.current entries.new.current)
-    }
+    ensures kept { (count : ACount) →
+        spec.IsChanged (spec.KeepsOtherCounts count) entries.old.current id.now slot.account →
+        OnOk result (spec.KeepsOthers count entries.old.current entries.new.current) }
+    ensures low { spec.IsChanged spec.RaisesNoCount entries.old.current id.now slot.account →
+        OnOk result (spec.RaisesNone entries.old.current entries.new.current) }
 {
     store_account(entries, slot)
 }
 
 /// Puts an entry under its key. No account but one under that key changes.
-pub fn put_entry<B: Base>(entries: &mut Entries<'_, B>, entry: LedgerEntry) -> Result<(), AllocError>
+pub fn put_entry<B: Base>(
+    entries: &mut Entries<'_, B>,
+    entry: LedgerEntry,
+) -> Result<(), AllocError>
     ensures put { OnOk result (entries.new ≡ with_current entries.old (put entries.old.current entry)) }
-    ensures balances {
-        OnOk result (spec.LeavesOtherBalances (key_of entry) entries.old.current entries.new.current)
-    }
+    ensures balances { OnOk result (spec.LeavesOtherBalances (key_of entry) entries.old.current entries.new.current) }
 {
     entries.put(entry)
 }

@@ -1,4 +1,5 @@
-use Rattle.std.proofs.Common.{◌≡◌, ℕ, suc, ◌+◌, ◌<◌, sym, ap, ◌∙◌, arith, None, Option, map, take, length, List, [], ◌∷◌, ◌++◌}
+use Rattle.std.proofs.Common.{◌≡◌, ℕ, suc, ◌+◌, ◌<◌, sym, ap, ◌∙◌, arith, None, Option, map, take, length, List, []}
+use Rattle.std.proofs.Common.{◌∷◌, ◌++◌}
 use Rattle.std.proofs.Math.Seq.{take-suc}
 use Rattle.std.proofs.lemmas.List.{map-append}
 use Rattle.ledger_types.specs.declared.ids.AccountId.{AccountId}
@@ -9,7 +10,8 @@ use Rattle.entry_slots.proofs.account_extensions.no_sponsors.Goals as goal
 abbrev no_sponsor : Signer → Option AccountId
 no_sponsor signer = None
 
-one_more : (signers : List Signer) (i : ℕ) → i < length signers → map no_sponsor (take (i + 1) signers) ≡ map no_sponsor (take i signers) ++ None ∷ []
+one_more : (signers : List Signer) (i : ℕ) → i < length signers
+    → map no_sponsor (take (i + 1) signers) ≡ map no_sponsor (take i signers) ++ None ∷ []
 one_more signers i within =
     let next : i + 1 ≡ suc i = omega arith in
     ap (λ k. map no_sponsor (take k signers)) next

@@ -7,7 +7,8 @@ use Rattle.sponsor_rules.proofs.counting.lower.Goals as goal
 pub returns-clause-low : goal.returns-clause-low
 returns-clause-low c =
     let changed : c.set_count.new.account ≡ with_less c.args.count c.args.by c.args.account.now = search rules in
-    subst (RaisesNoCount c.args.account.now) (sym changed) (λ count. at_most c.args.count count c.args.by c.args.account.now)
+    subst (RaisesNoCount c.args.account.now) (sym changed)
+    (λ count. at_most c.args.count count c.args.by c.args.account.now)
 
 pub returns-clause-means : goal.returns-clause-means
 returns-clause-means c =

@@ -6,4 +6,5 @@ pub still_loaded-requires : goal.still_loaded-requires
 still_loaded-requires g c = loaded_after _ _ _ _ _ c.in_ok-slot.ensures c.in_ok-release_payer.ensures.others
 
 pub returns-clause-balances : goal.returns-clause-balances
-returns-clause-balances g c = on_ok_weaker c.take_signer.result (leaves_both _ _ _ c.in_ok-release_payer.ensures.balances) c.take_signer.ensures.balances
+returns-clause-balances g c = on_ok_weaker c.take_signer.result
+    (leaves_both _ _ _ c.in_ok-release_payer.ensures.balances) c.take_signer.ensures.balances

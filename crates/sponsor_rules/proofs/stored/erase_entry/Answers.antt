@@ -6,7 +6,8 @@ use Rattle.sponsor_rules.proofs.stored.erase_entry.Goals as goal
 
 pub returns-clause-low : goal.returns-clause-low
 returns-clause-low g c = on_ok_weaker c.erase.result
-    (λ is. subst (λ u. RaisesNone c.args.entries.now.current u.current) (sym is) (erased_low c.args.entries.now.current c.args.key.now))
+    (λ is. subst (λ u. RaisesNone c.args.entries.now.current u.current) (sym is)
+    (erased_low c.args.entries.now.current c.args.key.now))
     c.erase.ensures
 
 pub returns-clause-balances : goal.returns-clause-balances

@@ -3,7 +3,7 @@
 
 use crate::asking::{add, add_key, move_to};
 use crate::ledger::{
-    Means, NEW, OTHER, OWNER, SPONSOR, account, alone, means, no_entries, sponsored,
+    Means, NEW, OTHER, OWNER, SPONSOR, account, alone, means_of, no_entries, sponsored,
 };
 use crate::things::{Thing, made};
 use entry_map::{Entries, MapBase};
@@ -86,22 +86,22 @@ fn tell_paid<R: Print + AllocGlobal>(
 /// short.
 fn tell_owners<R: Print + AllocGlobal>(rt: &R) -> io::Result<()> {
     for owner in [
-        means(0, 1000, u32::MAX),
-        means(10_000_000_000, 1000, 0),
-        means(5_010_000_000, 999, 0),
-        means(0, 999, 4_294_966_296),
-        means(0, 999, 4_294_966_295),
-        means(15_000_000, 1, 0),
-        means(19_999_999, 1, 0),
-        means(20_000_000, 1, 0),
+        means_of(0, 1000, u32::MAX),
+        means_of(10_000_000_000, 1000, 0),
+        means_of(5_010_000_000, 999, 0),
+        means_of(0, 999, 4_294_966_296),
+        means_of(0, 999, 4_294_966_295),
+        means_of(15_000_000, 1, 0),
+        means_of(19_999_999, 1, 0),
+        means_of(20_000_000, 1, 0),
     ] {
         tell_own(rt, Thing::Data, owner)?;
     }
     for owner in [
-        means(0, 999, 0),
-        means(5_010_000_000, 998, 0),
-        means(19_999_999, 0, 0),
-        means(20_000_000, 0, 0),
+        means_of(0, 999, 0),
+        means_of(5_010_000_000, 998, 0),
+        means_of(19_999_999, 0, 0),
+        means_of(20_000_000, 0, 0),
     ] {
         tell_own(rt, Thing::ShareLine, owner)?;
     }
@@ -111,14 +111,14 @@ fn tell_owners<R: Print + AllocGlobal>(rt: &R) -> io::Result<()> {
 /// A sponsor pays for its owner's data, and for each kind of thing as often as that counts.
 fn tell_sponsors<R: Print + AllocGlobal>(rt: &R) -> io::Result<()> {
     for (owner, sponsor) in [
-        (means(0, 1000, 0), ENOUGH),
-        (means(0, 0, u32::MAX), ENOUGH),
-        (NONE, means(0, 0, u32::MAX)),
-        (NONE, means(0, 0, u32::MAX - 1)),
-        (NONE, means(14_999_999, 0, 0)),
-        (NONE, means(15_000_000, 0, 0)),
-        (NONE, means(24_999_999, 1, 1)),
-        (NONE, means(25_000_000, 1, 1)),
+        (means_of(0, 1000, 0), ENOUGH),
+        (means_of(0, 0, u32::MAX), ENOUGH),
+        (NONE, means_of(0, 0, u32::MAX)),
+        (NONE, means_of(0, 0, u32::MAX - 1)),
+        (NONE, means_of(14_999_999, 0, 0)),
+        (NONE, means_of(15_000_000, 0, 0)),
+        (NONE, means_of(24_999_999, 1, 1)),
+        (NONE, means_of(25_000_000, 1, 1)),
     ] {
         tell_paid(rt, Thing::Data, owner, sponsor)?;
     }
@@ -129,8 +129,8 @@ fn tell_sponsors<R: Print + AllocGlobal>(rt: &R) -> io::Result<()> {
         (Thing::Offer, 15_000_000),
         (Thing::Balance, 20_000_000),
     ] {
-        tell_paid(rt, thing, NONE, means(enough, 0, 0))?;
-        tell_paid(rt, thing, NONE, means(enough - 1, 0, 0))?;
+        tell_paid(rt, thing, NONE, means_of(enough, 0, 0))?;
+        tell_paid(rt, thing, NONE, means_of(enough - 1, 0, 0))?;
     }
     Ok(())
 }
@@ -140,7 +140,7 @@ fn tell_sponsors<R: Print + AllocGlobal>(rt: &R) -> io::Result<()> {
 fn added_account(alloc: Global, balance: i64) -> Result<(), AddFault> {
     let base = no_entries(alloc)?;
     let mut entries = Entries::new(alloc, &base)?;
-    let new = account(alloc, NEW, means(balance, 0, 0));
+    let new = account(alloc, NEW, means_of(balance, 0, 0));
     add(&mut entries, &alone(alloc), &NEW, new)
 }
 
@@ -166,10 +166,10 @@ fn added_signer(alloc: Global, owner: Means) -> Result<(), AddFault> {
 /// A signer is a subentry and takes a reserve.
 fn tell_signers<R: Print + AllocGlobal>(rt: &R) -> io::Result<()> {
     for owner in [
-        means(10_000_000_000, 1000, 0),
-        means(5_010_000_000, 999, 0),
-        means(14_999_999, 0, 0),
-        means(15_000_000, 0, 0),
+        means_of(10_000_000_000, 1000, 0),
+        means_of(5_010_000_000, 999, 0),
+        means_of(14_999_999, 0, 0),
+        means_of(15_000_000, 0, 0),
     ] {
         let answer = added_signer(rt.alloc(), owner);
         println!(rt; "a signer of {owner:?}: {answer:?}")?;
@@ -209,15 +209,15 @@ fn moved(
 /// until it moves.
 fn tell_moved<R: Print + AllocGlobal>(rt: &R) -> io::Result<()> {
     for other in [
-        means(14_999_999, 0, 0),
-        means(0, 0, u32::MAX),
-        means(0, 0, u32::MAX - 1),
-        means(15_000_000, 0, 0),
+        means_of(14_999_999, 0, 0),
+        means_of(0, 0, u32::MAX),
+        means_of(0, 0, u32::MAX - 1),
+        means_of(15_000_000, 0, 0),
     ] {
         let answer = moved(rt.alloc(), NONE, other, Some(OTHER));
         println!(rt; "data moved to {other:?}: {answer:?}")?;
     }
-    for owner in [means(14_999_999, 0, 0), means(15_000_000, 0, 0)] {
+    for owner in [means_of(14_999_999, 0, 0), means_of(15_000_000, 0, 0)] {
         let answer = moved(rt.alloc(), owner, NONE, None);
         println!(rt; "data moved to its owner with {owner:?}: {answer:?}")?;
     }

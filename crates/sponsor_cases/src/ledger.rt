@@ -33,7 +33,7 @@ pub struct Means {
     pub sponsoring: u32,
 }
 
-pub fn means(balance: i64, sub_entries: u32, sponsoring: u32) -> Means {
+pub fn means_of(balance: i64, sub_entries: u32, sponsoring: u32) -> Means {
     Means {
         balance,
         sub_entries,
@@ -90,7 +90,7 @@ pub fn no_entries(alloc: Global) -> Result<MapBase, AllocError> {
 
 /// Three accounts with ten lumens each: the owner, the sponsor and the other payer.
 pub fn put_three(alloc: Global, entries: &mut Entries<'_, MapBase>) -> Result<(), AllocError> {
-    let rich = means(100_000_000, 0, 0);
+    let rich = means_of(100_000_000, 0, 0);
     entries.put(account(alloc, OWNER, rich))?;
     entries.put(account(alloc, SPONSOR, rich))?;
     entries.put(account(alloc, OTHER, rich))

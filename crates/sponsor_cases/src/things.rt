@@ -1,6 +1,6 @@
 //! Things to add.
 
-use crate::ledger::{NEW, OTHER, OWNER, account, entry, means};
+use crate::ledger::{NEW, OTHER, OWNER, account, entry, means_of};
 use item_list::ItemList;
 use ledger_types::{
     AccountId, Asset, ClaimPredicate, ClaimableBalanceEntry, ClaimableBalanceId, Claimant,
@@ -102,7 +102,7 @@ fn balance(alloc: Global) -> Result<LedgerEntry, AllocError> {
 
 pub fn made(alloc: Global, thing: Thing) -> Result<LedgerEntry, AllocError> {
     match thing {
-        Thing::Account => Ok(account(alloc, NEW, means(20_000_000, 0, 0))),
+        Thing::Account => Ok(account(alloc, NEW, means_of(20_000_000, 0, 0))),
         Thing::Line => Ok(line(DOLLAR_LINE)),
         Thing::ShareLine => Ok(line(TrustLineAsset::PoolShare(Hash([8; 32])))),
         Thing::Offer => Ok(offer()),

@@ -26,7 +26,8 @@ use Rattle.sponsor_laws.proofs.Bounds.{done_by, have_passed, has_few, has_room, 
 use Rattle.sponsor_laws.proofs.Edits.{IsEdited, edited, named_stands, signed_more}
 use Rattle.sponsor_rules.proofs.Keeping.{counts_edited}
 use Rattle.sponsor_laws.proofs.SignerLists.{sponsors_inserted}
-use Rattle.sponsor_laws.proofs.SignedAccounts.{there_is, IsHeld, held_by, own_id, own_stands, as_many_sponsors, signer_stands, own_of, own_share}
+use Rattle.sponsor_laws.proofs.SignedAccounts.{there_is, IsHeld, held_by, own_id, own_stands, as_many_sponsors}
+use Rattle.sponsor_laws.proofs.SignedAccounts.{signer_stands, own_of, own_share}
 
 -- a subentry more of the owner, which the sponsor pays, if there is one
 abbrev signer_shift : AccountId → Option AccountId → Shift
@@ -45,37 +46,46 @@ module _ (old : EntryMap) (h : IsEven old) (id : AccountId) (a : AccountEntry) (
   own = own_id old h id a held
 
   -- an account has the extension, once something is paid for it
-  paid_for : (s : Option AccountId) (b : AccountEntry) → IsShiftedAccount (signer_shift id s) no_shift a b → s ≢ None → 1 ≤ count_in Sponsored b
+  paid_for : (s : Option AccountId) (b : AccountEntry) → IsShiftedAccount (signer_shift id s) no_shift a b → s ≢ None
+      → 1 ≤ count_in Sponsored b
   paid_for s b shifted some =
       let moved = shifted.counts Sponsored in
       let one : ◌≡◌ {A = ℕ} (cond (is_there s) 1 0) 1 = ap (λ t. cond t 1 0) (there_is s some) in
       let mine = own_share old h id a held s in
       omega arith
 
-  with_signer_edits : (signer : Signer) (s : Option AccountId) → ((x : AccountId) → s ≡ Some x → HasAccount old x) → (b : AccountEntry) → IsShiftedAccount (signer_shift id s) no_shift a b
+  with_signer_edits : (signer : Signer) (s : Option AccountId) → ((x : AccountId) → s ≡ Some x → HasAccount old x)
+      → (b : AccountEntry) → IsShiftedAccount (signer_shift id s) no_shift a b
       → IsEdited (signer_shift id s) no_shift old a (with_signer signer s b)
   with_signer_edits signer s payer b shifted =
       let place = place_for signer.key b.signers in
       let c = with_signer signer s b in
       let within : place ≤ length b.signers = prefix_len-le-length _ b.signers in
-      let sponsors : signer_sponsors c ≡ insert (signer_sponsors a) place s = sponsors_inserted place signer s b (paid_for s b shifted) ∙ ap (λ xs. insert xs place s) shifted.parts.sponsors in
+      let sponsors : signer_sponsors c ≡ insert (signer_sponsors a) place s =
+          sponsors_inserted place signer s b (paid_for s b shifted)
+              ∙ ap (λ xs. insert xs place s) shifted.parts.sponsors in
       let sums = λ (g : Option AccountId → ℕ). ap (sum_by g) sponsors ∙ sum_by-insert g (signer_sponsors a) place s in
       let same_length = ap length shifted.parts.signers in
       let longer = length-insert b.signers place signer within in
       let all = as_many_sponsors old h id a held in
       record {
         id = shifted.parts.id;
-        counts = λ count. ap (λ n. n + 0) (counts_edited (λ xs. insert xs place s) count b (insert b.signers place signer)) ∙ shifted.counts count;
-        items = (let more = length-insert (signer_sponsors a) place s (omega arith) in let new = ap length sponsors in omega arith);
+        counts = λ count. ap (λ n. n + 0) (counts_edited (λ xs. insert xs place s) count b
+            (insert b.signers place signer)) ∙ shifted.counts count;
+        items = (let more = length-insert (signer_sponsors a) place s (omega arith) in let new = ap length sponsors in
+            omega arith);
         parts = λ count i.
             let before = own_of old h id a held count i a own in
             let after = own_of old h id a held count i c (shifted.parts.id ∙ own) in
-            let more = signed_more count i id (length a.signers) (length c.signers) (signer_sponsors a) (signer_sponsors c) s (omega arith) sums in
+            let more = signed_more count i id (length a.signers) (length c.signers) (signer_sponsors a)
+                (signer_sponsors c) s (omega arith) sums in
             omega arith;
-        names = λ i. named_stands old (signer_sponsors a) (signer_sponsors c) s i (let sum = sums (λ o. cond (is_this i o) 1 0) in omega arith) (payer i) (signer_stands old h id a held i);
+        names = λ i. named_stands old (signer_sponsors a) (signer_sponsors c) s i (let sum =
+            sums (λ o. cond (is_this i o) 1 0) in omega arith) (payer i) (signer_stands old h id a held i);
       }
 
-  signer_added : (ctx : Ctx) (signer : Signer) (new : EntryMap) → HasAccount old (payer_of ctx id) → IsApart ctx id → map_after_adding_signer ctx id signer old ≡ Ok new → IsEven new
+  signer_added : (ctx : Ctx) (signer : Signer) (new : EntryMap) → HasAccount old (payer_of ctx id) → IsApart ctx id
+      → map_after_adding_signer ctx id signer old ≡ Ok new → IsEven new
   signer_added ctx signer new payer_stands apart done =
       let s = open_sponsor ctx id in
       let m = map_after_counting id 1 s old in
@@ -83,9 +93,11 @@ module _ (old : EntryMap) (h : IsEven old) (id : AccountId) (a : AccountEntry) (
       let tests = have_passed ctx old id 1 after new done in
       let stands = own_stands old h id a held in
       let second = shifted_counting no_shift no_shift 1 old old h.own (unshifted old h.own) id s in
-      let once = twice (map_after_charging 1 s old) id (with_subentry 1 s) (with_signer signer s) (charging_own old h s) (with_subentry_id s) (λ b. refl) in
+      let once = twice (map_after_charging 1 s old) id (with_subentry 1 s) (with_signer signer s) (charging_own old h s)
+          (with_subentry_id s) (λ b. refl) in
       let payer_is : (x : AccountId) → s ≡ Some x → payer_of ctx id ≡ x = λ x pays. ap (payer_by id) pays in
-      subst IsEven (once ∙ done_by (subentry_tests ctx old id 1) after new done) (edited (signer_shift id s) no_shift id (with_signer signer s) old m h second held.entry a held.there held.is
+      subst IsEven (once ∙ done_by (subentry_tests ctx old id 1) after new done)
+          (edited (signer_shift id s) no_shift id (with_signer signer s) old m h second held.entry a held.there held.is
       (with_signer_edits signer s (λ x pays. subst (HasAccount old) (payer_is x pays) payer_stands))
       (λ i. let le = few_more old id i 1 h (has_few old id 1 h stands tests.not_full) in omega arith)
       (λ i. let le = both_more old i id s 1 h (has_room old id 1 h stands tests.owner) (λ x pays. (
@@ -95,4 +107,5 @@ module _ (old : EntryMap) (h : IsEven old) (id : AccountId) (a : AccountEntry) (
 
 pub adding_signer_keeps : AddingSignerKeeps
 adding_signer_keeps ctx id signer old new kept stands payer_stands apart done =
-    kept_of new (signer_added old (even old kept) id stands.0 (held_by old id stands.0 stands.1) ctx signer new payer_stands apart done)
+    kept_of new (signer_added old (even old kept) id stands.0
+        (held_by old id stands.0 stands.1) ctx signer new payer_stands apart done)

@@ -1,5 +1,5 @@
--- That adding, removing and moving keep the counts of accounts equal to their sums, and owners and sponsors standing; and what these
--- sums say of the counts.
+-- That adding, removing and moving keep the counts of accounts equal to their sums, and owners and sponsors standing;
+-- and what these sums say of the counts.
 use Rattle.std.specs.Prelude.{◌≡◌, ◌≢◌, ◌+◌, ◌≤◌, [], Option, Some, None, Ok}
 use Rattle.std.specs.FinMap.{get}
 use Rattle.ledger_types.specs.declared.ids.AccountId.{AccountId}
@@ -45,10 +45,11 @@ pub record IsNewAccount (account : AccountEntry) : Type 0 where
   pub signers : account.signers ≡ []
   pub items : HasItems account
 
--- Who has to stand before a thing is added: the owner of a line, an offer or data, and the payer, unless that is the account that is
--- added. For a pool nobody has to.
+-- Who has to stand before a thing is added: the owner of a line, an offer or data, and the payer, unless that is the
+-- account that is added. For a pool nobody has to.
 abbrev pub HaveToStand : Ctx → AccountId → LedgerEntryBody → EntryMap → Type 0
-HaveToStand ctx owner (body.Account account) m = (sponsor : AccountId) → open_sponsor ctx owner ≡ Some sponsor → HasAccount m sponsor
+HaveToStand ctx owner (body.Account account) m = (sponsor : AccountId) → open_sponsor ctx owner ≡ Some sponsor
+    → HasAccount m sponsor
 HaveToStand ctx owner (body.LiquidityPool pool) m = Unit {0}
 HaveToStand ctx owner (body.ClaimableBalance balance) m = HasAccount m (payer_of ctx owner)
 HaveToStand ctx owner (body.TrustLine line) m = HasAccount m owner × HasAccount m (payer_of ctx owner)
@@ -65,7 +66,8 @@ pub record IsAddable (ctx : Ctx) (owner : AccountId) (entry : LedgerEntry) (m : 
   pub apart : IsApart ctx owner
 
 abbrev pub AddingKeeps : Type 0
-AddingKeeps = (ctx : Ctx) (owner : AccountId) (entry : LedgerEntry) (old new : EntryMap) → AreKept old → IsAddable ctx owner entry old → map_after_adding ctx owner entry old ≡ Ok new → AreKept new
+AddingKeeps = (ctx : Ctx) (owner : AccountId) (entry : LedgerEntry) (old new : EntryMap) → AreKept old
+    → IsAddable ctx owner entry old → map_after_adding ctx owner entry old ≡ Ok new → AreKept new
 
 -- ---- removing
 
@@ -75,10 +77,12 @@ pub record IsBare (m : EntryMap) (account : AccountEntry) : Type 0 where
   pub sponsors : SponsorsNothing m account.account_id
 
 abbrev pub IsRemovable : LedgerKey → EntryMap → Type 0
-IsRemovable key m = (entry : LedgerEntry) (account : AccountEntry) → get m key ≡ Some entry → account_in entry.body ≡ Some account → IsBare m account
+IsRemovable key m = (entry : LedgerEntry) (account : AccountEntry) → get m key ≡ Some entry
+    → account_in entry.body ≡ Some account → IsBare m account
 
 abbrev pub RemovingKeeps : Type 0
-RemovingKeeps = (key : LedgerKey) (old : EntryMap) → AreKept old → IsRemovable key old → AreKept (map_after_removing key old)
+RemovingKeeps = (key : LedgerKey) (old : EntryMap) → AreKept old → IsRemovable key old
+    → AreKept (map_after_removing key old)
 
 -- ---- moving
 
@@ -86,40 +90,47 @@ abbrev pub PayerStands : Option AccountId → EntryMap → Type 0
 PayerStands payer m = (id : AccountId) → payer ≡ Some id → HasAccount m id
 
 abbrev pub MovingKeeps : Type 0
-MovingKeeps = (ctx : Ctx) (key : LedgerKey) (payer : Option AccountId) (old new : EntryMap) → AreKept old → PayerStands payer old → map_after_moving ctx key payer old ≡ Ok new → AreKept new
+MovingKeeps = (ctx : Ctx) (key : LedgerKey) (payer : Option AccountId) (old new : EntryMap) → AreKept old
+    → PayerStands payer old → map_after_moving ctx key payer old ≡ Ok new → AreKept new
 
 -- ---- signers
 
 abbrev pub AddingSignerKeeps : Type 0
 AddingSignerKeeps =
-    (ctx : Ctx) (id : AccountId) (signer : Signer) (old new : EntryMap) → AreKept old → HasAccount old id → HasAccount old (payer_of ctx id) → IsApart ctx id
+    (ctx : Ctx) (id : AccountId) (signer : Signer) (old new : EntryMap) → AreKept old → HasAccount old id
+        → HasAccount old (payer_of ctx id) → IsApart ctx id
     → map_after_adding_signer ctx id signer old ≡ Ok new → AreKept new
 
 abbrev pub RemovingSignerKeeps : Type 0
-RemovingSignerKeeps = (id : AccountId) (key : SignerKey) (old : EntryMap) → AreKept old → AreKept (map_after_removing_signer id key old)
+RemovingSignerKeeps = (id : AccountId) (key : SignerKey) (old : EntryMap) → AreKept old
+    → AreKept (map_after_removing_signer id key old)
 
 abbrev pub MovingSignerKeeps : Type 0
 MovingSignerKeeps =
-    (ctx : Ctx) (id : AccountId) (key : SignerKey) (payer : Option AccountId) (old new : EntryMap) → AreKept old → PayerStands payer old
+    (ctx : Ctx) (id : AccountId) (key : SignerKey) (payer : Option AccountId) (old new : EntryMap) → AreKept old
+        → PayerStands payer old
     → map_after_moving_signer ctx id key payer old ≡ Ok new → AreKept new
 
 -- ---- sponsoring nothing
 
 -- each entry that has a sponsor counts: claimable balances have claimants, and pools have no sponsor
 pub record SponsoredEntriesCount (m : EntryMap) : Type 0 where
-  pub claimants : (key : LedgerKey) (entry : LedgerEntry) (balance : ClaimableBalanceEntry) → get m key ≡ Some entry → entry.body ≡ body.ClaimableBalance balance → balance.claimants ≢ []
-  pub pools : (key : LedgerKey) (entry : LedgerEntry) (pool : LiquidityPoolEntry) → get m key ≡ Some entry → entry.body ≡ body.LiquidityPool pool → sponsor_of entry ≡ None
+  pub claimants : (key : LedgerKey) (entry : LedgerEntry) (balance : ClaimableBalanceEntry) → get m key ≡ Some entry
+      → entry.body ≡ body.ClaimableBalance balance → balance.claimants ≢ []
+  pub pools : (key : LedgerKey) (entry : LedgerEntry) (pool : LiquidityPoolEntry) → get m key ≡ Some entry
+      → entry.body ≡ body.LiquidityPool pool → sponsor_of entry ≡ None
 
 -- an account that pays no reserve for others is nobody's sponsor
 abbrev pub ZeroSponsorsNothing : Type 0
 ZeroSponsorsNothing =
-    (id : AccountId) (account : AccountEntry) (m : EntryMap) → AreKept m → SponsoredEntriesCount m → account_at m id ≡ Some account → count_in Sponsoring account ≡ 0
+    (id : AccountId) (account : AccountEntry) (m : EntryMap) → AreKept m → SponsoredEntriesCount m
+        → account_at m id ≡ Some account → count_in Sponsoring account ≡ 0
     → SponsorsNothing m id
 
 -- ---- what others pay
 
--- The reserves of an account that others pay are at most its own two and one for each of its subentries, so its minimum balance is not
--- below 0.
+-- The reserves of an account that others pay are at most its own two and one for each of its subentries, so its minimum
+-- balance is not below 0.
 abbrev pub SponsoredAtMost : Type 0
 SponsoredAtMost =
     (id : AccountId) (account : AccountEntry) (m : EntryMap) → AreKept m → account_at m id ≡ Some account

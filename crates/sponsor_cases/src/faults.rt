@@ -5,7 +5,7 @@ use crate::asking::{add, add_key, move_to};
 use crate::ledger::{
     Means, NEW, OTHER, OWNER, SPONSOR, account, alone, means_of, no_entries, sponsored,
 };
-use crate::things::{Thing, made};
+use crate::things::{Thing, key_of, made};
 use entry_map::{Entries, MapBase};
 use ledger_types::{AccountId, Hash, LedgerKey, SignerKey};
 use sponsor_rules::{AddFault, Ctx};
@@ -179,7 +179,7 @@ fn tell_signers<R: Print + AllocGlobal>(rt: &R) -> io::Result<()> {
 
 // ---- moving
 
-/// The owner's data that the sponsor pays for is moved, once the owner and the other payer have these means.
+/// The owner's data, for which the sponsor pays, is added and then moved.
 fn move_data(
     alloc: Global,
     entries: &mut Entries<'_, MapBase>,
@@ -191,53 +191,78 @@ fn move_data(
     move_to(entries, ctx, key, payer)
 }
 
+fn put_all(
+    alloc: Global,
+    entries: &mut Entries<'_, MapBase>,
+    owner: Means,
+    other: Means,
+) -> Result<(), AllocError> {
+    put_two(alloc, entries, owner, ENOUGH)?;
+    entries.put(account(alloc, OTHER, other))
+}
+
 fn moved(
     alloc: Global,
+    ctx: &Ctx,
+    key: &LedgerKey,
     owner: Means,
     other: Means,
     payer: Option<AccountId>,
 ) -> Result<(), AddFault> {
     let base = no_entries(alloc)?;
     let mut entries = Entries::new(alloc, &base)?;
-    put_two(alloc, &mut entries, owner, ENOUGH)?;
-    entries.put(account(alloc, OTHER, other))?;
-    let key = made(alloc, Thing::Data)?.key()?;
-    move_data(alloc, &mut entries, &sponsored(alloc)?, &key, payer)
+    put_all(alloc, &mut entries, owner, other)?;
+    move_data(alloc, &mut entries, ctx, key, payer)
 }
 
-/// The new payer alone is tested where something moves. The sponsor pays for the data, so the owner keeps 10,000,000
-/// until it moves.
-fn tell_moved<R: Print + AllocGlobal>(rt: &R) -> io::Result<()> {
+/// The new payer alone is tested where something moves. The sponsor pays for the data, so the owner keeps 10,000,000 until
+/// it moves.
+fn tell_moved_by<R: Print + AllocGlobal>(rt: &R, ctx: &Ctx, key: &LedgerKey) -> io::Result<()> {
     for other in [
         means_of(14_999_999, 0, 0),
         means_of(0, 0, u32::MAX),
         means_of(0, 0, u32::MAX - 1),
         means_of(15_000_000, 0, 0),
     ] {
-        let answer = moved(rt.alloc(), NONE, other, Some(OTHER));
+        let answer = moved(rt.alloc(), ctx, key, NONE, other, Some(OTHER));
         println!(rt; "data moved to {other:?}: {answer:?}")?;
     }
     for owner in [means_of(14_999_999, 0, 0), means_of(15_000_000, 0, 0)] {
-        let answer = moved(rt.alloc(), owner, NONE, None);
+        let answer = moved(rt.alloc(), ctx, key, owner, NONE, None);
         println!(rt; "data moved to its owner with {owner:?}: {answer:?}")?;
     }
     Ok(())
 }
 
-/// An owner's data without sponsor, which was put there, is moved to its owner.
-fn stayed(alloc: Global, owner: Means) -> Result<(), AddFault> {
+fn tell_moved<R: Print + AllocGlobal>(rt: &R) -> io::Result<()> {
+    let ctx = sponsored(rt.alloc())?;
+    let key = key_of(rt.alloc(), Thing::Data)?;
+    tell_moved_by(rt, &ctx, &key)
+}
+
+/// An owner and its data, for which nobody else pays.
+fn put_owner_and_data(
+    alloc: Global,
+    entries: &mut Entries<'_, MapBase>,
+    owner: Means,
+) -> Result<(), AllocError> {
+    entries.put(account(alloc, OWNER, owner))?;
+    entries.put(made(alloc, Thing::Data)?)
+}
+
+/// An owner's data without sponsor is moved to its owner.
+fn stayed(alloc: Global, key: &LedgerKey, owner: Means) -> Result<(), AddFault> {
     let base = no_entries(alloc)?;
     let mut entries = Entries::new(alloc, &base)?;
-    entries.put(account(alloc, OWNER, owner))?;
-    entries.put(made(alloc, Thing::Data)?)?;
-    let key = made(alloc, Thing::Data)?.key()?;
-    move_to(&mut entries, &alone(alloc), &key, None)
+    put_owner_and_data(alloc, &mut entries, owner)?;
+    move_to(&mut entries, &alone(alloc), key, None)
 }
 
 /// What has no sponsor stays with its owner, who isn't tested.
 fn tell_stayed<R: Print + AllocGlobal>(rt: &R) -> io::Result<()> {
     let owner = NONE;
-    let answer = stayed(rt.alloc(), owner);
+    let key = key_of(rt.alloc(), Thing::Data)?;
+    let answer = stayed(rt.alloc(), &key, owner);
     println!(rt; "data that its owner pays for, moved to its owner with {owner:?}: {answer:?}")
 }
 

@@ -63,9 +63,16 @@ fn data(alloc: Global, entries: &mut Entries<'_, MapBase>) -> Result<(bool, bool
     };
     store_data(entries, slot)?;
     let name = ItemList::from_slice(alloc, b"name".as_slice())?;
-    let found = load_data(entries, &OWNER, &name)?.is_some();
-    erase_data(entries, &OWNER, &name)?;
-    Ok((found, load_data(entries, &OWNER, &name)?.is_some()))
+    data_erased(entries, &name)
+}
+
+fn data_erased(
+    entries: &mut Entries<'_, MapBase>,
+    name: &ItemList<u8>,
+) -> Result<(bool, bool), AllocError> {
+    let found = load_data(entries, &OWNER, name)?.is_some();
+    erase_data(entries, &OWNER, name)?;
+    Ok((found, load_data(entries, &OWNER, name)?.is_some()))
 }
 
 fn balance(alloc: Global, entries: &mut Entries<'_, MapBase>) -> Result<(bool, bool), AllocError> {
@@ -139,13 +146,17 @@ fn tell_slots<R: Print>(
     alloc: Global,
     entries: &mut Entries<'_, MapBase>,
 ) -> io::Result<()> {
-    let account = account(alloc, entries)?;
-    let line = line(alloc, entries)?;
-    let offer = offer(alloc, entries)?;
-    let data = data(alloc, entries)?;
-    let balance = balance(alloc, entries)?;
-    let pool = pool(alloc, entries)?;
-    println!(rt; "stored and erased: {account:?} {line:?} {offer:?} {data:?} {balance:?} {pool:?}")
+    for (kind, told) in [
+        ("account", account(alloc, entries)),
+        ("line", line(alloc, entries)),
+        ("offer", offer(alloc, entries)),
+        ("data", data(alloc, entries)),
+        ("balance", balance(alloc, entries)),
+        ("pool", pool(alloc, entries)),
+    ] {
+        println!(rt; "{kind} stored and erased: {told:?}")?;
+    }
+    Ok(())
 }
 
 /// Tells what is found, and what is extended.

@@ -4,7 +4,7 @@ use crate::asking::{add, move_to};
 use crate::ledger::{
     NEW, OTHER, OWNER, SPONSOR, alone, counts_of, no_entries, put_three, sponsored,
 };
-use crate::things::{Thing, made};
+use crate::things::{Thing, key_of, made};
 use entry_map::{Entries, MapBase};
 use ledger_types::{AccountId, LedgerKey};
 use sponsor_rules::{AddFault, Ctx, remove_entry};
@@ -92,19 +92,30 @@ fn tell_steps<R: Print>(
     Ok(())
 }
 
-fn tell<R: Print + AllocGlobal>(rt: &R, thing: Thing, owner: &AccountId) -> io::Result<()> {
+fn tell_within<R: Print + AllocGlobal>(
+    rt: &R,
+    entries: &mut Entries<'_, MapBase>,
+    thing: Thing,
+    owner: &AccountId,
+) -> io::Result<()> {
     let alloc = rt.alloc();
-    let base = no_entries(alloc)?;
-    let mut entries = Entries::new(alloc, &base)?;
+    let key = key_of(alloc, thing)?;
+    let sponsored = sponsored(alloc)?;
     let story = Story {
         alloc,
         thing,
         owner,
-        key: &made(alloc, thing)?.key()?,
+        key: &key,
         alone: &alone(alloc),
-        sponsored: &sponsored(alloc)?,
+        sponsored: &sponsored,
     };
-    tell_steps(rt, &mut entries, &story)
+    tell_steps(rt, entries, &story)
+}
+
+fn tell<R: Print + AllocGlobal>(rt: &R, thing: Thing, owner: &AccountId) -> io::Result<()> {
+    let base = no_entries(rt.alloc())?;
+    let mut entries = Entries::new(rt.alloc(), &base)?;
+    tell_within(rt, &mut entries, thing, owner)
 }
 
 /// Tells what each kind of thing counts.

@@ -4,8 +4,8 @@ use crate::ledger::{NEW, OTHER, OWNER, account, entry, means_of};
 use item_list::ItemList;
 use ledger_types::{
     AccountId, Asset, ClaimPredicate, ClaimableBalanceEntry, ClaimableBalanceId, Claimant,
-    DataEntry, Hash, LedgerEntry, LedgerEntryBody, LiquidityPoolEntry, OfferEntry, PoolParams,
-    Price, TrustLineAsset, TrustLineEntry,
+    DataEntry, Hash, LedgerEntry, LedgerEntryBody, LedgerKey, LiquidityPoolEntry, OfferEntry,
+    PoolParams, Price, TrustLineAsset, TrustLineEntry,
 };
 use std::alloc::{AllocError, Global};
 
@@ -98,6 +98,11 @@ fn balance(alloc: Global) -> Result<LedgerEntry, AllocError> {
         amount: 1,
         ext: None,
     })))
+}
+
+/// The key of a thing.
+pub fn key_of(alloc: Global, thing: Thing) -> Result<LedgerKey, AllocError> {
+    made(alloc, thing)?.key()
 }
 
 pub fn made(alloc: Global, thing: Thing) -> Result<LedgerEntry, AllocError> {

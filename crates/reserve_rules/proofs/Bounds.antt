@@ -15,5 +15,7 @@ product_within (negsuc n) reserve low high small =
 
 -- the same of less than 2^35 reserves less less than 2^32
 pub within : (counted spared reserve : ℕ) → counted < 2 ^ 35 → spared < 2 ^ 32 → reserve < 2 ^ 32 →
-    (neg_ℤ (pos (2 ^ 67)) ≤ℤ ((pos counted -ℤ pos spared) *ℤ pos reserve)) × (((pos counted -ℤ pos spared) *ℤ pos reserve) ≤ℤ pos (2 ^ 67))
-within counted spared reserve c s r = product_within (pos counted -ℤ pos spared) reserve (omega (arith, ints)) (omega (arith, ints)) r
+    (neg_ℤ (pos (2 ^ 67)) ≤ℤ ((pos counted -ℤ pos spared) *ℤ pos reserve))
+    × (((pos counted -ℤ pos spared) *ℤ pos reserve) ≤ℤ pos (2 ^ 67))
+within counted spared reserve c s r = product_within (pos counted -ℤ pos spared) reserve (omega (arith, ints))
+    (omega (arith, ints)) r

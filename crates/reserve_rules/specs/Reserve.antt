@@ -1,95 +1,56 @@
 -- What an account or a trust line can spend and take, as sums of whole numbers (CAP-0003, CAP-0033; TransactionUtils in
 -- stellar-core).
-use Rattle.std.specs.Prelude.{ℕ, ◌+◌, ℤ, pos, neg_ℤ, ◌⊎◌, ◌+ℤ◌, ◌-ℤ◌, ◌*ℤ◌, ◌≤ℤ◌, ◌<ℤ◌, Option, Some, None}
-use Rattle.ledger_types.specs.declared.price.Liabilities.{Liabilities}
+use Rattle.std.specs.Prelude.{ℕ, ◌+◌, ℤ, pos, neg_ℤ, ◌⊎◌, ◌+ℤ◌, ◌-ℤ◌, ◌*ℤ◌, ◌≤ℤ◌, ◌<ℤ◌}
 use Rattle.ledger_types.specs.declared.account.AccountEntry.{AccountEntry}
-use Rattle.ledger_types.specs.declared.account.AccountEntryExtensionV1.{AccountEntryExtensionV1}
-use Rattle.ledger_types.specs.declared.account.AccountEntryExtensionV2.{AccountEntryExtensionV2}
 use Rattle.ledger_types.specs.declared.trust_line.TrustLineEntry.{TrustLineEntry}
-use Rattle.ledger_types.specs.declared.trust_line.TrustLineEntryExtensionV1.{TrustLineEntryExtensionV1}
+use Rattle.entry_slots.specs.AccountExtensions.{account_liabilities, num_sponsoring, num_sponsored}
+use Rattle.entry_slots.specs.LineExtensions.{line_liabilities}
 
 -- the greatest number of 64 bits with a sign
 abbrev pub greatest_i64 : ℤ
 greatest_i64 = pos 9223372036854775807
 
--- ---- what an extension that isn't there stands for
-
-abbrev pub no_liabilities : Liabilities
-no_liabilities = record { buying = pos 0; selling = pos 0 }
-
-abbrev pub liabilities_in : Option AccountEntryExtensionV1 → Liabilities
-liabilities_in None = no_liabilities
-liabilities_in (Some ext) = ext.liabilities
-
-abbrev pub account_liabilities : AccountEntry → Liabilities
-account_liabilities a = liabilities_in a.ext
-
-abbrev pub line_liabilities_in : Option TrustLineEntryExtensionV1 → Liabilities
-line_liabilities_in None = no_liabilities
-line_liabilities_in (Some ext) = ext.liabilities
-
-abbrev pub line_liabilities : TrustLineEntry → Liabilities
-line_liabilities t = line_liabilities_in t.ext
-
-abbrev pub second_in : Option AccountEntryExtensionV1 → Option AccountEntryExtensionV2
-second_in None = None
-second_in (Some ext) = ext.ext
-
-abbrev pub sponsoring_in : Option AccountEntryExtensionV2 → ℕ
-sponsoring_in None = 0
-sponsoring_in (Some ext) = ext.num_sponsoring
-
-abbrev pub sponsored_in : Option AccountEntryExtensionV2 → ℕ
-sponsored_in None = 0
-sponsored_in (Some ext) = ext.num_sponsored
-
--- how many reserves an account pays for others
-abbrev pub num_sponsoring : AccountEntry → ℕ
-num_sponsoring a = sponsoring_in (second_in a.ext)
-
--- how many reserves of an account another one pays
-abbrev pub num_sponsored : AccountEntry → ℕ
-num_sponsored a = sponsored_in (second_in a.ext)
-
 -- ---- accounts
 
 -- two reserves, one for each subentry and each reserve paid for others, less those that others pay
-abbrev pub minimum : AccountEntry → ℕ → ℤ
-minimum a base_reserve = (pos (2 + a.num_sub_entries + num_sponsoring a) -ℤ pos (num_sponsored a)) *ℤ pos base_reserve
+abbrev pub min_balance : AccountEntry → ℕ → ℤ
+min_balance account base_reserve =
+    (pos (2 + account.num_sub_entries + num_sponsoring account) -ℤ pos (num_sponsored account)) *ℤ pos base_reserve
 
 -- what the account can spend; it may be below 0
-abbrev pub available_of : AccountEntry → ℕ → ℤ
-available_of a base_reserve = a.balance -ℤ minimum a base_reserve -ℤ (account_liabilities a).selling
+abbrev pub available : AccountEntry → ℕ → ℤ
+available account base_reserve = account.balance -ℤ min_balance account base_reserve -ℤ
+    (account_liabilities account).selling
 
 -- what the account can take
-abbrev pub room_of : AccountEntry → ℤ
-room_of a = greatest_i64 -ℤ a.balance -ℤ (account_liabilities a).buying
+abbrev pub room : AccountEntry → ℤ
+room account = greatest_i64 -ℤ account.balance -ℤ (account_liabilities account).buying
 
 -- balance and liabilities are in their ranges
-pub record IsInRange (a : AccountEntry) : Type 0 where
-  pub balance : pos 0 ≤ℤ a.balance
-  pub buying : pos 0 ≤ℤ (account_liabilities a).buying
-  pub selling : pos 0 ≤ℤ (account_liabilities a).selling
-  pub fits : (a.balance +ℤ (account_liabilities a).buying) ≤ℤ greatest_i64
+pub record IsInRange (account : AccountEntry) : Type 0 where
+  pub balance : pos 0 ≤ℤ account.balance
+  pub buying : pos 0 ≤ℤ (account_liabilities account).buying
+  pub selling : pos 0 ≤ℤ (account_liabilities account).selling
+  pub fits : (account.balance +ℤ (account_liabilities account).buying) ≤ℤ greatest_i64
 
 -- ---- trust lines
 
-abbrev pub line_available_of : TrustLineEntry → ℤ
-line_available_of t = t.balance -ℤ (line_liabilities t).selling
+abbrev pub line_available : TrustLineEntry → ℤ
+line_available line = line.balance -ℤ (line_liabilities line).selling
 
-abbrev pub line_room_of : TrustLineEntry → ℤ
-line_room_of t = t.limit -ℤ t.balance -ℤ (line_liabilities t).buying
+abbrev pub line_room : TrustLineEntry → ℤ
+line_room line = line.limit -ℤ line.balance -ℤ (line_liabilities line).buying
 
 -- balance and liabilities are in their ranges
-pub record IsLineInRange (t : TrustLineEntry) : Type 0 where
-  pub balance : pos 0 ≤ℤ t.balance
-  pub buying : pos 0 ≤ℤ (line_liabilities t).buying
-  pub selling : pos 0 ≤ℤ (line_liabilities t).selling
-  pub covered : (line_liabilities t).selling ≤ℤ t.balance
-  pub fits : (t.balance +ℤ (line_liabilities t).buying) ≤ℤ t.limit
+pub record IsLineInRange (line : TrustLineEntry) : Type 0 where
+  pub balance : pos 0 ≤ℤ line.balance
+  pub buying : pos 0 ≤ℤ (line_liabilities line).buying
+  pub selling : pos 0 ≤ℤ (line_liabilities line).selling
+  pub covered : (line_liabilities line).selling ≤ℤ line.balance
+  pub fits : (line.balance +ℤ (line_liabilities line).buying) ≤ℤ line.limit
 
 -- ---- changes of a balance
 
 -- a credit that passes what can be taken, or a debit that passes what can be spent
-abbrev pub Passes : (delta room available : ℤ) → Type 0
-Passes delta room available = (pos 0 ≤ℤ delta × room <ℤ delta) ⊎ (delta <ℤ pos 0 × available <ℤ neg_ℤ delta)
+abbrev pub Passes : (delta to_take to_spend : ℤ) → Type 0
+Passes delta to_take to_spend = (pos 0 ≤ℤ delta × to_take <ℤ delta) ⊎ (delta <ℤ pos 0 × to_spend <ℤ neg_ℤ delta)

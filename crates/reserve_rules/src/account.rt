@@ -1,41 +1,47 @@
 //! What accounts can spend and take.
 
 ghost use Rattle.std.specs.Prelude.{◌≡◌, ◌+ℤ◌, ◌-ℤ◌, ◌*ℤ◌, ◌≤ℤ◌, ◌↔◌, ◌<◌, ◌^◌, pos, neg_ℤ, true, false};
-ghost use Rattle.reserve_rules.specs.Reserve.{minimum, available_of, room_of, account_liabilities, num_sponsoring, num_sponsored, IsInRange, Passes};
+ghost use Rattle.entry_slots.specs.AccountExtensions as extensions;
+ghost use Rattle.reserve_rules.specs.Reserve as spec;
 
 use crate::change::changed;
-use ledger_types::{AccountEntry, Liabilities};
+use entry_slots::{account_liabilities, num_sponsored, num_sponsoring};
+use ledger_types::AccountEntry;
 
-/// What an account has to keep, in stroops: two reserves, one for each subentry and each reserve that it pays for others, less
-/// those that others pay. `base_reserve` is in stroops.
+/// What an account has to keep, in stroops: two reserves, one for each subentry and each reserve that it pays for
+/// others, less those that others pay. `base_reserve` is in stroops.
 pub fn min_balance(account: &AccountEntry, base_reserve: u32) -> i128
-    ensures { result ≡ minimum account.now base_reserve }
+    ensures { result ≡ spec.min_balance account.now base_reserve }
 {
     kept(account, base_reserve)
 }
 
-/// What an account can spend, in stroops: its balance less what it has to keep and what its offers would give. It may be below 0.
+/// What an account can spend, in stroops: its balance less what it has to keep and what its offers would give. It may
+/// be below 0.
 pub fn available(account: &AccountEntry, base_reserve: u32) -> i128
-    requires { IsInRange account.now }
-    ensures { result ≡ available_of account.now base_reserve }
+    ensures { result ≡ spec.available account.now base_reserve }
 {
-    let selling = liabilities(account).selling;
-    spendable(account.balance, kept(account, base_reserve), selling)
+    spendable(
+        account.balance,
+        kept(account, base_reserve),
+        selling(account),
+    )
 }
 
 /// What an account can take, in stroops: the greatest balance less the present one and what its offers would take.
 pub fn room(account: &AccountEntry) -> i64
-    requires { IsInRange account.now }
-    ensures { result ≡ room_of account.now }
+    requires { spec.IsInRange account.now }
+    ensures { result ≡ spec.room account.now }
 {
-    i64::MAX - account.balance - liabilities(account).buying
+    i64::MAX - account.balance - account_liabilities(account).buying
 }
 
-/// Changes an account's balance. It answers false, and leaves the account, exactly where a credit passes what the account can
-/// take, or a debit passes what it can spend.
+/// Changes an account's balance. It answers false, and leaves the account, exactly where a credit passes what the
+/// account can take, or a debit passes what it can spend.
 pub fn add_balance(account: &mut AccountEntry, delta: i64, base_reserve: u32) -> bool
-    requires { IsInRange account.old }
-    ensures refused { (result ≡ false) ↔ Passes delta (room_of account.old) (available_of account.old base_reserve) }
+    requires { spec.IsInRange account.old }
+    ensures refused { (result ≡ false) ↔
+        spec.Passes delta (spec.room account.old) (spec.available account.old base_reserve) }
     ensures done { result ≡ true → account.new ≡ record account.old { balance = account.old.balance +ℤ delta } }
     ensures left { result ≡ false → account.new ≡ account.old }
 {
@@ -50,53 +56,21 @@ pub fn add_balance(account: &mut AccountEntry, delta: i64, base_reserve: u32) ->
     }
 }
 
-/// What an account's offers would take and give: nothing where that isn't stated.
-fn liabilities(account: &AccountEntry) -> Liabilities
-    ensures { result ≡ account_liabilities account.now }
+/// What an account's offers would give.
+fn selling(account: &AccountEntry) -> i64
+    ensures { result ≡ (extensions.account_liabilities account.now).selling }
 {
-    match &account.ext {
-        Some(ext) => ext.liabilities,
-        None => Liabilities {
-            buying: 0,
-            selling: 0,
-        },
-    }
-}
-
-/// How many reserves an account pays for others: none where that isn't stated.
-fn sponsoring(account: &AccountEntry) -> u32
-    ensures { result ≡ num_sponsoring account.now }
-{
-    match &account.ext {
-        Some(ext) => match &ext.ext {
-            Some(second) => second.num_sponsoring,
-            None => 0,
-        },
-        None => 0,
-    }
-}
-
-/// How many reserves of an account others pay: none where that isn't stated.
-fn sponsored(account: &AccountEntry) -> u32
-    ensures { result ≡ num_sponsored account.now }
-{
-    match &account.ext {
-        Some(ext) => match &ext.ext {
-            Some(second) => second.num_sponsored,
-            None => 0,
-        },
-        None => 0,
-    }
+    account_liabilities(account).selling
 }
 
 /// What an account has to keep, as `min_balance` gives it, and how far from 0 that may be.
 fn kept(account: &AccountEntry, base_reserve: u32) -> i128
-    ensures value { result ≡ minimum account.now base_reserve }
+    ensures value { result ≡ spec.min_balance account.now base_reserve }
     ensures above { neg_ℤ (pos (2 ^ 67)) ≤ℤ result }
     ensures below { result ≤ℤ pos (2 ^ 67) }
 {
-    let counted = 2 + account.num_sub_entries as u64 + sponsoring(account) as u64;
-    reserves(counted, sponsored(account), base_reserve)
+    let counted = 2 + account.num_sub_entries as u64 + num_sponsoring(account) as u64;
+    reserves(counted, num_sponsored(account), base_reserve)
 }
 
 /// So many reserves less so many, in stroops.

@@ -1,32 +1,33 @@
 //! What trust lines can spend and take.
 
 ghost use Rattle.std.specs.Prelude.{◌≡◌, ◌+ℤ◌, ◌↔◌, true, false};
-ghost use Rattle.reserve_rules.specs.Reserve.{line_available_of, line_room_of, line_liabilities, IsLineInRange, Passes};
+ghost use Rattle.reserve_rules.specs.Reserve as spec;
 
 use crate::change::changed;
-use ledger_types::{Liabilities, TrustLineEntry};
+use entry_slots::line_liabilities;
+use ledger_types::TrustLineEntry;
 
 /// What can be spent of a trust line: its balance less what the account's offers would give.
 pub fn line_available(line: &TrustLineEntry) -> i64
-    requires { IsLineInRange line.now }
-    ensures { result ≡ line_available_of line.now }
+    requires { spec.IsLineInRange line.now }
+    ensures { result ≡ spec.line_available line.now }
 {
-    line.balance - liabilities(line).selling
+    line.balance - line_liabilities(line).selling
 }
 
 /// What a trust line can take: its limit less its balance and what the account's offers would take.
 pub fn line_room(line: &TrustLineEntry) -> i64
-    requires { IsLineInRange line.now }
-    ensures { result ≡ line_room_of line.now }
+    requires { spec.IsLineInRange line.now }
+    ensures { result ≡ spec.line_room line.now }
 {
-    line.limit - line.balance - liabilities(line).buying
+    line.limit - line.balance - line_liabilities(line).buying
 }
 
-/// Changes a trust line's balance. It answers false, and leaves the line, exactly where a credit passes what the line can take, or
-/// a debit passes what can be spent of it.
+/// Changes a trust line's balance. It answers false, and leaves the line, exactly where a credit passes what the line
+/// can take, or a debit passes what can be spent of it.
 pub fn line_add(line: &mut TrustLineEntry, delta: i64) -> bool
-    requires { IsLineInRange line.old }
-    ensures refused { (result ≡ false) ↔ Passes delta (line_room_of line.old) (line_available_of line.old) }
+    requires { spec.IsLineInRange line.old }
+    ensures refused { (result ≡ false) ↔ spec.Passes delta (spec.line_room line.old) (spec.line_available line.old) }
     ensures done { result ≡ true → line.new ≡ record line.old { balance = line.old.balance +ℤ delta } }
     ensures left { result ≡ false → line.new ≡ line.old }
 {
@@ -40,18 +41,5 @@ pub fn line_add(line: &mut TrustLineEntry, delta: i64) -> bool
             true
         }
         None => false,
-    }
-}
-
-/// What the account's offers would take and give of a trust line: nothing where that isn't stated.
-fn liabilities(line: &TrustLineEntry) -> Liabilities
-    ensures { result ≡ line_liabilities line.now }
-{
-    match line.ext {
-        Some(ext) => ext.liabilities,
-        None => Liabilities {
-            buying: 0,
-            selling: 0,
-        },
     }
 }

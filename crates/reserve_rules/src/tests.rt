@@ -44,7 +44,8 @@ fn offers(buying: i64, selling: i64) -> Option<AccountEntryExtensionV1>
 /// A trust line with a limit of 1000.
 fn line(balance: i64, buying: i64, selling: i64) -> TrustLineEntry
     ensures balance { result.balance ≡ balance }
-    ensures ext { result.ext ≡ Some (record { liabilities = record { buying = buying; selling = selling }; ext = None }) }
+    ensures ext { result.ext ≡
+        Some (record { liabilities = record { buying = buying; selling = selling }; ext = None }) }
     ensures limit { result.limit ≡ pos 1000 }
 {
     TrustLineEntry {

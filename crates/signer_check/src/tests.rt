@@ -7,7 +7,6 @@ use item_list::ItemList;
 use ledger_types::{AccountEntry, AccountId, Hash, Signer, SignerKey};
 use op_types::DecoratedSignature;
 use std::alloc::{AllocError, Global};
-use std::test::Fail;
 
 const TRANSACTION: Hash = Hash([7; 32]);
 
@@ -69,6 +68,15 @@ fn checker(alloc: Global, signatures: &[([u8; 4], &[u8])]) -> Result<Checker, Al
     Checker::new(alloc, &TRANSACTION, &all)
 }
 
+/// The signers of an account, what signs the transaction, the need, and whether the check succeeds and uses all signatures.
+#[derive(Clone, Copy)]
+struct Case<'a> {
+    signers: &'a [Signer],
+    signatures: &'a [([u8; 4], &'a [u8])],
+    needed: u32,
+    wanted: (bool, bool),
+}
+
 /// Whether a check of an account with these signers succeeds.
 fn succeeds(
     alloc: Global,
@@ -82,115 +90,137 @@ fn succeeds(
     Ok(checker.check(&account, needed))
 }
 
-/// Whether the only check of a transaction succeeds, and whether it uses all signatures.
+/// Whether the only check of a transaction succeeds, and whether it uses all signatures. No account has more than 20 signers.
 fn outcome(
     alloc: Global,
     signers: &[Signer],
     signatures: &[([u8; 4], &[u8])],
     needed: u32,
-) -> Result<(bool, bool), AllocError>
-    requires { length signers.now ≤ 20 }
-{
+) -> Result<(bool, bool), AllocError> {
+    if signers.len() > 20 {
+        return Ok((false, false));
+    }
     let mut checker = checker(alloc, signatures)?;
     let has_succeeded = succeeds(alloc, &mut checker, signers, needed)?;
     Ok((has_succeeded, checker.all_used()))
 }
 
+/// Whether a case comes out as wanted.
+fn agrees(alloc: Global, case: &Case<'_>) -> Result<bool, AllocError> {
+    Ok(outcome(alloc, case.signers, case.signatures, case.needed)? == case.wanted)
+}
+
+/// Whether each case comes out as wanted.
+fn all_agree(alloc: Global, cases: &[Case<'_>]) -> bool {
+    for case in cases {
+        if !agrees(alloc, case).unwrap_or(false) {
+            return false;
+        }
+    }
+    true
+}
+
+fn case<'a>(
+    signers: &'a [Signer],
+    signatures: &'a [([u8; 4], &'a [u8])],
+    needed: u32,
+    wanted: (bool, bool),
+) -> Case<'a> {
+    Case {
+        signers,
+        signatures,
+        needed,
+        wanted,
+    }
+}
+
 #[test]
-fn signatures_are_used_up_to_the_one_that_reaches_the_need(rt: HostRuntime) -> Result<(), Fail> {
+fn signatures_are_used_up_to_the_one_that_reaches_the_need(rt: HostRuntime) {
     let both = [text_of(ONE, 1), text_of(TWO, 1)];
     let signed = [SIGNED_TWO, SIGNED_ONE];
-    assert_eq!(rt; outcome(rt.alloc(), &both, &signed, 2)?, (true, true));
-    assert_eq!(rt; outcome(rt.alloc(), &both, &signed, 1)?, (true, false));
-    assert_eq!(rt; outcome(rt.alloc(), &both, &signed, 3)?, (false, true));
-    Ok(())
+    let cases = [
+        case(&both, &signed, 2, (true, true)),
+        case(&both, &signed, 1, (true, false)),
+        case(&both, &signed, 3, (false, true)),
+    ];
+    assert!(rt; all_agree(rt.alloc(), &cases));
+}
+
+/// Whether two checks use a signature each, and whether one of them can count for another account.
+fn stays_used(alloc: Global) -> Result<[(bool, bool); 3], AllocError> {
+    let mut checker = checker(alloc, &[SIGNED_TWO, SIGNED_ONE])?;
+    let two = succeeds(alloc, &mut checker, &[text_of(TWO, 1)], 1)?;
+    let used_two = checker.all_used();
+    let one = succeeds(alloc, &mut checker, &[text_of(ONE, 1)], 1)?;
+    let used_both = checker.all_used();
+    let again = succeeds(alloc, &mut checker, &[text_of(ONE, 1)], 1)?;
+    Ok([(two, used_two), (one, used_both), (again, checker.all_used())])
 }
 
 #[test]
-fn a_signature_stays_used(rt: HostRuntime) -> Result<(), Fail> {
-    let mut checker = checker(rt.alloc(), &[SIGNED_TWO, SIGNED_ONE])?;
-    assert!(rt; succeeds(rt.alloc(), &mut checker, &[text_of(TWO, 1)], 1)? && !checker.all_used());
-    assert!(rt; succeeds(rt.alloc(), &mut checker, &[text_of(ONE, 1)], 1)? && checker.all_used());
-    // One signature can count for several accounts.
-    assert!(rt; succeeds(rt.alloc(), &mut checker, &[text_of(ONE, 1)], 1)? && checker.all_used());
-    Ok(())
+fn a_signature_stays_used_and_can_count_for_several_accounts(rt: HostRuntime) {
+    let wanted = [(true, false), (true, true), (true, true)];
+    assert!(rt; stays_used(rt.alloc()).is_ok_and(|told| told == wanted));
 }
 
 #[test]
-fn each_signer_counts_once(rt: HostRuntime) -> Result<(), Fail> {
+fn each_signer_counts_once(rt: HostRuntime) {
     let signed = [SIGNED_ONE, SIGNED_ONE];
-    assert_eq!(rt;
-        outcome(rt.alloc(), &[text_of(ONE, 1)], &signed, 2)?,
-        (false, false)
-    );
     let double = [text_of(ONE, 1), text_of(ONE, 1)];
-    assert_eq!(rt; outcome(rt.alloc(), &double, &signed, 2)?, (true, true));
-    Ok(())
+    let cases = [
+        case(&double[..1], &signed, 2, (false, false)),
+        case(&double, &signed, 2, (true, true)),
+    ];
+    assert!(rt; all_agree(rt.alloc(), &cases));
 }
 
 #[test]
-fn a_weight_above_255_counts_as_255(rt: HostRuntime) -> Result<(), Fail> {
+fn a_weight_above_255_counts_as_255(rt: HostRuntime) {
     let heavy = [text_of(ONE, 1_000)];
-    assert_eq!(rt;
-        outcome(rt.alloc(), &heavy, &[SIGNED_ONE], 255)?,
-        (true, true)
-    );
-    assert_eq!(rt;
-        outcome(rt.alloc(), &heavy, &[SIGNED_ONE], 256)?,
-        (false, true)
-    );
-    Ok(())
+    let cases = [
+        case(&heavy, &[SIGNED_ONE], 255, (true, true)),
+        case(&heavy, &[SIGNED_ONE], 256, (false, true)),
+    ];
+    assert!(rt; all_agree(rt.alloc(), &cases));
 }
 
 #[test]
-fn a_need_of_0_takes_one_signer(rt: HostRuntime) -> Result<(), Fail> {
+fn a_need_of_0_takes_one_signer(rt: HostRuntime) {
     let signer = [text_of(ONE, 1)];
-    assert_eq!(rt; outcome(rt.alloc(), &signer, &[], 0)?, (false, true));
-    assert_eq!(rt;
-        outcome(rt.alloc(), &signer, &[SIGNED_TWO], 0)?,
-        (false, false)
-    );
-    assert_eq!(rt;
-        outcome(rt.alloc(), &signer, &[SIGNED_ONE], 0)?,
-        (true, true)
-    );
-    Ok(())
+    let cases = [
+        case(&signer, &[], 0, (false, true)),
+        case(&signer, &[SIGNED_TWO], 0, (false, false)),
+        case(&signer, &[SIGNED_ONE], 0, (true, true)),
+    ];
+    assert!(rt; all_agree(rt.alloc(), &cases));
 }
 
 #[test]
-fn a_signer_by_the_hash_counts_before_the_signatures(rt: HostRuntime) -> Result<(), Fail> {
+fn a_signer_by_the_hash_counts_before_the_signatures(rt: HostRuntime) {
     let by_hash = Signer {
         key: SignerKey::PreAuthTx(TRANSACTION),
         weight: 2,
     };
     let signers = [text_of(ONE, 2), by_hash];
-    assert_eq!(rt;
-        outcome(rt.alloc(), &signers, &[SIGNED_ONE], 2)?,
-        (true, false)
-    );
-    assert_eq!(rt;
-        outcome(rt.alloc(), &signers, &[SIGNED_ONE], 4)?,
-        (true, true)
-    );
-    Ok(())
+    let cases = [
+        case(&signers, &[SIGNED_ONE], 2, (true, false)),
+        case(&signers, &[SIGNED_ONE], 4, (true, true)),
+    ];
+    assert!(rt; all_agree(rt.alloc(), &cases));
 }
 
 #[test]
-fn an_ed25519_key_and_a_wrong_hint_match_nothing(rt: HostRuntime) -> Result<(), Fail> {
-    let listed = Signer {
+fn an_ed25519_key_and_a_wrong_hint_match_nothing(rt: HostRuntime) {
+    let listed = [Signer {
         key: SignerKey::Ed25519(ONE.0),
         weight: 1,
-    };
-    assert_eq!(rt;
-        outcome(rt.alloc(), &[listed], &[SIGNED_ONE], 1)?,
-        (false, false)
-    );
-    let own = ([9; 4], [9; 32].as_slice());
-    assert_eq!(rt; outcome(rt.alloc(), &[], &[own], 1)?, (false, false));
-    let misled = (HINT_OF_TWO, b"one".as_slice());
-    assert_eq!(rt;
-        outcome(rt.alloc(), &[text_of(ONE, 1)], &[misled], 1)?,
-        (false, false)
-    );
-    Ok(())
+    }];
+    let own = [([9; 4], [9; 32].as_slice())];
+    let misled = [(HINT_OF_TWO, b"one".as_slice())];
+    let cases = [
+        case(&listed, &[SIGNED_ONE], 1, (false, false)),
+        case(&[], &own, 1, (false, false)),
+        case(&[text_of(ONE, 1)], &misled, 1, (false, false)),
+    ];
+    assert!(rt; all_agree(rt.alloc(), &cases));
 }

@@ -1,8 +1,8 @@
 -- What a change of one count leaves of an account, and what of an entry depends on its account.
-use Rattle.std.proofs.Common.{◌≡◌, refl, sym, ap, ◌∙◌, ℕ, suc, ◌+◌, true, false, cond, List, [], ◌∷◌, length, map, Option, Some, None, nat_eq, arith}
+use Rattle.std.proofs.Common.{◌≡◌, refl, sym, ap, ◌∙◌, ℕ, suc, ◌+◌, true, false, cond, List, [], ◌∷◌, length, map}
+use Rattle.std.proofs.Common.{Option, Some, None, nat_eq, arith}
 use Rattle.std.specs.Prelude.{if◌then◌else◌}
 use Rattle.std.specs.List.{count_by}
-use Rattle.std.proofs.lemmas.Slice.Eq.{bytes_eq-Decides}
 use borrow.Author.Tests.{eqb-true}
 use Rattle.ledger_types.specs.declared.ids.AccountId.{AccountId}
 use Rattle.ledger_types.specs.declared.signer.Signer.{Signer}
@@ -11,21 +11,15 @@ use Rattle.ledger_types.specs.declared.account.AccountEntryExtensionV2.{AccountE
 use Rattle.ledger_types.specs.declared.entry.LedgerEntry.{LedgerEntry}
 use Rattle.ledger_types.specs.declared.entry.LedgerEntryBody.{LedgerEntryBody}
 use Rattle.ledger_types.specs.declared.entry.LedgerEntryBody.TheVariants as body
-use Rattle.reserve_rules.specs.Reserve.{second_in, sponsored_in, sponsoring_in}
+use Rattle.entry_slots.specs.AccountExtensions.{second_in, sponsored_in, sponsoring_in, sponsorship_in}
+use Rattle.entry_slots.specs.EntrySponsor.{sponsor_of}
+use Rattle.sponsor_rules.specs.Charge.{multiplicity, owner_of}
+use Rattle.sponsor_rules.specs.Counting.{count_in, with_count, with_new_count}
+use Rattle.sponsor_rules.specs.Payers.{is_account}
 use Rattle.sponsor_rules.specs.declared.count.Count.{Count}
 use Rattle.sponsor_rules.specs.declared.count.Count.TheVariants.{SubEntries, Sponsoring, Sponsored}
-use Rattle.sponsor_rules.specs.Counts.{count_in, with_count, with_new_count, sponsorship_in, multiplicity, owner_of}
-use Rattle.sponsor_rules.specs.Entries.{sponsor_of}
-use Rattle.sponsor_rules.specs.Payers.{is_account}
-use Rattle.sponsor_laws.specs.Sums.{signer_sponsors, is_this, is_there, subentries_for, sponsored_signers, sponsoring_signers, counted_for, HasItems}
-
--- ---- ids
-
-pub same_account : (a b : AccountId) → is_account a b ≡ true → a ≡ b
-same_account a b h = ap (λ (x : List ℕ). (record { 0 = x })) ((bytes_eq-Decides a.0 b.0).0 h)
-
-pub is_itself : (a : AccountId) → is_account a a ≡ true
-is_itself a = (bytes_eq-Decides a.0 a.0).1 refl
+use Rattle.sponsor_laws.specs.Sums.{signer_sponsors, is_this, is_there, subentries_for, sponsored_signers}
+use Rattle.sponsor_laws.specs.Sums.{sponsoring_signers, counted_for, HasItems}
 
 -- ---- counts
 
@@ -36,15 +30,18 @@ instead Sponsoring Sponsoring n m = n
 instead Sponsored Sponsored n m = n
 instead at other n m = m
 
-stood_for_sponsored : (signers : List Signer) (o : Option AccountEntryExtensionV2) → (sponsorship_in signers o).num_sponsored ≡ sponsored_in o
+stood_for_sponsored : (signers : List Signer) (o : Option AccountEntryExtensionV2)
+    → (sponsorship_in signers o).num_sponsored ≡ sponsored_in o
 stood_for_sponsored signers None = refl
 stood_for_sponsored signers (Some ext) = refl
 
-stood_for_sponsoring : (signers : List Signer) (o : Option AccountEntryExtensionV2) → (sponsorship_in signers o).num_sponsoring ≡ sponsoring_in o
+stood_for_sponsoring : (signers : List Signer) (o : Option AccountEntryExtensionV2)
+    → (sponsorship_in signers o).num_sponsoring ≡ sponsoring_in o
 stood_for_sponsoring signers None = refl
 stood_for_sponsoring signers (Some ext) = refl
 
-with_new_count-count : (count other : Count) (n : ℕ) (a : AccountEntry) → count_in other (with_new_count count n a) ≡ instead count other n (count_in other a)
+with_new_count-count : (count other : Count) (n : ℕ) (a : AccountEntry)
+    → count_in other (with_new_count count n a) ≡ instead count other n (count_in other a)
 with_new_count-count SubEntries SubEntries n a = refl
 with_new_count-count SubEntries Sponsoring n a = refl
 with_new_count-count SubEntries Sponsored n a = refl
@@ -55,17 +52,21 @@ with_new_count-count Sponsored SubEntries n a = refl
 with_new_count-count Sponsored Sponsoring n a = stood_for_sponsoring a.signers (second_in a.ext)
 with_new_count-count Sponsored Sponsored n a = refl
 
-instead_same : (count other : Count) (a : AccountEntry) → count_in other a ≡ instead count other (count_in count a) (count_in other a)
+instead_same : (count other : Count) (a : AccountEntry)
+    → count_in other a ≡ instead count other (count_in count a) (count_in other a)
 instead_same SubEntries SubEntries a = refl
 instead_same Sponsoring Sponsoring a = refl
 instead_same Sponsored Sponsored a = refl
 instead_same at other a = refl
 
-pub with_count-count : (count other : Count) (n : ℕ) (a : AccountEntry) → count_in other (with_count count n a) ≡ instead count other n (count_in other a)
+pub with_count-count : (count other : Count) (n : ℕ) (a : AccountEntry)
+    → count_in other (with_count count n a) ≡ instead count other n (count_in other a)
 unfolding with_count
 with_count-count count other n a =
-    elim (nat_eq n (count_in count a)) as (λ b. nat_eq n (count_in count a) ≡ b → count_in other (cond b a (with_new_count count n a)) ≡ instead count other n (count_in other a)) [
-      | true ↦ λ h. instead_same count other a ∙ ap (λ k. instead count other k (count_in other a)) (sym (eqb-true _ _ h))
+    elim (nat_eq n (count_in count a)) as (λ b. nat_eq n (count_in count a) ≡ b
+        → count_in other (cond b a (with_new_count count n a)) ≡ instead count other n (count_in other a)) [
+      | true ↦ λ h. instead_same count other a ∙ ap (λ k. instead count other k (count_in other a))
+          (sym (eqb-true _ _ h))
       | false ↦ λ h. with_new_count-count count other n a
     ] refl
 
@@ -90,7 +91,9 @@ with_new_count-keeps Sponsored n a = record { id = refl; signers = refl; sponsor
 
 pub with_count-keeps : (count : Count) (n : ℕ) (a : AccountEntry) → KeepsParts a (with_count count n a)
 unfolding with_count
-with_count-keeps count n a = elim (nat_eq n (count_in count a)) as (λ b. KeepsParts a (cond b a (with_new_count count n a))) [ true ↦ keeps_all a | false ↦ with_new_count-keeps count n a ]
+with_count-keeps count n a = elim (nat_eq n (count_in count a)) as
+    (λ b. KeepsParts a
+        (cond b a (with_new_count count n a))) [ true ↦ keeps_all a | false ↦ with_new_count-keeps count n a ]
 
 -- ---- items
 
@@ -98,7 +101,8 @@ length_mapped : {X Y : Type 0} (f : X → Y) (xs : List X) → length (map f xs)
 length_mapped f [] = refl
 length_mapped f (x ∷ xs) = ap suc (length_mapped f xs)
 
-as_many_in : (signers : List Signer) (o : Option AccountEntryExtensionV2) → ((ext : AccountEntryExtensionV2) → o ≡ Some ext → length ext.signer_sponsoring_ids ≡ length signers)
+as_many_in : (signers : List Signer) (o : Option AccountEntryExtensionV2)
+    → ((ext : AccountEntryExtensionV2) → o ≡ Some ext → length ext.signer_sponsoring_ids ≡ length signers)
     → length (sponsorship_in signers o).signer_sponsoring_ids ≡ length signers
 as_many_in signers None h = length_mapped _ signers
 as_many_in signers (Some ext) h = h ext refl
@@ -123,18 +127,22 @@ own_part SubEntries id b = subentries_for id b
 own_part Sponsoring id b = sponsoring_signers id b
 own_part Sponsored id b = sponsored_signers id b
 
-pub counted_split : (count : Count) (id : AccountId) (e : LedgerEntry) → counted_for count id e ≡ share count id (multiplicity e.body) (owner_of e.body) (sponsor_of e) + own_part count id e.body
+pub counted_split : (count : Count) (id : AccountId) (e : LedgerEntry)
+    → counted_for count id e ≡ share count id (multiplicity e.body) (owner_of e.body)
+        (sponsor_of e) + own_part count id e.body
 counted_split SubEntries id e = omega arith
 counted_split Sponsoring id e = refl
 counted_split Sponsored id e = refl
 
-pub own_part-keeps : (count : Count) (id : AccountId) (a b : AccountEntry) → KeepsParts a b → own_part count id (body.Account b) ≡ own_part count id (body.Account a)
+pub own_part-keeps : (count : Count) (id : AccountId) (a b : AccountEntry) → KeepsParts a b
+    → own_part count id (body.Account b) ≡ own_part count id (body.Account a)
 own_part-keeps SubEntries id a b h = λ i. if is_account (h.id i) id then length (h.signers i) else 0
 own_part-keeps Sponsoring id a b h = ap (count_by (is_this id)) h.sponsors
 own_part-keeps Sponsored id a b h = λ i. if is_account (h.id i) id then count_by is_there (h.sponsors i) else 0
 
 -- an entry whose account keeps its parts counts as before
-pub counted-keeps : (count : Count) (id : AccountId) (e : LedgerEntry) (a b : AccountEntry) → e.body ≡ body.Account a → KeepsParts a b
+pub counted-keeps : (count : Count) (id : AccountId) (e : LedgerEntry) (a b : AccountEntry) → e.body ≡ body.Account a
+    → KeepsParts a b
     → counted_for count id (record e { body = body.Account b }) ≡ counted_for count id e
 counted-keeps count id e a b is h =
     counted_split count id (record e { body = body.Account b })

@@ -1,5 +1,5 @@
 -- Adding a signer keeps counts equal to their sums.
-use Rattle.std.proofs.Common.{◌≡◌, ◌≢◌, ap, subst, ◌∙◌, ℕ, ◌+◌, ◌≤◌, cond, length, Option, Some, None, Ok, arith}
+use Rattle.std.proofs.Common.{◌≡◌, ◌≢◌, refl, ap, subst, ◌∙◌, ℕ, ◌+◌, ◌≤◌, cond, length, Option, Some, None, Ok, arith}
 use Rattle.std.specs.List.{sum_by, insert}
 use Rattle.std.proofs.lemmas.List.Edits.{length-insert}
 use Rattle.std.proofs.lemmas.List.Sums.{sum_by-insert, prefix_len-le-length}
@@ -8,73 +8,97 @@ use Rattle.ledger_types.specs.declared.signer.Signer.{Signer}
 use Rattle.ledger_types.specs.declared.account.AccountEntry.{AccountEntry}
 use Rattle.entry_map.specs.EntryMap.{EntryMap}
 use Rattle.sponsor_rules.specs.declared.context.Ctx.{Ctx}
-use Rattle.sponsor_rules.specs.declared.count.Count.TheVariants.{SubEntries, Sponsored}
-use Rattle.sponsor_rules.specs.Accounts.{with_account, Stands}
-use Rattle.sponsor_rules.specs.Counts.{count_in, raise, subentry_counted}
+use Rattle.sponsor_rules.specs.declared.count.Count.TheVariants.{SubEntries, Sponsoring, Sponsored}
+use Rattle.entry_slots.specs.Accounts.{with_account, HasAccount}
+use Rattle.sponsor_rules.specs.Counting.{count_in, with_more}
+use Rattle.sponsor_rules.specs.Paying.{map_after_charging, with_subentry}
 use Rattle.sponsor_rules.specs.Payers.{open_sponsor, payer_of, payer_by, subentry_tests}
-use Rattle.sponsor_rules.specs.Signers.{place_for, with_signer, adding_signer}
+use Rattle.sponsor_rules.specs.Adding.{map_after_counting}
+use Rattle.sponsor_rules.specs.SignerPlace.{place_for, with_signer}
+use Rattle.sponsor_rules.specs.Signers.{map_after_adding_signer, map_with_signer}
 use Rattle.sponsor_laws.specs.Sums.{is_this, is_there, signer_sponsors}
 use Rattle.sponsor_laws.specs.Laws.{IsApart, AddingSignerKeeps}
-use Rattle.sponsor_laws.proofs.Even.{IsEven, even, kept_of}
+use Rattle.sponsor_laws.proofs.Even.{AreOwn, IsEven, even, kept_of}
 use Rattle.sponsor_laws.proofs.Shifts.{Shift, at_one, plus, no_shift, IsShiftedAccount, unshifted}
-use Rattle.sponsor_laws.proofs.Changes.{shifted_raise}
-use Rattle.sponsor_laws.proofs.Paying.{shared, shifted_paying}
+use Rattle.sponsor_laws.proofs.Changes.{more_keeps, twice, shifted_raise}
+use Rattle.sponsor_laws.proofs.Paying.{shared, shifted_counting}
 use Rattle.sponsor_laws.proofs.Bounds.{done_by, have_passed, has_few, has_room, few_more, both_more, HasRoom}
 use Rattle.sponsor_laws.proofs.Edits.{IsEdited, edited, named_stands, signed_more}
-use Rattle.sponsor_laws.proofs.SignerLists.{counts_edited, sponsors_inserted}
-use Rattle.sponsor_laws.proofs.SignedAccounts.{there_is, IsHeld, held_by, own_id, own_stands, as_many_sponsors, signer_stands, own_of, own_share}
+use Rattle.sponsor_rules.proofs.Keeping.{counts_edited}
+use Rattle.sponsor_laws.proofs.SignerLists.{sponsors_inserted}
+use Rattle.sponsor_laws.proofs.SignedAccounts.{there_is, IsHeld, held_by, own_id, own_stands, as_many_sponsors}
+use Rattle.sponsor_laws.proofs.SignedAccounts.{signer_stands, own_of, own_share}
 
 -- a subentry more of the owner, which the sponsor pays, if there is one
 abbrev signer_shift : AccountId → Option AccountId → Shift
 signer_shift id s = plus (plus no_shift (at_one SubEntries 1 id)) (shared 1 (Some id) s)
+
+with_subentry_id : (s : Option AccountId) (b : AccountEntry) → (with_subentry 1 s b).account_id ≡ b.account_id
+with_subentry_id None b = more_keeps SubEntries 1 b
+with_subentry_id (Some s) b = more_keeps Sponsored 1 (with_more SubEntries 1 b) ∙ more_keeps SubEntries 1 b
+
+charging_own : (old : EntryMap) → IsEven old → (s : Option AccountId) → AreOwn (map_after_charging 1 s old)
+charging_own old h None = h.own
+charging_own old h (Some s) = (shifted_raise no_shift no_shift Sponsoring 1 s old old h.own (unshifted old h.own)).own
 
 module _ (old : EntryMap) (h : IsEven old) (id : AccountId) (a : AccountEntry) (held : IsHeld old id a) where
   own : a.account_id ≡ id
   own = own_id old h id a held
 
   -- an account has the extension, once something is paid for it
-  paid_for : (s : Option AccountId) (b : AccountEntry) → IsShiftedAccount (signer_shift id s) no_shift a b → s ≢ None → 1 ≤ count_in Sponsored b
+  paid_for : (s : Option AccountId) (b : AccountEntry) → IsShiftedAccount (signer_shift id s) no_shift a b → s ≢ None
+      → 1 ≤ count_in Sponsored b
   paid_for s b shifted some =
       let moved = shifted.counts Sponsored in
       let one : ◌≡◌ {A = ℕ} (cond (is_there s) 1 0) 1 = ap (λ t. cond t 1 0) (there_is s some) in
       let mine = own_share old h id a held s in
       omega arith
 
-  with_signer_edits : (signer : Signer) (s : Option AccountId) → ((x : AccountId) → s ≡ Some x → Stands old x) → (b : AccountEntry) → IsShiftedAccount (signer_shift id s) no_shift a b
+  with_signer_edits : (signer : Signer) (s : Option AccountId) → ((x : AccountId) → s ≡ Some x → HasAccount old x)
+      → (b : AccountEntry) → IsShiftedAccount (signer_shift id s) no_shift a b
       → IsEdited (signer_shift id s) no_shift old a (with_signer signer s b)
   with_signer_edits signer s payer b shifted =
       let place = place_for signer.key b.signers in
       let c = with_signer signer s b in
       let within : place ≤ length b.signers = prefix_len-le-length _ b.signers in
-      let sponsors : signer_sponsors c ≡ insert (signer_sponsors a) place s = sponsors_inserted place signer s b (paid_for s b shifted) ∙ ap (λ xs. insert xs place s) shifted.parts.sponsors in
+      let sponsors : signer_sponsors c ≡ insert (signer_sponsors a) place s =
+          sponsors_inserted place signer s b (paid_for s b shifted)
+              ∙ ap (λ xs. insert xs place s) shifted.parts.sponsors in
       let sums = λ (g : Option AccountId → ℕ). ap (sum_by g) sponsors ∙ sum_by-insert g (signer_sponsors a) place s in
       let same_length = ap length shifted.parts.signers in
       let longer = length-insert b.signers place signer within in
       let all = as_many_sponsors old h id a held in
       record {
         id = shifted.parts.id;
-        counts = λ count. ap (λ n. n + 0) (counts_edited (λ xs. insert xs place s) count b (insert b.signers place signer)) ∙ shifted.counts count;
-        items = (let more = length-insert (signer_sponsors a) place s (omega arith) in let new = ap length sponsors in omega arith);
+        counts = λ count. ap (λ n. n + 0) (counts_edited (λ xs. insert xs place s) count b
+            (insert b.signers place signer)) ∙ shifted.counts count;
+        items = (let more = length-insert (signer_sponsors a) place s (omega arith) in let new = ap length sponsors in
+            omega arith);
         parts = λ count i.
             let before = own_of old h id a held count i a own in
             let after = own_of old h id a held count i c (shifted.parts.id ∙ own) in
-            let more = signed_more count i id (length a.signers) (length c.signers) (signer_sponsors a) (signer_sponsors c) s (omega arith) sums in
+            let more = signed_more count i id (length a.signers) (length c.signers) (signer_sponsors a)
+                (signer_sponsors c) s (omega arith) sums in
             omega arith;
-        names = λ i. named_stands old (signer_sponsors a) (signer_sponsors c) s i (let sum = sums (λ o. cond (is_this i o) 1 0) in omega arith) (payer i) (signer_stands old h id a held i);
+        names = λ i. named_stands old (signer_sponsors a) (signer_sponsors c) s i (let sum =
+            sums (λ o. cond (is_this i o) 1 0) in omega arith) (payer i) (signer_stands old h id a held i);
       }
 
-  signer_added : (ctx : Ctx) (signer : Signer) (new : EntryMap) → Stands old (payer_of ctx id) → IsApart ctx id → adding_signer ctx id signer old ≡ Ok new → IsEven new
+  signer_added : (ctx : Ctx) (signer : Signer) (new : EntryMap) → HasAccount old (payer_of ctx id) → IsApart ctx id
+      → map_after_adding_signer ctx id signer old ≡ Ok new → IsEven new
   signer_added ctx signer new payer_stands apart done =
       let s = open_sponsor ctx id in
-      let m = subentry_counted 1 id s old in
-      let after = with_account m id (with_signer signer s) in
+      let m = map_after_counting id 1 s old in
+      let after = map_with_signer id signer s old in
       let tests = have_passed ctx old id 1 after new done in
       let stands = own_stands old h id a held in
-      let first = shifted_raise no_shift no_shift SubEntries 1 id old old h.own (unshifted old h.own) in
-      let second = shifted_paying (plus no_shift (at_one SubEntries 1 id)) no_shift 1 old (raise SubEntries 1 id old) h.own first id s in
+      let second = shifted_counting no_shift no_shift 1 old old h.own (unshifted old h.own) id s in
+      let once = twice (map_after_charging 1 s old) id (with_subentry 1 s) (with_signer signer s) (charging_own old h s)
+          (with_subentry_id s) (λ b. refl) in
       let payer_is : (x : AccountId) → s ≡ Some x → payer_of ctx id ≡ x = λ x pays. ap (payer_by id) pays in
-      subst IsEven (done_by (subentry_tests ctx old id 1) after new done) (edited (signer_shift id s) no_shift id (with_signer signer s) old m h second held.entry a held.there held.is
-      (with_signer_edits signer s (λ x pays. subst (Stands old) (payer_is x pays) payer_stands))
+      subst IsEven (once ∙ done_by (subentry_tests ctx old id 1) after new done)
+          (edited (signer_shift id s) no_shift id (with_signer signer s) old m h second held.entry a held.there held.is
+      (with_signer_edits signer s (λ x pays. subst (HasAccount old) (payer_is x pays) payer_stands))
       (λ i. let le = few_more old id i 1 h (has_few old id 1 h stands tests.not_full) in omega arith)
       (λ i. let le = both_more old i id s 1 h (has_room old id 1 h stands tests.owner) (λ x pays. (
         subst (λ y. HasRoom old y 1) (payer_is x pays) (has_room old (payer_of ctx id) 1 h payer_stands tests.payer),
@@ -83,4 +107,5 @@ module _ (old : EntryMap) (h : IsEven old) (id : AccountId) (a : AccountEntry) (
 
 pub adding_signer_keeps : AddingSignerKeeps
 adding_signer_keeps ctx id signer old new kept stands payer_stands apart done =
-    kept_of new (signer_added old (even old kept) id stands.0 (held_by old id stands.0 stands.1) ctx signer new payer_stands apart done)
+    kept_of new (signer_added old (even old kept) id stands.0
+        (held_by old id stands.0 stands.1) ctx signer new payer_stands apart done)

@@ -1,8 +1,9 @@
 -- Raising and lowering a count of one account, and what sponsors then pay.
-use Rattle.std.proofs.Common.{◌≡◌, ◌≢◌, ◌⊎◌, inl, inr, refl, sym, ap, subst, ◌∙◌, ℕ, ◌+◌, ◌-◌, ◌≤◌, true, false, cond, Option, Some, None, arith}
+use Rattle.std.proofs.Common.{◌≡◌, ◌≢◌, ◌⊎◌, inl, inr, refl, sym, ap, subst, ◌∙◌, ℕ, ◌+◌, ◌-◌, ◌≤◌, true, false, cond}
+use Rattle.std.proofs.Common.{Option, Some, None, arith}
 use Rattle.std.specs.Prelude.{if◌then◌else◌}
 use Rattle.std.specs.Ordering.{eq_by_cmp}
-use Rattle.std.specs.FinMap.{get, get-insert}
+use Rattle.std.specs.FinMap.{get, get-insert, same_map}
 use Rattle.ledger_types.specs.declared.ids.AccountId.{AccountId}
 use Rattle.ledger_types.specs.declared.account.AccountEntry.{AccountEntry}
 use Rattle.ledger_types.specs.declared.entry.LedgerEntry.{LedgerEntry}
@@ -12,30 +13,37 @@ use Rattle.ledger_types.specs.declared.key.LedgerKey.{LedgerKey}
 use Rattle.ledger_types.specs.declared.key.LedgerKey.TheVariants as key
 use Rattle.ledger_types.specs.Keys.{key_of, key_of_body}
 use Rattle.ledger_types.specs.KeyOrder.{key_cmp}
-use Rattle.ledger_types.proofs.KeyOrdering.{keys_total}
+use Rattle.ledger_types.proofs.KeyOrdering.{keys_total, keys_exact}
 use Rattle.entry_map.specs.EntryMap.{EntryMap, put}
 use Rattle.entry_map.proofs.KeyMaps.{same_keys, same_itself}
 use Rattle.entry_map.proofs.Layers.{after_insert}
 use Rattle.sponsor_rules.specs.declared.count.Count.{Count}
 use Rattle.sponsor_rules.specs.declared.count.Count.TheVariants.{SubEntries, Sponsoring, Sponsored}
-use Rattle.sponsor_rules.specs.Accounts.{account_in, account_of, account_at, with_account, with_account_of, with_account_in}
-use Rattle.sponsor_rules.specs.Counts.{count_in, raised, lowered, raise, lower}
+use Rattle.entry_slots.specs.Accounts.{account_in, account_of, account_at, with_account, with_account_of}
+use Rattle.entry_slots.specs.Accounts.{with_account_in}
+use Rattle.sponsor_rules.specs.Counting.{count_in, with_more, with_less}
 use Rattle.sponsor_rules.specs.Payers.{is_account}
 use Rattle.sponsor_laws.specs.Sums.{total, counted_for}
 use Rattle.sponsor_laws.proofs.Totals.{part_of, sum_in-insert}
-use Rattle.sponsor_laws.proofs.Accounts.{KeepsParts, keeps_twice, with_count-keeps, with_count-count, instead, is_itself, counted-keeps}
+use Rattle.sponsor_rules.proofs.Ids.{is_itself}
+use Rattle.sponsor_laws.proofs.Accounts.{KeepsParts, keeps_twice, with_count-keeps, with_count-count, instead}
+use Rattle.sponsor_laws.proofs.Accounts.{counted-keeps}
 use Rattle.sponsor_laws.proofs.Even.{AreOwn, account_key, stands_in}
-use Rattle.sponsor_laws.proofs.Shifts.{Shift, at_one, plus, IsShiftedAccount, AlikeBodies, Alike, IsShifted, apart_ids, account_after, entry_after, shifted_as, alike_agree}
+use Rattle.sponsor_laws.proofs.Shifts.{Shift, at_one, plus, IsShiftedAccount, AlikeBodies, Alike, IsShifted, apart_ids}
+use Rattle.sponsor_laws.proofs.Shifts.{account_after, entry_after, shifted_as, alike_agree}
 
 -- ---- the map after a put
 
-pub put_get : (m : EntryMap) (e : LedgerEntry) (k : LedgerKey) → get (put m e) k ≡ cond (eq_by_cmp key_cmp k (key_of e)) (Some e) (get m k)
+pub put_get : (m : EntryMap) (e : LedgerEntry) (k : LedgerKey)
+    → get (put m e) k ≡ cond (eq_by_cmp key_cmp k (key_of e)) (Some e) (get m k)
 put_get m e k = get-insert keys_total m (key_of e) e k
 
 put_own : (m : EntryMap) (e : LedgerEntry) → AreOwn m → AreOwn (put m e)
 put_own m e own k x there = after_insert (λ q y. key_of y ≡ q) m (key_of e) e refl own k x there
 
-pub put_total : (m : EntryMap) (e : LedgerEntry) (count : Count) (id : AccountId) → total count id (put m e) + part_of (counted_for count id) (get m (key_of e)) ≡ total count id m + counted_for count id e
+pub put_total : (m : EntryMap) (e : LedgerEntry) (count : Count) (id : AccountId)
+    → total count id (put m e) + part_of (counted_for count id) (get m (key_of e))
+        ≡ total count id m + counted_for count id e
 put_total m e count id = sum_in-insert keys_total (counted_for count id) m (key_of e) e
 
 -- ---- a change of one account
@@ -55,7 +63,8 @@ IsMissing m id f = (account_at m id ≡ None) × (with_account m id f ≡ m)
 abbrev ChangeOf : EntryMap → AccountId → (AccountEntry → AccountEntry) → Option LedgerEntry → Type 0
 ChangeOf m id f o = get m (key.Account id) ≡ o → IsMissing m id f ⊎ IsChangedAt m id f
 
-changed_by : (m : EntryMap) (id : AccountId) (f : AccountEntry → AccountEntry) (e : LedgerEntry) (b : LedgerEntryBody) → e.body ≡ b → AreOwn m → get m (key.Account id) ≡ Some e
+changed_by : (m : EntryMap) (id : AccountId) (f : AccountEntry → AccountEntry) (e : LedgerEntry) (b : LedgerEntryBody)
+    → e.body ≡ b → AreOwn m → get m (key.Account id) ≡ Some e
     → IsMissing m id f ⊎ IsChangedAt m id f
 unfolding account_at with_account
 changed_by m id f e (body.Account a) is own there = inr (record {
@@ -66,58 +75,154 @@ changed_by m id f e (body.Account a) is own there = inr (record {
   own_id = (let same : key.Account a.account_id ≡ key.Account id = sym (ap key_of_body is) ∙ own _ e there in cc);
   is_put = ap (with_account_of m f) there ∙ ap (with_account_in m e f) is;
 })
-changed_by m id f e other is own there = inl (ap account_of there ∙ ap account_in is, ap (with_account_of m f) there ∙ ap (with_account_in m e f) is)
+changed_by m id f e other is own there = inl (ap account_of there ∙ ap account_in is, ap (with_account_of m f) there
+    ∙ ap (with_account_in m e f) is)
 
-pub changed_at : (m : EntryMap) (id : AccountId) (f : AccountEntry → AccountEntry) → AreOwn m → IsMissing m id f ⊎ IsChangedAt m id f
+pub changed_at : (m : EntryMap) (id : AccountId) (f : AccountEntry → AccountEntry) → AreOwn m
+    → IsMissing m id f ⊎ IsChangedAt m id f
 unfolding account_at with_account
 changed_at m id f own = elim (get m (key.Account id)) as (ChangeOf m id f) [
   | None ↦ λ none. inl (ap account_of none, ap (with_account_of m f) none)
   | Some e ↦ λ there. changed_by m id f e e.body refl own there
 ] refl
 
+-- ---- two changes of one account
+
+put_both : (k q : LedgerKey) (m : EntryMap) (e f : LedgerEntry) → key_of f ≡ key_of e
+    → get (put (put m e) f) q ≡ get (put m f) q
+put_both k q m e f same = put_get (put m e) f q
+    ∙ elim (eq_by_cmp key_cmp q (key_of f)) as (λ b. eq_by_cmp key_cmp q (key_of f) ≡ b
+        → cond b (Some f) (get (put m e) q) ≡ cond b (Some f) (get m q)) [
+      | true ↦ λ tied. refl
+      | false ↦ λ apart. put_get m e q ∙ ap (λ b. cond b (Some e) (get m q)) (ap (eq_by_cmp key_cmp q) (sym same)
+          ∙ apart)
+    ] refl
+    ∙ sym (put_get m f q)
+
+-- an entry that is put in place of another one
+put_twice : (m : EntryMap) (e f : LedgerEntry) → key_of f ≡ key_of e → put (put m e) f ≡ put m f
+put_twice m e f same = same_map keys_total keys_exact _ _ (λ q. put_both (key_of e) q m e f same)
+
+put_found : (m : EntryMap) (e : LedgerEntry) (id : AccountId) → key_of e ≡ key.Account id
+    → get (put m e) (key.Account id) ≡ Some e
+put_found m e id named = put_get m e (key.Account id) ∙ ap (λ b. cond b (Some e) (get m (key.Account id)))
+    (ap (λ k. eq_by_cmp key_cmp k (key_of e)) (sym named) ∙ same_itself (key_of e))
+
+changed_again : (m : EntryMap) (id : AccountId) (f g : AccountEntry → AccountEntry)
+    → ((a : AccountEntry) → (f a).account_id ≡ a.account_id) → ((a : AccountEntry) → (g a).account_id ≡ a.account_id)
+    → IsChangedAt m id f → IsChangedAt m id (λ a. g (f a))
+        → with_account (with_account m id f) id g ≡ with_account m id (λ a. g (f a))
+unfolding with_account
+changed_again m id f g keeps_f keeps_g first both =
+    let e : LedgerEntry = record first.entry { body = body.Account (f first.account) } in
+    let named : key_of e ≡ key.Account id = ap key.Account (keeps_f first.account ∙ first.own_id) in
+    let same_entry : first.entry ≡ both.entry = (let one = first.there in let other = both.there in cc) in
+    let same_body : body.Account first.account ≡ body.Account both.account = sym first.is
+        ∙ ap (λ (x : LedgerEntry). x.body) same_entry ∙ both.is in
+    let same_of : first.account ≡ both.account = cc in
+    let last : LedgerEntry = record e { body = body.Account (g (f first.account)) } in
+    ap (λ n. with_account n id g) first.is_put
+    ∙ ap (with_account_of (put m e) g) (put_found m e id named)
+    ∙ put_twice m e last (ap key.Account (keeps_g (f first.account)))
+    ∙ (λ i. put m (record (same_entry i) { body = body.Account (g (f (same_of i))) }))
+    ∙ sym both.is_put
+
+-- an account that is changed twice
+pub twice : (m : EntryMap) (id : AccountId) (f g : AccountEntry → AccountEntry) → AreOwn m
+    → ((a : AccountEntry) → (f a).account_id ≡ a.account_id) → ((a : AccountEntry) → (g a).account_id ≡ a.account_id)
+    → with_account (with_account m id f) id g ≡ with_account m id (λ a. g (f a))
+twice m id f g own keeps_f keeps_g = elim (changed_at m id f own) [
+  | inl none ↦ elim (changed_at m id (λ a. g (f a)) own) [
+    | inl both ↦ ap (λ n. with_account n id g) none.1 ∙ unchanged m id g own none.0 ∙ sym both.1
+    | inr both ↦ absurd (missing_not m id (λ a. g (f a)) none.0 both)
+  ]
+  | inr first ↦ elim (changed_at m id (λ a. g (f a)) own) [
+    | inl both ↦ absurd (missing_not m id f both.0 first)
+    | inr both ↦ changed_again m id f g keeps_f keeps_g first both
+  ]
+]
+  where
+    missing_not : (m : EntryMap) (id : AccountId) (f : AccountEntry → AccountEntry) → account_at m id ≡ None
+        → IsChangedAt m id f → ⊥
+    missing_not m id f none c = let stands = stands_in m id c.entry c.account c.there (ap account_in c.is) in
+        absurd (cc)
+
+    unchanged : (m : EntryMap) (id : AccountId) (g : AccountEntry → AccountEntry) → AreOwn m → account_at m id ≡ None
+        → with_account m id g ≡ m
+    unchanged m id g own none = elim (changed_at m id g own) [ inl missing ↦ missing.1 | inr c ↦ absurd
+        (missing_not m id g none c) ]
+
+-- the map with a count of an account raised, or lowered
+abbrev pub map_with_more : Count → ℕ → AccountId → EntryMap → EntryMap
+map_with_more count k id m = with_account m id (with_more count k)
+
+abbrev pub map_with_less : Count → ℕ → AccountId → EntryMap → EntryMap
+map_with_less count k id m = with_account m id (with_less count k)
+
+pub more_keeps : (count : Count) (k : ℕ) (a : AccountEntry) → (with_more count k a).account_id ≡ a.account_id
+more_keeps count k a = (with_count-keeps count (count_in count a + k) a).id
+
+pub less_keeps : (count : Count) (k : ℕ) (a : AccountEntry) → (with_less count k a).account_id ≡ a.account_id
+less_keeps count k a = (with_count-keeps count (count_in count a - k) a).id
+
 -- ---- a change that moves counts
 
 module _ (p q p' q' : Shift) (id : AccountId) (f : AccountEntry → AccountEntry) (old : EntryMap) where
   abbrev pub Moves : Type 0
-  Moves = (was account : AccountEntry) → account_at old id ≡ Some was → was.account_id ≡ id → IsShiftedAccount p q was account → IsShiftedAccount p' q' was (f account)
+  Moves = (was account : AccountEntry) → account_at old id ≡ Some was → was.account_id ≡ id
+      → IsShiftedAccount p q was account → IsShiftedAccount p' q' was (f account)
 
   abbrev pub AgreeElsewhere : Type 0
-  AgreeElsewhere = (i : AccountId) → is_account id i ≡ false → (count : Count) → (p' count i ≡ p count i) × (q' count i ≡ q count i)
+  AgreeElsewhere = (i : AccountId) → is_account id i ≡ false → (count : Count)
+      → (p' count i ≡ p count i) × (q' count i ≡ q count i)
 
-  moved_bodies : (x : LedgerEntryBody) (a : AccountEntry) → Moves → key_of_body x ≡ key.Account id → ((was : AccountEntry) → account_in x ≡ Some was → account_at old id ≡ Some was) → AlikeBodies p q x (body.Account a) → AlikeBodies p' q' x (body.Account (f a))
+  moved_bodies : (x : LedgerEntryBody) (a : AccountEntry) → Moves → key_of_body x ≡ key.Account id
+      → ((was : AccountEntry) → account_in x ≡ Some was → account_at old id ≡ Some was)
+          → AlikeBodies p q x (body.Account a) → AlikeBodies p' q' x (body.Account (f a))
   moved_bodies (body.Account was) a moves own stands h = moves was a (stands was refl) (cc) h
   moved_bodies other a moves own stands h = absurd (cc)
 
-  moved_entry : (x : Option LedgerEntry) (e : LedgerEntry) (a : AccountEntry) → Moves → e.body ≡ body.Account a → ((y : LedgerEntry) → x ≡ Some y → key_of y ≡ key.Account id) → x ≡ get old (key.Account id) → Alike p q x (Some e)
+  moved_entry : (x : Option LedgerEntry) (e : LedgerEntry) (a : AccountEntry) → Moves → e.body ≡ body.Account a
+      → ((y : LedgerEntry) → x ≡ Some y → key_of y ≡ key.Account id) → x ≡ get old (key.Account id)
+          → Alike p q x (Some e)
       → Alike p' q' x (Some (record e { body = body.Account (f a) }))
   moved_entry None e a moves is own at h = absurd h
   moved_entry (Some x) e a moves is own at h = record {
     sponsor = h.sponsor;
-    bodies = moved_bodies x.body a moves (own x refl) (λ was holds. stands_in old id x was (sym at) holds) (subst (AlikeBodies p q x.body) is h.bodies);
+    bodies = moved_bodies x.body a moves (own x refl) (λ was holds. stands_in old id x was (sym at) holds)
+        (subst (AlikeBodies p q x.body) is h.bodies);
   }
 
   -- the changed account's key
-  new_key : (m : EntryMap) → ((a : AccountEntry) → KeepsParts a (f a)) → (c : IsChangedAt m id f) → key.Account (f c.account).account_id ≡ key.Account id
+  new_key : (m : EntryMap) → ((a : AccountEntry) → KeepsParts a (f a)) → (c : IsChangedAt m id f)
+      → key.Account (f c.account).account_id ≡ key.Account id
   new_key m keeps c = ap key.Account ((keeps c.account).id ∙ c.own_id)
 
   new_get : (m : EntryMap) → ((a : AccountEntry) → KeepsParts a (f a)) → (c : IsChangedAt m id f) (k : LedgerKey)
-      → get (with_account m id f) k ≡ cond (eq_by_cmp key_cmp k (key.Account id)) (Some (record c.entry { body = body.Account (f c.account) })) (get m k)
+      → get (with_account m id f) k ≡ cond (eq_by_cmp key_cmp k (key.Account id))
+          (Some (record c.entry { body = body.Account (f c.account) })) (get m k)
   new_get m keeps c k =
       let e' : LedgerEntry = record c.entry { body = body.Account (f c.account) } in
-      ap (λ n. get n k) c.is_put ∙ put_get m e' k ∙ ap (λ x. cond (eq_by_cmp key_cmp k x) (Some e') (get m k)) (new_key m keeps c)
+      ap (λ n. get n k) c.is_put ∙ put_get m e' k ∙ ap (λ x. cond (eq_by_cmp key_cmp k x) (Some e') (get m k))
+          (new_key m keeps c)
 
-  changed_total : (m : EntryMap) → ((a : AccountEntry) → KeepsParts a (f a)) → IsChangedAt m id f → (count : Count) (i : AccountId) → total count i (with_account m id f) ≡ total count i m
+  changed_total : (m : EntryMap) → ((a : AccountEntry) → KeepsParts a (f a)) → IsChangedAt m id f
+      → (count : Count) (i : AccountId) → total count i (with_account m id f) ≡ total count i m
   changed_total m keeps c count i =
       let e' : LedgerEntry = record c.entry { body = body.Account (f c.account) } in
       let sum = put_total m e' count i in
       let new : total count i (with_account m id f) ≡ total count i (put m e') = ap (total count i) c.is_put in
-      let before : part_of (counted_for count i) (get m (key_of e')) ≡ counted_for count i c.entry = ap (part_of (counted_for count i)) (ap (get m) (new_key m keeps c) ∙ c.there) in
-      let same : counted_for count i e' ≡ counted_for count i c.entry = counted-keeps count i c.entry c.account (f c.account) c.is (keeps c.account) in
+      let before : part_of (counted_for count i) (get m (key_of e')) ≡ counted_for count i c.entry =
+          ap (part_of (counted_for count i)) (ap (get m) (new_key m keeps c) ∙ c.there) in
+      let same : counted_for count i e' ≡ counted_for count i c.entry =
+          counted-keeps count i c.entry c.account (f c.account) c.is (keeps c.account) in
       omega arith
 
-  module _ (m : EntryMap) (own : AreOwn old) (h : IsShifted p q old m) (keeps : (a : AccountEntry) → KeepsParts a (f a)) (moves : Moves) (elsewhere : AgreeElsewhere) where
+  module _ (m : EntryMap) (own : AreOwn old) (h : IsShifted p q old m) (keeps : (a : AccountEntry)
+      → KeepsParts a (f a)) (moves : Moves) (elsewhere : AgreeElsewhere) where
     -- an account that stands in the old map, under its key, is still there
-    still_there : (k : LedgerKey) (e : LedgerEntry) (account : AccountEntry) → get old k ≡ Some e → account_in e.body ≡ Some account → account_at m account.account_id ≢ None
+    still_there : (k : LedgerKey) (e : LedgerEntry) (account : AccountEntry) → get old k ≡ Some e
+        → account_in e.body ≡ Some account → account_at m account.account_id ≢ None
     still_there k e account there is none =
         let at : k ≡ key.Account account.account_id = sym (own k e there) ∙ account_key e.body account is in
         let now = entry_after p q old m k e h there in
@@ -126,8 +231,10 @@ module _ (p q p' q' : Shift) (id : AccountId) (f : AccountEntry → AccountEntry
         cc
 
     missing : IsMissing m id f → IsShifted p' q' old (with_account m id f)
-    missing (none, is) = subst (IsShifted p' q' old) (sym is) (shifted_as p q p' q' old m (λ k e account there holds. elsewhere account.account_id
-        (apart_ids id account.account_id (λ same. still_there k e account there holds (ap (account_at m) (sym same) ∙ none)))) h)
+    missing (none, is) = subst (IsShifted p' q' old) (sym is)
+        (shifted_as p q p' q' old m (λ k e account there holds. elsewhere account.account_id
+        (apart_ids id account.account_id (λ same. still_there k e account there holds (ap (account_at m) (sym same)
+            ∙ none)))) h)
 
     changed : IsChangedAt m id f → IsShifted p' q' old (with_account m id f)
     changed c =
@@ -135,11 +242,15 @@ module _ (p q p' q' : Shift) (id : AccountId) (f : AccountEntry → AccountEntry
         record {
           own = subst AreOwn (sym c.is_put) (put_own m e' h.own);
           entries = λ k. subst (Alike p' q' (get old k)) (sym (new_get m keeps c k)) (
-              elim (eq_by_cmp key_cmp k (key.Account id)) as (λ b. eq_by_cmp key_cmp k (key.Account id) ≡ b → Alike p' q' (get old k) (cond b (Some e') (get m k))) [
+              elim (eq_by_cmp key_cmp k (key.Account id)) as (λ b. eq_by_cmp key_cmp k (key.Account id) ≡ b
+                  → Alike p' q' (get old k) (cond b (Some e') (get m k))) [
                 | true ↦ λ tied. let at = same_keys k (key.Account id) tied in
-                    moved_entry (get old k) c.entry c.account moves c.is (λ y there. own k y there ∙ at) (ap (get old) at) (subst (Alike p q (get old k)) (ap (get m) at ∙ c.there) (h.entries k))
-                | false ↦ λ apart. alike_agree p q p' q' (get old k) (get m k) (λ e account there holds. elsewhere account.account_id (apart_ids id account.account_id (λ same.
-                    let at : k ≡ key.Account id = sym (own k e there) ∙ account_key e.body account holds ∙ ap key.Account (sym same) in
+                    moved_entry (get old k) c.entry c.account moves c.is (λ y there. own k y there
+                        ∙ at) (ap (get old) at) (subst (Alike p q (get old k)) (ap (get m) at ∙ c.there) (h.entries k))
+                | false ↦ λ apart. alike_agree p q p' q' (get old k) (get m k)
+                    (λ e account there holds. elsewhere account.account_id (apart_ids id account.account_id (λ same.
+                    let at : k ≡ key.Account id = sym (own k e there) ∙ account_key e.body account holds
+                        ∙ ap key.Account (sym same) in
                     let tied = ap (λ x. eq_by_cmp key_cmp x (key.Account id)) at ∙ same_itself (key.Account id) in
                     cc))) (h.entries k)
               ] refl);
@@ -151,13 +262,15 @@ module _ (p q p' q' : Shift) (id : AccountId) (f : AccountEntry → AccountEntry
 
 -- ---- one count
 
-pub instead_plus : (count other : Count) (n m k : ℕ) → ((count ≡ other) → n ≡ m) → instead count other (n + k) m ≡ m + instead count other k 0
+pub instead_plus : (count other : Count) (n m k : ℕ) → ((count ≡ other) → n ≡ m)
+    → instead count other (n + k) m ≡ m + instead count other k 0
 instead_plus SubEntries SubEntries n m k same = ap (λ x. x + k) (same refl)
 instead_plus Sponsoring Sponsoring n m k same = ap (λ x. x + k) (same refl)
 instead_plus Sponsored Sponsored n m k same = ap (λ x. x + k) (same refl)
 instead_plus at other n m k same = omega arith
 
-instead_minus : (count other : Count) (n m k : ℕ) → ((count ≡ other) → n ≡ m) → k ≤ n → instead count other (n - k) m + instead count other k 0 ≡ m
+instead_minus : (count other : Count) (n m k : ℕ) → ((count ≡ other) → n ≡ m) → k ≤ n
+    → instead count other (n - k) m + instead count other k 0 ≡ m
 instead_minus SubEntries SubEntries n m k same le = let e = same refl in omega arith
 instead_minus Sponsoring Sponsoring n m k same le = let e = same refl in omega arith
 instead_minus Sponsored Sponsored n m k same le = let e = same refl in omega arith
@@ -169,34 +282,48 @@ instead_none Sponsoring Sponsoring = refl
 instead_none Sponsored Sponsored = refl
 instead_none at other = refl
 
-pub here : (count other : Count) (k : ℕ) (id i : AccountId) → i ≡ id → at_one count k id other i ≡ instead count other k 0
-here count other k id i same = ap (λ t. instead count other (if t then k else 0) 0) (ap (is_account id) same ∙ is_itself id)
+pub here : (count other : Count) (k : ℕ) (id i : AccountId) → i ≡ id
+    → at_one count k id other i ≡ instead count other k 0
+here count other k id i same = ap (λ t. instead count other (if t then k else 0) 0) (ap (is_account id) same
+    ∙ is_itself id)
 
-pub elsewhere_none : (count other : Count) (k : ℕ) (id i : AccountId) → is_account id i ≡ false → at_one count k id other i ≡ 0
-elsewhere_none count other k id i apart = ap (λ t. instead count other (if t then k else 0) 0) apart ∙ instead_none count other
+pub elsewhere_none : (count other : Count) (k : ℕ) (id i : AccountId) → is_account id i ≡ false
+    → at_one count k id other i ≡ 0
+elsewhere_none count other k id i apart = ap (λ t. instead count other (if t then k else 0) 0) apart
+    ∙ instead_none count other
 
-module _ (p q : Shift) (count : Count) (k : ℕ) (id : AccountId) (old m : EntryMap) (own : AreOwn old) (h : IsShifted p q old m) where
-  pub shifted_raise : IsShifted (plus p (at_one count k id)) q old (raise count k id m)
-  shifted_raise = shifted_change p q (plus p (at_one count k id)) q id (raised count k) old m own h (λ a. with_count-keeps count (count_in count a + k) a)
+module _ (p q : Shift) (count : Count) (k : ℕ) (id : AccountId) (old m : EntryMap) (own : AreOwn old)
+    (h : IsShifted p q old m) where
+  pub shifted_raise : IsShifted (plus p (at_one count k id)) q old (map_with_more count k id m)
+  shifted_raise = shifted_change p q (plus p (at_one count k id)) q id (with_more count k) old m own h
+      (λ a. with_count-keeps count (count_in count a + k) a)
       (λ was account stands same s. record {
-        parts = keeps_twice was account (raised count k account) s.parts (with_count-keeps count (count_in count account + k) account);
+        parts = keeps_twice was account (with_more count k account) s.parts
+            (with_count-keeps count (count_in count account + k) account);
         counts = λ other.
             let is = with_count-count count other (count_in count account + k) account in
-            let moved = instead_plus count other (count_in count account) (count_in other account) k (λ e. ap (λ c. count_in c account) e) in
+            let moved = instead_plus count other (count_in count account) (count_in other account) k
+                (λ e. ap (λ c. count_in c account) e) in
             let at = here count other k id was.account_id same in
             let before = s.counts other in
             omega arith;
       })
       (λ i apart other. let none = elsewhere_none count other k id i apart in (omega arith, refl))
 
-  pub shifted_lower : ((was : AccountEntry) → account_at old id ≡ Some was → q count id + k ≤ count_in count was + p count id) → IsShifted p (plus q (at_one count k id)) old (lower count k id m)
-  shifted_lower enough = shifted_change p q p (plus q (at_one count k id)) id (lowered count k) old m own h (λ a. with_count-keeps count (count_in count a - k) a)
+  pub shifted_lower : ((was : AccountEntry) → account_at old id ≡ Some was
+      → q count id + k ≤ count_in count was + p count id)
+          → IsShifted p (plus q (at_one count k id)) old (map_with_less count k id m)
+  shifted_lower enough = shifted_change p q p (plus q (at_one count k id)) id (with_less count k) old m own h
+      (λ a. with_count-keeps count (count_in count a - k) a)
       (λ was account stands same s. record {
-        parts = keeps_twice was account (lowered count k account) s.parts (with_count-keeps count (count_in count account - k) account);
+        parts = keeps_twice was account (with_less count k account) s.parts
+            (with_count-keeps count (count_in count account - k) account);
         counts = λ other.
             let is = with_count-count count other (count_in count account - k) account in
-            let le : k ≤ count_in count account = (let at_id = enough was stands in let mine = s.counts count in let q_at = ap (q count) same in let p_at = ap (p count) same in omega arith) in
-            let moved = instead_minus count other (count_in count account) (count_in other account) k (λ e. ap (λ c. count_in c account) e) le in
+            let le : k ≤ count_in count account = (let at_id = enough was stands in let mine = s.counts count in
+                let q_at = ap (q count) same in let p_at = ap (p count) same in omega arith) in
+            let moved = instead_minus count other (count_in count account) (count_in other account) k
+                (λ e. ap (λ c. count_in c account) e) le in
             let at = here count other k id was.account_id same in
             let before = s.counts other in
             omega arith;

@@ -1,5 +1,6 @@
 -- A map whose counts moved, after an account's signers are edited so that each count is its sum again.
-use Rattle.std.proofs.Common.{◌≡◌, inl, inr, refl, sym, ap, subst, ◌∙◌, ℕ, ◌+◌, ◌≤◌, Bool, true, false, cond, List, length, Option, Some, Contains, slice_index_or, arith}
+use Rattle.std.proofs.Common.{◌≡◌, inl, inr, refl, sym, ap, subst, ◌∙◌, ℕ, ◌+◌, ◌≤◌, Bool, true, false, cond, List}
+use Rattle.std.proofs.Common.{length, Option, Some, Contains, slice_index_or, arith}
 use Rattle.std.specs.Prelude.{if◌then◌else◌}
 use Rattle.std.specs.List.{sum_by, count_by}
 use Rattle.std.specs.FinMap.{get}
@@ -13,13 +14,15 @@ use Rattle.ledger_types.specs.Keys.{key_of, key_of_body}
 use Rattle.entry_map.specs.EntryMap.{EntryMap, put}
 use Rattle.sponsor_rules.specs.declared.count.Count.{Count}
 use Rattle.sponsor_rules.specs.declared.count.Count.TheVariants.{SubEntries, Sponsoring, Sponsored}
-use Rattle.sponsor_rules.specs.Accounts.{account_in, with_account, Stands}
-use Rattle.sponsor_rules.specs.Counts.{count_in, multiplicity, owner_of}
-use Rattle.sponsor_rules.specs.Entries.{sponsor_of}
+use Rattle.entry_slots.specs.Accounts.{account_in, with_account, HasAccount}
+use Rattle.entry_slots.specs.EntrySponsor.{sponsor_of}
+use Rattle.sponsor_rules.specs.Charge.{multiplicity, owner_of}
+use Rattle.sponsor_rules.specs.Counting.{count_in}
 use Rattle.sponsor_rules.specs.Payers.{is_account}
 use Rattle.sponsor_laws.specs.Sums.{HasItems, is_this, is_there, signer_sponsors, total, counted_for}
 use Rattle.sponsor_laws.proofs.Totals.{part_of}
-use Rattle.sponsor_laws.proofs.Accounts.{share, own_part, counted_split, is_itself, has_items}
+use Rattle.sponsor_rules.proofs.Ids.{is_itself}
+use Rattle.sponsor_laws.proofs.Accounts.{share, own_part, counted_split, has_items}
 use Rattle.sponsor_laws.proofs.Even.{IsEven, count_none, stands_or_not, not_this}
 use Rattle.sponsor_laws.proofs.Shifts.{Shift, at_one, IsShifted, IsShiftedAccount, AlikeBodies, entry_after}
 use Rattle.sponsor_laws.proofs.Changes.{IsChangedAt, changed_at}
@@ -30,13 +33,17 @@ pub record IsEdited (p q : Shift) (old : EntryMap) (a c : AccountEntry) : Type 0
   pub id : c.account_id ≡ a.account_id
   pub counts : (count : Count) → count_in count c + q count a.account_id ≡ count_in count a + p count a.account_id
   pub items : length (signer_sponsors c) ≡ length c.signers
-  pub parts : (count : Count) (i : AccountId) → p count i + own_part count i (body.Account a) ≡ q count i + own_part count i (body.Account c)
-  pub names : (i : AccountId) → Contains (signer_sponsors c) (Some i) → Stands old i
+  pub parts : (count : Count) (i : AccountId) → p count i + own_part count i (body.Account a)
+      ≡ q count i + own_part count i (body.Account c)
+  pub names : (i : AccountId) → Contains (signer_sponsors c) (Some i) → HasAccount old i
 
-module _ (p q : Shift) (id : AccountId) (f : AccountEntry → AccountEntry) (old m : EntryMap) (h : IsEven old) (s : IsShifted p q old m) (e : LedgerEntry) (a : AccountEntry)
-    (there : get old (key.Account id) ≡ Some e) (is : e.body ≡ body.Account a) (edits : (b : AccountEntry) → IsShiftedAccount p q a b → IsEdited p q old a (f b))
+module _ (p q : Shift) (id : AccountId) (f : AccountEntry → AccountEntry) (old m : EntryMap) (h : IsEven old)
+    (s : IsShifted p q old m) (e : LedgerEntry) (a : AccountEntry)
+    (there : get old (key.Account id) ≡ Some e) (is : e.body ≡ body.Account a) (edits : (b : AccountEntry)
+        → IsShiftedAccount p q a b → IsEdited p q old a (f b))
     (few : (i : AccountId) → total SubEntries i old + p SubEntries i ≤ 1000 + q SubEntries i)
-    (fits : (i : AccountId) → total SubEntries i old + total Sponsoring i old + (p SubEntries i + p Sponsoring i) ≤ 4294967295 + (q SubEntries i + q Sponsoring i)) where
+    (fits : (i : AccountId) → total SubEntries i old + total Sponsoring i old +
+        (p SubEntries i + p Sponsoring i) ≤ 4294967295 + (q SubEntries i + q Sponsoring i)) where
   own_id : a.account_id ≡ id
   own_id = let same : key.Account a.account_id ≡ key.Account id = sym (ap key_of_body is) ∙ h.own _ e there in cc
 
@@ -49,7 +56,8 @@ module _ (p q : Shift) (id : AccountId) (f : AccountEntry → AccountEntry) (old
 
     shifted_account : IsShiftedAccount p q a x.account
     shifted_account = let now = entry_after p q old m (key.Account id) e s there in
-        subst (λ b. AlikeBodies p q b (body.Account x.account)) is (subst (AlikeBodies p q e.body) (ap (λ y. y.body) now_same ∙ x.is) now.2.bodies)
+        subst (λ b. AlikeBodies p q b (body.Account x.account)) is
+            (subst (AlikeBodies p q e.body) (ap (λ y. y.body) now_same ∙ x.is) now.2.bodies)
 
     edited_put : IsEven (put m (record x.entry { body = body.Account (f x.account) }))
     edited_put =
@@ -59,26 +67,34 @@ module _ (p q : Shift) (id : AccountId) (f : AccountEntry → AccountEntry) (old
         let its_key : key_of e' ≡ key.Account id = ap key.Account (edit.id ∙ own_id) in
         placed p q old m e' h s (record {
           balanced = λ count i.
-              let part : part_of (counted_for count i) (get old (key_of e')) ≡ counted_for count i e = ap (part_of (counted_for count i)) (ap (get old) its_key ∙ there) in
+              let part : part_of (counted_for count i) (get old (key_of e')) ≡ counted_for count i e =
+                  ap (part_of (counted_for count i)) (ap (get old) its_key ∙ there) in
               let before = counted_split count i e in
               let after = counted_split count i e' in
               let own : own_part count i e.body ≡ own_part count i (body.Account a) = ap (own_part count i) is in
-              let pays : share count i 2 (Some c.account_id) (sponsor_of x.entry) ≡ share count i (multiplicity e.body) (owner_of e.body) (sponsor_of e) =
-              (λ j. share count i 2 (Some (edit.id j)) (same_sponsor j)) ∙ sym (ap (λ b. share count i (multiplicity b) (owner_of b) (sponsor_of e)) is) in
+              let pays : share count i 2 (Some c.account_id) (sponsor_of x.entry)
+                  ≡ share count i (multiplicity e.body) (owner_of e.body) (sponsor_of e) =
+              (λ j. share count i 2 (Some (edit.id j)) (same_sponsor j))
+                  ∙ sym (ap (λ b. share count i (multiplicity b) (owner_of b) (sponsor_of e)) is) in
               let moved = edit.parts count i in
               omega arith;
           sums = λ account count holds.
               let same : c ≡ account = cc in
-              subst (λ (y : AccountEntry). count_in count y + q count y.account_id ≡ total count y.account_id old + p count y.account_id) same (
+              subst (λ (y : AccountEntry). count_in count y + q count y.account_id
+                  ≡ total count y.account_id old + p count y.account_id) same (
               let sum = h.sums (key.Account id) e a count there (ap account_in is) in
               let moved = edit.counts count in
               subst (λ i. count_in count c + q count i ≡ total count i old + p count i) (sym edit.id) (omega arith));
           items = λ account holds. let same : c ≡ account = cc in subst HasItems same (has_items c edit.items);
           names = λ i names. elim names [
-            | inl owns ↦ let same : c.account_id ≡ i = cc in subst (Stands (put m e')) same (stands_placed m e' c refl)
-            | inr (inl pays) ↦ stands_put m e' i (stands_after p q old m i s (h.names (key.Account id) e i there (inr (inl (sym same_sponsor ∙ pays)))))
+            | inl owns ↦ let same : c.account_id ≡ i = cc in
+                subst (HasAccount (put m e')) same (stands_placed m e' c refl)
+            | inr (inl pays) ↦ stands_put m e' i (stands_after p q old m i s
+                (h.names (key.Account id) e i there (inr (inl (sym same_sponsor ∙ pays)))))
             | inr (inr n) ↦ let same : c ≡ n.account = (let holds = n.is in cc) in
-                stands_put m e' i (stands_after p q old m i s (edit.names i (subst (λ (y : AccountEntry). Contains (signer_sponsors y) (Some i)) (sym same) n.sponsor)))
+                stands_put m e' i (stands_after p q old m i s
+                    (edit.names i (subst (λ (y : AccountEntry). Contains (signer_sponsors y) (Some i))
+                        (sym same) n.sponsor)))
           ];
           few = few;
           fits = fits;
@@ -87,7 +103,8 @@ module _ (p q : Shift) (id : AccountId) (f : AccountEntry → AccountEntry) (old
   pub edited : IsEven (with_account m id f)
   edited = elim (changed_at m id f s.own) [
     | inl missing ↦ absurd (
-        let stands = stands_after p q old m id s (h.names (key.Account id) e id there (inl (ap owner_of is ∙ ap Some own_id))) in
+        let stands = stands_after p q old m id s (h.names (key.Account id) e id there (inl (ap owner_of is
+            ∙ ap Some own_id))) in
         let found = stands.1 in let none = missing.0 in cc)
     | inr x ↦ subst IsEven (sym x.is_put) (edited_put x)
   ]
@@ -97,13 +114,16 @@ module _ (p q : Shift) (id : AccountId) (f : AccountEntry → AccountEntry) (old
 pub counted_once : (xs : List (Option AccountId)) (i : AccountId) → Contains xs (Some i) → 1 ≤ count_by (is_this i) xs
 counted_once xs i has =
     let le = get_or-le-sum_by (λ (o : Option AccountId). cond (is_this i o) 1 0) xs has.0 (Some i) has.1 in
-    let one : ◌≡◌ {A = ℕ} (cond (is_this i (slice_index_or xs has.0 (Some i))) 1 0) 1 = ap (λ o. cond (is_this i o) 1 0) has.2 ∙ ap (λ t. cond t 1 0) (is_itself i) in
+    let one : ◌≡◌ {A = ℕ} (cond (is_this i (slice_index_or xs has.0 (Some i))) 1 0) 1 =
+        ap (λ o. cond (is_this i o) 1 0) has.2 ∙ ap (λ t. cond t 1 0) (is_itself i) in
     omega arith
 
 -- where a list has one sponsor more at most, who is named in it stands
-pub named_stands : (old : EntryMap) (xs more : List (Option AccountId)) (s : Option AccountId) (i : AccountId) → count_by (is_this i) more ≤ count_by (is_this i) xs + cond (is_this i s) 1 0
-    → (s ≡ Some i → Stands old i) → (Contains xs (Some i) → Stands old i) → Contains more (Some i) → Stands old i
-named_stands old xs more s i le new before has = stands_or_not (Stands old i) old i (λ stands. stands) (λ apart.
+pub named_stands : (old : EntryMap) (xs more : List (Option AccountId)) (s : Option AccountId) (i : AccountId)
+    → count_by (is_this i) more ≤ count_by (is_this i) xs + cond (is_this i s) 1 0
+    → (s ≡ Some i → HasAccount old i) → (Contains xs (Some i) → HasAccount old i) → Contains more (Some i)
+        → HasAccount old i
+named_stands old xs more s i le new before has = stands_or_not (HasAccount old i) old i (λ stands. stands) (λ apart.
     let once = counted_once more i has in
     let none = count_none i xs (λ there. apart (before there)) in
     let other : ◌≡◌ {A = ℕ} (cond (is_this i s) 1 0) 0 = ap (λ t. cond t 1 0) (not_this i s (λ is. apart (new is))) in
@@ -117,7 +137,8 @@ signed SubEntries i id n xs = if is_account id i then n else 0
 signed Sponsoring i id n xs = count_by (is_this i) xs
 signed Sponsored i id n xs = if is_account id i then count_by is_there xs else 0
 
-pub own_signed : (count : Count) (i : AccountId) (a : AccountEntry) → own_part count i (body.Account a) ≡ signed count i a.account_id (length a.signers) (signer_sponsors a)
+pub own_signed : (count : Count) (i : AccountId) (a : AccountEntry)
+    → own_part count i (body.Account a) ≡ signed count i a.account_id (length a.signers) (signer_sponsors a)
 own_signed SubEntries i a = refl
 own_signed Sponsoring i a = refl
 own_signed Sponsored i a = refl
@@ -133,23 +154,30 @@ turned false true k = refl
 turned false false k = refl
 
 -- one signer more, whose sponsor is s
-pub signed_more : (count : Count) (i id : AccountId) (n m : ℕ) (xs more : List (Option AccountId)) (s : Option AccountId) → m ≡ n + 1
-    → ((f : Option AccountId → ℕ) → sum_by f more ≡ sum_by f xs + f s) → signed count i id m more ≡ signed count i id n xs + (at_one SubEntries 1 id count i + share count i 1 (Some id) s)
+pub signed_more : (count : Count) (i id : AccountId) (n m : ℕ) (xs more : List (Option AccountId))
+    (s : Option AccountId) → m ≡ n + 1
+    → ((f : Option AccountId → ℕ) → sum_by f more ≡ sum_by f xs + f s)
+        → signed count i id m more ≡ signed count i id n xs +
+            (at_one SubEntries 1 id count i + share count i 1 (Some id) s)
 signed_more SubEntries i id n m xs more s one sums = let is = one_more_if (is_account id i) n m 1 one in omega arith
 signed_more Sponsoring i id n m xs more s one sums = let is = sums (λ o. cond (is_this i o) 1 0) in omega arith
 signed_more Sponsored i id n m xs more s one sums =
-    let is = one_more_if (is_account id i) (count_by is_there xs) (count_by is_there more) (cond (is_there s) 1 0) (sums (λ o. cond (is_there o) 1 0)) in
+    let is = one_more_if (is_account id i) (count_by is_there xs) (count_by is_there more) (cond (is_there s) 1 0)
+        (sums (λ o. cond (is_there o) 1 0)) in
     let other = turned (is_account id i) (is_there s) 1 in
     omega arith
 
 -- a signer that had the sponsor s has the sponsor t
-pub signed_other : (count : Count) (i id : AccountId) (n : ℕ) (xs more : List (Option AccountId)) (s t : Option AccountId) → ((f : Option AccountId → ℕ) → sum_by f more + f s ≡ sum_by f xs + f t)
+pub signed_other : (count : Count) (i id : AccountId) (n : ℕ) (xs more : List (Option AccountId))
+    (s t : Option AccountId) → ((f : Option AccountId → ℕ) → sum_by f more + f s ≡ sum_by f xs + f t)
     → signed count i id n more + share count i 1 (Some id) s ≡ signed count i id n xs + share count i 1 (Some id) t
 signed_other SubEntries i id n xs more s t sums = refl
 signed_other Sponsoring i id n xs more s t sums = sums (λ o. cond (is_this i o) 1 0)
 signed_other Sponsored i id n xs more s t sums =
-    let old = one_more_if (is_account id i) (count_by is_there more) (count_by is_there more + cond (is_there s) 1 0) (cond (is_there s) 1 0) refl in
-    let new = one_more_if (is_account id i) (count_by is_there xs) (count_by is_there more + cond (is_there s) 1 0) (cond (is_there t) 1 0) (sums (λ o. cond (is_there o) 1 0)) in
+    let old = one_more_if (is_account id i) (count_by is_there more) (count_by is_there more + cond (is_there s) 1 0)
+        (cond (is_there s) 1 0) refl in
+    let new = one_more_if (is_account id i) (count_by is_there xs) (count_by is_there more + cond (is_there s) 1 0)
+        (cond (is_there t) 1 0) (sums (λ o. cond (is_there o) 1 0)) in
     let first = turned (is_account id i) (is_there s) 1 in
     let second = turned (is_account id i) (is_there t) 1 in
     omega arith

@@ -1,5 +1,6 @@
 -- Moving a signer to another payer keeps counts equal to their sums.
-use Rattle.std.proofs.Common.{◌≡◌, ◌≢◌, refl, sym, ap, subst, ◌∙◌, ℕ, ◌+◌, ◌<◌, ◌≤◌, cond, length, Option, Some, None, Ok, slice_set, arith}
+use Rattle.std.proofs.Common.{◌≡◌, ◌≢◌, inl, inr, refl, sym, ap, subst, ◌∙◌, ℕ, ◌+◌, ◌<◌, ◌≤◌, cond, length, Option}
+use Rattle.std.proofs.Common.{Some, None, Ok, slice_set, arith}
 use Rattle.std.proofs.lemmas.List.{length-set}
 use Rattle.ledger_types.specs.declared.ids.AccountId.{AccountId}
 use Rattle.ledger_types.specs.declared.signer.SignerKey.{SignerKey}
@@ -7,24 +8,40 @@ use Rattle.ledger_types.specs.declared.account.AccountEntry.{AccountEntry}
 use Rattle.ledger_types.specs.declared.key.LedgerKey.TheVariants as key
 use Rattle.entry_map.specs.EntryMap.{EntryMap}
 use Rattle.sponsor_rules.specs.declared.context.Ctx.{Ctx}
-use Rattle.sponsor_rules.specs.declared.count.Count.TheVariants.{Sponsored}
-use Rattle.sponsor_rules.specs.Accounts.{account_at, with_account, Stands}
-use Rattle.sponsor_rules.specs.Counts.{count_in, sponsor_paying, sponsor_released}
+use Rattle.sponsor_rules.specs.declared.count.Count.TheVariants.{Sponsoring, Sponsored}
+use Rattle.entry_slots.specs.Accounts.{account_at, with_account, HasAccount}
+use Rattle.entry_slots.specs.AccountExtensions.{signer_sponsor}
+use Rattle.sponsor_rules.specs.Counting.{count_in, with_less}
+use Rattle.entry_slots.specs.Tests.{unless_first}
+use Rattle.sponsor_rules.specs.Paying.{map_after_releasing, map_after_exchange, with_other_payer}
 use Rattle.sponsor_rules.specs.Payers.{other_than, move_tests}
-use Rattle.sponsor_rules.specs.Signers.{found_at, place_of, signer_sponsor, with_signer_sponsor, signer_in, moving_found, moved_signer}
+use Rattle.sponsor_rules.specs.Moving.{map_with_other_payer}
+use Rattle.sponsor_rules.specs.SignerPlace.{found_at, place_of, with_signer_sponsor, found_signer}
+use Rattle.sponsor_rules.specs.Signers.{map_after_moving_found, map_after_moving_signer_between, with_moved_signer}
 use Rattle.sponsor_laws.specs.Sums.{is_this, is_there, signer_sponsors}
 use Rattle.sponsor_laws.specs.Laws.{PayerStands, MovingSignerKeeps}
-use Rattle.sponsor_laws.proofs.Even.{IsEven, even, kept_of, all_few}
-use Rattle.sponsor_laws.proofs.Shifts.{Shift, plus, no_shift, IsShiftedAccount, unshifted}
-use Rattle.sponsor_laws.proofs.Paying.{shared, shifted_paying, shifted_released}
+use Rattle.sponsor_laws.proofs.Even.{AreOwn, IsEven, even, kept_of, all_few}
+use Rattle.sponsor_laws.proofs.Shifts.{Shift, plus, no_shift, IsShifted, IsShiftedAccount, unshifted}
+use Rattle.sponsor_laws.proofs.Changes.{more_keeps, less_keeps, twice, shifted_raise}
+use Rattle.sponsor_laws.proofs.Paying.{AreNone, HasEnough, shared, shifted_payer, shifted_payers}
 use Rattle.sponsor_laws.proofs.Parts.{in_total}
 use Rattle.sponsor_laws.proofs.Bounds.{done_by, pays_more, HasRoom}
 use Rattle.sponsor_laws.proofs.Moving.{other_is, room_of}
 use Rattle.sponsor_laws.proofs.Edits.{IsEdited, edited, named_stands, signed, signed_other}
-use Rattle.sponsor_laws.proofs.SignerLists.{counts_edited, sponsors_set}
-use Rattle.sponsor_laws.proofs.SignedAccounts.{there_is, IsHeld, held_by, own_id, as_many_sponsors, signer_stands, own_sum, own_of, own_share, sum-with, counts_sponsored, sponsor_enough, place_within_signers}
+use Rattle.sponsor_rules.proofs.Keeping.{counts_edited}
+use Rattle.sponsor_laws.proofs.SignerLists.{sponsors_set}
+use Rattle.sponsor_laws.proofs.SignedAccounts.{there_is, IsHeld, held_by, own_id, as_many_sponsors, signer_stands}
+use Rattle.sponsor_laws.proofs.SignedAccounts.{own_sum, own_of, own_share, sum-with, counts_sponsored, sponsor_enough}
+use Rattle.sponsor_laws.proofs.SignedAccounts.{place_within_signers}
 
-module _ (old : EntryMap) (h : IsEven old) (id : AccountId) (a : AccountEntry) (held : IsHeld old id a) (place : ℕ) (within : place < length a.signers) where
+with_other_payer_id : (s t : Option AccountId) (b : AccountEntry) → (with_other_payer 1 s t b).account_id ≡ b.account_id
+with_other_payer_id None None b = refl
+with_other_payer_id None (Some t) b = more_keeps Sponsored 1 b
+with_other_payer_id (Some s) None b = less_keeps Sponsored 1 b
+with_other_payer_id (Some s) (Some t) b = more_keeps Sponsored 1 (with_less Sponsored 1 b) ∙ less_keeps Sponsored 1 b
+
+module _ (old : EntryMap) (h : IsEven old) (id : AccountId) (a : AccountEntry) (held : IsHeld old id a) (place : ℕ)
+    (within : place < length a.signers) where
   own : a.account_id ≡ id
   own = own_id old h id a held
 
@@ -36,7 +53,8 @@ module _ (old : EntryMap) (h : IsEven old) (id : AccountId) (a : AccountEntry) (
   goes = plus no_shift (shared 1 (Some id) (signer_sponsor a place))
 
   -- an account has the extension, once something is paid for it
-  paid_for : (t : Option AccountId) (b : AccountEntry) → IsShiftedAccount (comes t) goes a b → t ≢ None → 1 ≤ count_in Sponsored b
+  paid_for : (t : Option AccountId) (b : AccountEntry) → IsShiftedAccount (comes t) goes a b → t ≢ None
+      → 1 ≤ count_in Sponsored b
   paid_for t b shifted some =
       let moved = shifted.counts Sponsored in
       let one : ◌≡◌ {A = ℕ} (cond (is_there t) 1 0) 1 = ap (λ x. cond x 1 0) (there_is t some) in
@@ -47,54 +65,103 @@ module _ (old : EntryMap) (h : IsEven old) (id : AccountId) (a : AccountEntry) (
       let part = counts_sponsored old h id a held place within in
       omega arith
 
-  with_sponsor_edits : (t : Option AccountId) → ((x : AccountId) → t ≡ Some x → Stands old x) → (b : AccountEntry) → IsShiftedAccount (comes t) goes a b
+  with_sponsor_edits : (t : Option AccountId) → ((x : AccountId) → t ≡ Some x → HasAccount old x) → (b : AccountEntry)
+      → IsShiftedAccount (comes t) goes a b
       → IsEdited (comes t) goes old a (with_signer_sponsor place t b)
   with_sponsor_edits t payer b shifted =
       let c = with_signer_sponsor place t b in
-      let sponsors : signer_sponsors c ≡ slice_set (signer_sponsors a) place t = sponsors_set place t b (paid_for t b shifted) ∙ ap (λ xs. slice_set xs place t) shifted.parts.sponsors in
+      let sponsors : signer_sponsors c ≡ slice_set (signer_sponsors a) place t =
+          sponsors_set place t b (paid_for t b shifted) ∙ ap (λ xs. slice_set xs place t) shifted.parts.sponsors in
       let same_length : length c.signers ≡ length a.signers = ap length shifted.parts.signers in
       let sums = sum-with old h id a held place within (signer_sponsors c) t sponsors in
       record {
         id = shifted.parts.id;
-        counts = λ count. ap (λ n. n + goes count a.account_id) (counts_edited (λ xs. slice_set xs place t) count b b.signers) ∙ shifted.counts count;
-        items = ap length sponsors ∙ length-set (signer_sponsors a) place t ∙ as_many_sponsors old h id a held ∙ sym same_length;
+        counts = λ count. ap (λ n. n + goes count a.account_id)
+            (counts_edited (λ xs. slice_set xs place t) count b b.signers) ∙ shifted.counts count;
+        items = ap length sponsors ∙ length-set (signer_sponsors a) place t ∙ as_many_sponsors old h id a held
+            ∙ sym same_length;
         parts = λ count i.
             let before = own_of old h id a held count i a own in
             let after = own_of old h id a held count i c (shifted.parts.id ∙ own) in
-            let as_long : signed count i id (length c.signers) (signer_sponsors c) ≡ signed count i id (length a.signers) (signer_sponsors c) = ap (λ n. signed count i id n (signer_sponsors c)) same_length in
-            let other = signed_other count i id (length a.signers) (signer_sponsors a) (signer_sponsors c) (signer_sponsor a place) t sums in
+            let as_long : signed count i id (length c.signers) (signer_sponsors c)
+                ≡ signed count i id (length a.signers) (signer_sponsors c) =
+                    ap (λ n. signed count i id n (signer_sponsors c)) same_length in
+            let other = signed_other count i id (length a.signers) (signer_sponsors a) (signer_sponsors c)
+                (signer_sponsor a place) t sums in
             omega arith;
-        names = λ i. named_stands old (signer_sponsors a) (signer_sponsors c) t i (let sum = sums (λ o. cond (is_this i o) 1 0) in omega arith) (payer i) (signer_stands old h id a held i);
+        names = λ i. named_stands old (signer_sponsors a) (signer_sponsors c) t i (let sum =
+            sums (λ o. cond (is_this i o) 1 0) in omega arith) (payer i) (signer_stands old h id a held i);
       }
 
-  moved_between : (t : Option AccountId) → ((x : AccountId) → t ≡ Some x → Stands old x) → ((x : AccountId) → t ≡ Some x → HasRoom old x 1)
-      → IsEven (with_account (sponsor_paying 1 id t (sponsor_released 1 id (signer_sponsor a place) old)) id (with_signer_sponsor place t))
-  moved_between t payer room =
+  -- what is moved has enough to let go of
+  enough_of : (x : AccountId) → signer_sponsor a place ≡ Some x
+      → HasEnough no_shift no_shift Sponsored 1 id old × HasEnough no_shift no_shift Sponsoring 1 x old
+  enough_of = sponsor_enough old h id a held place within no_shift refl (λ i. refl)
+
+  exchange_own : (s t : Option AccountId) → ((x : AccountId) → s ≡ Some x
+      → HasEnough no_shift no_shift Sponsoring 1 x old) → AreOwn (map_after_exchange 1 s t old)
+  exchange_own s None enough = (shifted_payer no_shift no_shift 1 old old h.own (unshifted old h.own) s enough).own
+  exchange_own s (Some t) enough =
+      let released = shifted_payer no_shift no_shift 1 old old h.own (unshifted old h.own) s enough in
+      (shifted_raise no_shift (plus no_shift (shared 1 None s)) Sponsoring 1 t old
+          (map_after_releasing 1 s old) h.own released).own
+
+  moved_between : (t : Option AccountId) → ((x : AccountId) → t ≡ Some x → HasAccount old x)
+      → ((x : AccountId) → t ≡ Some x → HasRoom old x 1)
+      → IsShifted (comes t) goes old (map_with_other_payer id 1 (signer_sponsor a place) t old)
+      → IsEven (with_account (map_after_exchange 1 (signer_sponsor a place) t old) id
+          (with_moved_signer place (signer_sponsor a place) t))
+  moved_between t payer room second =
       let s = signer_sponsor a place in
-      let first = shifted_released no_shift no_shift 1 old old h.own (unshifted old h.own) id s (sponsor_enough old h id a held place within no_shift refl (λ i. refl)) in
-      let second = shifted_paying no_shift goes 1 old (sponsor_released 1 id s old) h.own first id t in
-      edited (comes t) goes id (with_signer_sponsor place t) old (sponsor_paying 1 id t (sponsor_released 1 id s old)) h second held.entry a held.there held.is (with_sponsor_edits t payer)
+      let once = twice (map_after_exchange 1 s t old) id (with_other_payer 1 s t) (with_signer_sponsor place t)
+          (exchange_own s t (λ x pays. (enough_of x pays).1)) (with_other_payer_id s t) (λ b. refl) in
+      subst IsEven once (edited (comes t) goes id (with_signer_sponsor place t) old
+          (map_with_other_payer id 1 s t old) h second held.entry a held.there held.is (with_sponsor_edits t payer)
       (λ i. let le = all_few old i h in omega arith)
-      (λ i. let le = pays_more old i t 1 h room in omega arith)
+      (λ i. let le = pays_more old i t 1 h room in omega arith))
 
-  signer_moved : (s t : Option AccountId) → signer_sponsor a place ≡ s → ((x : AccountId) → t ≡ Some x → Stands old x) → ((x : AccountId) → t ≡ Some x → HasRoom old x 1) → IsEven (moved_signer id place s t old)
-  signer_moved None None same payer room = h
-  signer_moved s t same payer room = subst (λ x. IsEven (with_account (sponsor_paying 1 id t (sponsor_released 1 id x old)) id (with_signer_sponsor place t))) same (moved_between t payer room)
+  none_done : (ctx : Ctx) (s t : Option AccountId) (new : EntryMap) → s ≡ None → t ≡ None
+      → map_after_moving_signer_between ctx id place s t old ≡ Ok new → old ≡ new
+  none_done ctx None None new was none done = cc
+  none_done ctx None (Some t) new was none done = absurd (cc)
+  none_done ctx (Some x) t new was none done = absurd (cc)
 
-module _ (old : EntryMap) (h : IsEven old) (id : AccountId) (key : SignerKey) (ctx : Ctx) (payer : Option AccountId) (new : EntryMap) (payer_stands : PayerStands payer old) where
-  moved_at : (a : AccountEntry) (o : Option ℕ) → account_at old id ≡ Some a → place_of key a.signers ≡ o → moving_found ctx id payer old (found_at a o) ≡ Ok new → IsEven new
+  between_done : (ctx : Ctx) (s t : Option AccountId) (new : EntryMap) → (AreNone s t → ⊥)
+      → map_after_moving_signer_between ctx id place s t old ≡ Ok new
+      → unless_first (move_tests ctx old id t 1) (with_account (map_after_exchange 1 s t old) id
+          (with_moved_signer place s t)) ≡ Ok new
+  between_done ctx None None new some done = absurd (some (refl, refl))
+  between_done ctx s t new some done = done
+
+  signer_moved : (ctx : Ctx) (t : Option AccountId) (new : EntryMap) → ((x : AccountId) → t ≡ Some x → HasAccount old x)
+      → map_after_moving_signer_between ctx id place (signer_sponsor a place) t old ≡ Ok new → IsEven new
+  signer_moved ctx t new payer done =
+      let s = signer_sponsor a place in
+      let after = with_account (map_after_exchange 1 s t old) id (with_moved_signer place s t) in
+      elim (shifted_payers no_shift no_shift 1 old old h.own (unshifted old h.own) id s t enough_of) [
+        | inl none ↦ subst IsEven (none_done ctx s t new none.0 none.1 done) h
+        | inr some ↦
+            let tested = between_done ctx s t new some.0 done in
+            subst IsEven (done_by (move_tests ctx old id t 1) after new tested)
+                (moved_between t payer (room_of old h ctx id t 1 after new payer tested) some.1)
+      ]
+
+module _ (old : EntryMap) (h : IsEven old) (id : AccountId) (key : SignerKey) (ctx : Ctx) (payer : Option AccountId)
+    (new : EntryMap) (payer_stands : PayerStands payer old) where
+  moved_at : (a : AccountEntry) (o : Option ℕ) → account_at old id ≡ Some a → place_of key a.signers ≡ o
+      → map_after_moving_found ctx id payer old (found_at a o) ≡ Ok new → IsEven new
   moved_at a None stands found done = subst IsEven (cc) h
   moved_at a (Some place) stands found done =
-      let s = signer_sponsor a place in
       let t = other_than id payer in
-      let after = moved_signer id place s t old in
-      let payer_is = λ (x : AccountId) (is : t ≡ Some x). payer_stands x (other_is id payer x is) in
       let within = place_within_signers key a.signers place found in
-      subst IsEven (done_by (move_tests ctx old id t 1) after new done) (signer_moved old h id a (held_by old id a stands) place within s t refl payer_is (room_of old h ctx id t 1 after new payer_is done))
+      signer_moved old h id a (held_by old id a stands) place within ctx t new
+          (λ x is. payer_stands x (other_is id payer x is)) done
 
-  moved_from : (o : Option AccountEntry) → account_at old id ≡ o → moving_found ctx id payer old (signer_in key o) ≡ Ok new → IsEven new
+  moved_from : (o : Option AccountEntry) → account_at old id ≡ o
+      → map_after_moving_found ctx id payer old (found_signer key o) ≡ Ok new → IsEven new
   moved_from None stands done = subst IsEven (cc) h
   moved_from (Some a) stands done = moved_at a (place_of key a.signers) stands refl done
 
 pub moving_signer_keeps : MovingSignerKeeps
-moving_signer_keeps ctx id key payer old new kept payer_stands done = kept_of new (moved_from old (even old kept) id key ctx payer new payer_stands (account_at old id) refl done)
+moving_signer_keeps ctx id key payer old new kept payer_stands done =
+    kept_of new (moved_from old (even old kept) id key ctx payer new payer_stands (account_at old id) refl done)

@@ -1,5 +1,6 @@
 -- Removing an entry keeps counts equal to their sums.
-use Rattle.std.proofs.Common.{◌≡◌, ◌≢◌, inl, inr, refl, sym, ap, subst, ◌∙◌, ℕ, ◌≤◌, false, [], length, Some, None, arith}
+use Rattle.std.proofs.Common.{◌≡◌, ◌≢◌, inl, inr, refl, sym, ap, subst, ◌∙◌, ℕ, ◌≤◌, false, [], length, Some, None}
+use Rattle.std.proofs.Common.{arith}
 use Rattle.std.specs.Prelude.{if◌then◌else◌}
 use Rattle.std.specs.FinMap.{get}
 use Rattle.ledger_types.specs.declared.ids.AccountId.{AccountId}
@@ -14,68 +15,92 @@ use Rattle.ledger_types.specs.declared.key.LedgerKey.TheVariants as key
 use Rattle.ledger_types.specs.Keys.{key_of, key_of_body}
 use Rattle.entry_map.specs.EntryMap.{EntryMap, erase}
 use Rattle.sponsor_rules.specs.declared.count.Count.TheVariants.{SubEntries, Sponsoring, Sponsored}
-use Rattle.sponsor_rules.specs.Accounts.{account_in, Stands}
-use Rattle.sponsor_rules.specs.Counts.{line_multiplicity, multiplicity, owner_of, lower, subentry_released, payer_released}
-use Rattle.sponsor_rules.specs.Entries.{sponsor_of, released, removing_entry}
+use Rattle.entry_slots.specs.Accounts.{account_in, HasAccount}
+use Rattle.entry_slots.specs.EntrySponsor.{sponsor_of}
+use Rattle.sponsor_rules.specs.Charge.{charge_of, line_multiplicity, multiplicity, owner_of}
+use Rattle.sponsor_rules.specs.Paying.{map_after_releasing}
 use Rattle.sponsor_rules.specs.Payers.{is_account}
+use Rattle.sponsor_rules.specs.Removing.{map_after_discounting, map_after_release, map_after_removing_entry}
 use Rattle.sponsor_laws.specs.Sums.{signer_sponsors, subentries_for, total, counted_for}
 use Rattle.sponsor_laws.specs.Laws.{AreKept, IsRemovable, IsBare, RemovingKeeps}
-use Rattle.sponsor_laws.proofs.Accounts.{is_itself, share, own_part, counted_split, as_many}
-use Rattle.sponsor_laws.proofs.Even.{IsEven, Names, even, kept_of, account_of_entry, account_body, account_key, account_entry}
+use Rattle.sponsor_rules.proofs.Ids.{is_itself}
+use Rattle.sponsor_laws.proofs.Accounts.{share, own_part, counted_split, as_many}
+use Rattle.sponsor_laws.proofs.Even.{IsEven, Names, even, kept_of, account_of_entry, account_body, account_key}
+use Rattle.sponsor_laws.proofs.Even.{account_entry}
 use Rattle.sponsor_laws.proofs.Shifts.{Shift, at_one, plus, no_shift, IsShifted, unshifted, apart_ids}
-use Rattle.sponsor_laws.proofs.Changes.{shifted_lower}
-use Rattle.sponsor_laws.proofs.Paying.{shared, shifted_released, shifted_payer}
+use Rattle.sponsor_laws.proofs.Paying.{shared, shifted_discounting, shifted_payer}
 use Rattle.sponsor_laws.proofs.Settling.{erased, none_left, stands_after, stands_erased}
-use Rattle.sponsor_laws.proofs.Parts.{pays_for, is_paid_for, in_total, enough, IsSubentry, line_is, offer_is, data_is, no_account_key, balance_part, pool_part, share_nothing, share_of_others, bare_part, no_items, owned_counts, account_or_not}
+use Rattle.sponsor_laws.proofs.Parts.{pays_for, is_paid_for, in_total, enough, IsSubentry, line_is, offer_is, data_is}
+use Rattle.sponsor_laws.proofs.Parts.{no_account_key, balance_part, pool_part, share_nothing, share_of_others}
+use Rattle.sponsor_laws.proofs.Parts.{bare_part, no_items, owned_counts, account_or_not}
 
-stands_beside : (m : EntryMap) (k : LedgerKey) (e : LedgerEntry) (id : AccountId) → key_of e ≡ k → account_in e.body ≡ None → Stands m id → Stands (erase m k) id
-stands_beside m k e id own none stands = stands_erased m k id (λ same. no_account_key e.body id none (own ∙ sym same)) stands
+stands_beside : (m : EntryMap) (k : LedgerKey) (e : LedgerEntry) (id : AccountId) → key_of e ≡ k
+    → account_in e.body ≡ None → HasAccount m id → HasAccount (erase m k) id
+stands_beside m k e id own none stands = stands_erased m k id (λ same. no_account_key e.body id none (own
+    ∙ sym same)) stands
 
 module _ (old : EntryMap) (h : IsEven old) (k : LedgerKey) (e : LedgerEntry) (there : get old k ≡ Some e) where
   -- what stands for others stays, where no account is taken away
-  rest_stands : (q : Shift) (m : EntryMap) → IsShifted no_shift q old m → account_in e.body ≡ None → (x : LedgerKey) (y : LedgerEntry) (id : AccountId) → x ≢ k → get old x ≡ Some y → Names y id → Stands (erase m k) id
-  rest_stands q m s none x y id apart at names = stands_beside m k e id (h.own k e there) none (stands_after no_shift q old m id s (h.names x y id at names))
+  rest_stands : (q : Shift) (m : EntryMap) → IsShifted no_shift q old m → account_in e.body ≡ None
+      → (x : LedgerKey) (y : LedgerEntry) (id : AccountId) → x ≢ k → get old x ≡ Some y → Names y id
+          → HasAccount (erase m k) id
+  rest_stands q m s none x y id apart at names = stands_beside m k e id (h.own k e there) none
+      (stands_after no_shift q old m id s (h.names x y id at names))
 
-  removed_subentry : (owner : AccountId) (n : ℕ) → IsSubentry e.body owner n → IsEven (erase (subentry_released n owner (sponsor_of e) old) k)
+  removed_subentry : (owner : AccountId) (n : ℕ) → IsSubentry e.body owner n
+      → IsEven (erase (map_after_discounting owner n (sponsor_of e) old) k)
   removed_subentry owner n is =
       let subs : n ≤ counted_for SubEntries owner e =
-      (let part = is.parts SubEntries owner in let own = ap (λ t. if t then n else 0) (is_itself owner) in let split = counted_split SubEntries owner e in omega arith) in
-      let first = shifted_lower no_shift no_shift SubEntries n owner old old h.own (unshifted old h.own) (enough no_shift SubEntries n owner old k e h there subs refl) in
+      (let part = is.parts SubEntries owner in let own = ap (λ t. if t then n else 0) (is_itself owner) in
+          let split = counted_split SubEntries owner e in omega arith) in
       let q : Shift = plus no_shift (at_one SubEntries n owner) in
-      let second = shifted_released no_shift q n old (lower SubEntries n owner old) h.own first owner (sponsor_of e) (λ s pays. (
-        enough q Sponsored n owner old k e h there (subst (λ x. x ≤ counted_for Sponsored owner e) is.times (is_paid_for e s owner pays is.owns)) refl,
-        enough q Sponsoring n s old k e h there (subst (λ x. x ≤ counted_for Sponsoring s e) is.times (pays_for e s pays)) refl,
+      let second = shifted_discounting no_shift no_shift n old old h.own (unshifted old h.own) owner (sponsor_of e)
+          (enough no_shift SubEntries n owner old k e h there subs refl) (λ s pays. (
+        enough no_shift Sponsored n owner old k e h there
+            (subst (λ x. x ≤ counted_for Sponsored owner e) is.times (is_paid_for e s owner pays is.owns)) refl,
+        enough no_shift Sponsoring n s old k e h there
+            (subst (λ x. x ≤ counted_for Sponsoring s e) is.times (pays_for e s pays)) refl,
       )) in
-      erased (plus q (shared n (Some owner) (sponsor_of e))) old (subentry_released n owner (sponsor_of e) old) k e h second there
+      erased (plus q (shared n (Some owner) (sponsor_of e))) old
+          (map_after_discounting owner n (sponsor_of e) old) k e h second there
       (λ count id stands.
       let split = counted_split count id e in
       let part = is.parts count id in
-      let pays : share count id (multiplicity e.body) (owner_of e.body) (sponsor_of e) ≡ share count id n (Some owner) (sponsor_of e) = λ i. share count id (is.times i) (is.owns i) (sponsor_of e) in
+      let pays : share count id (multiplicity e.body) (owner_of e.body) (sponsor_of e)
+          ≡ share count id n (Some owner) (sponsor_of e) =
+              λ i. share count id (is.times i) (is.owns i) (sponsor_of e) in
       omega arith)
-      (rest_stands (plus q (shared n (Some owner) (sponsor_of e))) (subentry_released n owner (sponsor_of e) old) second is.no_account)
+      (rest_stands (plus q (shared n (Some owner) (sponsor_of e)))
+          (map_after_discounting owner n (sponsor_of e) old) second is.no_account)
 
   -- ---- claimable balances and pools
 
-  removed_balance : (balance : ClaimableBalanceEntry) → e.body ≡ body.ClaimableBalance balance → IsEven (erase (payer_released (length balance.claimants) (sponsor_of e) old) k)
+  removed_balance : (balance : ClaimableBalanceEntry) → e.body ≡ body.ClaimableBalance balance
+      → IsEven (erase (map_after_releasing (length balance.claimants) (sponsor_of e) old) k)
   removed_balance balance is =
       let n : ℕ = length balance.claimants in
       let s = sponsor_of e in
       let times : multiplicity e.body ≡ n = ap multiplicity is in
-      let first = shifted_payer no_shift no_shift n old old h.own (unshifted old h.own) s (λ x pays. enough no_shift Sponsoring n x old k e h there (subst (λ m. m ≤ counted_for Sponsoring x e) times (pays_for e x pays)) refl) in
-      erased (plus no_shift (shared n None s)) old (payer_released n s old) k e h first there
+      let first = shifted_payer no_shift no_shift n old old h.own (unshifted old h.own) s
+          (λ x pays. enough no_shift Sponsoring n x old k e h there
+              (subst (λ m. m ≤ counted_for Sponsoring x e) times (pays_for e x pays)) refl) in
+      erased (plus no_shift (shared n None s)) old (map_after_releasing n s old) k e h first there
       (λ count id stands.
       let split = counted_split count id e in
       let part : own_part count id e.body ≡ 0 = ap (own_part count id) is ∙ balance_part count id balance in
-      let pays : share count id (multiplicity e.body) (owner_of e.body) s ≡ share count id n None s = ap (λ b. share count id (multiplicity b) (owner_of b) s) is in
+      let pays : share count id (multiplicity e.body) (owner_of e.body) s ≡ share count id n None s =
+          ap (λ b. share count id (multiplicity b) (owner_of b) s) is in
       omega arith)
-      (rest_stands (plus no_shift (shared n None s)) (payer_released n s old) first (ap account_in is))
+      (rest_stands (plus no_shift (shared n None s)) (map_after_releasing n s old) first (ap account_in is))
 
   removed_pool : (pool : LiquidityPoolEntry) → e.body ≡ body.LiquidityPool pool → IsEven (erase old k)
   removed_pool pool is = erased no_shift old old k e h (unshifted old h.own) there
       (λ count id stands.
       let split = counted_split count id e in
       let part : own_part count id e.body ≡ 0 = ap (own_part count id) is ∙ pool_part count id pool in
-      let pays : share count id (multiplicity e.body) (owner_of e.body) (sponsor_of e) ≡ 0 = ap (λ b. share count id (multiplicity b) (owner_of b) (sponsor_of e)) is ∙ share_nothing count id None (sponsor_of e) in
+      let pays : share count id (multiplicity e.body) (owner_of e.body) (sponsor_of e) ≡ 0 =
+          ap (λ b. share count id (multiplicity b) (owner_of b) (sponsor_of e)) is
+              ∙ share_nothing count id None (sponsor_of e) in
       omega arith)
       (rest_stands no_shift old (unshifted old h.own) (ap account_in is))
 
@@ -91,7 +116,9 @@ module _ (old : EntryMap) (h : IsEven old) (k : LedgerKey) (e : LedgerEntry) (th
     no_sponsors : signer_sponsors account ≡ []
     no_sponsors =
         let many = as_many account (h.items k e account there (ap account_in is)) in
-        let own : subentries_for account.account_id e.body ≡ length account.signers = ap (subentries_for account.account_id) is ∙ ap (λ t. if t then length account.signers else 0) (is_itself account.account_id) in
+        let own : subentries_for account.account_id e.body ≡ length account.signers =
+            ap (subentries_for account.account_id) is
+                ∙ ap (λ t. if t then length account.signers else 0) (is_itself account.account_id) in
         let le = in_total old k e SubEntries account.account_id there in
         let none = no_subentries in
         no_items (signer_sponsors account) (omega arith)
@@ -99,49 +126,66 @@ module _ (old : EntryMap) (h : IsEven old) (k : LedgerKey) (e : LedgerEntry) (th
     -- nothing else names the account
     unnamed : (x : LedgerKey) (y : LedgerEntry) → x ≢ k → get old x ≡ Some y → Names y account.account_id → ⊥
     unnamed x y apart at (inl owns) = account_or_not ⊥ y.body
-        (λ none. let once = owned_counts y.body account.account_id none owns in let le = in_total old x y SubEntries account.account_id at in let nothing = no_subentries in absurd (omega arith))
-        (λ other holds. let same : other.account_id ≡ account.account_id = (let its = ap owner_of (account_body y.body other holds) in cc) in
+        (λ none. let once = owned_counts y.body account.account_id none owns in
+            let le = in_total old x y SubEntries account.account_id at in let nothing = no_subentries in
+                absurd (omega arith))
+        (λ other holds. let same : other.account_id ≡ account.account_id =
+            (let its = ap owner_of (account_body y.body other holds) in cc) in
         apart (sym (h.own x y at) ∙ account_key y.body other holds ∙ ap key.Account same ∙ sym its_key))
     unnamed x y apart at (inr (inl pays)) = bare.sponsors.entries x y at pays
-    unnamed x y apart at (inr (inr n)) = bare.sponsors.signers n.account.account_id n.account (account_of_entry old x y n.account h.own at n.is) n.sponsor
+    unnamed x y apart at (inr (inr n)) = bare.sponsors.signers n.account.account_id n.account
+        (account_of_entry old x y n.account h.own at n.is) n.sponsor
 
     -- an account that still stands is another one
-    another : (m : EntryMap) (id : AccountId) → Stands (erase m k) id → is_account account.account_id id ≡ false
+    another : (m : EntryMap) (id : AccountId) → HasAccount (erase m k) id → is_account account.account_id id ≡ false
     another m id stands = apart_ids account.account_id id (λ same.
         let entry = account_entry (erase m k) id stands.0 stands.1 in
-        let gone : get (erase m k) (key.Account id) ≡ None = ap (get (erase m k)) (ap key.Account (sym same) ∙ sym its_key) ∙ none_left m k in
+        let gone : get (erase m k) (key.Account id) ≡ None = ap (get (erase m k)) (ap key.Account (sym same)
+            ∙ sym its_key) ∙ none_left m k in
         let found = entry.1.0 in
         cc)
 
-    removed_account : IsEven (erase (payer_released 2 (sponsor_of e) old) k)
+    removed_account : IsEven (erase (map_after_releasing 2 (sponsor_of e) old) k)
     removed_account =
         let s = sponsor_of e in
         let times : multiplicity e.body ≡ 2 = ap multiplicity is in
-        let m = payer_released 2 s old in
-        let first = shifted_payer no_shift no_shift 2 old old h.own (unshifted old h.own) s (λ x pays. enough no_shift Sponsoring 2 x old k e h there (subst (λ n. n ≤ counted_for Sponsoring x e) times (pays_for e x pays)) refl) in
+        let m = map_after_releasing 2 s old in
+        let first = shifted_payer no_shift no_shift 2 old old h.own (unshifted old h.own) s
+            (λ x pays. enough no_shift Sponsoring 2 x old k e h there
+                (subst (λ n. n ≤ counted_for Sponsoring x e) times (pays_for e x pays)) refl) in
         erased (plus no_shift (shared 2 None s)) old m k e h first there
         (λ count id stands.
         let apart = another m id stands in
         let split = counted_split count id e in
-        let part : own_part count id e.body ≡ 0 = ap (own_part count id) is ∙ bare_part count id account no_sponsors apart in
-        let pays : share count id (multiplicity e.body) (owner_of e.body) s ≡ share count id 2 None s = ap (λ b. share count id (multiplicity b) (owner_of b) s) is ∙ share_of_others count id account.account_id 2 s apart in
+        let part : own_part count id e.body ≡ 0 = ap (own_part count id) is
+            ∙ bare_part count id account no_sponsors apart in
+        let pays : share count id (multiplicity e.body) (owner_of e.body) s ≡ share count id 2 None s =
+            ap (λ b. share count id (multiplicity b) (owner_of b) s) is
+                ∙ share_of_others count id account.account_id 2 s apart in
         omega arith)
         (λ x y id apart at names. stands_erased m k id
-        (λ same. let its : id ≡ account.account_id = (let keys : key.Account id ≡ key.Account account.account_id = same ∙ its_key in cc) in unnamed x y apart at (subst (Names y) its names))
+        (λ same. let its : id ≡ account.account_id = (let keys : key.Account id ≡ key.Account account.account_id = same
+            ∙ its_key in cc) in unnamed x y apart at (subst (Names y) its names))
         (stands_after no_shift (plus no_shift (shared 2 None s)) old m id first (h.names x y id at names)))
 
 -- ---- all kinds
 
-removed_by : (old : EntryMap) (k : LedgerKey) (e : LedgerEntry) (b : LedgerEntryBody) → e.body ≡ b → IsEven old → get old k ≡ Some e → IsRemovable k old → IsEven (erase (released b (sponsor_of e) old) k)
-removed_by old k e (body.Account account) is h there removable = removed_account old h k e there account is (removable e account there (ap account_in is))
+removed_by : (old : EntryMap) (k : LedgerKey) (e : LedgerEntry) (b : LedgerEntryBody) → e.body ≡ b → IsEven old
+    → get old k ≡ Some e → IsRemovable k old → IsEven (erase (map_after_release (charge_of b) (sponsor_of e) old) k)
+removed_by old k e (body.Account account) is h there removable =
+    removed_account old h k e there account is (removable e account there (ap account_in is))
 removed_by old k e (body.ClaimableBalance balance) is h there removable = removed_balance old h k e there balance is
 removed_by old k e (body.LiquidityPool pool) is h there removable = removed_pool old h k e there pool is
-removed_by old k e (body.TrustLine line) is h there removable = removed_subentry old h k e there line.account_id (line_multiplicity line.asset) (line_is e.body line is)
-removed_by old k e (body.Offer offer) is h there removable = removed_subentry old h k e there offer.seller_id 1 (offer_is e.body offer is)
-removed_by old k e (body.Data data_entry) is h there removable = removed_subentry old h k e there data_entry.account_id 1 (data_is e.body data_entry is)
+removed_by old k e (body.TrustLine line) is h there removable =
+    removed_subentry old h k e there line.account_id (line_multiplicity line.asset) (line_is e.body line is)
+removed_by old k e (body.Offer offer) is h there removable =
+    removed_subentry old h k e there offer.seller_id 1 (offer_is e.body offer is)
+removed_by old k e (body.Data data_entry) is h there removable =
+    removed_subentry old h k e there data_entry.account_id 1 (data_is e.body data_entry is)
 
 pub removing_keeps : RemovingKeeps
-removing_keeps key old kept removable = elim (get old key) as (λ o. get old key ≡ o → AreKept (removing_entry key old o)) [
+removing_keeps key old kept removable = elim (get old key) as (λ o. get old key ≡ o
+    → AreKept (map_after_removing_entry key old o)) [
   | None ↦ λ none. kept
   | Some e ↦ λ there. kept_of _ (removed_by old key e e.body refl (even old kept) there removable)
 ] refl

@@ -1,5 +1,6 @@
 -- A map whose counts moved, after one entry is put or taken away so that each count is its sum again.
-use Rattle.std.proofs.Common.{◌≡◌, ◌≢◌, ◌⊎◌, inl, inr, refl, sym, ap, subst, ◌∙◌, ◌+◌, ◌≤◌, true, false, cond, length, Option, Some, None, Contains, arith}
+use Rattle.std.proofs.Common.{◌≡◌, ◌≢◌, ◌⊎◌, inl, inr, refl, sym, ap, subst, ◌∙◌, ◌+◌, ◌≤◌, true, false, cond, length}
+use Rattle.std.proofs.Common.{Option, Some, None, Contains, arith}
 use Rattle.std.specs.Ordering.{eq_by_cmp}
 use Rattle.std.specs.FinMap.{get, get-remove}
 use Rattle.ledger_types.specs.declared.ids.AccountId.{AccountId}
@@ -16,13 +17,15 @@ use Rattle.entry_map.specs.EntryMap.{EntryMap, put, erase}
 use Rattle.entry_map.proofs.KeyMaps.{same_keys, same_itself}
 use Rattle.sponsor_rules.specs.declared.count.Count.{Count}
 use Rattle.sponsor_rules.specs.declared.count.Count.TheVariants.{SubEntries, Sponsoring}
-use Rattle.sponsor_rules.specs.Accounts.{account_in, Stands}
-use Rattle.sponsor_rules.specs.Counts.{count_in}
+use Rattle.entry_slots.specs.Accounts.{account_in, HasAccount}
+use Rattle.sponsor_rules.specs.Counting.{count_in}
 use Rattle.sponsor_laws.specs.Sums.{HasItems, total, counted_for}
 use Rattle.sponsor_laws.proofs.Totals.{part_of, sum_in-remove}
 use Rattle.sponsor_laws.proofs.Accounts.{as_many, has_items}
-use Rattle.sponsor_laws.proofs.Even.{AreOwn, IsEven, Names, account_of_entry, account_key, account_entry, stands_in, all_few, all_fit}
-use Rattle.sponsor_laws.proofs.Shifts.{Shift, no_shift, Alike, AlikeEntries, IsShifted, same_owner, same_counted, account_before, account_after, entry_before, entry_after}
+use Rattle.sponsor_laws.proofs.Even.{AreOwn, IsEven, Names, account_of_entry, account_key, account_entry, stands_in}
+use Rattle.sponsor_laws.proofs.Even.{all_few, all_fit}
+use Rattle.sponsor_laws.proofs.Shifts.{Shift, no_shift, Alike, AlikeEntries, IsShifted, same_owner, same_counted}
+use Rattle.sponsor_laws.proofs.Shifts.{account_before, account_after, entry_before, entry_after}
 use Rattle.sponsor_laws.proofs.Changes.{put_get, put_total}
 
 pub names_before : (p q : Shift) (x y : LedgerEntry) (id : AccountId) → AlikeEntries p q x y → Names y id → Names x id
@@ -30,15 +33,18 @@ names_before p q x y id h (inl owns) = inl (sym (same_owner p q x.body y.body h.
 names_before p q x y id h (inr (inl pays)) = inr (inl (sym h.sponsor ∙ pays))
 names_before p q x y id h (inr (inr n)) =
     let was = account_before p q x.body y.body n.account h.bodies n.is in
-    inr (inr (record { account = was.0; is = was.1; sponsor = subst (λ xs. Contains xs (Some id)) was.2.parts.sponsors n.sponsor }))
+    inr (inr (record { account = was.0; is = was.1;
+        sponsor = subst (λ xs. Contains xs (Some id)) was.2.parts.sponsors n.sponsor }))
 
-part_alike : (p q : Shift) (count : Count) (id : AccountId) (x y : Option LedgerEntry) → Alike p q x y → part_of (counted_for count id) y ≡ part_of (counted_for count id) x
+part_alike : (p q : Shift) (count : Count) (id : AccountId) (x y : Option LedgerEntry) → Alike p q x y
+    → part_of (counted_for count id) y ≡ part_of (counted_for count id) x
 part_alike p q count id None None h = refl
 part_alike p q count id None (Some y) h = absurd h
 part_alike p q count id (Some x) None h = absurd h
 part_alike p q count id (Some x) (Some y) h = same_counted p q count id x y h
 
-pub stands_after : (p q : Shift) (old m : EntryMap) (id : AccountId) → IsShifted p q old m → Stands old id → Stands m id
+pub stands_after : (p q : Shift) (old m : EntryMap) (id : AccountId) → IsShifted p q old m → HasAccount old id
+    → HasAccount m id
 stands_after p q old m id h stands =
     let entry = account_entry old id stands.0 stands.1 in
     let now = entry_after p q old m (key.Account id) entry.0 h entry.1.0 in
@@ -49,23 +55,30 @@ stands_after p q old m id h stands =
 pub record IsSettledEntry (p q : Shift) (old new : EntryMap) (k : LedgerKey) (e : LedgerEntry) : Type 0 where
   pub own : key_of e ≡ k
   pub sums : (account : AccountEntry) (count : Count) → account_in e.body ≡ Some account
-      → count_in count account + q count account.account_id ≡ total count account.account_id old + p count account.account_id
+      → count_in count account + q count account.account_id
+          ≡ total count account.account_id old + p count account.account_id
   pub items : (account : AccountEntry) → account_in e.body ≡ Some account → HasItems account
-  pub names : (id : AccountId) → Names e id → Stands new id
+  pub names : (id : AccountId) → Names e id → HasAccount new id
 
 -- `new` is `m` with something else under a key, or nothing, and that settles what counts moved by
 pub record Settles (p q : Shift) (old m new : EntryMap) (k : LedgerKey) (after : Option LedgerEntry) : Type 0 where
   pub got : (x : LedgerKey) → get new x ≡ cond (eq_by_cmp key_cmp x k) after (get m x)
-  pub summed : (count : Count) (id : AccountId) → total count id new + part_of (counted_for count id) (get m k) ≡ total count id m + part_of (counted_for count id) after
-  pub balanced : (count : Count) (id : AccountId) → Stands new id → p count id + part_of (counted_for count id) (get old k) ≡ q count id + part_of (counted_for count id) after
+  pub summed : (count : Count) (id : AccountId) → total count id new + part_of (counted_for count id) (get m k)
+      ≡ total count id m + part_of (counted_for count id) after
+  pub balanced : (count : Count) (id : AccountId) → HasAccount new id
+      → p count id + part_of (counted_for count id) (get old k) ≡ q count id + part_of (counted_for count id) after
   pub entry : (e : LedgerEntry) → after ≡ Some e → IsSettledEntry p q old new k e
-  pub rest : (x : LedgerKey) (e : LedgerEntry) (id : AccountId) → x ≢ k → get old x ≡ Some e → Names e id → Stands new id
-  pub few : (id : AccountId) → Stands new id → total SubEntries id old + p SubEntries id ≤ 1000 + q SubEntries id
-  pub fits : (id : AccountId) → Stands new id
-      → total SubEntries id old + total Sponsoring id old + (p SubEntries id + p Sponsoring id) ≤ 4294967295 + (q SubEntries id + q Sponsoring id)
+  pub rest : (x : LedgerKey) (e : LedgerEntry) (id : AccountId) → x ≢ k → get old x ≡ Some e → Names e id
+      → HasAccount new id
+  pub few : (id : AccountId) → HasAccount new id → total SubEntries id old + p SubEntries id ≤ 1000 + q SubEntries id
+  pub fits : (id : AccountId) → HasAccount new id
+      → total SubEntries id old + total Sponsoring id old + (p SubEntries id + p Sponsoring id) ≤ 4294967295 +
+          (q SubEntries id + q Sponsoring id)
 
-module _ (p q : Shift) (old m new : EntryMap) (k : LedgerKey) (after : Option LedgerEntry) (even : IsEven old) (h : IsShifted p q old m) (s : Settles p q old m new k after) where
-  total_new : (count : Count) (id : AccountId) → Stands new id → total count id new + q count id ≡ total count id old + p count id
+module _ (p q : Shift) (old m new : EntryMap) (k : LedgerKey) (after : Option LedgerEntry) (even : IsEven old)
+    (h : IsShifted p q old m) (s : Settles p q old m new k after) where
+  total_new : (count : Count) (id : AccountId) → HasAccount new id
+      → total count id new + q count id ≡ total count id old + p count id
   total_new count id stands =
       let summed = s.summed count id in
       let balanced = s.balanced count id stands in
@@ -84,9 +97,11 @@ module _ (p q : Shift) (old m new : EntryMap) (k : LedgerKey) (after : Option Le
       ] refl (sym (s.got x) ∙ there)
 
   own_new : AreOwn new
-  own_new x e there = elim (from x e there) [ inl here ↦ (s.entry e here.1).own ∙ sym here.0 | inr other ↦ h.own x e other.1 ]
+  own_new x e there = elim (from x e there) [ inl here ↦ (s.entry e here.1).own
+      ∙ sym here.0 | inr other ↦ h.own x e other.1 ]
 
-  sums_new : (x : LedgerKey) (e : LedgerEntry) (account : AccountEntry) (count : Count) → get new x ≡ Some e → account_in e.body ≡ Some account → count_in count account ≡ total count account.account_id new
+  sums_new : (x : LedgerKey) (e : LedgerEntry) (account : AccountEntry) (count : Count) → get new x ≡ Some e
+      → account_in e.body ≡ Some account → count_in count account ≡ total count account.account_id new
   sums_new x e account count there is =
       let sum = total_new count account.account_id (account, account_of_entry new x e account own_new there is) in
       elim (from x e there) [
@@ -96,22 +111,25 @@ module _ (p q : Shift) (old m new : EntryMap) (k : LedgerKey) (after : Option Le
             let was = account_before p q was_entry.0.body e.body account was_entry.2.bodies is in
             let moved = was.2.counts count in
             let before = even.sums x was_entry.0 was.0 count was_entry.1 was.1 in
-            let at : total count account.account_id old ≡ total count was.0.account_id old = ap (λ i. total count i old) was.2.parts.id in
+            let at : total count account.account_id old ≡ total count was.0.account_id old =
+                ap (λ i. total count i old) was.2.parts.id in
             let p_at : p count account.account_id ≡ p count was.0.account_id = ap (p count) was.2.parts.id in
             let q_at : q count account.account_id ≡ q count was.0.account_id = ap (q count) was.2.parts.id in
             omega arith
       ]
 
-  items_new : (x : LedgerKey) (e : LedgerEntry) (account : AccountEntry) → get new x ≡ Some e → account_in e.body ≡ Some account → HasItems account
+  items_new : (x : LedgerKey) (e : LedgerEntry) (account : AccountEntry) → get new x ≡ Some e
+      → account_in e.body ≡ Some account → HasItems account
   items_new x e account there is = elim (from x e there) [
     | inl here ↦ (s.entry e here.1).items account is
     | inr other ↦
         let was_entry = entry_before p q old m x e h other.1 in
         let was = account_before p q was_entry.0.body e.body account was_entry.2.bodies is in
-        has_items account (ap length was.2.parts.sponsors ∙ as_many was.0 (even.items x was_entry.0 was.0 was_entry.1 was.1) ∙ sym (ap length was.2.parts.signers))
+        has_items account (ap length was.2.parts.sponsors ∙ as_many was.0
+            (even.items x was_entry.0 was.0 was_entry.1 was.1) ∙ sym (ap length was.2.parts.signers))
   ]
 
-  names_new : (x : LedgerKey) (e : LedgerEntry) (id : AccountId) → get new x ≡ Some e → Names e id → Stands new id
+  names_new : (x : LedgerKey) (e : LedgerEntry) (id : AccountId) → get new x ≡ Some e → Names e id → HasAccount new id
   names_new x e id there names = elim (from x e there) [
     | inl here ↦ (s.entry e here.1).names id names
     | inr other ↦
@@ -126,7 +144,8 @@ module _ (p q : Shift) (old m new : EntryMap) (k : LedgerKey) (after : Option Le
     items = items_new;
     names = names_new;
     few = λ id stands. let sum = total_new SubEntries id stands in let le = s.few id stands in omega arith;
-    fits = λ id stands. let subs = total_new SubEntries id stands in let pays = total_new Sponsoring id stands in let le = s.fits id stands in omega arith;
+    fits = λ id stands. let subs = total_new SubEntries id stands in let pays = total_new Sponsoring id stands in
+        let le = s.fits id stands in omega arith;
   }
 
 -- ---- taken away
@@ -134,41 +153,51 @@ module _ (p q : Shift) (old m new : EntryMap) (k : LedgerKey) (after : Option Le
 erase_get : (m : EntryMap) (k x : LedgerKey) → get (erase m k) x ≡ cond (eq_by_cmp key_cmp x k) None (get m x)
 erase_get m k x = get-remove keys_total m k x
 
-pub erase_total : (m : EntryMap) (k : LedgerKey) (e : LedgerEntry) (count : Count) (id : AccountId) → get m k ≡ Some e → total count id (erase m k) + counted_for count id e ≡ total count id m
+pub erase_total : (m : EntryMap) (k : LedgerKey) (e : LedgerEntry) (count : Count) (id : AccountId) → get m k ≡ Some e
+    → total count id (erase m k) + counted_for count id e ≡ total count id m
 erase_total m k e count id there = sum_in-remove keys_total (counted_for count id) keys_exact m k e there
 
 pub none_left : (m : EntryMap) (k : LedgerKey) → get (erase m k) k ≡ None
 none_left m k = erase_get m k k ∙ ap (λ b. cond b None (get m k)) (same_itself k)
 
 -- what is left stood before, under another key
-pub left_over : (m : EntryMap) (k x : LedgerKey) (e : LedgerEntry) → get (erase m k) x ≡ Some e → (x ≢ k) × (get m x ≡ Some e)
-left_over m k x e there = elim (eq_by_cmp key_cmp x k) as (λ b. eq_by_cmp key_cmp x k ≡ b → cond b None (get m x) ≡ Some e → (x ≢ k) × (get m x ≡ Some e)) [
+pub left_over : (m : EntryMap) (k x : LedgerKey) (e : LedgerEntry) → get (erase m k) x ≡ Some e
+    → (x ≢ k) × (get m x ≡ Some e)
+left_over m k x e there = elim (eq_by_cmp key_cmp x k) as (λ b. eq_by_cmp key_cmp x k ≡ b
+    → cond b None (get m x) ≡ Some e → (x ≢ k) × (get m x ≡ Some e)) [
   | true ↦ λ tied is. absurd (cc)
-  | false ↦ λ apart is. (λ same. let none : get (erase m k) x ≡ None = ap (get (erase m k)) same ∙ none_left m k in absurd (cc), is)
+  | false ↦ λ apart is. (λ same. let none : get (erase m k) x ≡ None = ap (get (erase m k)) same ∙ none_left m k in
+      absurd (cc), is)
 ] refl (sym (erase_get m k x) ∙ there)
 
-pub stands_erased : (m : EntryMap) (k : LedgerKey) (id : AccountId) → key.Account id ≢ k → Stands m id → Stands (erase m k) id
+pub stands_erased : (m : EntryMap) (k : LedgerKey) (id : AccountId) → key.Account id ≢ k → HasAccount m id
+    → HasAccount (erase m k) id
 stands_erased m k id apart stands =
     let entry = account_entry m id stands.0 stands.1 in
     let left : get (erase m k) (key.Account id) ≡ get m (key.Account id) = erase_get m k (key.Account id)
-    ∙ elim (eq_by_cmp key_cmp (key.Account id) k) as (λ b. eq_by_cmp key_cmp (key.Account id) k ≡ b → cond b None (get m (key.Account id)) ≡ get m (key.Account id)) [
+    ∙ elim (eq_by_cmp key_cmp (key.Account id) k) as (λ b. eq_by_cmp key_cmp (key.Account id) k ≡ b
+        → cond b None (get m (key.Account id)) ≡ get m (key.Account id)) [
       | true ↦ λ tied. absurd (apart (same_keys _ k tied))
       | false ↦ λ h. refl
     ] refl in
     (stands.0, stands_in (erase m k) id entry.0 stands.0 (left ∙ entry.1.0) entry.1.1)
 
 -- an entry is taken away, for which counts went down
-pub erased : (q : Shift) (old m : EntryMap) (k : LedgerKey) (e : LedgerEntry) → IsEven old → IsShifted no_shift q old m → get old k ≡ Some e
-    → ((count : Count) (id : AccountId) → Stands (erase m k) id → counted_for count id e ≡ q count id)
-    → ((x : LedgerKey) (y : LedgerEntry) (id : AccountId) → x ≢ k → get old x ≡ Some y → Names y id → Stands (erase m k) id) → IsEven (erase m k)
+pub erased : (q : Shift) (old m : EntryMap) (k : LedgerKey) (e : LedgerEntry) → IsEven old → IsShifted no_shift q old m
+    → get old k ≡ Some e
+    → ((count : Count) (id : AccountId) → HasAccount (erase m k) id → counted_for count id e ≡ q count id)
+    → ((x : LedgerKey) (y : LedgerEntry) (id : AccountId) → x ≢ k → get old x ≡ Some y → Names y id
+        → HasAccount (erase m k) id) → IsEven (erase m k)
 erased q old m k e even h there balanced rest = settled no_shift q old m (erase m k) k None even h (record {
   got = erase_get m k;
   summed = λ count id.
       let now = entry_after no_shift q old m k e h there in
-      let part : part_of (counted_for count id) (get m k) ≡ counted_for count id now.0 = ap (part_of (counted_for count id)) now.1 in
+      let part : part_of (counted_for count id) (get m k) ≡ counted_for count id now.0 =
+          ap (part_of (counted_for count id)) now.1 in
       let sum = erase_total m k now.0 count id now.1 in
       omega arith;
-  balanced = λ count id stands. let part : part_of (counted_for count id) (get old k) ≡ counted_for count id e = ap (part_of (counted_for count id)) there in let is = balanced count id stands in omega arith;
+  balanced = λ count id stands. let part : part_of (counted_for count id) (get old k) ≡ counted_for count id e =
+      ap (part_of (counted_for count id)) there in let is = balanced count id stands in omega arith;
   entry = λ x is. absurd (cc);
   rest = rest;
   few = λ id stands. let le = all_few old id even in omega arith;
@@ -177,40 +206,50 @@ erased q old m k e even h there balanced rest = settled no_shift q old m (erase 
 
 -- ---- put
 
-account_body_of : (b : LedgerEntryBody) (id : AccountId) → key_of_body b ≡ key.Account id → (account : AccountEntry) × (account_in b ≡ Some account)
+account_body_of : (b : LedgerEntryBody) (id : AccountId) → key_of_body b ≡ key.Account id
+    → (account : AccountEntry) × (account_in b ≡ Some account)
 account_body_of (body.Account account) id is = (account, refl)
 account_body_of other id is = absurd (cc)
 
 put_there : (m : EntryMap) (e : LedgerEntry) → get (put m e) (key_of e) ≡ Some e
 put_there m e = put_get m e (key_of e) ∙ ap (λ b. cond b (Some e) (get m (key_of e))) (same_itself (key_of e))
 
-pub stands_put : (m : EntryMap) (e : LedgerEntry) (id : AccountId) → Stands m id → Stands (put m e) id
+pub stands_put : (m : EntryMap) (e : LedgerEntry) (id : AccountId) → HasAccount m id → HasAccount (put m e) id
 stands_put m e id stands =
     let entry = account_entry m id stands.0 stands.1 in
-    elim (eq_by_cmp key_cmp (key.Account id) (key_of e)) as (λ b. eq_by_cmp key_cmp (key.Account id) (key_of e) ≡ b → get (put m e) (key.Account id) ≡ cond b (Some e) (get m (key.Account id)) → Stands (put m e) id) [
-      | true ↦ λ tied is. let new = account_body_of e.body id (sym (same_keys _ (key_of e) tied)) in (new.0, stands_in (put m e) id e new.0 is new.1)
+    elim (eq_by_cmp key_cmp (key.Account id) (key_of e)) as (λ b. eq_by_cmp key_cmp (key.Account id) (key_of e) ≡ b
+        → get (put m e) (key.Account id) ≡ cond b (Some e) (get m (key.Account id)) → HasAccount (put m e) id) [
+      | true ↦ λ tied is. let new = account_body_of e.body id (sym (same_keys _ (key_of e) tied)) in
+          (new.0, stands_in (put m e) id e new.0 is new.1)
       | false ↦ λ apart is. (stands.0, stands_in (put m e) id entry.0 stands.0 (is ∙ entry.1.0) entry.1.1)
     ] refl (put_get m e (key.Account id))
 
-pub stands_placed : (m : EntryMap) (e : LedgerEntry) (account : AccountEntry) → account_in e.body ≡ Some account → Stands (put m e) account.account_id
-stands_placed m e account is = (account, stands_in (put m e) account.account_id e account (ap (get (put m e)) (sym (account_key e.body account is)) ∙ put_there m e) is)
+pub stands_placed : (m : EntryMap) (e : LedgerEntry) (account : AccountEntry) → account_in e.body ≡ Some account
+    → HasAccount (put m e) account.account_id
+stands_placed m e account is = (account, stands_in (put m e) account.account_id e account
+    (ap (get (put m e)) (sym (account_key e.body account is)) ∙ put_there m e) is)
 
 -- what an entry that is put must meet, for which counts went up by p and down by q
 pub record IsPlaced (p q : Shift) (old m : EntryMap) (e : LedgerEntry) : Type 0 where
-  pub balanced : (count : Count) (id : AccountId) → p count id + part_of (counted_for count id) (get old (key_of e)) ≡ q count id + counted_for count id e
+  pub balanced : (count : Count) (id : AccountId) → p count id + part_of (counted_for count id) (get old (key_of e))
+      ≡ q count id + counted_for count id e
   pub sums : (account : AccountEntry) (count : Count) → account_in e.body ≡ Some account
-      → count_in count account + q count account.account_id ≡ total count account.account_id old + p count account.account_id
+      → count_in count account + q count account.account_id
+          ≡ total count account.account_id old + p count account.account_id
   pub items : (account : AccountEntry) → account_in e.body ≡ Some account → HasItems account
-  pub names : (id : AccountId) → Names e id → Stands (put m e) id
+  pub names : (id : AccountId) → Names e id → HasAccount (put m e) id
   pub few : (id : AccountId) → total SubEntries id old + p SubEntries id ≤ 1000 + q SubEntries id
-  pub fits : (id : AccountId) → total SubEntries id old + total Sponsoring id old + (p SubEntries id + p Sponsoring id) ≤ 4294967295 + (q SubEntries id + q Sponsoring id)
+  pub fits : (id : AccountId) → total SubEntries id old + total Sponsoring id old +
+      (p SubEntries id + p Sponsoring id) ≤ 4294967295 + (q SubEntries id + q Sponsoring id)
 
-pub placed : (p q : Shift) (old m : EntryMap) (e : LedgerEntry) → IsEven old → IsShifted p q old m → IsPlaced p q old m e → IsEven (put m e)
+pub placed : (p q : Shift) (old m : EntryMap) (e : LedgerEntry) → IsEven old → IsShifted p q old m
+    → IsPlaced p q old m e → IsEven (put m e)
 placed p q old m e even h s = settled p q old m (put m e) (key_of e) (Some e) even h (record {
   got = put_get m e;
   summed = put_total m e;
   balanced = λ count id stands. s.balanced count id;
-  entry = λ x is. let same : e ≡ x = cc in subst (IsSettledEntry p q old (put m e) (key_of e)) same (record { own = refl; sums = s.sums; items = s.items; names = s.names });
+  entry = λ x is. let same : e ≡ x = cc in subst (IsSettledEntry p q old (put m e) (key_of e)) same
+      (record { own = refl; sums = s.sums; items = s.items; names = s.names });
   rest = λ x y id apart at names. stands_put m e id (stands_after p q old m id h (even.names x y id at names));
   few = λ id stands. s.few id;
   fits = λ id stands. s.fits id;

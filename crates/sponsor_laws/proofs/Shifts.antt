@@ -12,12 +12,14 @@ use Rattle.ledger_types.specs.declared.key.LedgerKey.TheVariants as key
 use Rattle.ledger_types.specs.Keys.{key_of_body}
 use Rattle.entry_map.specs.EntryMap.{EntryMap}
 use Rattle.sponsor_rules.specs.declared.count.Count.{Count}
-use Rattle.sponsor_rules.specs.Accounts.{account_in}
-use Rattle.sponsor_rules.specs.Counts.{count_in, multiplicity, owner_of}
-use Rattle.sponsor_rules.specs.Entries.{sponsor_of}
+use Rattle.entry_slots.specs.Accounts.{account_in}
+use Rattle.entry_slots.specs.EntrySponsor.{sponsor_of}
+use Rattle.sponsor_rules.specs.Charge.{multiplicity, owner_of}
+use Rattle.sponsor_rules.specs.Counting.{count_in}
 use Rattle.sponsor_rules.specs.Payers.{is_account}
 use Rattle.sponsor_laws.specs.Sums.{total, counted_for}
-use Rattle.sponsor_laws.proofs.Accounts.{KeepsParts, keeps_all, instead, same_account, share, own_part, own_part-keeps, counted_split}
+use Rattle.sponsor_rules.proofs.Ids.{same_account}
+use Rattle.sponsor_laws.proofs.Accounts.{KeepsParts, keeps_all, instead, share, own_part, own_part-keeps, counted_split}
 use Rattle.sponsor_laws.proofs.Even.{AreOwn}
 
 -- ---- numbers for each count of each account
@@ -80,45 +82,59 @@ module _ (p q : Shift) where
   same_multiplicity (body.Account a) other h = absurd h
   same_multiplicity other b h = ap multiplicity h
 
-  pub same_own_part : (count : Count) (id : AccountId) (a b : LedgerEntryBody) → AlikeBodies p q a b → own_part count id b ≡ own_part count id a
+  pub same_own_part : (count : Count) (id : AccountId) (a b : LedgerEntryBody) → AlikeBodies p q a b
+      → own_part count id b ≡ own_part count id a
   same_own_part count id (body.Account a) (body.Account b) h = own_part-keeps count id a b h.parts
   same_own_part count id (body.Account a) other h = absurd h
   same_own_part count id other b h = ap (own_part count id) h
 
-  pub same_counted : (count : Count) (id : AccountId) (x y : LedgerEntry) → AlikeEntries p q x y → counted_for count id y ≡ counted_for count id x
+  pub same_counted : (count : Count) (id : AccountId) (x y : LedgerEntry) → AlikeEntries p q x y
+      → counted_for count id y ≡ counted_for count id x
   same_counted count id x y h = counted_split count id y
-      ∙ (λ i. share count id (same_multiplicity x.body y.body h.bodies i) (same_owner x.body y.body h.bodies i) (h.sponsor i) + same_own_part count id x.body y.body h.bodies i)
+      ∙ (λ i. share count id (same_multiplicity x.body y.body h.bodies i) (same_owner x.body y.body h.bodies i)
+          (h.sponsor i) + same_own_part count id x.body y.body h.bodies i)
       ∙ sym (counted_split count id x)
 
   -- the account behind the one in an alike body
-  pub account_before : (a b : LedgerEntryBody) (account : AccountEntry) → AlikeBodies p q a b → account_in b ≡ Some account → (was : AccountEntry) × (account_in a ≡ Some was) × IsShiftedAccount p q was account
-  account_before (body.Account a) (body.Account b) account h is = let same : b ≡ account = cc in (a, refl, subst (IsShiftedAccount p q a) same h)
+  pub account_before : (a b : LedgerEntryBody) (account : AccountEntry) → AlikeBodies p q a b
+      → account_in b ≡ Some account → (was : AccountEntry) × (account_in a ≡ Some was)
+          × IsShiftedAccount p q was account
+  account_before (body.Account a) (body.Account b) account h is = let same : b ≡ account = cc in
+      (a, refl, subst (IsShiftedAccount p q a) same h)
   account_before (body.Account a) other account h is = absurd h
   account_before other b account h is = absurd (let none : account_in b ≡ None = ap account_in h in cc)
 
-  pub account_after : (a b : LedgerEntryBody) (account : AccountEntry) → AlikeBodies p q a b → account_in a ≡ Some account → (now : AccountEntry) × (account_in b ≡ Some now) × IsShiftedAccount p q account now
-  account_after (body.Account a) (body.Account b) account h is = let same : a ≡ account = cc in (b, refl, subst (λ x. IsShiftedAccount p q x b) same h)
+  pub account_after : (a b : LedgerEntryBody) (account : AccountEntry) → AlikeBodies p q a b
+      → account_in a ≡ Some account → (now : AccountEntry) × (account_in b ≡ Some now)
+          × IsShiftedAccount p q account now
+  account_after (body.Account a) (body.Account b) account h is = let same : a ≡ account = cc in
+      (b, refl, subst (λ x. IsShiftedAccount p q x b) same h)
   account_after (body.Account a) other account h is = absurd h
   account_after other b account h is = absurd (cc)
 
 pub apart_ids : (id i : AccountId) → (id ≡ i → ⊥) → is_account id i ≡ false
-apart_ids id i apart = elim (is_account id i) as (λ b. is_account id i ≡ b → b ≡ false) [ true ↦ λ h. absurd (apart (same_account id i h)) | false ↦ λ h. refl ] refl
+apart_ids id i apart = elim (is_account id i) as (λ b. is_account id i ≡ b
+    → b ≡ false) [ true ↦ λ h. absurd (apart (same_account id i h)) | false ↦ λ h. refl ] refl
 
-entries_of : (p q : Shift) (x y : Option LedgerEntry) (e : LedgerEntry) → Alike p q x y → x ≡ Some e → (now : LedgerEntry) × (y ≡ Some now) × AlikeEntries p q e now
+entries_of : (p q : Shift) (x y : Option LedgerEntry) (e : LedgerEntry) → Alike p q x y → x ≡ Some e
+    → (now : LedgerEntry) × (y ≡ Some now) × AlikeEntries p q e now
 entries_of p q None y e h is = absurd (cc)
 entries_of p q (Some x) None e h is = absurd h
 entries_of p q (Some x) (Some y) e h is = let same : x ≡ e = cc in (y, refl, subst (λ z. AlikeEntries p q z y) same h)
 
-entries_before : (p q : Shift) (x y : Option LedgerEntry) (e : LedgerEntry) → Alike p q x y → y ≡ Some e → (was : LedgerEntry) × (x ≡ Some was) × AlikeEntries p q was e
+entries_before : (p q : Shift) (x y : Option LedgerEntry) (e : LedgerEntry) → Alike p q x y → y ≡ Some e
+    → (was : LedgerEntry) × (x ≡ Some was) × AlikeEntries p q was e
 entries_before p q x None e h is = absurd (cc)
 entries_before p q None (Some y) e h is = absurd h
 entries_before p q (Some x) (Some y) e h is = let same : y ≡ e = cc in (x, refl, subst (AlikeEntries p q x) same h)
 
 -- the entry that stands now where one stood, and the other way round
-pub entry_after : (p q : Shift) (old new : EntryMap) (k : LedgerKey) (e : LedgerEntry) → IsShifted p q old new → get old k ≡ Some e → (now : LedgerEntry) × (get new k ≡ Some now) × AlikeEntries p q e now
+pub entry_after : (p q : Shift) (old new : EntryMap) (k : LedgerKey) (e : LedgerEntry) → IsShifted p q old new
+    → get old k ≡ Some e → (now : LedgerEntry) × (get new k ≡ Some now) × AlikeEntries p q e now
 entry_after p q old new k e h there = entries_of p q (get old k) (get new k) e (h.entries k) there
 
-pub entry_before : (p q : Shift) (old new : EntryMap) (k : LedgerKey) (e : LedgerEntry) → IsShifted p q old new → get new k ≡ Some e → (was : LedgerEntry) × (get old k ≡ Some was) × AlikeEntries p q was e
+pub entry_before : (p q : Shift) (old new : EntryMap) (k : LedgerKey) (e : LedgerEntry) → IsShifted p q old new
+    → get new k ≡ Some e → (was : LedgerEntry) × (get old k ≡ Some was) × AlikeEntries p q was e
 entry_before p q old new k e h there = entries_before p q (get old k) (get new k) e (h.entries k) there
 
 -- ---- no shift
@@ -140,20 +156,26 @@ module _ (p q p' q' : Shift) where
   abbrev pub Agree : AccountId → Type 0
   Agree id = (count : Count) → (p' count id ≡ p count id) × (q' count id ≡ q count id)
 
-  bodies_agree : (a b : LedgerEntryBody) → ((account : AccountEntry) → account_in a ≡ Some account → Agree account.account_id) → AlikeBodies p q a b → AlikeBodies p' q' a b
+  bodies_agree : (a b : LedgerEntryBody) → ((account : AccountEntry) → account_in a ≡ Some account
+      → Agree account.account_id) → AlikeBodies p q a b → AlikeBodies p' q' a b
   bodies_agree (body.Account a) (body.Account b) agree h = record {
     parts = h.parts;
-    counts = λ count. let same = agree a refl count in ap (λ n. count_in count b + n) same.1 ∙ h.counts count ∙ ap (λ n. count_in count a + n) (sym same.0);
+    counts = λ count. let same = agree a refl count in ap (λ n. count_in count b + n) same.1 ∙ h.counts count
+        ∙ ap (λ n. count_in count a + n) (sym same.0);
   }
   bodies_agree (body.Account a) other agree h = absurd h
   bodies_agree other b agree h = h
 
-  pub alike_agree : (x y : Option LedgerEntry) → ((e : LedgerEntry) (account : AccountEntry) → x ≡ Some e → account_in e.body ≡ Some account → Agree account.account_id) → Alike p q x y → Alike p' q' x y
+  pub alike_agree : (x y : Option LedgerEntry) → ((e : LedgerEntry) (account : AccountEntry) → x ≡ Some e
+      → account_in e.body ≡ Some account → Agree account.account_id) → Alike p q x y → Alike p' q' x y
   alike_agree None None agree h = tt
   alike_agree None (Some y) agree h = absurd h
   alike_agree (Some x) None agree h = absurd h
-  alike_agree (Some x) (Some y) agree h = record { sponsor = h.sponsor; bodies = bodies_agree x.body y.body (λ account is. agree x account refl is) h.bodies }
+  alike_agree (Some x) (Some y) agree h = record { sponsor = h.sponsor;
+      bodies = bodies_agree x.body y.body (λ account is. agree x account refl is) h.bodies }
 
-  pub shifted_as : (old new : EntryMap) → ((k : LedgerKey) (e : LedgerEntry) (account : AccountEntry) → get old k ≡ Some e → account_in e.body ≡ Some account → Agree account.account_id)
+  pub shifted_as : (old new : EntryMap) → ((k : LedgerKey) (e : LedgerEntry) (account : AccountEntry)
+      → get old k ≡ Some e → account_in e.body ≡ Some account → Agree account.account_id)
       → IsShifted p q old new → IsShifted p' q' old new
-  shifted_as old new agree h = record { own = h.own; entries = λ k. alike_agree (get old k) (get new k) (agree k) (h.entries k); totals = h.totals }
+  shifted_as old new agree h = record { own = h.own;
+      entries = λ k. alike_agree (get old k) (get new k) (agree k) (h.entries k); totals = h.totals }

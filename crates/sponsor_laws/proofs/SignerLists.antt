@@ -1,5 +1,6 @@
 -- The sponsors of an account's signers, after a signer is added, taken away or given another sponsor.
-use Rattle.std.proofs.Common.{◌≡◌, ◌≢◌, refl, sym, ap, ◌∙◌, ℕ, zero, suc, ◌≤◌, List, [], ◌∷◌, ◌++◌, map, take, drop, get_or, Option, Some, None, slice_set, arith}
+use Rattle.std.proofs.Common.{◌≡◌, ◌≢◌, refl, sym, ap, ◌∙◌, ℕ, zero, suc, ◌≤◌, List, [], ◌∷◌, ◌++◌, map, take, drop}
+use Rattle.std.proofs.Common.{get_or, Option, Some, None, slice_set, arith}
 use Rattle.std.specs.List.{insert, remove, slice_get, take-map, drop-map}
 use Rattle.std.specs.Option.{option_and_then}
 use Rattle.std.proofs.lemmas.List.{map-append}
@@ -8,11 +9,13 @@ use Rattle.ledger_types.specs.declared.signer.Signer.{Signer}
 use Rattle.ledger_types.specs.declared.account.AccountEntry.{AccountEntry}
 use Rattle.ledger_types.specs.declared.account.AccountEntryExtensionV1.{AccountEntryExtensionV1}
 use Rattle.ledger_types.specs.declared.account.AccountEntryExtensionV2.{AccountEntryExtensionV2}
-use Rattle.reserve_rules.specs.Reserve.{second_in, sponsored_in, sponsoring_in}
+use Rattle.entry_slots.specs.AccountExtensions.{second_in, sponsored_in, sponsoring_in, sponsorship_in, signer_sponsor}
+use Rattle.sponsor_rules.specs.Counting.{count_in}
+use Rattle.sponsor_rules.specs.SignerPlace.{with_sponsors, with_sponsors_in, with_signer_at, without_signer}
+use Rattle.sponsor_rules.specs.SignerPlace.{with_signer_sponsor}
 use Rattle.sponsor_rules.specs.declared.count.Count.{Count}
 use Rattle.sponsor_rules.specs.declared.count.Count.TheVariants.{SubEntries, Sponsoring, Sponsored}
-use Rattle.sponsor_rules.specs.Counts.{count_in, sponsorship_in}
-use Rattle.sponsor_rules.specs.Signers.{signer_sponsor, with_sponsors, with_sponsors_in, with_signer_at, without_signer, with_signer_sponsor}
+use Rattle.sponsor_rules.proofs.Keeping.{second_edited}
 use Rattle.sponsor_laws.specs.Sums.{signer_sponsors}
 
 -- ---- lists without sponsors
@@ -23,7 +26,8 @@ none_for signer = None
 abbrev none_each : List Signer → List (Option AccountId)
 none_each signers = map (λ signer. None) signers
 
-none_inserted : (signers : List Signer) (place : ℕ) (signer : Signer) → none_each (insert signers place signer) ≡ insert (none_each signers) place None
+none_inserted : (signers : List Signer) (place : ℕ) (signer : Signer)
+    → none_each (insert signers place signer) ≡ insert (none_each signers) place None
 none_inserted signers place signer = map-append none_for (take place signers) (signer ∷ drop place signers)
     ∙ (λ i. sym (take-map none_for place signers) i ++ None ∷ sym (drop-map none_for place signers) i)
 
@@ -39,50 +43,48 @@ none_set (x ∷ xs) (suc place) = ap (λ ys. None ∷ ys) (none_set xs place)
 -- ---- edited accounts
 
 module _ (change : List (Option AccountId) → List (Option AccountId)) where
-  second_edited : (ext : Option AccountEntryExtensionV1) → second_in (with_sponsors change ext) ≡ with_sponsors_in change (second_in ext)
-  second_edited None = refl
-  second_edited (Some ext) = refl
-
-  ids_edited : (signers more : List Signer) (o : Option AccountEntryExtensionV2) → (o ≡ None → none_each more ≡ change (none_each signers))
-      → (sponsorship_in more (with_sponsors_in change o)).signer_sponsoring_ids ≡ change (sponsorship_in signers o).signer_sponsoring_ids
+  ids_edited : (signers more : List Signer) (o : Option AccountEntryExtensionV2)
+      → (o ≡ None → none_each more ≡ change (none_each signers))
+      → (sponsorship_in more (with_sponsors_in change o)).signer_sponsoring_ids
+          ≡ change (sponsorship_in signers o).signer_sponsoring_ids
   ids_edited signers more None same = same refl
   ids_edited signers more (Some ext) same = refl
 
-  sponsors_edited : (signers more : List Signer) (ext : Option AccountEntryExtensionV1) → (second_in ext ≡ None → none_each more ≡ change (none_each signers))
-      → (sponsorship_in more (second_in (with_sponsors change ext))).signer_sponsoring_ids ≡ change (sponsorship_in signers (second_in ext)).signer_sponsoring_ids
-  sponsors_edited signers more ext same = ap (λ o. (sponsorship_in more o).signer_sponsoring_ids) (second_edited ext) ∙ ids_edited signers more (second_in ext) same
-
-  sponsoring_edited : (o : Option AccountEntryExtensionV2) → sponsoring_in (with_sponsors_in change o) ≡ sponsoring_in o
-  sponsoring_edited None = refl
-  sponsoring_edited (Some ext) = refl
-
-  sponsored_edited : (o : Option AccountEntryExtensionV2) → sponsored_in (with_sponsors_in change o) ≡ sponsored_in o
-  sponsored_edited None = refl
-  sponsored_edited (Some ext) = refl
-
-  pub counts_edited : (count : Count) (a : AccountEntry) (more : List Signer) → count_in count (record a { signers = more; ext = with_sponsors change a.ext }) ≡ count_in count a
-  counts_edited SubEntries a more = refl
-  counts_edited Sponsoring a more = ap sponsoring_in (second_edited a.ext) ∙ sponsoring_edited (second_in a.ext)
-  counts_edited Sponsored a more = ap sponsored_in (second_edited a.ext) ∙ sponsored_edited (second_in a.ext)
+  sponsors_edited : (signers more : List Signer) (ext : Option AccountEntryExtensionV1)
+      → (second_in ext ≡ None → none_each more ≡ change (none_each signers))
+      → (sponsorship_in more (second_in (with_sponsors change ext))).signer_sponsoring_ids
+          ≡ change (sponsorship_in signers (second_in ext)).signer_sponsoring_ids
+  sponsors_edited signers more ext same = ap (λ o. (sponsorship_in more o).signer_sponsoring_ids)
+      (second_edited change ext) ∙ ids_edited signers more (second_in ext) same
 
 -- an account has the extension, where something is paid for it
 extended : (a : AccountEntry) → 1 ≤ count_in Sponsored a → second_in a.ext ≢ None
 extended a le none = let nothing : count_in Sponsored a ≡ 0 = ap sponsored_in none in absurd (omega arith)
 
-pub sponsors_inserted : (place : ℕ) (signer : Signer) (s : Option AccountId) (a : AccountEntry) → (s ≢ None → 1 ≤ count_in Sponsored a) → signer_sponsors (with_signer_at place signer s a) ≡ insert (signer_sponsors a) place s
-sponsors_inserted place signer None a paid = sponsors_edited (λ sponsors. insert sponsors place None) a.signers (insert a.signers place signer) a.ext (λ none. none_inserted a.signers place signer)
-sponsors_inserted place signer (Some s) a paid = sponsors_edited (λ sponsors. insert sponsors place (Some s)) a.signers (insert a.signers place signer) a.ext (λ none. absurd (extended a (paid (λ is. cc)) none))
+pub sponsors_inserted : (place : ℕ) (signer : Signer) (s : Option AccountId) (a : AccountEntry)
+    → (s ≢ None → 1 ≤ count_in Sponsored a) → signer_sponsors (with_signer_at place signer s a)
+        ≡ insert (signer_sponsors a) place s
+sponsors_inserted place signer None a paid = sponsors_edited (λ sponsors. insert sponsors place None) a.signers
+    (insert a.signers place signer) a.ext (λ none. none_inserted a.signers place signer)
+sponsors_inserted place signer (Some s) a paid = sponsors_edited (λ sponsors. insert sponsors place (Some s)) a.signers
+    (insert a.signers place signer) a.ext (λ none. absurd (extended a (paid (λ is. cc)) none))
 
-pub sponsors_removed : (place : ℕ) (a : AccountEntry) → signer_sponsors (without_signer place a) ≡ remove (signer_sponsors a) place
-sponsors_removed place a = sponsors_edited (λ sponsors. remove sponsors place) a.signers (remove a.signers place) a.ext (λ none. none_removed a.signers place)
+pub sponsors_removed : (place : ℕ) (a : AccountEntry)
+    → signer_sponsors (without_signer place a) ≡ remove (signer_sponsors a) place
+sponsors_removed place a = sponsors_edited (λ sponsors. remove sponsors place) a.signers (remove a.signers place) a.ext
+    (λ none. none_removed a.signers place)
 
-pub sponsors_set : (place : ℕ) (s : Option AccountId) (a : AccountEntry) → (s ≢ None → 1 ≤ count_in Sponsored a) → signer_sponsors (with_signer_sponsor place s a) ≡ slice_set (signer_sponsors a) place s
-sponsors_set place None a paid = sponsors_edited (λ sponsors. slice_set sponsors place None) a.signers a.signers a.ext (λ none. none_set a.signers place)
-sponsors_set place (Some s) a paid = sponsors_edited (λ sponsors. slice_set sponsors place (Some s)) a.signers a.signers a.ext (λ none. absurd (extended a (paid (λ is. cc)) none))
+pub sponsors_set : (place : ℕ) (s : Option AccountId) (a : AccountEntry) → (s ≢ None → 1 ≤ count_in Sponsored a)
+    → signer_sponsors (with_signer_sponsor place s a) ≡ slice_set (signer_sponsors a) place s
+sponsors_set place None a paid = sponsors_edited (λ sponsors. slice_set sponsors place None) a.signers a.signers a.ext
+    (λ none. none_set a.signers place)
+sponsors_set place (Some s) a paid = sponsors_edited (λ sponsors. slice_set sponsors place
+    (Some s)) a.signers a.signers a.ext (λ none. absurd (extended a (paid (λ is. cc)) none))
 
 -- ---- the sponsor at a place
 
-at_place : (xs : List (Option AccountId)) (place : ℕ) → option_and_then (λ sponsor. sponsor) (slice_get xs place) ≡ get_or xs place None
+at_place : (xs : List (Option AccountId)) (place : ℕ)
+    → option_and_then (λ sponsor. sponsor) (slice_get xs place) ≡ get_or xs place None
 at_place [] place = refl
 at_place (x ∷ xs) zero = refl
 at_place (x ∷ xs) (suc place) = at_place xs place
@@ -93,7 +95,8 @@ none_at_place (x ∷ xs) zero = refl
 none_at_place (x ∷ xs) (suc place) = none_at_place xs place
 
 sponsor_in_place : (signers : List Signer) (o : Option AccountEntryExtensionV2) (place : ℕ)
-    → option_and_then (λ ext. option_and_then (λ sponsor. sponsor) (slice_get ext.signer_sponsoring_ids place)) o ≡ get_or (sponsorship_in signers o).signer_sponsoring_ids place None
+    → option_and_then (λ ext. option_and_then (λ sponsor. sponsor) (slice_get ext.signer_sponsoring_ids place)) o
+        ≡ get_or (sponsorship_in signers o).signer_sponsoring_ids place None
 sponsor_in_place signers None place = none_at_place signers place
 sponsor_in_place signers (Some ext) place = at_place ext.signer_sponsoring_ids place
 

@@ -10,8 +10,8 @@ use Rattle.ledger_types.specs.declared.key.LedgerKey.{LedgerKey}
 use Rattle.ledger_types.specs.declared.key.LedgerKey.TheVariants as key
 use Rattle.entry_map.specs.EntryMap.{EntryMap}
 use Rattle.sponsor_rules.specs.declared.count.Count.TheVariants.{Sponsoring}
-use Rattle.sponsor_rules.specs.Counts.{multiplicity}
-use Rattle.sponsor_rules.specs.Entries.{sponsor_of}
+use Rattle.entry_slots.specs.EntrySponsor.{sponsor_of}
+use Rattle.sponsor_rules.specs.Charge.{multiplicity}
 use Rattle.sponsor_laws.specs.Sums.{is_this, signer_sponsors, total}
 use Rattle.sponsor_laws.specs.Laws.{SponsoredEntriesCount, ZeroSponsorsNothing}
 use Rattle.sponsor_laws.proofs.Accounts.{own_part, counted_split}
@@ -23,13 +23,15 @@ not_empty : {X : Type 0} (xs : List X) → xs ≢ [] → 1 ≤ length xs
 not_empty [] some = absurd (some refl)
 not_empty (x ∷ xs) some = omega arith
 
-module _ (m : EntryMap) (whole : SponsoredEntriesCount m) (k : LedgerKey) (e : LedgerEntry) (there : get m k ≡ Some e) (id : AccountId) (pays : sponsor_of e ≡ Some id) where
+module _ (m : EntryMap) (whole : SponsoredEntriesCount m) (k : LedgerKey) (e : LedgerEntry) (there : get m k ≡ Some e)
+    (id : AccountId) (pays : sponsor_of e ≡ Some id) where
   sponsored_counts : (b : LedgerEntryBody) → e.body ≡ b → 1 ≤ multiplicity b
   sponsored_counts (body.Account account) is = omega arith
   sponsored_counts (body.TrustLine line) is = counts_once line.asset
   sponsored_counts (body.Offer offer) is = omega arith
   sponsored_counts (body.Data data_entry) is = omega arith
-  sponsored_counts (body.ClaimableBalance balance) is = not_empty balance.claimants (whole.claimants k e balance there is)
+  sponsored_counts (body.ClaimableBalance balance) is =
+      not_empty balance.claimants (whole.claimants k e balance there is)
   sponsored_counts (body.LiquidityPool pool) is = absurd (let none = whole.pools k e pool there is in cc)
 
 pub zero_sponsors : ZeroSponsorsNothing
@@ -46,7 +48,8 @@ zero_sponsors id account m kept whole stands zero =
           let entry = account_entry m of other there in
           let once = counted_once (signer_sponsors other) id has in
           let split = counted_split Sponsoring id entry.0 in
-          let part : own_part Sponsoring id entry.0.body ≡ count_by (is_this id) (signer_sponsors other) = ap (own_part Sponsoring id) (account_body entry.0.body other entry.1.1) in
+          let part : own_part Sponsoring id entry.0.body ≡ count_by (is_this id) (signer_sponsors other) =
+              ap (own_part Sponsoring id) (account_body entry.0.body other entry.1.1) in
           let le = in_total m (key.Account of) entry.0 Sponsoring id entry.1.0 in
           absurd (omega arith);
     }

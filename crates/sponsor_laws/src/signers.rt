@@ -1,9 +1,11 @@
-//! Laws of signers that are added, removed and moved. Each list of signers' sponsors has one item a signer, before and afterwards.
+//! Laws of signers that are added, removed and moved. Each list of signers' sponsors has one item a signer, before and
+//! afterwards.
 
 ghost use Rattle.sponsor_laws.specs.Laws.{AddingSignerKeeps, RemovingSignerKeeps, MovingSignerKeeps};
 
-/// Adding a signer to an account that stands keeps each count equal to its sum, and owners and sponsors standing. The payer stands, and
-/// the account's open sponsor is another account. Whether a signer with that key is there, or 20 are, is not looked at.
+/// Adding a signer to an account that stands keeps each count equal to its sum, and owners and sponsors standing. The
+/// payer stands, and the account's open sponsor is another account. Whether a signer with that key is there, or 20 are,
+/// is not looked at.
 pub fn adding_signers_keeps_sums()
     ensures { AddingSignerKeeps }
 {}
@@ -13,7 +15,8 @@ pub fn removing_signers_keeps_sums()
     ensures { RemovingSignerKeeps }
 {}
 
-/// Moving a signer to a payer that stands, or to its account, keeps each count equal to its sum, and owners and sponsors standing.
+/// Moving a signer to a payer that stands, or to its account, keeps each count equal to its sum, and owners and
+/// sponsors standing.
 pub fn moving_signers_keeps_sums()
     ensures { MovingSignerKeeps }
 {}

@@ -1,37 +1,18 @@
--- A change of one count of an account leaves the other counts, of this account and of all others.
-use Rattle.std.proofs.Common.{◌≡◌, ◌≢◌, ℕ, ◌≤◌, refl, sym, ap, subst, ◌∙◌, arith, Bool, true, false, cond, Option, Some, None, List, nat_eq}
+-- What a change of a count or of a signer leaves of an account.
+use Rattle.std.proofs.Common.{◌≡◌, ◌≢◌, ℕ, ◌≤◌, refl, sym, ap, subst, ◌∙◌, arith, Bool, true, false, cond, Option, Some}
+use Rattle.std.proofs.Common.{None, List, nat_eq}
 use Rattle.std.proofs.lemmas.Bool.{eqb-true}
-use Rattle.std.specs.FinMap.{get, get-insert}
-use Rattle.std.specs.Ordering.{eq_by_cmp}
 use Rattle.ledger_types.specs.declared.ids.AccountId.{AccountId}
 use Rattle.ledger_types.specs.declared.account.AccountEntry.{AccountEntry}
 use Rattle.ledger_types.specs.declared.signer.Signer.{Signer}
+use Rattle.ledger_types.specs.declared.account.AccountEntryExtensionV1.{AccountEntryExtensionV1}
 use Rattle.ledger_types.specs.declared.account.AccountEntryExtensionV2.{AccountEntryExtensionV2}
-use Rattle.ledger_types.specs.declared.entry.LedgerEntry.{LedgerEntry}
-use Rattle.ledger_types.specs.declared.key.LedgerKey.TheVariants as key
-use Rattle.ledger_types.specs.KeyOrder.{key_cmp}
-use Rattle.ledger_types.proofs.KeyOrdering.{keys_total}
-use Rattle.entry_map.specs.EntryMap.{EntryMap, put}
-use Rattle.entry_map.proofs.KeyMaps.{same_keys}
-use Rattle.sponsor_rules.specs.declared.accounts.AccountSlot.{AccountSlot}
 use Rattle.sponsor_rules.specs.declared.count.Count.{Count}
 use Rattle.sponsor_rules.specs.declared.count.Count.TheVariants.{SubEntries, Sponsoring, Sponsored}
-use Rattle.sponsor_rules.specs.Accounts.{account_of, account_at}
-use Rattle.reserve_rules.specs.Reserve.{second_in, sponsored_in, sponsoring_in}
-use Rattle.sponsor_rules.specs.Counts.{count_in, sponsorship_in, with_new_count, with_count, count_if, count_at, lowered}
-use Rattle.sponsor_rules.specs.Keeping.{KeepsOthers, RaisesNone}
-use Rattle.sponsor_rules.specs.Slots.{entry_of}
-
--- ---- accounts after an account's entry is put
-
-account_chosen : (b : Bool) (slot : AccountSlot) (o : Option LedgerEntry) → account_of (cond b (Some (entry_of slot)) o) ≡ cond b (Some slot.account) (account_of o)
-account_chosen true slot o = refl
-account_chosen false slot o = refl
-
-pub account_after : (m : EntryMap) (id : AccountId) (slot : AccountSlot)
-    → account_at (put m (entry_of slot)) id ≡ cond (eq_by_cmp key_cmp (key.Account id) (key.Account slot.account.account_id)) (Some slot.account) (account_at m id)
-unfolding account_at
-account_after m id slot = ap account_of (get-insert keys_total m (key.Account slot.account.account_id) (entry_of slot) (key.Account id)) ∙ account_chosen _ slot (get m (key.Account id))
+use Rattle.entry_slots.specs.AccountExtensions.{liabilities_in, second_in, sponsored_in, sponsoring_in, sponsorship_in}
+use Rattle.sponsor_rules.specs.Counting.{count_in, with_new_count, with_count, with_less}
+use Rattle.sponsor_rules.specs.Keeping.{KeepsMeans, RaisesNoCount}
+use Rattle.sponsor_rules.specs.SignerPlace.{with_sponsors, with_sponsors_in}
 
 -- ---- counts of an account of which one is changed
 
@@ -40,7 +21,8 @@ with_new_count_is SubEntries n a = refl
 with_new_count_is Sponsoring n a = refl
 with_new_count_is Sponsored n a = refl
 
-chosen_is : (b : Bool) (c : Count) (n : ℕ) (a : AccountEntry) → nat_eq n (count_in c a) ≡ b → count_in c (cond b a (with_new_count c n a)) ≡ n
+chosen_is : (b : Bool) (c : Count) (n : ℕ) (a : AccountEntry) → nat_eq n (count_in c a) ≡ b
+    → count_in c (cond b a (with_new_count c n a)) ≡ n
 chosen_is true c n a e = sym (eqb-true n (count_in c a) e)
 chosen_is false c n a e = with_new_count_is c n a
 
@@ -49,15 +31,18 @@ pub with_count_is : (c : Count) (n : ℕ) (a : AccountEntry) → count_in c (wit
 unfolding with_count
 with_count_is c n a = chosen_is (nat_eq n (count_in c a)) c n a refl
 
-same_sponsored : (signers : List Signer) (ext : Option AccountEntryExtensionV2) → (sponsorship_in signers ext).num_sponsored ≡ sponsored_in ext
+same_sponsored : (signers : List Signer) (ext : Option AccountEntryExtensionV2)
+    → (sponsorship_in signers ext).num_sponsored ≡ sponsored_in ext
 same_sponsored signers None = refl
 same_sponsored signers (Some ext) = refl
 
-same_sponsoring : (signers : List Signer) (ext : Option AccountEntryExtensionV2) → (sponsorship_in signers ext).num_sponsoring ≡ sponsoring_in ext
+same_sponsoring : (signers : List Signer) (ext : Option AccountEntryExtensionV2)
+    → (sponsorship_in signers ext).num_sponsoring ≡ sponsoring_in ext
 same_sponsoring signers None = refl
 same_sponsoring signers (Some ext) = refl
 
-with_new_count_keeps : (c other : Count) (n : ℕ) (a : AccountEntry) → other ≢ c → count_in other (with_new_count c n a) ≡ count_in other a
+with_new_count_keeps : (c other : Count) (n : ℕ) (a : AccountEntry) → other ≢ c
+    → count_in other (with_new_count c n a) ≡ count_in other a
 with_new_count_keeps SubEntries SubEntries n a differ = absurd (differ refl)
 with_new_count_keeps Sponsoring Sponsoring n a differ = absurd (differ refl)
 with_new_count_keeps Sponsored Sponsored n a differ = absurd (differ refl)
@@ -68,12 +53,14 @@ with_new_count_keeps Sponsored SubEntries n a differ = refl
 with_new_count_keeps Sponsoring Sponsored n a differ = same_sponsored a.signers (second_in a.ext)
 with_new_count_keeps Sponsored Sponsoring n a differ = same_sponsoring a.signers (second_in a.ext)
 
-chosen_keeps : (b : Bool) (c other : Count) (n : ℕ) (a : AccountEntry) → other ≢ c → count_in other (cond b a (with_new_count c n a)) ≡ count_in other a
+chosen_keeps : (b : Bool) (c other : Count) (n : ℕ) (a : AccountEntry) → other ≢ c
+    → count_in other (cond b a (with_new_count c n a)) ≡ count_in other a
 chosen_keeps true c other n a differ = refl
 chosen_keeps false c other n a differ = with_new_count_keeps c other n a differ
 
 -- the others are as they were
-pub with_count_keeps : (c other : Count) (n : ℕ) (a : AccountEntry) → other ≢ c → count_in other (with_count c n a) ≡ count_in other a
+pub with_count_keeps : (c other : Count) (n : ℕ) (a : AccountEntry) → other ≢ c
+    → count_in other (with_count c n a) ≡ count_in other a
 unfolding with_count
 with_count_keeps c other n a differ = chosen_keeps (nat_eq n (count_in c a)) c other n a differ
 
@@ -82,7 +69,8 @@ with_new_count_named SubEntries n a = refl
 with_new_count_named Sponsoring n a = refl
 with_new_count_named Sponsored n a = refl
 
-chosen_named : (b : Bool) (c : Count) (n : ℕ) (a : AccountEntry) → (cond b a (with_new_count c n a)).account_id ≡ a.account_id
+chosen_named : (b : Bool) (c : Count) (n : ℕ) (a : AccountEntry)
+    → (cond b a (with_new_count c n a)).account_id ≡ a.account_id
 chosen_named true c n a = refl
 chosen_named false c n a = with_new_count_named c n a
 
@@ -90,39 +78,19 @@ with_count_named : (c : Count) (n : ℕ) (a : AccountEntry) → (with_count c n 
 unfolding with_count
 with_count_named c n a = chosen_named (nat_eq n (count_in c a)) c n a
 
--- ---- counts in a map in which an account's entry is put
-
--- what holds of each count of the account that is put, and of the counts that stay, holds of all counts afterwards
-by_account : (m : EntryMap) (id : AccountId) (slot : AccountSlot) (P : ℕ → ℕ → Type 0) (count : Count) (old : AccountEntry)
-    → account_at m slot.account.account_id ≡ Some old → P (count_in count slot.account) (count_in count old) → P (count_at m id count) (count_at m id count)
-    → P (count_at (put m (entry_of slot)) id count) (count_at m id count)
-by_account m id slot P count old stands changed stays =
-    subst (λ o. P (count_if count o) (count_at m id count)) (sym (account_after m id slot)) (by_choice _ refl)
-  where
-    by_choice : (b : Bool) → eq_by_cmp key_cmp (key.Account id) (key.Account slot.account.account_id) ≡ b → P (count_if count (cond b (Some slot.account) (account_at m id))) (count_at m id count)
-    by_choice false e = stays
-    by_choice true e =
-        let same : key.Account id ≡ key.Account slot.account.account_id = same_keys _ _ e in
-        let named : id ≡ slot.account.account_id = cc same in
-        subst (λ o. P (count_in count slot.account) (count_if count o)) (sym (ap (account_at m) named ∙ stands)) changed
-
-pub raise_keeps : (m : EntryMap) (id : AccountId) (old new : AccountSlot) (c : Count) (n : ℕ)
-    → account_at m id ≡ Some old.account → old.account.account_id ≡ id → new.account ≡ with_count c n old.account → KeepsOthers c m (put m (entry_of new))
-raise_keeps m id old new c n stands named is = record {
-  kept = λ other count differ.
-      by_account m other new (λ x y. x ≡ y) count old.account
-      (ap (account_at m) (ap (λ a. a.account_id) is ∙ with_count_named c n old.account ∙ named) ∙ stands)
-      (ap (count_in count) is ∙ with_count_keeps c count n old.account differ) refl;
-}
-
-others_at_most : (c count : Count) (k : ℕ) (a : AccountEntry) → count ≢ c → count_in count (lowered c k a) ≤ count_in count a
-others_at_most c count k a differ = subst (λ n. n ≤ count_in count a) (sym (with_count_keeps c count _ a differ)) (omega arith)
+others_at_most : (c count : Count) (k : ℕ) (a : AccountEntry) → count ≢ c
+    → count_in count (with_less c k a) ≤ count_in count a
+others_at_most c count k a differ = subst (λ n. n ≤ count_in count a) (sym (with_count_keeps c count _ a differ))
+    (omega arith)
 
 -- a lower count raises none
-at_most : (c count : Count) (k : ℕ) (a : AccountEntry) → count_in count (lowered c k a) ≤ count_in count a
-at_most SubEntries SubEntries k a = subst (λ n. n ≤ count_in SubEntries a) (sym (with_count_is SubEntries _ a)) (omega arith)
-at_most Sponsoring Sponsoring k a = subst (λ n. n ≤ count_in Sponsoring a) (sym (with_count_is Sponsoring _ a)) (omega arith)
-at_most Sponsored Sponsored k a = subst (λ n. n ≤ count_in Sponsored a) (sym (with_count_is Sponsored _ a)) (omega arith)
+pub at_most : (c count : Count) (k : ℕ) (a : AccountEntry) → count_in count (with_less c k a) ≤ count_in count a
+at_most SubEntries SubEntries k a = subst (λ n. n ≤ count_in SubEntries a) (sym (with_count_is SubEntries _ a))
+    (omega arith)
+at_most Sponsoring Sponsoring k a = subst (λ n. n ≤ count_in Sponsoring a) (sym (with_count_is Sponsoring _ a))
+    (omega arith)
+at_most Sponsored Sponsored k a = subst (λ n. n ≤ count_in Sponsored a) (sym (with_count_is Sponsored _ a))
+    (omega arith)
 at_most SubEntries Sponsoring k a = others_at_most SubEntries Sponsoring k a (λ e. absurd (cc e))
 at_most SubEntries Sponsored k a = others_at_most SubEntries Sponsored k a (λ e. absurd (cc e))
 at_most Sponsoring SubEntries k a = others_at_most Sponsoring SubEntries k a (λ e. absurd (cc e))
@@ -130,18 +98,101 @@ at_most Sponsoring Sponsored k a = others_at_most Sponsoring Sponsored k a (λ e
 at_most Sponsored SubEntries k a = others_at_most Sponsored SubEntries k a (λ e. absurd (cc e))
 at_most Sponsored Sponsoring k a = others_at_most Sponsored Sponsoring k a (λ e. absurd (cc e))
 
-pub lower_raises_none : (m : EntryMap) (id : AccountId) (old new : AccountSlot) (c : Count) (k : ℕ)
-    → account_at m id ≡ Some old.account → old.account.account_id ≡ id → new.account ≡ lowered c k old.account → RaisesNone m (put m (entry_of new))
-lower_raises_none m id old new c k stands named is = record {
-  low = λ other count.
-      by_account m other new (λ x y. x ≤ y) count old.account
-      (ap (account_at m) (ap (λ a. a.account_id) is ∙ with_count_named c _ old.account ∙ named) ∙ stands)
-      (subst (λ a. count_in count a ≤ count_in count old.account) (sym is) (at_most c count k old.account)) (omega arith);
+-- ---- means
+
+pub means_kept : (a : AccountEntry) → KeepsMeans a a
+means_kept a = record { id = refl; balance = refl; liabilities = refl; seq_num = refl; thresholds = refl; flags = refl }
+
+pub means_kept_twice : (a b c : AccountEntry) → KeepsMeans a b → KeepsMeans b c → KeepsMeans a c
+means_kept_twice a b c g h = record {
+  id = h.id ∙ g.id;
+  balance = h.balance ∙ g.balance;
+  liabilities = h.liabilities ∙ g.liabilities;
+  seq_num = h.seq_num ∙ g.seq_num;
+  thresholds = h.thresholds ∙ g.thresholds;
+  flags = h.flags ∙ g.flags;
 }
 
--- no change raises none, and so do two changes of which none does
-pub raises_none_itself : (m : EntryMap) → RaisesNone m m
-raises_none_itself m = record { low = λ id count. omega arith }
+with_new_count_means : (c : Count) (n : ℕ) (a : AccountEntry) → KeepsMeans a (with_new_count c n a)
+with_new_count_means SubEntries n a = record {
+  id = refl;
+  balance = refl;
+  liabilities = refl;
+  seq_num = refl;
+  thresholds = refl;
+  flags = refl;
+}
+with_new_count_means Sponsoring n a = record {
+  id = refl;
+  balance = refl;
+  liabilities = refl;
+  seq_num = refl;
+  thresholds = refl;
+  flags = refl;
+}
+with_new_count_means Sponsored n a = record {
+  id = refl;
+  balance = refl;
+  liabilities = refl;
+  seq_num = refl;
+  thresholds = refl;
+  flags = refl;
+}
 
-pub raises_none_both : (a b c : EntryMap) → RaisesNone a b → RaisesNone b c → RaisesNone a c
-raises_none_both a b c first second = record { low = λ id count. omega (arith, first.low id count, second.low id count) }
+chosen_means : (b : Bool) (c : Count) (n : ℕ) (a : AccountEntry) → KeepsMeans a (cond b a (with_new_count c n a))
+chosen_means true c n a = means_kept a
+chosen_means false c n a = with_new_count_means c n a
+
+pub with_count_means : (c : Count) (n : ℕ) (a : AccountEntry) → KeepsMeans a (with_count c n a)
+unfolding with_count
+with_count_means c n a = chosen_means (nat_eq n (count_in c a)) c n a
+
+-- ---- what sponsors pay of an account
+
+pub raises_no_count : (a b c : AccountEntry) → RaisesNoCount a b → RaisesNoCount b c → RaisesNoCount a c
+raises_no_count a b c g h count = let first = g count in let second = h count in omega arith
+
+pub raises_no_count_itself : (a : AccountEntry) → RaisesNoCount a a
+raises_no_count_itself a count = omega arith
+
+-- ---- signers
+
+module _ (change : List (Option AccountId) → List (Option AccountId)) where
+  same_liabilities : (ext : Option AccountEntryExtensionV1)
+      → liabilities_in (with_sponsors change ext) ≡ liabilities_in ext
+  same_liabilities None = refl
+  same_liabilities (Some ext) = refl
+
+  pub with_sponsors_means : (a : AccountEntry) (signers : List Signer)
+      → KeepsMeans a (record a { signers = signers; ext = with_sponsors change a.ext })
+  with_sponsors_means a signers = record {
+    id = refl;
+    balance = refl;
+    liabilities = same_liabilities a.ext;
+    seq_num = refl;
+    thresholds = refl;
+    flags = refl;
+  }
+
+  pub second_edited : (ext : Option AccountEntryExtensionV1)
+      → second_in (with_sponsors change ext) ≡ with_sponsors_in change (second_in ext)
+  second_edited None = refl
+  second_edited (Some ext) = refl
+
+  sponsoring_edited : (o : Option AccountEntryExtensionV2) → sponsoring_in (with_sponsors_in change o) ≡ sponsoring_in o
+  sponsoring_edited None = refl
+  sponsoring_edited (Some ext) = refl
+
+  sponsored_edited : (o : Option AccountEntryExtensionV2) → sponsored_in (with_sponsors_in change o) ≡ sponsored_in o
+  sponsored_edited None = refl
+  sponsored_edited (Some ext) = refl
+
+  pub counts_edited : (count : Count) (a : AccountEntry) (more : List Signer)
+      → count_in count (record a { signers = more; ext = with_sponsors change a.ext }) ≡ count_in count a
+  counts_edited SubEntries a more = refl
+  counts_edited Sponsoring a more = ap sponsoring_in (second_edited a.ext) ∙ sponsoring_edited (second_in a.ext)
+  counts_edited Sponsored a more = ap sponsored_in (second_edited a.ext) ∙ sponsored_edited (second_in a.ext)
+
+  pub with_sponsors_raises_none : (a : AccountEntry) (signers : List Signer)
+      → RaisesNoCount a (record a { signers = signers; ext = with_sponsors change a.ext })
+  with_sponsors_raises_none a signers count = let same = counts_edited count a signers in omega arith

@@ -1,2 +1,4 @@
+pub mod Ids
 pub mod Keeping
-pub mod Readiness
+pub mod Outcomes
+pub mod AccountMaps

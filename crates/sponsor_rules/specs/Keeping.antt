@@ -1,10 +1,53 @@
--- What a change of one count leaves of the others.
-use Rattle.std.specs.Prelude.{◌≡◌, ◌≢◌, ℕ, ◌+◌, ◌<◌, ◌≤◌, ◌^◌, Option, Some, None}
+-- What a change of counts and signers leaves.
+use Rattle.std.specs.Prelude.{◌≡◌, ◌≢◌, ℕ, ◌+◌, ◌<◌, ◌≤◌, ◌^◌, Option, Some}
+use Rattle.std.specs.Option.{ForSome}
 use Rattle.ledger_types.specs.declared.ids.AccountId.{AccountId}
+use Rattle.ledger_types.specs.declared.account.AccountEntry.{AccountEntry}
+use Rattle.ledger_types.specs.declared.key.LedgerKey.{LedgerKey}
+use Rattle.ledger_types.specs.declared.key.LedgerKey.TheVariants as key
 use Rattle.entry_map.specs.EntryMap.{EntryMap}
+use Rattle.entry_slots.specs.declared.accounts.AccountSlot.{AccountSlot}
+use Rattle.entry_slots.specs.Accounts.{account_at, account_slot_at, account_of_slot}
+use Rattle.entry_slots.specs.AccountExtensions.{account_liabilities}
 use Rattle.sponsor_rules.specs.declared.count.Count.{Count}
-use Rattle.sponsor_rules.specs.declared.count.Count.TheVariants.{Sponsoring, Sponsored}
-use Rattle.sponsor_rules.specs.Counts.{count_at}
+use Rattle.sponsor_rules.specs.declared.count.Count.TheVariants.{SubEntries, Sponsored}
+use Rattle.sponsor_rules.specs.Counting.{count_in, count_if, count_at}
+
+-- ---- an account
+
+-- an account that is changed: id, balance, liabilities, sequence number, thresholds and flags are as they were
+pub record KeepsMeans (was account : AccountEntry) : Type 0 where
+  pub id : account.account_id ≡ was.account_id
+  pub balance : account.balance ≡ was.balance
+  pub liabilities : account_liabilities account ≡ account_liabilities was
+  pub seq_num : account.seq_num ≡ was.seq_num
+  pub thresholds : account.thresholds ≡ was.thresholds
+  pub flags : account.flags ≡ was.flags
+
+-- the other counts are as they were
+abbrev pub KeepsOtherCounts : Count → (was account : AccountEntry) → Type 0
+KeepsOtherCounts count was account = (other : Count) → other ≢ count → count_in other account ≡ count_in other was
+
+-- no count is higher than it was
+abbrev pub RaisesNoCount : (was account : AccountEntry) → Type 0
+RaisesNoCount was account = (count : Count) → count_in count account ≤ count_in count was
+
+-- k reserves of an account, if it stands, can be added to its subentries, and a sponsor's to those that others pay
+pub record FitsSubentry (k : ℕ) (owner : Option AccountEntry) : Type 0 where
+  pub subentries : count_if SubEntries owner + k < 2 ^ 32
+  pub sponsored : count_if Sponsored owner + k < 2 ^ 32
+
+-- ---- a map
+
+-- what stands under an account's id has changed as R says, if it stands
+abbrev pub IsChanged : (AccountEntry → AccountEntry → Type 0) → EntryMap → AccountId → AccountEntry → Type 0
+IsChanged R m id account = (was : AccountEntry) → account_at m id ≡ Some was → R was account
+
+-- an account that is to stand under an id in place of the one that stands, whose means it has
+pub record IsChangeOf (m : EntryMap) (id : AccountId) (account : AccountEntry) : Type 0 where
+  pub was : AccountEntry
+  pub stands : account_at m id ≡ Some was
+  pub means : KeepsMeans was account
 
 -- the other counts of each account are as they were
 pub record KeepsOthers (count : Count) (old new : EntryMap) : Type 0 where
@@ -14,11 +57,27 @@ pub record KeepsOthers (count : Count) (old new : EntryMap) : Type 0 where
 pub record RaisesNone (old new : EntryMap) : Type 0 where
   pub low : (id : AccountId) (count : Count) → count_at new id count ≤ count_at old id count
 
--- a count of an account can be raised by k
-abbrev pub Fits : EntryMap → AccountId → Count → ℕ → Type 0
-Fits m id count k = count_at m id count + k < 2 ^ 32
+-- all accounts but this one, if it is one, stand as they did
+pub record ChangesAtMost (changed : Option AccountId) (old new : EntryMap) : Type 0 where
+  pub others : (other : AccountId) → changed ≢ Some other → account_slot_at new other ≡ account_slot_at old other
 
--- a sponsor, if there is one, can pay k reserves of the owner
-abbrev pub FitsPaying : ℕ → AccountId → Option AccountId → EntryMap → Type 0
-FitsPaying k owner None m = Unit {0}
-FitsPaying k owner (Some sponsor) m = Fits m owner Sponsored k × Fits m sponsor Sponsoring k
+-- a slot is what stands under an account's id
+pub record IsLoaded (m : EntryMap) (id : AccountId) (slot : Option AccountSlot) : Type 0 where
+  pub slot_is : slot ≡ account_slot_at m id
+  pub account_is : account_at m id ≡ account_of_slot slot
+  pub named : ForSome slot (λ s. s.account.account_id ≡ id)
+
+-- an account that stood stands, with its means
+pub record HasMeans (m : EntryMap) (id : AccountId) (was : AccountEntry) : Type 0 where
+  pub account : AccountEntry
+  pub stands : account_at m id ≡ Some account
+  pub means : KeepsMeans was account
+
+-- Each account that stood stands, and its balance, liabilities, sequence number, thresholds and flags are as they were.
+pub record LeavesBalances (old new : EntryMap) : Type 0 where
+  pub kept : (id : AccountId) (was : AccountEntry) → account_at old id ≡ Some was → HasMeans new id was
+
+-- the same of each account but the one under a key
+pub record LeavesOtherBalances (k : LedgerKey) (old new : EntryMap) : Type 0 where
+  pub kept : (id : AccountId) (was : AccountEntry) → key.Account id ≢ k → account_at old id ≡ Some was
+      → HasMeans new id was

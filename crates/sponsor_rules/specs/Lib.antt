@@ -1,8 +1,11 @@
-pub mod Accounts
-pub mod Slots
-pub mod Counts
-pub mod Keeping
+pub mod Charge
+pub mod Counting
+pub mod Paying
 pub mod Payers
-pub mod Entries
+pub mod Keeping
+pub mod Outcome
+pub mod Adding
+pub mod Removing
+pub mod Moving
+pub mod SignerPlace
 pub mod Signers
-pub mod Answers

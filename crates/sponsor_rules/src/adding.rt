@@ -1,80 +1,75 @@
 //! Adding entries.
 
-ghost use Rattle.std.specs.Prelude.{◌≡◌, ◌≤◌, Some, IfOk};
-ghost use Rattle.ledger_types.specs.declared.entry.LedgerEntryBody.TheVariants.{Account};
-ghost use Rattle.sponsor_rules.specs.declared.count.Count.TheVariants.{Sponsored};
-ghost use Rattle.sponsor_rules.specs.Slots.{entry_of};
-ghost use Rattle.sponsor_rules.specs.Answers.{Answers};
-ghost use Rattle.sponsor_rules.specs.Counts.{line_multiplicity as multiplicity_of, raised};
-ghost use Rattle.sponsor_rules.specs.Entries.{sponsored_by as sponsored_entry, with_sponsor, AreReady, adding, adding_account, adding_balance, adding_subentry};
-ghost use Rattle.sponsor_rules.specs.Payers.{IsReady, IsReadyIf, IsReadyAccount, payer_of, open_sponsor as sponsor_by};
+ghost use Rattle.std.specs.Prelude.{◌≡◌, ◌≤◌, Some, Ok, IfOk, OnOk};
+ghost use Rattle.ledger_types.specs.Keys.{key_of};
+ghost use Rattle.entry_map.specs.EntryMap.{put};
+ghost use Rattle.entry_map.specs.Undo.{with_current};
+ghost use Rattle.entry_slots.specs.Accounts.{account_of_slot, entry_of_account, with_account};
+ghost use Rattle.sponsor_rules.specs.Adding as spec;
+ghost use Rattle.sponsor_rules.specs.Keeping as keeping;
+ghost use Rattle.sponsor_rules.specs.Outcome.{IsOutcome};
+ghost use Rattle.sponsor_rules.specs.Payers as payers;
+ghost use Rattle.sponsor_rules.specs.Paying as paying;
 
-use crate::accounts::{AccountSlot, put_account, taken_apart};
+use crate::charge::{Charge, charge_of};
 use crate::context::Ctx;
 use crate::count::Count;
-use crate::counting::{count_in, raise, set_count};
+use crate::counting::raise;
 use crate::fault::AddFault;
-use crate::paying::count_subentry;
-use crate::sponsor::{open_sponsor, payer, payer_fault, subentry_fault};
+use crate::owner::gain_subentry;
+use crate::payers::{open_sponsor, payer_by, payer_fault};
+use crate::paying::{charge_payer, pay_for_subentry};
+use crate::stored::{load, put_entry, store_changed};
 use entry_map::{Base, Entries};
-use ledger_types::{
-    AccountId, LedgerEntry, LedgerEntryBody, LedgerEntryExtensionV1, TrustLineAsset,
-};
+use entry_slots::{AccountSlot, account_slot_in, set_sponsor, store_account};
+use ledger_types::{AccountId, LedgerEntry, LedgerEntryExtensionV1};
 use std::alloc::AllocError;
 
-/// Adds an entry, for which its owner or that account's open sponsor pays: the counts change, and a sponsor is recorded in the entry.
-/// The `owner` of a claimable balance is the account that makes it. A pool is put without payer. Where it answers one of the first
-/// three faults, nothing has changed.
+/// Adds an entry, for which its owner or that account's open sponsor pays: the counts change, and a sponsor is recorded
+/// in the entry. The `owner` of a claimable balance is the account that makes it. A pool is put without payer. Where it
+/// answers one of the first three faults, nothing has changed.
 pub fn add_entry<B: Base>(
     entries: &mut Entries<'_, B>,
     ctx: &Ctx,
     owner: &AccountId,
     entry: LedgerEntry,
 ) -> Result<(), AddFault>
-    requires { AreReady ctx.now owner.now entry.body entries.old.current }
-    ensures { Answers result entries.old entries.new (adding ctx.now owner.now entry entries.old.current) }
+    requires { spec.AreReady owner.now entry.body entries.old.current }
+    ensures outcome { IsOutcome result entries.old entries.new (
+        spec.map_after_adding ctx.now owner.now entry entries.old.current) }
+    ensures balances { OnOk result (
+        keeping.LeavesOtherBalances (key_of entry) entries.old.current entries.new.current) }
 {
-    match &entry.body {
-        LedgerEntryBody::Account(_) => match taken_apart(entry) {
+    match charge_of(&entry.body) {
+        Charge::Itself { owner: _ } => match account_slot_in(entry) {
             None => Ok(()),
             Some(slot) => add_account(entries, ctx, owner, slot),
         },
-        LedgerEntryBody::TrustLine(line) => {
-            let count = line_multiplicity(&line.asset);
-            add_subentry(entries, ctx, owner, entry, count)
-        }
-        LedgerEntryBody::Offer(_) | LedgerEntryBody::Data(_) => {
-            add_subentry(entries, ctx, owner, entry, 1)
-        }
-        LedgerEntryBody::ClaimableBalance(balance) => {
-            let count = balance.claimants.len() as u64;
-            add_balance(entries, ctx, owner, entry, count)
-        }
-        LedgerEntryBody::LiquidityPool(_) => Ok(entries.put(entry)?),
-    }
-}
-
-/// How often a trust line counts.
-pub fn line_multiplicity(asset: &TrustLineAsset) -> u64
-    ensures { result ≡ multiplicity_of asset.now }
-{
-    match asset {
-        TrustLineAsset::PoolShare(_) => 2,
-        _ => 1,
+        Charge::Subentry { owner: _, count } => add_subentry(entries, ctx, owner, entry, count),
+        Charge::Payer { count } => add_balance(entries, ctx, owner, entry, count),
+        Charge::Nobody => add_pool(entries, entry),
     }
 }
 
 /// The entry with its sponsor, if it has one.
-fn sponsored_by(sponsor: Option<AccountId>, entry: LedgerEntry) -> LedgerEntry
-    ensures { result ≡ sponsored_entry sponsor entry }
+fn sponsored_entry(sponsor: Option<AccountId>, entry: LedgerEntry) -> LedgerEntry
+    ensures sponsored { result ≡ spec.sponsored_entry sponsor entry }
+    ensures named { key_of result ≡ key_of entry }
 {
     let mut entry = entry;
     if sponsor.is_some() {
-        entry.ext = Some(LedgerEntryExtensionV1 {
-            sponsoring_id: sponsor,
-        });
+        set_sponsor(&mut entry, sponsor);
     }
     entry
+}
+
+/// Adds a pool.
+fn add_pool<B: Base>(entries: &mut Entries<'_, B>, entry: LedgerEntry) -> Result<(), AddFault>
+    ensures outcome { IsOutcome result entries.old entries.new (Ok (put entries.old.current entry)) }
+    ensures balances { OnOk result (
+        keeping.LeavesOtherBalances (key_of entry) entries.old.current entries.new.current) }
+{
+    Ok(put_entry(entries, entry)?)
 }
 
 /// Adds a line, an offer or data.
@@ -86,17 +81,40 @@ fn add_subentry<B: Base>(
     count: u64,
 ) -> Result<(), AddFault>
     requires count { count ≤ 2 }
-    requires owner { IsReady entries.old.current owner.now }
-    requires payer { IsReady entries.old.current (payer_of ctx.now owner.now) }
-    ensures { Answers result entries.old entries.new (adding_subentry ctx.now entry owner.now count entries.old.current) }
+    requires owner { payers.IsReady entries.old.current owner.now }
+    ensures outcome { IsOutcome result entries.old entries.new (
+        spec.map_after_adding_subentry ctx.now entry owner.now count entries.old.current) }
+    ensures balances { OnOk result (
+        keeping.LeavesOtherBalances (key_of entry) entries.old.current entries.new.current) }
 {
-    if let Some(fault) = subentry_fault(entries, ctx, owner, count)? {
-        return Err(fault);
-    }
     let sponsor = open_sponsor(ctx, owner);
-    count_subentry(entries, count, owner, &sponsor)?;
-    entries.put(sponsored_by(sponsor, entry))?;
+    let slot = pay_for_subentry(entries, ctx, owner, &sponsor, count)?;
+    count_subentry(entries, count, owner, slot, &sponsor)?;
+    put_entry(entries, sponsored_entry(sponsor, entry))?;
     Ok(())
+}
+
+/// Counts a subentry more for its owner. `slot` is what stands under the owner's id.
+fn count_subentry<B: Base>(
+    entries: &mut Entries<'_, B>,
+    by: u64,
+    owner: &AccountId,
+    slot: Option<AccountSlot>,
+    sponsor: &Option<AccountId>,
+) -> Result<(), AllocError>
+    requires loaded { keeping.IsLoaded entries.old.current owner.now slot }
+    requires fits { keeping.FitsSubentry by (account_of_slot slot) }
+    ensures counted { OnOk result (
+        entries.new ≡
+        with_current entries.old (
+        with_account entries.old.current owner.now (paying.with_subentry by sponsor.now))) }
+    ensures balances { OnOk result (keeping.LeavesBalances entries.old.current entries.new.current) }
+{
+    let Some(mut slot) = slot else {
+        return Ok(());
+    };
+    gain_subentry(&mut slot.account, by, sponsor)?;
+    store_changed(entries, owner, slot)
 }
 
 /// Adds a claimable balance.
@@ -107,15 +125,18 @@ fn add_balance<B: Base>(
     entry: LedgerEntry,
     count: u64,
 ) -> Result<(), AddFault>
-    requires { IsReady entries.old.current (payer_of ctx.now owner.now) }
-    ensures { Answers result entries.old entries.new (adding_balance ctx.now entry (payer_of ctx.now owner.now) count entries.old.current) }
+    ensures outcome { IsOutcome result entries.old entries.new (
+        spec.map_after_adding_balance ctx.now entry (payers.payer_of ctx.now owner.now) count entries.old.current) }
+    ensures balances { OnOk result (
+        keeping.LeavesOtherBalances (key_of entry) entries.old.current entries.new.current) }
 {
-    let payer = payer(owner, open_sponsor(ctx, owner));
-    if let Some(fault) = payer_fault(entries, ctx, &payer, count)? {
+    let payer = payer_by(owner, open_sponsor(ctx, owner));
+    let slot = load(entries, &payer)?;
+    if let Some(fault) = payer_fault(ctx.base_reserve, &slot, count) {
         return Err(fault);
     }
-    raise(entries, Count::Sponsoring, count, &payer)?;
-    entries.put(sponsored_by(Some(payer), entry))?;
+    charge_payer(entries, count, &payer, slot)?;
+    put_entry(entries, sponsored_entry(Some(payer), entry))?;
     Ok(())
 }
 
@@ -126,12 +147,15 @@ fn add_account<B: Base>(
     owner: &AccountId,
     slot: AccountSlot,
 ) -> Result<(), AddFault>
-    requires sponsor { IsReadyIf entries.old.current (sponsor_by ctx.now owner.now) }
-    requires added { IsReadyAccount slot.account }
-    ensures { Answers result entries.old entries.new (adding_account ctx.now (entry_of slot) slot.account (sponsor_by ctx.now owner.now) entries.old.current) }
+    requires { payers.IsReadyAccount slot.account }
+    ensures outcome { IsOutcome result entries.old entries.new (
+        spec.map_after_adding_account ctx.now (entry_of_account slot) slot.account (
+        payers.open_sponsor ctx.now owner.now) entries.old.current) }
+    ensures balances { OnOk result (
+        keeping.LeavesOtherBalances (key_of (entry_of_account slot)) entries.old.current entries.new.current) }
 {
     match open_sponsor(ctx, owner) {
-        Some(sponsor) => add_sponsored_account(entries, ctx, sponsor, slot),
+        Some(sponsor) => add_sponsored_account(entries, ctx, &sponsor, slot),
         None if i128::from(slot.account.balance) < 2 * i128::from(ctx.base_reserve) => {
             Err(AddFault::LowReserve)
         }
@@ -143,32 +167,47 @@ fn add_account<B: Base>(
 fn add_sponsored_account<B: Base>(
     entries: &mut Entries<'_, B>,
     ctx: &Ctx,
-    sponsor: AccountId,
+    sponsor: &AccountId,
     slot: AccountSlot,
 ) -> Result<(), AddFault>
-    requires payer { IsReady entries.old.current sponsor }
-    requires added { IsReadyAccount slot.account }
-    ensures { Answers result entries.old entries.new (adding_account ctx.now (entry_of slot) slot.account (Some sponsor) entries.old.current) }
+    requires { payers.IsReadyAccount slot.account }
+    ensures outcome { IsOutcome result entries.old entries.new (
+        spec.map_after_adding_account ctx.now (entry_of_account slot) slot.account (Some sponsor.now)
+        entries.old.current) }
+    ensures balances { OnOk result (
+        keeping.LeavesOtherBalances (key_of (entry_of_account slot)) entries.old.current entries.new.current) }
 {
-    if let Some(fault) = payer_fault(entries, ctx, &sponsor, 2)? {
+    let payer = load(entries, sponsor)?;
+    if let Some(fault) = payer_fault(ctx.base_reserve, &payer, 2) {
         return Err(fault);
     }
-    raise(entries, Count::Sponsoring, 2, &sponsor)?;
+    charge_payer(entries, 2, sponsor, payer)?;
     let slot = sponsored_account(sponsor, slot)?;
     put_account(entries, slot)?;
     Ok(())
 }
 
+/// Puts an account's entry under its key. No other account changes.
+fn put_account<B: Base>(entries: &mut Entries<'_, B>, slot: AccountSlot) -> Result<(), AllocError>
+    ensures put { OnOk result (
+        entries.new ≡ with_current entries.old (put entries.old.current (entry_of_account slot))) }
+    ensures balances { OnOk result (
+        keeping.LeavesOtherBalances (key_of (entry_of_account slot)) entries.old.current entries.new.current) }
+{
+    store_account(entries, slot)
+}
+
 /// The account's entry with its sponsor, who pays two of its reserves.
-fn sponsored_account(sponsor: AccountId, slot: AccountSlot) -> Result<AccountSlot, AllocError>
-    requires { IsReadyAccount slot.account }
-    ensures { IfOk result (λ new. entry_of new ≡ with_sponsor (Some sponsor) (record (entry_of slot) { body = Account (raised Sponsored 2 slot.account) })) }
+fn sponsored_account(sponsor: &AccountId, slot: AccountSlot) -> Result<AccountSlot, AllocError>
+    requires { payers.IsReadyAccount slot.account }
+    ensures sponsored { IfOk result (λ new.
+        entry_of_account new ≡ spec.sponsored_account_entry sponsor.now (entry_of_account slot) slot.account) }
+    ensures named { IfOk result (λ new. key_of (entry_of_account new) ≡ key_of (entry_of_account slot)) }
 {
     let mut slot = slot;
-    let value = count_in(&slot.account, Count::Sponsored) + 2;
-    set_count(&mut slot.account, Count::Sponsored, value)?;
+    raise(&mut slot.account, Count::Sponsored, 2)?;
     slot.ext = Some(LedgerEntryExtensionV1 {
-        sponsoring_id: Some(sponsor),
+        sponsoring_id: Some(*sponsor),
     });
     Ok(slot)
 }

@@ -3,17 +3,17 @@
 use item_list::ItemList;
 use ledger_types::AccountId;
 
-/// A sponsorship that is open: `sponsor` pays the reserves of what `sponsored` adds (CAP-0033). No account is sponsored twice or by
-/// itself.
-#[derive(Clone, Copy, Debug, PartialEq, Eq)]
+/// A sponsorship that is open: `sponsor` pays the reserves of what `sponsored` adds (CAP-0033). No account is sponsored
+/// twice or by itself.
+#[derive(Clone, Copy)]
 pub struct Sponsorship {
     pub sponsored: AccountId,
     pub sponsor: AccountId,
 }
 
-/// What an operation is applied in: the header's terms, the transaction and the operation that it belongs to, and the sponsorships
-/// that are open.
-#[derive(Debug, PartialEq, Eq, Drop)]
+/// What an operation is applied in: the header's terms, the transaction and the operation that it belongs to, and the
+/// sponsorships that are open.
+#[derive(Drop)]
 pub struct Ctx {
     /// The header's `ledger_seq`.
     pub seq: u32,

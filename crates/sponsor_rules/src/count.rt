@@ -1,7 +1,7 @@
 //! The counts that an account's reserve comes from.
 
 /// A count of an account (CAP-0033).
-#[derive(Clone, Copy, Debug, PartialEq, Eq)]
+#[derive(Clone, Copy)]
 pub enum Count {
     /// `num_sub_entries`: how many trust lines, offers, data and signers it has.
     SubEntries,

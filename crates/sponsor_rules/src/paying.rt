@@ -1,90 +1,240 @@
-//! Changes of who pays how many reserves.
+//! Payers that are tested, charged and released.
 
-ghost use Rattle.std.specs.Prelude.{◌≡◌, OnOk};
+ghost use Rattle.std.specs.Prelude.{◌≡◌, ◌+◌, ◌<◌, ◌≤◌, ◌^◌, Some, None, OnOk, IfOk, IfErr};
 ghost use Rattle.entry_map.specs.Undo.{with_current};
-ghost use Rattle.sponsor_rules.specs.declared.count.Count.TheVariants.{SubEntries};
-ghost use Rattle.sponsor_rules.specs.Counts.{sponsor_paying, sponsor_released, subentry_counted, subentry_released, payer_released};
-ghost use Rattle.sponsor_rules.specs.Keeping.{RaisesNone, Fits, FitsPaying};
+ghost use Rattle.entry_slots.specs.Accounts.{account_of_slot};
+ghost use Rattle.entry_slots.specs.Tests.{first_fault};
+ghost use Rattle.sponsor_rules.specs.declared.count.Count.TheVariants.{Sponsoring, Sponsored};
+ghost use Rattle.ledger_types.specs.declared.ids.AccountId.{AccountId as AnId};
+ghost use Rattle.sponsor_rules.specs.Counting.{count_at, count_if};
+ghost use Rattle.sponsor_rules.specs.Keeping as keeping;
+ghost use Rattle.sponsor_rules.specs.Outcome.{IsFound};
+ghost use Rattle.sponsor_rules.specs.Payers as payers;
+ghost use Rattle.sponsor_rules.specs.Paying as spec;
 
+use crate::context::Ctx;
 use crate::count::Count;
 use crate::counting::{lower, raise};
+use crate::fault::AddFault;
+use crate::payers::{is_short, payer_fault, subentry_fault};
+use crate::stored::{load, still_loaded, store_changed};
 use entry_map::{Base, Entries};
+use entry_slots::AccountSlot;
 use ledger_types::AccountId;
 use std::alloc::AllocError;
 
-/// A sponsor, if there is one, pays `by` reserves of the owner.
-pub fn start_paying<B: Base>(
+/// A sponsor pays `by` reserves more. `slot` is what stands under its id.
+pub fn charge_payer<B: Base>(
     entries: &mut Entries<'_, B>,
     by: u64,
-    owner: &AccountId,
-    sponsor: &Option<AccountId>,
+    sponsor: &AccountId,
+    slot: Option<AccountSlot>,
 ) -> Result<(), AllocError>
-    requires { FitsPaying by owner.now sponsor.now entries.old.current }
-    ensures { OnOk result (entries.new ≡ with_current entries.old (sponsor_paying by owner.now sponsor.now entries.old.current)) }
+    requires loaded { keeping.IsLoaded entries.old.current sponsor.now slot }
+    requires fits { count_if Sponsoring (account_of_slot slot) + by < 2 ^ 32 }
+    ensures charged { OnOk result (
+        entries.new ≡ with_current entries.old (spec.map_after_charging by (Some sponsor.now) entries.old.current)) }
+    ensures kept { OnOk result (keeping.KeepsOthers Sponsoring entries.old.current entries.new.current) }
+    ensures others { OnOk result (keeping.ChangesAtMost (Some sponsor.now) entries.old.current entries.new.current) }
+    ensures balances { OnOk result (keeping.LeavesBalances entries.old.current entries.new.current) }
 {
-    let Some(sponsor) = sponsor else {
+    let Some(mut slot) = slot else {
         return Ok(());
     };
-    raise(entries, Count::Sponsored, by, owner)?;
-    raise(entries, Count::Sponsoring, by, sponsor)
+    raise(&mut slot.account, Count::Sponsoring, by)?;
+    store_changed(entries, sponsor, slot)
 }
 
-/// A sponsor, if there is one, no longer pays `by` reserves of the owner.
-pub fn stop_paying<B: Base>(
-    entries: &mut Entries<'_, B>,
-    by: u64,
-    owner: &AccountId,
-    sponsor: &Option<AccountId>,
-) -> Result<(), AllocError>
-    ensures stopped { OnOk result (entries.new ≡ with_current entries.old (sponsor_released by owner.now sponsor.now entries.old.current)) }
-    ensures low { OnOk result (RaisesNone entries.old.current entries.new.current) }
-{
-    let Some(sponsor) = sponsor else {
-        return Ok(());
-    };
-    lower(entries, Count::Sponsored, by, owner)?;
-    lower(entries, Count::Sponsoring, by, sponsor)
-}
-
-/// A sponsor, if there is one, no longer pays `by` reserves of something without an owner.
+/// A sponsor, if there is one, pays `by` reserves less.
 pub fn release_payer<B: Base>(
     entries: &mut Entries<'_, B>,
     by: u64,
     sponsor: &Option<AccountId>,
 ) -> Result<(), AllocError>
-    ensures released { OnOk result (entries.new ≡ with_current entries.old (payer_released by sponsor.now entries.old.current)) }
-    ensures low { OnOk result (RaisesNone entries.old.current entries.new.current) }
+    ensures released { OnOk result (
+        entries.new ≡ with_current entries.old (spec.map_after_releasing by sponsor.now entries.old.current)) }
+    ensures low { OnOk result (keeping.RaisesNone entries.old.current entries.new.current) }
+    ensures others { OnOk result (keeping.ChangesAtMost sponsor.now entries.old.current entries.new.current) }
+    ensures balances { OnOk result (keeping.LeavesBalances entries.old.current entries.new.current) }
 {
     match sponsor {
         None => Ok(()),
-        Some(sponsor) => lower(entries, Count::Sponsoring, by, sponsor),
+        Some(sponsor) => release_sponsor(entries, by, sponsor),
     }
 }
 
-/// The owner has a subentry more, which counts `by` times.
-pub fn count_subentry<B: Base>(
+/// A sponsor pays `by` reserves less.
+fn release_sponsor<B: Base>(
     entries: &mut Entries<'_, B>,
     by: u64,
-    owner: &AccountId,
-    sponsor: &Option<AccountId>,
+    sponsor: &AccountId,
 ) -> Result<(), AllocError>
-    requires owner { Fits entries.old.current owner.now SubEntries by }
-    requires sponsor { FitsPaying by owner.now sponsor.now entries.old.current }
-    ensures { OnOk result (entries.new ≡ with_current entries.old (subentry_counted by owner.now sponsor.now entries.old.current)) }
+    ensures released { OnOk result (
+        entries.new ≡ with_current entries.old (spec.map_after_releasing by (Some sponsor.now) entries.old.current)) }
+    ensures low { OnOk result (keeping.RaisesNone entries.old.current entries.new.current) }
+    ensures others { OnOk result (keeping.ChangesAtMost (Some sponsor.now) entries.old.current entries.new.current) }
+    ensures balances { OnOk result (keeping.LeavesBalances entries.old.current entries.new.current) }
 {
-    raise(entries, Count::SubEntries, by, owner)?;
-    start_paying(entries, by, owner, sponsor)
+    let Some(mut slot) = load(entries, sponsor)? else {
+        return Ok(());
+    };
+    lower(&mut slot.account, Count::Sponsoring, by)?;
+    store_changed(entries, sponsor, slot)
 }
 
-/// The owner has a subentry less.
-pub fn release_subentry<B: Base>(
+/// Tests whether an account can have a subentry more, and charges the sponsor, if there is one. It gives what then
+/// stands under the owner's id.
+pub fn pay_for_subentry<B: Base>(
     entries: &mut Entries<'_, B>,
-    by: u64,
+    ctx: &Ctx,
     owner: &AccountId,
     sponsor: &Option<AccountId>,
-) -> Result<(), AllocError>
-    ensures { OnOk result (entries.new ≡ with_current entries.old (subentry_released by owner.now sponsor.now entries.old.current)) }
+    count: u64,
+) -> Result<Option<AccountSlot>, AddFault>
+    requires count { count ≤ 2 }
+    requires sponsor { sponsor.now ≡ payers.open_sponsor ctx.now owner.now }
+    requires owner { payers.IsReady entries.old.current owner.now }
+    ensures refused { IfErr result (λ fault.
+        IsFound fault entries.old entries.new (
+        first_fault (payers.subentry_tests ctx.now entries.old.current owner.now count))) }
+    ensures passed { OnOk result (
+        first_fault (payers.subentry_tests ctx.now entries.old.current owner.now count) ≡ None) }
+    ensures charged { OnOk result (
+        entries.new ≡ with_current entries.old (spec.map_after_charging count sponsor.now entries.old.current)) }
+    ensures loaded { IfOk result (keeping.IsLoaded entries.new.current owner.now) }
+    ensures fits { IfOk result (λ slot. keeping.FitsSubentry count (account_of_slot slot)) }
+    ensures balances { OnOk result (keeping.LeavesBalances entries.old.current entries.new.current) }
 {
-    lower(entries, Count::SubEntries, by, owner)?;
-    stop_paying(entries, by, owner, sponsor)
+    let slot = load(entries, owner)?;
+    match sponsor {
+        None => match subentry_fault(ctx.base_reserve, &slot, &slot, count) {
+            Some(fault) => Err(fault),
+            None => Ok(slot),
+        },
+        Some(sponsor) => charge_sponsor(entries, ctx, owner, slot, sponsor, count),
+    }
+}
+
+/// Tests whether an account can have a subentry more for which another one pays, and charges that one.
+fn charge_sponsor<B: Base>(
+    entries: &mut Entries<'_, B>,
+    ctx: &Ctx,
+    owner: &AccountId,
+    slot: Option<AccountSlot>,
+    sponsor: &AccountId,
+    count: u64,
+) -> Result<Option<AccountSlot>, AddFault>
+    requires count { count ≤ 2 }
+    requires sponsor { payers.payer_of ctx.now owner.now ≡ sponsor.now }
+    requires owner { payers.IsReady entries.old.current owner.now }
+    requires loaded { keeping.IsLoaded entries.old.current owner.now slot }
+    ensures refused { IfErr result (λ fault.
+        IsFound fault entries.old entries.new (
+        first_fault (payers.subentry_tests ctx.now entries.old.current owner.now count))) }
+    ensures passed { OnOk result (
+        first_fault (payers.subentry_tests ctx.now entries.old.current owner.now count) ≡ None) }
+    ensures charged { OnOk result (
+        entries.new ≡ with_current entries.old (spec.map_after_charging count (Some sponsor.now) entries.old.current)) }
+    ensures loaded { IfOk result (keeping.IsLoaded entries.new.current owner.now) }
+    ensures fits { IfOk result (λ slot. keeping.FitsSubentry count (account_of_slot slot)) }
+    ensures balances { OnOk result (keeping.LeavesBalances entries.old.current entries.new.current) }
+{
+    let payer = load(entries, sponsor)?;
+    if let Some(fault) = subentry_fault(ctx.base_reserve, &slot, &payer, count) {
+        return Err(fault);
+    }
+    charge_payer(entries, count, sponsor, payer)?;
+    Ok(still_loaded(entries, owner, slot, &Some(*sponsor))?)
+}
+
+/// Tests whether another sponsor, or the owner, can pay for something, releases the old sponsor, and charges the new
+/// one. It gives what then stands under the owner's id.
+pub fn exchange_payers<B: Base>(
+    entries: &mut Entries<'_, B>,
+    ctx: &Ctx,
+    owner: &AccountId,
+    count: u64,
+    old: &Option<AccountId>,
+    new: &Option<AccountId>,
+) -> Result<Option<AccountSlot>, AddFault>
+    requires count { count ≤ 2 }
+    requires owner { payers.IsReady entries.old.current owner.now }
+    ensures refused { IfErr result (λ fault.
+        IsFound fault entries.old entries.new (
+        first_fault (payers.move_tests ctx.now entries.old.current owner.now new.now count))) }
+    ensures passed { OnOk result (
+        first_fault (payers.move_tests ctx.now entries.old.current owner.now new.now count) ≡ None) }
+    ensures charged { OnOk result (
+        entries.new ≡
+        with_current entries.old (spec.map_after_exchange count old.now new.now entries.old.current)) }
+    ensures loaded { IfOk result (keeping.IsLoaded entries.new.current owner.now) }
+    ensures fits { IfOk result (λ slot. count_if Sponsored (account_of_slot slot) + count < 2 ^ 32) }
+    ensures balances { OnOk result (keeping.LeavesBalances entries.old.current entries.new.current) }
+{
+    match new {
+        None => release_to_owner(entries, ctx, owner, count, old),
+        Some(new) => {
+            exchange_sponsors(entries, ctx, count, old, new)?;
+            Ok(load(entries, owner)?)
+        }
+    }
+}
+
+/// Tests whether the owner can pay for something itself, and releases the sponsor, if there is one.
+fn release_to_owner<B: Base>(
+    entries: &mut Entries<'_, B>,
+    ctx: &Ctx,
+    owner: &AccountId,
+    count: u64,
+    old: &Option<AccountId>,
+) -> Result<Option<AccountSlot>, AddFault>
+    requires count { count ≤ 2 }
+    requires owner { payers.IsReady entries.old.current owner.now }
+    ensures refused { IfErr result (λ fault.
+        IsFound fault entries.old entries.new (
+        first_fault (payers.move_tests ctx.now entries.old.current owner.now None count))) }
+    ensures passed { OnOk result (
+        first_fault (payers.move_tests ctx.now entries.old.current owner.now None count) ≡ None) }
+    ensures released { OnOk result (
+        entries.new ≡ with_current entries.old (spec.map_after_releasing count old.now entries.old.current)) }
+    ensures loaded { IfOk result (keeping.IsLoaded entries.new.current owner.now) }
+    ensures fits { IfOk result (λ slot. count_if Sponsored (account_of_slot slot) + count < 2 ^ 32) }
+    ensures balances { OnOk result (keeping.LeavesBalances entries.old.current entries.new.current) }
+{
+    let slot = load(entries, owner)?;
+    if is_short(ctx.base_reserve, &slot, count) {
+        return Err(AddFault::LowReserve);
+    }
+    release_payer(entries, count, old)?;
+    Ok(still_loaded(entries, owner, slot, old)?)
+}
+
+/// Tests whether another sponsor can pay for something, releases the old one, if there was one, and charges the new
+/// one.
+pub fn exchange_sponsors<B: Base>(
+    entries: &mut Entries<'_, B>,
+    ctx: &Ctx,
+    count: u64,
+    old: &Option<AccountId>,
+    new: &AccountId,
+) -> Result<(), AddFault>
+    ensures refused { IfErr result (λ fault.
+        IsFound fault entries.old entries.new (
+        first_fault (payers.payer_tests ctx.now entries.old.current new.now count))) }
+    ensures passed { OnOk result (first_fault (payers.payer_tests ctx.now entries.old.current new.now count) ≡ None) }
+    ensures charged { OnOk result (
+        entries.new ≡
+        with_current entries.old (spec.map_after_exchange count old.now (Some new.now) entries.old.current)) }
+    ensures kept { OnOk result (
+        (id : AnId) → count_at entries.new.current id Sponsored ≤ count_at entries.old.current id Sponsored) }
+    ensures balances { OnOk result (keeping.LeavesBalances entries.old.current entries.new.current) }
+{
+    let payer = load(entries, new)?;
+    if let Some(fault) = payer_fault(ctx.base_reserve, &payer, count) {
+        return Err(fault);
+    }
+    release_payer(entries, count, old)?;
+    let payer = still_loaded(entries, new, payer, old)?;
+    charge_payer(entries, count, new, payer)?;
+    Ok(())
 }

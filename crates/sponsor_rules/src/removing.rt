@@ -2,59 +2,93 @@
 
 ghost use Rattle.std.specs.Prelude.{◌≡◌, OnOk};
 ghost use Rattle.entry_map.specs.Undo.{with_current};
-ghost use Rattle.sponsor_rules.specs.Entries.{sponsor_in as sponsor_by, released, removing};
+ghost use Rattle.entry_slots.specs.Accounts.{with_account};
+ghost use Rattle.sponsor_rules.specs.Keeping as keeping;
+ghost use Rattle.sponsor_rules.specs.Paying as paying;
+ghost use Rattle.sponsor_rules.specs.Removing as spec;
 
-use crate::adding::line_multiplicity;
+use crate::charge::{Charge, charge_of};
 use crate::context::Ctx;
-use crate::paying::{release_payer, release_subentry};
+use crate::owner::lose_subentry;
+use crate::paying::release_payer;
+use crate::stored::{erase_entry, load, store_changed};
 use entry_map::{Base, Entries};
-use ledger_types::{AccountId, LedgerEntryBody, LedgerEntryExtensionV1, LedgerKey};
+use entry_slots::sponsor_in;
+use ledger_types::{AccountId, LedgerKey};
 use std::alloc::AllocError;
 
-/// Removes the entry with a key: the counts of its owner and of its sponsor fall. Nothing changes where there is no such entry.
+/// Removes the entry with a key: the counts of its owner and of its sponsor fall. Nothing changes where there is no
+/// such entry.
 pub fn remove_entry<B: Base>(
     entries: &mut Entries<'_, B>,
     _ctx: &Ctx,
     key: &LedgerKey,
 ) -> Result<(), AllocError>
-    ensures { OnOk result (entries.new ≡ with_current entries.old (removing key.now entries.old.current)) }
+    ensures removed { OnOk result (
+        entries.new ≡ with_current entries.old (spec.map_after_removing key.now entries.old.current)) }
+    ensures low { OnOk result (keeping.RaisesNone entries.old.current entries.new.current) }
+    ensures balances { OnOk result (keeping.LeavesOtherBalances key.now entries.old.current entries.new.current) }
 {
     let Some(entry) = entries.get(key)? else {
         return Ok(());
     };
-    release(entries, &entry.body, &sponsor_in(&entry.ext))?;
-    entries.erase(key)
+    release(entries, charge_of(&entry.body), &sponsor_in(&entry.ext))?;
+    erase_entry(entries, key)
 }
 
-/// Who pays the entry's reserve in its owner's place, if somebody does.
-pub fn sponsor_in(ext: &Option<LedgerEntryExtensionV1>) -> Option<AccountId>
-    ensures { result ≡ sponsor_by ext.now }
-{
-    match ext {
-        None => None,
-        Some(ext) => ext.sponsoring_id,
-    }
-}
-
-/// Lowers the counts of an entry's owner and of its sponsor.
+/// Lowers the counts of a thing's owner and of its sponsor.
 fn release<B: Base>(
     entries: &mut Entries<'_, B>,
-    body: &LedgerEntryBody,
+    charge: Charge,
     sponsor: &Option<AccountId>,
 ) -> Result<(), AllocError>
-    ensures { OnOk result (entries.new ≡ with_current entries.old (released body.now sponsor.now entries.old.current)) }
+    ensures released { OnOk result (
+        entries.new ≡ with_current entries.old (spec.map_after_release charge sponsor.now entries.old.current)) }
+    ensures low { OnOk result (keeping.RaisesNone entries.old.current entries.new.current) }
+    ensures balances { OnOk result (keeping.LeavesBalances entries.old.current entries.new.current) }
 {
-    match body {
-        LedgerEntryBody::Account(_) => release_payer(entries, 2, sponsor),
-        LedgerEntryBody::TrustLine(line) => {
-            let count = line_multiplicity(&line.asset);
-            release_subentry(entries, count, &line.account_id, sponsor)
-        }
-        LedgerEntryBody::Offer(offer) => release_subentry(entries, 1, &offer.seller_id, sponsor),
-        LedgerEntryBody::Data(entry) => release_subentry(entries, 1, &entry.account_id, sponsor),
-        LedgerEntryBody::ClaimableBalance(balance) => {
-            release_payer(entries, balance.claimants.len() as u64, sponsor)
-        }
-        LedgerEntryBody::LiquidityPool(_) => Ok(()),
+    match charge {
+        Charge::Itself { owner: _ } => release_payer(entries, 2, sponsor),
+        Charge::Subentry { owner, count } => release_subentry(entries, count, &owner, sponsor),
+        Charge::Payer { count } => release_payer(entries, count, sponsor),
+        Charge::Nobody => Ok(()),
     }
+}
+
+/// Counts a subentry less for its owner and for its sponsor.
+fn release_subentry<B: Base>(
+    entries: &mut Entries<'_, B>,
+    by: u64,
+    owner: &AccountId,
+    sponsor: &Option<AccountId>,
+) -> Result<(), AllocError>
+    ensures released { OnOk result (
+        entries.new ≡
+        with_current entries.old (spec.map_after_discounting owner.now by sponsor.now entries.old.current)) }
+    ensures low { OnOk result (keeping.RaisesNone entries.old.current entries.new.current) }
+    ensures balances { OnOk result (keeping.LeavesBalances entries.old.current entries.new.current) }
+{
+    release_payer(entries, by, sponsor)?;
+    discount_subentry(entries, by, owner, sponsor)
+}
+
+/// Counts a subentry less for its owner.
+fn discount_subentry<B: Base>(
+    entries: &mut Entries<'_, B>,
+    by: u64,
+    owner: &AccountId,
+    sponsor: &Option<AccountId>,
+) -> Result<(), AllocError>
+    ensures discounted { OnOk result (
+        entries.new ≡
+        with_current entries.old (
+        with_account entries.old.current owner.now (paying.without_subentry by sponsor.now))) }
+    ensures low { OnOk result (keeping.RaisesNone entries.old.current entries.new.current) }
+    ensures balances { OnOk result (keeping.LeavesBalances entries.old.current entries.new.current) }
+{
+    let Some(mut slot) = load(entries, owner)? else {
+        return Ok(());
+    };
+    lose_subentry(&mut slot.account, by, sponsor)?;
+    store_changed(entries, owner, slot)
 }

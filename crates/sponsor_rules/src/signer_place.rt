@@ -1,44 +1,32 @@
 //! Where signers stand, and who pays for them.
 
 ghost use Rattle.std.specs.Prelude.{◌≡◌, ◌≤◌, length};
-ghost use Rattle.sponsor_rules.specs.Signers.{signer_key_cmp, signer_key_kind, place_for as place_behind, place_of as place_in, signer_sponsor as sponsor_at};
+ghost use Rattle.ledger_types.specs.KeyOrder.{signer_key_cmp};
+ghost use Rattle.entry_slots.specs.Accounts.{account_of_slot};
+ghost use Rattle.sponsor_rules.specs.SignerPlace as spec;
 
-use ledger_types::{AccountEntry, AccountId, Signer, SignerKey};
+use entry_slots::{AccountSlot, signer_sponsor};
+use ledger_types::{AccountId, Signer, SignerKey};
 use std::cmp::Ordering;
 
 /// Where a signer stands among those of its account, and who pays its reserve in the account's place.
-#[derive(Clone, Copy, Debug, PartialEq, Eq)]
+#[derive(Clone, Copy)]
 pub struct FoundSigner {
     pub place: usize,
     pub sponsor: Option<AccountId>,
 }
 
 /// The order of signers' keys: by arm, and then by bytes.
+#[tactic(auto, using(ledger_types::proofs::KeyOrdering::signer_key_laws))]
 fn compare(a: &SignerKey, b: &SignerKey) -> Ordering
     ensures { result ≡ signer_key_cmp a.now b.now }
 {
-    match (a, b) {
-        (SignerKey::Ed25519(a), SignerKey::Ed25519(b)) => a.cmp(b),
-        (SignerKey::PreAuthTx(a), SignerKey::PreAuthTx(b)) => a.0.cmp(&b.0),
-        (SignerKey::HashX(a), SignerKey::HashX(b)) => a.0.cmp(&b.0),
-        (a, b) => kind(a).cmp(&kind(b)),
-    }
-}
-
-/// The arm of a key.
-fn kind(key: &SignerKey) -> u8
-    ensures { result ≡ signer_key_kind key.now }
-{
-    match key {
-        SignerKey::Ed25519(_) => 0,
-        SignerKey::PreAuthTx(_) => 1,
-        SignerKey::HashX(_) => 2,
-    }
+    a.cmp(b)
 }
 
 /// Where a new signer with this key stands: behind those with lower keys.
 pub fn place_for(key: &SignerKey, signers: &[Signer]) -> usize
-    ensures place { result ≡ place_behind key.now signers.now }
+    ensures place { result ≡ spec.place_for key.now signers.now }
     ensures within { result ≤ length signers.now }
 {
     match signers {
@@ -50,22 +38,27 @@ pub fn place_for(key: &SignerKey, signers: &[Signer]) -> usize
 }
 
 /// Where the signer with this key stands.
-#[tactic(auto, unfolding(crate::specs::Signers::place_of))]
-pub fn place_of(key: &SignerKey, signers: &[Signer]) -> Option<usize>
-    ensures { result ≡ place_in key.now signers.now }
+#[tactic(auto, unfolding(crate::specs::SignerPlace::place_of))]
+fn place_of(key: &SignerKey, signers: &[Signer]) -> Option<usize>
+    ensures { result ≡ spec.place_of key.now signers.now }
 {
     signers
         .iter()
         .position(|signer| compare(&signer.key, key) == Ordering::Equal)
 }
 
-/// Who pays the reserve of the signer at a place, if somebody does.
-pub fn signer_sponsor(account: &AccountEntry, place: usize) -> Option<AccountId>
-    ensures { result ≡ sponsor_at account.now place }
+/// Where the signer with a key stands among those of an account, and who pays for it.
+pub fn found_signer(key: &SignerKey, slot: &Option<AccountSlot>) -> Option<FoundSigner>
+    ensures { result ≡ spec.found_signer key.now (account_of_slot slot.now) }
 {
-    let sponsorship = account.ext.as_ref()?.ext.as_ref()?;
-    match sponsorship.signer_sponsoring_ids.as_slice().get(place) {
-        Some(sponsor) => *sponsor,
+    let Some(slot) = slot else {
+        return None;
+    };
+    match place_of(key, slot.account.signers.as_slice()) {
         None => None,
+        Some(place) => Some(FoundSigner {
+            place,
+            sponsor: signer_sponsor(&slot.account, place),
+        }),
     }
 }

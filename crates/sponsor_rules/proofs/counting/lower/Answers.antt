@@ -1,20 +1,16 @@
-use Rattle.std.proofs.Common.{rules, ◌≡◌, sym, subst, Some}
-use Rattle.sponsor_rules.specs.Accounts.{account_at}
-use Rattle.sponsor_rules.specs.Counts.{lowered}
-use Rattle.std.proofs.lemmas.Result.{on_ok_weaker}
-use Rattle.sponsor_rules.specs.Keeping.{RaisesNone}
-use Rattle.sponsor_rules.proofs.Keeping.{lower_raises_none, raises_none_itself}
+use Rattle.std.proofs.Common.{rules, ◌≡◌, sym, subst}
+use Rattle.sponsor_rules.specs.Counting.{with_less}
+use Rattle.sponsor_rules.specs.Keeping.{KeepsMeans, RaisesNoCount}
+use Rattle.sponsor_rules.proofs.Keeping.{at_most, with_count_means}
 use Rattle.sponsor_rules.proofs.counting.lower.Goals as goal
 
 pub returns-clause-low : goal.returns-clause-low
-returns-clause-low g c =
-    let named : c.in-Some.slot.account.account_id ≡ c.args.id.now = search rules in
-    let stands : account_at c.args.entries.now.current c.args.id.now ≡ Some c.in-Some.slot.account = search rules in
-    let changed : c.set_count.new.account ≡ lowered c.args.count c.args.by c.in-Some.slot.account = search rules in
-    on_ok_weaker c.put_account.result
-    (λ is. subst (λ u. RaisesNone c.args.entries.now.current u.current) (sym is)
-    (lower_raises_none c.args.entries.now.current c.args.id.now c.in-Some.slot (record c.in-Some.slot { account = c.set_count.new.account }) c.args.count c.args.by stands named changed))
-    c.put_account.ensures
+returns-clause-low c =
+    let changed : c.set_count.new.account ≡ with_less c.args.count c.args.by c.args.account.now = search rules in
+    subst (RaisesNoCount c.args.account.now) (sym changed)
+    (λ count. at_most c.args.count count c.args.by c.args.account.now)
 
-pub returns-in_default-clause-low : goal.returns-in_default-clause-low
-returns-in_default-clause-low g c = raises_none_itself c.args.entries.now.current
+pub returns-clause-means : goal.returns-clause-means
+returns-clause-means c =
+    let changed : c.set_count.new.account ≡ with_less c.args.count c.args.by c.args.account.now = search rules in
+    subst (KeepsMeans c.args.account.now) (sym changed) (with_count_means c.args.count _ c.args.account.now)

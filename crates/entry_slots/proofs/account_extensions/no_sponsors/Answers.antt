@@ -1,0 +1,25 @@
+use Rattle.std.proofs.Common.{◌≡◌, ℕ, suc, ◌+◌, ◌<◌, sym, ap, ◌∙◌, arith, None, Option, map, take, length, List, []}
+use Rattle.std.proofs.Common.{◌∷◌, ◌++◌}
+use Rattle.std.proofs.Math.Seq.{take-suc}
+use Rattle.std.proofs.lemmas.List.{map-append}
+use Rattle.ledger_types.specs.declared.ids.AccountId.{AccountId}
+use Rattle.ledger_types.specs.declared.signer.Signer.{Signer}
+use Rattle.ledger_types.specs.declared.signer.SignerKey.TheVariants.{Ed25519}
+use Rattle.entry_slots.proofs.account_extensions.no_sponsors.Goals as goal
+
+abbrev no_sponsor : Signer → Option AccountId
+no_sponsor signer = None
+
+one_more : (signers : List Signer) (i : ℕ) → i < length signers
+    → map no_sponsor (take (i + 1) signers) ≡ map no_sponsor (take i signers) ++ None ∷ []
+one_more signers i within =
+    let next : i + 1 ≡ suc i = omega arith in
+    ap (λ k. map no_sponsor (take k signers)) next
+    ∙ ap (map no_sponsor) (take-suc signers i (record { key = Ed25519 []; weight = 0 }) within)
+    ∙ map-append no_sponsor _ _
+
+pub loop-signer-preserved : goal.loop-signer-preserved
+loop-signer-preserved c =
+    c.in_ok-push.ensures.ok
+    ∙ ap (λ sponsors. sponsors ++ None ∷ []) c.loop-signer.invariant
+    ∙ sym (one_more c.as_slice-signer-items.result.now c.loop-signer._signer-index c.loop-signer-test.true)

@@ -1,0 +1,20 @@
+-- Who pays an entry's reserve in its owner's place (CAP-0033).
+use Rattle.std.specs.Prelude.{Option, Some, None}
+use Rattle.ledger_types.specs.declared.ids.AccountId.{AccountId}
+use Rattle.ledger_types.specs.declared.entry.LedgerEntry.{LedgerEntry}
+use Rattle.ledger_types.specs.declared.entry.LedgerEntryExtensionV1.{LedgerEntryExtensionV1}
+
+abbrev pub sponsor_in : Option LedgerEntryExtensionV1 → Option AccountId
+sponsor_in None = None
+sponsor_in (Some ext) = ext.sponsoring_id
+
+-- who pays the entry's reserve in its owner's place, if somebody does
+abbrev pub sponsor_of : LedgerEntry → Option AccountId
+sponsor_of entry = sponsor_in entry.ext
+
+-- an extension that names a sponsor, or none
+abbrev pub sponsor_ext : Option AccountId → LedgerEntryExtensionV1
+sponsor_ext sponsor = record { sponsoring_id = sponsor }
+
+abbrev pub with_sponsor : Option AccountId → LedgerEntry → LedgerEntry
+with_sponsor sponsor entry = record entry { ext = Some (sponsor_ext sponsor) }

@@ -1,0 +1,10 @@
+pub mod Accounts
+pub mod Lines
+pub mod Offers
+pub mod DataEntries
+pub mod Balances
+pub mod Pools
+pub mod AccountExtensions
+pub mod LineExtensions
+pub mod EntrySponsor
+pub mod Tests

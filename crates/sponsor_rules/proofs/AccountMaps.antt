@@ -1,0 +1,316 @@
+-- A map in which an account's entry is put in place of the one that stood.
+use Rattle.std.proofs.Common.{◌≡◌, ◌≢◌, ◌⊎◌, inl, inr, refl, sym, ap, subst, ◌∙◌, ℕ, ◌≤◌, Bool, true, false, cond}
+use Rattle.std.proofs.Common.{Option, Some, None, arith}
+use Rattle.std.specs.FinMap.{get, get-insert, get-remove}
+use Rattle.std.specs.Ordering.{eq_by_cmp}
+use Rattle.ledger_types.specs.declared.ids.AccountId.{AccountId}
+use Rattle.ledger_types.specs.declared.account.AccountEntry.{AccountEntry}
+use Rattle.ledger_types.specs.declared.entry.LedgerEntry.{LedgerEntry}
+use Rattle.ledger_types.specs.declared.entry.LedgerEntryBody.{LedgerEntryBody}
+use Rattle.ledger_types.specs.declared.entry.LedgerEntryBody.TheVariants as body
+use Rattle.ledger_types.specs.declared.key.LedgerKey.{LedgerKey}
+use Rattle.ledger_types.specs.declared.key.LedgerKey.TheVariants as key
+use Rattle.ledger_types.specs.KeyOrder.{key_cmp}
+use Rattle.ledger_types.specs.Keys.{key_of}
+use Rattle.ledger_types.proofs.KeyOrdering.{keys_total}
+use Rattle.entry_map.specs.EntryMap.{EntryMap, put, erase}
+use Rattle.entry_map.proofs.KeyMaps.{same_keys, same_itself}
+use Rattle.entry_slots.specs.declared.accounts.AccountSlot.{AccountSlot}
+use Rattle.entry_slots.specs.Accounts.{account_of, account_at, account_slot_by, account_slot_of, account_slot_at}
+use Rattle.entry_slots.specs.Accounts.{account_of_slot, account_in, entry_of_account, with_account, with_account_in}
+use Rattle.entry_slots.specs.Accounts.{with_account_of}
+use Rattle.entry_slots.specs.EntrySponsor.{with_sponsor}
+use Rattle.sponsor_rules.specs.declared.count.Count.{Count}
+use Rattle.sponsor_rules.specs.Counting.{count_in, count_if, count_at}
+use Rattle.sponsor_rules.specs.Keeping.{KeepsMeans, KeepsOtherCounts, RaisesNoCount, IsChanged, IsChangeOf, KeepsOthers}
+use Rattle.sponsor_rules.specs.Keeping.{RaisesNone, ChangesAtMost, IsLoaded, HasMeans, LeavesBalances}
+use Rattle.sponsor_rules.specs.Keeping.{LeavesOtherBalances}
+use Rattle.sponsor_rules.proofs.Keeping.{means_kept, means_kept_twice}
+
+-- ---- slots and accounts
+
+account_by_slot : (e : LedgerEntry) (b : LedgerEntryBody) → account_in b ≡ account_of_slot (account_slot_by e b)
+account_by_slot e (body.Account a) = refl
+account_by_slot e other = refl
+
+account_of_slot_of : (o : Option LedgerEntry) → account_of o ≡ account_of_slot (account_slot_of o)
+account_of_slot_of None = refl
+account_of_slot_of (Some e) = account_by_slot e e.body
+
+pub account_of_slot_at : (m : EntryMap) (id : AccountId) → account_at m id ≡ account_of_slot (account_slot_at m id)
+unfolding account_at
+account_of_slot_at m id = account_of_slot_of (get m (key.Account id))
+
+-- what is loaded stays so, while that account doesn't change
+pub loaded_after : (old new : EntryMap) (id : AccountId) (slot : Option AccountSlot) (changed : Option AccountId)
+    → IsLoaded old id slot → ChangesAtMost changed old new → changed ≢ Some id → IsLoaded new id slot
+loaded_after old new id slot changed was only apart = record {
+  slot_is = was.slot_is ∙ sym (only.others id apart);
+  account_is = account_of_slot_at new id ∙ ap account_of_slot (only.others id apart) ∙ sym (account_of_slot_at old id)
+      ∙ was.account_is;
+  named = was.named;
+}
+
+pub named_of : (m : EntryMap) (id : AccountId) (slot : AccountSlot) → IsLoaded m id (Some slot)
+    → slot.account.account_id ≡ id
+named_of m id slot loaded = loaded.named slot refl
+
+pub change_of : (m : EntryMap) (id : AccountId) (slot : AccountSlot) (account : AccountEntry)
+    → IsLoaded m id (Some slot) → KeepsMeans slot.account account → IsChangeOf m id account
+change_of m id slot account loaded means = record { was = slot.account; stands = loaded.account_is; means = means }
+
+pub changed_as : (R : AccountEntry → AccountEntry → Type 0) (m : EntryMap) (id : AccountId) (slot : AccountSlot)
+    (account : AccountEntry) → IsLoaded m id (Some slot) → R slot.account account → IsChanged R m id account
+changed_as R m id slot account loaded changed was stands =
+    let there = loaded.account_is in
+    let same : slot.account ≡ was = cc in
+    subst (λ a. R a account) same changed
+
+-- ---- with_account, by what is loaded
+
+with_slot_by : (m : EntryMap) (f : AccountEntry → AccountEntry) (slot : AccountSlot) (e : LedgerEntry)
+    (b : LedgerEntryBody) → Some slot ≡ account_slot_by e b
+    → with_account_in m e f b ≡ put m (entry_of_account (record slot { account = f slot.account }))
+with_slot_by m f slot e (body.Account a) is =
+    let parts : AccountSlot = record {
+      last_modified_ledger_seq = e.last_modified_ledger_seq;
+      account = a;
+      ext = e.ext;
+    } in
+    let same : parts ≡ slot = cc in
+    ap (λ (s : AccountSlot). put m (entry_of_account (record s { account = f s.account }))) same
+with_slot_by m f slot e other is = absurd (cc)
+
+with_slot : (m : EntryMap) (f : AccountEntry → AccountEntry) (slot : AccountSlot) (o : Option LedgerEntry)
+    → Some slot ≡ account_slot_of o
+    → with_account_of m f o ≡ put m (entry_of_account (record slot { account = f slot.account }))
+with_slot m f slot None is = absurd (cc)
+with_slot m f slot (Some e) is = with_slot_by m f slot e e.body is
+
+pub with_account_put : (m : EntryMap) (id : AccountId) (f : AccountEntry → AccountEntry) (slot : AccountSlot)
+    → IsLoaded m id (Some slot)
+    → with_account m id f ≡ put m (entry_of_account (record slot { account = f slot.account }))
+unfolding with_account
+with_account_put m id f slot loaded = with_slot m f slot (get m (key.Account id)) loaded.slot_is
+
+without_slot_by : (m : EntryMap) (f : AccountEntry → AccountEntry) (e : LedgerEntry) (b : LedgerEntryBody)
+    → None ≡ account_slot_by e b → with_account_in m e f b ≡ m
+without_slot_by m f e (body.Account a) is = absurd (cc)
+without_slot_by m f e other is = refl
+
+without_slot : (m : EntryMap) (f : AccountEntry → AccountEntry) (o : Option LedgerEntry) → None ≡ account_slot_of o
+    → with_account_of m f o ≡ m
+without_slot m f None is = refl
+without_slot m f (Some e) is = without_slot_by m f e e.body is
+
+pub with_account_none : (m : EntryMap) (id : AccountId) (f : AccountEntry → AccountEntry) → IsLoaded m id None
+    → with_account m id f ≡ m
+unfolding with_account
+with_account_none m id f loaded = without_slot m f (get m (key.Account id)) loaded.slot_is
+
+pub stored_as : (m : EntryMap) (id : AccountId) (f : AccountEntry
+    → AccountEntry) (slot : AccountSlot) (account : AccountEntry) → IsLoaded m id (Some slot) → account ≡ f slot.account
+    → put m (entry_of_account (record slot { account = account })) ≡ with_account m id f
+stored_as m id f slot account loaded changed = ap (λ (a : AccountEntry). put m
+    (entry_of_account (record slot { account = a }))) changed ∙ sym (with_account_put m id f slot loaded)
+
+-- ---- after an account's entry is put
+
+slot_chosen : (b : Bool) (slot : AccountSlot) (o : Option LedgerEntry)
+    → account_slot_of (cond b (Some (entry_of_account slot)) o) ≡ cond b (Some slot) (account_slot_of o)
+slot_chosen true slot o = refl
+slot_chosen false slot o = refl
+
+slot_after : (m : EntryMap) (id : AccountId) (slot : AccountSlot)
+    → account_slot_at (put m (entry_of_account slot)) id ≡ cond
+    (eq_by_cmp key_cmp (key.Account id) (key.Account slot.account.account_id)) (Some slot) (account_slot_at m id)
+slot_after m id slot =
+    ap account_slot_of (get-insert keys_total m (key.Account slot.account.account_id) (entry_of_account slot)
+    (key.Account id)) ∙ slot_chosen _ slot (get m (key.Account id))
+
+abbrev After : EntryMap → AccountId → AccountSlot → AccountId → Type 0
+After m id slot other =
+    ((id ≡ other) × (account_at (put m (entry_of_account slot)) other ≡ Some slot.account))
+    ⊎ ((id ≢ other) × (account_slot_at (put m (entry_of_account slot)) other ≡ account_slot_at m other))
+
+after : (m : EntryMap) (id : AccountId) (slot : AccountSlot) (other : AccountId) → slot.account.account_id ≡ id
+    → After m id slot other
+after m id slot other named =
+    elim (eq_by_cmp key_cmp (key.Account other) (key.Account slot.account.account_id)) as
+    (λ b. eq_by_cmp key_cmp (key.Account other) (key.Account slot.account.account_id) ≡ b
+    → account_slot_at (put m (entry_of_account slot)) other ≡ cond b (Some slot) (account_slot_at m other)
+    → After m id slot other) [
+      | true ↦ λ tied is.
+          let same : key.Account other ≡ key.Account slot.account.account_id = same_keys _ _ tied in
+          let ids : id ≡ other = cc in
+          inl (ids, account_of_slot_at (put m (entry_of_account slot)) other ∙ ap account_of_slot is)
+      | false ↦ λ apart is. inr (
+        (λ same.
+            let tied = ap (λ x. eq_by_cmp key_cmp (key.Account other) (key.Account x)) (named ∙ same)
+            ∙ same_itself (key.Account other) in
+            cc),
+        is,
+      )
+    ] refl (slot_after m other slot)
+
+account_after : (m : EntryMap) (slot : AccountSlot) (other : AccountId) → account_slot_at
+    (put m (entry_of_account slot)) other ≡ account_slot_at m other
+    → account_at (put m (entry_of_account slot)) other ≡ account_at m other
+account_after m slot other is = account_of_slot_at (put m (entry_of_account slot)) other ∙ ap account_of_slot is
+    ∙ sym (account_of_slot_at m other)
+
+pub stored_others : (m : EntryMap) (id : AccountId) (slot : AccountSlot) → slot.account.account_id ≡ id
+    → ChangesAtMost (Some id) m (put m (entry_of_account slot))
+stored_others m id slot named = record {
+  others = λ other apart. elim (after m id slot other named) [
+    | inl here ↦ absurd (apart (ap Some here.0))
+    | inr beside ↦ beside.1
+  ];
+}
+
+pub stored_balances : (m : EntryMap) (id : AccountId) (slot : AccountSlot) → slot.account.account_id ≡ id
+    → IsChangeOf m id slot.account → LeavesBalances m (put m (entry_of_account slot))
+stored_balances m id slot named change = record {
+  kept = λ other was stands. elim (after m id slot other named) [
+    | inl here ↦
+        let at = sym (ap (account_at m) here.0) ∙ change.stands in
+        let same : change.was ≡ was = cc in
+        record {
+          account = slot.account;
+          stands = here.1;
+          means = subst (λ a. KeepsMeans a slot.account) same change.means;
+        }
+    | inr beside ↦ record {
+      account = was;
+      stands = account_after m slot other beside.1 ∙ stands;
+      means = means_kept was;
+    }
+  ];
+}
+
+pub stored_kept : (m : EntryMap) (id : AccountId) (slot : AccountSlot) (count : Count) → slot.account.account_id ≡ id
+    → IsChangeOf m id slot.account → IsChanged (KeepsOtherCounts count) m id slot.account
+    → KeepsOthers count m (put m (entry_of_account slot))
+stored_kept m id slot count named change keeps = record {
+  kept = λ other counted differ. elim (after m id slot other named) [
+    | inl here ↦
+        ap (count_if counted) here.1 ∙ keeps change.was change.stands counted differ
+        ∙ sym (ap (count_if counted) (sym (ap (account_at m) here.0) ∙ change.stands))
+    | inr beside ↦ ap (count_if counted) (account_after m slot other beside.1)
+  ];
+}
+
+pub stored_low : (m : EntryMap) (id : AccountId) (slot : AccountSlot) → slot.account.account_id ≡ id
+    → IsChangeOf m id slot.account → IsChanged RaisesNoCount m id slot.account
+    → RaisesNone m (put m (entry_of_account slot))
+stored_low m id slot named change low = record {
+  low = λ other counted. elim (after m id slot other named) [
+    | inl here ↦
+        let new = ap (count_if counted) here.1 in
+        let old = ap (count_if counted) (sym (ap (account_at m) here.0) ∙ change.stands) in
+        let le = low change.was change.stands counted in
+        omega arith
+    | inr beside ↦ let same = ap (count_if counted) (account_after m slot other beside.1) in omega arith
+  ];
+}
+
+-- ---- after another change
+
+pub put_balances : (m : EntryMap) (e : LedgerEntry) → LeavesOtherBalances (key_of e) m (put m e)
+unfolding account_at
+put_balances m e = record {
+  kept = λ id was apart stands.
+      elim (eq_by_cmp key_cmp (key.Account id) (key_of e)) as (λ b. eq_by_cmp key_cmp (key.Account id) (key_of e) ≡ b
+      → get (put m e) (key.Account id) ≡ cond b (Some e) (get m (key.Account id)) → HasMeans (put m e) id was) [
+        | true ↦ λ tied is. absurd (apart (same_keys _ _ tied))
+        | false ↦ λ differ is. record { account = was; stands = ap account_of is ∙ stands; means = means_kept was }
+      ] refl (get-insert keys_total m (key_of e) e (key.Account id));
+}
+
+pub erased_balances : (m : EntryMap) (k : LedgerKey) → LeavesOtherBalances k m (erase m k)
+unfolding account_at
+erased_balances m k = record {
+  kept = λ id was apart stands.
+      elim (eq_by_cmp key_cmp (key.Account id) k) as (λ b. eq_by_cmp key_cmp (key.Account id) k ≡ b
+      → get (erase m k) (key.Account id) ≡ cond b None (get m (key.Account id)) → HasMeans (erase m k) id was) [
+        | true ↦ λ tied is. absurd (apart (same_keys _ _ tied))
+        | false ↦ λ differ is. record { account = was; stands = ap account_of is ∙ stands; means = means_kept was }
+      ] refl (get-remove keys_total m k (key.Account id));
+}
+
+pub erased_low : (m : EntryMap) (k : LedgerKey) → RaisesNone m (erase m k)
+unfolding account_at
+erased_low m k = record {
+  low = λ id count.
+      elim (eq_by_cmp key_cmp (key.Account id) k) as (λ b. get (erase m k) (key.Account id)
+      ≡ cond b None (get m (key.Account id)) → count_at (erase m k) id count ≤ count_at m id count) [
+        | true ↦ λ is. let none : count_at (erase m k) id count ≡ 0 = ap (λ o. count_if count (account_of o)) is in
+            omega arith
+        | false ↦ λ is. let same : count_at (erase m k) id count ≡ count_at m id count =
+            ap (λ o. count_if count (account_of o)) is in omega arith
+      ] (get-remove keys_total m k (key.Account id));
+}
+
+-- an entry that stands gets another sponsor
+pub recorded_balances : (m : EntryMap) (k : LedgerKey) (e : LedgerEntry) (sponsor : Option AccountId) → get m k ≡ Some e
+    → key_of e ≡ k → LeavesBalances m (put m (with_sponsor sponsor e))
+unfolding account_at
+recorded_balances m k e sponsor there named = record {
+  kept = λ id was stands.
+      elim (eq_by_cmp key_cmp (key.Account id) (key_of e)) as
+      (λ b. eq_by_cmp key_cmp (key.Account id) (key_of e) ≡ b → get (put m (with_sponsor sponsor e)) (key.Account id)
+      ≡ cond b (Some (with_sponsor sponsor e)) (get m (key.Account id))
+      → HasMeans (put m (with_sponsor sponsor e)) id was) [
+        | true ↦ λ tied is.
+            let at : get m (key.Account id) ≡ Some e = ap (get m) (same_keys _ _ tied ∙ named) ∙ there in
+            record {
+              account = was;
+              stands = ap account_of is ∙ sym (ap account_of at) ∙ stands;
+              means = means_kept was;
+            }
+        | false ↦ λ differ is. record { account = was; stands = ap account_of is ∙ stands; means = means_kept was }
+      ] refl (get-insert keys_total m (key_of e) (with_sponsor sponsor e) (key.Account id));
+}
+
+-- ---- changes in a row
+
+pub raises_none_itself : (m : EntryMap) → RaisesNone m m
+raises_none_itself m = record { low = λ id count. omega arith }
+
+pub raises_none_both : (a b c : EntryMap) → RaisesNone a b → RaisesNone b c → RaisesNone a c
+raises_none_both a b c first second = record {
+  low = λ id count. omega
+      (arith, first.low id count, second.low id count);
+}
+
+pub changes_nothing : (changed : Option AccountId) (m : EntryMap) → ChangesAtMost changed m m
+changes_nothing changed m = record { others = λ other apart. refl }
+
+pub leaves_itself : (m : EntryMap) → LeavesBalances m m
+leaves_itself m = record { kept = λ id was stands. record { account = was; stands = stands; means = means_kept was } }
+
+has_means_on : (a b : EntryMap) (id : AccountId) (was : AccountEntry) → HasMeans a id was
+    → ((account : AccountEntry) → account_at a id ≡ Some account → HasMeans b id account) → HasMeans b id was
+has_means_on a b id was first then =
+    let second = then first.account first.stands in
+    record {
+      account = second.account;
+      stands = second.stands;
+      means = means_kept_twice was first.account second.account first.means second.means;
+    }
+
+pub leaves_both : (a b c : EntryMap) → LeavesBalances a b → LeavesBalances b c → LeavesBalances a c
+leaves_both a b c first second = record {
+  kept = λ id was stands. has_means_on b c id was (first.kept id was stands)
+      (second.kept id);
+}
+
+pub leaves_then_others : (k q : LedgerKey) (a b c : EntryMap) → q ≡ k → LeavesBalances a b → LeavesOtherBalances q b c
+    → LeavesOtherBalances k a c
+leaves_then_others k q a b c same first second = record {
+  kept = λ id was apart stands. has_means_on b c id was (first.kept id was stands)
+      (λ account. second.kept id account (λ is. apart (is ∙ same)));
+}
+
+pub leaves_others : (k : LedgerKey) (a b : EntryMap) → LeavesBalances a b → LeavesOtherBalances k a b
+leaves_others k a b leaves = record { kept = λ id was apart. leaves.kept id was }

@@ -1,8 +1,0 @@
-use Rattle.std.proofs.Common.{◌≡◌, None, Option, map, take}
-use Rattle.ledger_types.specs.declared.ids.AccountId.{AccountId}
-use Rattle.ledger_types.specs.declared.signer.Signer.{Signer}
-use Rattle.sponsor_rules.proofs.counting.no_sponsors.Given as goal
-
--- none for each signer so far
-abbrev pub invariant-loop-signer : goal.invariant-loop-signer
-invariant-loop-signer l = l.sponsors ≡ map {A = Signer} {B = Option AccountId} (λ signer. None) (take l._signer-index l._signer-items)

@@ -1,0 +1,9 @@
+use Rattle.std.proofs.Common.{arith}
+use Rattle.sponsor_rules.specs.declared.count.Count.TheVariants.{Sponsored}
+use Rattle.sponsor_rules.proofs.owner.gain_subentry.Goals as goal
+
+pub pay_more-requires : goal.pay_more-requires
+pay_more-requires c =
+    let same = c.in_ok-raise.ensures.kept Sponsored (λ e. absurd (cc e)) in
+    let fits = c.requires.sponsored in
+    omega arith

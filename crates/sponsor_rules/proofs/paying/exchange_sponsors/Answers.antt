@@ -1,0 +1,9 @@
+use Rattle.sponsor_rules.proofs.AccountMaps.{loaded_after, leaves_both}
+use Rattle.sponsor_rules.proofs.paying.exchange_sponsors.Goals as goal
+
+pub still_loaded-requires : goal.still_loaded-requires
+still_loaded-requires g c = loaded_after _ _ _ _ _ c.in_ok-payer.ensures c.in_ok-release_payer.ensures.others
+
+pub returns-clause-balances : goal.returns-clause-balances
+returns-clause-balances g c =
+    leaves_both _ _ _ c.in_ok-release_payer.ensures.balances c.in_ok-charge_payer.ensures.balances

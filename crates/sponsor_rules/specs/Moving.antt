@@ -1,0 +1,69 @@
+-- Moving an entry to another payer: the new map, or why there is none (CAP-0033; SponsorshipUtils in stellar-core).
+use Rattle.std.specs.Prelude.{ℕ, Option, Some, None, Result, Ok}
+use Rattle.std.specs.FinMap.{get}
+use Rattle.ledger_types.specs.declared.ids.AccountId.{AccountId}
+use Rattle.ledger_types.specs.declared.entry.LedgerEntry.{LedgerEntry}
+use Rattle.ledger_types.specs.declared.key.LedgerKey.{LedgerKey}
+use Rattle.entry_map.specs.EntryMap.{EntryMap, put}
+use Rattle.entry_slots.specs.Accounts.{with_account}
+use Rattle.entry_slots.specs.EntrySponsor.{sponsor_of, with_sponsor}
+use Rattle.entry_slots.specs.Tests.{unless_first}
+use Rattle.sponsor_rules.specs.declared.charge.Charge.{Charge}
+use Rattle.sponsor_rules.specs.declared.charge.Charge.TheVariants as charge
+use Rattle.sponsor_rules.specs.declared.context.Ctx.{Ctx}
+use Rattle.sponsor_rules.specs.declared.fault.AddFault.{AddFault}
+use Rattle.sponsor_rules.specs.Charge.{charge_of}
+use Rattle.sponsor_rules.specs.Paying.{map_after_exchange, with_other_payer}
+use Rattle.sponsor_rules.specs.Payers.{other_than, payer_tests, move_tests}
+
+abbrev pub recorded_in : EntryMap → Option AccountId → Option LedgerEntry → EntryMap
+recorded_in m sponsor None = m
+recorded_in m sponsor (Some entry) = put m (with_sponsor sponsor entry)
+
+-- the map, in which the entry with this key has another sponsor, or none
+unfoldable pub map_with_sponsor : LedgerKey → Option AccountId → EntryMap → EntryMap
+map_with_sponsor key sponsor m = recorded_in m sponsor (get m key)
+
+-- the map, in which another sponsor, or none, pays k reserves of the owner
+abbrev pub map_with_other_payer : AccountId → ℕ → (old new : Option AccountId) → EntryMap → EntryMap
+map_with_other_payer owner k old new m = with_account (map_after_exchange k old new m) owner
+    (with_other_payer k old new)
+
+-- What has an owner moves from one sponsor to another. What had none and gets none stays as it is, and nothing is
+-- tested.
+abbrev pub map_after_moving_between : Ctx → LedgerKey → AccountId → ℕ → (old new : Option AccountId) → EntryMap
+    → Result EntryMap AddFault
+map_after_moving_between ctx key owner k None None m = Ok m
+map_after_moving_between ctx key owner k old new m =
+    unless_first (move_tests ctx m owner new k) (map_with_sponsor key new (map_with_other_payer owner k old new m))
+
+-- to another payer, or to the owner
+abbrev pub map_after_moving_owned : Ctx → LedgerKey → AccountId → ℕ → (old payer : Option AccountId) → EntryMap
+    → Result EntryMap AddFault
+map_after_moving_owned ctx key owner k old payer m = map_after_moving_between ctx key owner k old
+    (other_than owner payer) m
+
+-- A claimable balance has no owner that could pay for it, so it moves only to a payer.
+abbrev pub map_after_moving_balance : Ctx → LedgerKey → ℕ → (old payer : Option AccountId) → EntryMap
+    → Result EntryMap AddFault
+map_after_moving_balance ctx key k old None m = Ok m
+map_after_moving_balance ctx key k old (Some payer) m =
+    unless_first (payer_tests ctx m payer k) (map_with_sponsor key (Some payer)
+    (map_after_exchange k old (Some payer) m))
+
+abbrev pub map_after_moving_by : Ctx → LedgerKey → Charge → (old payer : Option AccountId) → EntryMap
+    → Result EntryMap AddFault
+map_after_moving_by ctx key (charge.Itself owner) old payer m = map_after_moving_owned ctx key owner 2 old payer m
+map_after_moving_by ctx key (charge.Subentry owner k) old payer m = map_after_moving_owned ctx key owner k old payer m
+map_after_moving_by ctx key (charge.Payer k) old payer m = map_after_moving_balance ctx key k old payer m
+map_after_moving_by ctx key charge.Nobody old payer m = Ok m
+
+abbrev pub map_after_moving_entry : Ctx → LedgerKey → Option AccountId → EntryMap → Option LedgerEntry
+    → Result EntryMap AddFault
+map_after_moving_entry ctx key payer m None = Ok m
+map_after_moving_entry ctx key payer m (Some entry) =
+    map_after_moving_by ctx key (charge_of entry.body) (sponsor_of entry) payer m
+
+-- nothing changes where there is no such entry
+abbrev pub map_after_moving : Ctx → LedgerKey → Option AccountId → EntryMap → Result EntryMap AddFault
+map_after_moving ctx key payer m = map_after_moving_entry ctx key payer m (get m key)

@@ -1,0 +1,87 @@
+//! Changes of an owner's account, where it has a subentry more or less, or another one pays for something of it.
+
+ghost use Rattle.std.specs.Prelude.{◌≡◌, ◌+◌, ◌<◌, ◌^◌, Some, OnOk};
+ghost use Rattle.sponsor_rules.specs.declared.count.Count.TheVariants.{Sponsored};
+ghost use Rattle.sponsor_rules.specs.Counting as counting;
+ghost use Rattle.sponsor_rules.specs.Paying as spec;
+ghost use Rattle.sponsor_rules.specs.Keeping.{FitsSubentry, KeepsMeans, RaisesNoCount};
+
+use crate::count::Count;
+use crate::counting::{lower, raise};
+use ledger_types::{AccountEntry, AccountId};
+use std::alloc::AllocError;
+
+/// A sponsor, if there is one, pays `by` reserves more of an account.
+fn pay_more(
+    account: &mut AccountEntry,
+    by: u64,
+    sponsor: &Option<AccountId>,
+) -> Result<(), AllocError>
+    requires { counting.count_in Sponsored account.old + by < 2 ^ 32 }
+    ensures paid { OnOk result (account.new ≡ spec.with_more_paid by sponsor.now account.old) }
+    ensures means { OnOk result (KeepsMeans account.old account.new) }
+{
+    match sponsor {
+        None => Ok(()),
+        Some(_) => raise(account, Count::Sponsored, by),
+    }
+}
+
+/// A sponsor, if there is one, pays `by` reserves less of an account.
+fn pay_less(
+    account: &mut AccountEntry,
+    by: u64,
+    sponsor: &Option<AccountId>,
+) -> Result<(), AllocError>
+    ensures paid { OnOk result (account.new ≡ spec.with_less_paid by sponsor.now account.old) }
+    ensures low { OnOk result (RaisesNoCount account.old account.new) }
+    ensures means { OnOk result (KeepsMeans account.old account.new) }
+{
+    match sponsor {
+        None => Ok(()),
+        Some(_) => lower(account, Count::Sponsored, by),
+    }
+}
+
+/// An account has a subentry more, which counts `by` times.
+pub fn gain_subentry(
+    account: &mut AccountEntry,
+    by: u64,
+    sponsor: &Option<AccountId>,
+) -> Result<(), AllocError>
+    requires { FitsSubentry by (Some account.old) }
+    ensures gained { OnOk result (account.new ≡ spec.with_subentry by sponsor.now account.old) }
+    ensures means { OnOk result (KeepsMeans account.old account.new) }
+{
+    raise(account, Count::SubEntries, by)?;
+    pay_more(account, by, sponsor)
+}
+
+/// An account has a subentry less.
+pub fn lose_subentry(
+    account: &mut AccountEntry,
+    by: u64,
+    sponsor: &Option<AccountId>,
+) -> Result<(), AllocError>
+    ensures lost { OnOk result (account.new ≡ spec.without_subentry by sponsor.now account.old) }
+    ensures low { OnOk result (RaisesNoCount account.old account.new) }
+    ensures means { OnOk result (KeepsMeans account.old account.new) }
+{
+    lower(account, Count::SubEntries, by)?;
+    pay_less(account, by, sponsor)
+}
+
+/// Another sponsor, or none, pays `by` reserves of an account.
+pub fn change_payer(
+    account: &mut AccountEntry,
+    by: u64,
+    old: &Option<AccountId>,
+    new: &Option<AccountId>,
+) -> Result<(), AllocError>
+    requires { counting.count_in Sponsored account.old + by < 2 ^ 32 }
+    ensures changed { OnOk result (account.new ≡ spec.with_other_payer by old.now new.now account.old) }
+    ensures means { OnOk result (KeepsMeans account.old account.new) }
+{
+    pay_less(account, by, old)?;
+    pay_more(account, by, new)
+}

@@ -28,8 +28,8 @@ IsChanged before after e =
 abbrev pub IsGone : EntryMap → EntryMap → LedgerKey → Type 0
 IsGone before after k = (get before k ≢ None) × (get after k ≡ None)
 
--- Exactly the new entries, the changed ones and the keys that are gone, each in the order of keys. An entry that was put back as
--- it was, but for the ledger of its last change, is in none of them.
+-- Exactly the new entries, the changed ones and the keys that are gone, each in the order of keys. An entry that was
+-- put back as it was, but for the ledger of its last change, is in none of them.
 pub record IsBatch (before after : EntryMap) (batch : Batch) : Type 0 where
   pub init_rises : AreRising (map key_of batch.init)
   pub init : (e : LedgerEntry) → Contains batch.init e ↔ IsNew before after e

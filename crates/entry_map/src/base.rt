@@ -7,7 +7,8 @@ ghost use Rattle.entry_map.specs.EntryMap.{EntryMap, IsKeyed, IsNextAfter};
 use ledger_types::{LedgerEntry, LedgerKey};
 use std::alloc::AllocError;
 
-/// A finite map from keys to entries that is read and not changed. It keeps the allocator that its answers are made with.
+/// A finite map from keys to entries that is read and not changed. It keeps the allocator that its answers are made
+/// with.
 pub trait Base {
     // The map.
     ghost entries: { Self → EntryMap };

@@ -18,7 +18,8 @@ use std::alloc::{AllocError, Global};
 
 /// Puts the keys that layers changed into a map of keys.
 fn add_changed_keys(layers: &[Layer], keys: &mut KeyMap<()>) -> Result<(), AllocError>
-    ensures { OnOk result ((q : AKey) → contains_key keys.new q ≡ (contains_key keys.old q || is_changed layers.now q)) }
+    ensures { OnOk result ((q : AKey) →
+        contains_key keys.new q ≡ (contains_key keys.old q || is_changed layers.now q)) }
 {
     match layers {
         [] => Ok(()),
@@ -69,7 +70,8 @@ fn note_at<B: Base>(
     key: LedgerKey,
     batch: &mut Batch,
 ) -> Result<(), AllocError>
-    ensures { OnOk result (IsNotedAt (B.entries base.now) (under_one (under (B.entries base.now) lower.now) top.now) key batch.old batch.new) }
+    ensures { OnOk result (IsNotedAt (B.entries base.now) (under_one (under (B.entries base.now) lower.now) top.now)
+        key batch.old batch.new) }
 {
     let before = base.find(&key)?;
     let after = entry_at(base, lower, top, &key)?;

@@ -18,8 +18,8 @@ use std::alloc::{AllocError, Global};
 use std::marker::Model;
 use std::mem;
 
-/// A map of entries with undo: layers of changes over a base, which stays as it is. Contracts see the map, the maps that are kept
-/// for undoing, and the base's map. After a call that memory was refused to it may only be dropped.
+/// A map of entries with undo: layers of changes over a base, which stays as it is. Contracts see the map, the maps
+/// that are kept for undoing, and the base's map. After a call that memory was refused to it may only be dropped.
 #[derive(Drop)]
 pub struct Entries<'a, B: Base> {
     alloc: Global,

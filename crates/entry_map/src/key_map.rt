@@ -64,7 +64,8 @@ impl<V> KeyMap<V> {
 
     /// Puts the keys into a map of keys.
     pub fn add_keys_to(&self, keys: &mut KeyMap<()>) -> Result<(), AllocError>
-        ensures { OnOk result ((q : AKey) → contains_key keys.new q ≡ (contains_key keys.old q || contains_key self.now q)) }
+        ensures { OnOk result ((q : AKey) →
+            contains_key keys.new q ≡ (contains_key keys.old q || contains_key self.now q)) }
     {
         for key in self.tree.keys() {
             keys.insert(key.copy()?, ())?;

@@ -90,7 +90,8 @@ impl Layer {
 
     /// Puts the changed keys into a map of keys.
     pub fn add_keys_to(&self, keys: &mut KeyMap<()>) -> Result<(), AllocError>
-        ensures { OnOk result ((q : AKey) → contains_key keys.new q ≡ (contains_key keys.old q || contains_key self.now q)) }
+        ensures { OnOk result ((q : AKey) →
+            contains_key keys.new q ≡ (contains_key keys.old q || contains_key self.now q)) }
     {
         self.changes.add_keys_to(keys)
     }

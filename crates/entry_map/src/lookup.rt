@@ -12,7 +12,8 @@ use item_list::Boxed;
 use ledger_types::{LedgerEntry, LedgerKey};
 use std::alloc::AllocError;
 
-/// What the newest of the layers that changed a key changed it to. The layers stand in the order of their age, the oldest first.
+/// What the newest of the layers that changed a key changed it to. The layers stand in the order of their age, the
+/// oldest first.
 fn change_in<'a>(layers: &'a [Layer], key: &LedgerKey) -> Option<&'a Option<Boxed<LedgerEntry>>>
     ensures found { option_copied result ≡ change_of layers.now key.now }
     ensures keyed { IfSome result (λ change. IfSome change.now (λ e. key_of e ≡ key.now)) }
@@ -58,7 +59,8 @@ pub fn entry_at<B: Base>(
     top: &Layer,
     key: &LedgerKey,
 ) -> Result<Option<LedgerEntry>, AllocError>
-    ensures found { IfOk result (λ entry. entry ≡ get (under_one (under (B.entries base.now) lower.now) top.now) key.now) }
+    ensures found { IfOk result (λ entry.
+        entry ≡ get (under_one (under (B.entries base.now) lower.now) top.now) key.now) }
     ensures keyed { IfOk result (λ entry. IfSome entry (λ e. key_of e ≡ key.now)) }
 {
     match newest_change(lower, top, key) {

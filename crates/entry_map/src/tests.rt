@@ -1,5 +1,5 @@
-//! What no contract says: that calls succeed where there is memory, and what a map with undo has after changes that were made by
-//! hand.
+//! What no contract says: that calls succeed where there is memory, and what a map with undo has after changes that
+//! were made by hand.
 
 ghost use Rattle.std.specs.Prelude.{◌≡◌, pos, IfOk, map};
 ghost use Rattle.std.specs.List.{IsDistinct};

@@ -4,9 +4,9 @@ use outside::{MemSink, MemSource, read_all};
 use replay::{end_without_memory, run_program};
 use std::alloc::{AllocError, Global};
 
-/// The front of the worked example, in the form `SLT1`: ledger 2 closes at 1700000000 with base fee 100 and base reserve
-/// 5000000, with one account, whose signer is the SHA-256 hash of `secret`, and one transaction, up to the type of its
-/// operation.
+/// The front of the worked example, in the form `SLT1`: ledger 2 closes at 1700000000 with base fee 100 and base
+/// reserve 5000000, with one account, whose signer is the SHA-256 hash of `secret`, and one transaction, up to the type
+/// of its operation.
 const FRONT: &str = "534c54310000000200000000\
     6553f10000000064004c4b4000000001000000010000000000000000\
     0101010101010101010101010101010101010101010101010101010101010101\

@@ -1,5 +1,5 @@
-//! Whether two values are the same. The answers are about the values themselves, where a derived `==` says that the parts are
-//! equal.
+//! Whether two values are the same. The answers are about the values themselves, where a derived `==` says that the
+//! parts are equal.
 
 ghost use Rattle.std.specs.Prelude.{◌≡◌, ◌↔◌, IsTrue};
 

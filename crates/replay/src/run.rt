@@ -88,8 +88,8 @@ fn run<I: Source, O: Sink, E: Sink>(
     tell(end, err)
 }
 
-/// Runs the command of the words: `set --network PASSPHRASE` reads one input of the form `SLT1`, applies its transactions
-/// and prints a line for each and the hash of their results. It answers the exit status of the process.
+/// Runs the command of the words: `set --network PASSPHRASE` reads one input of the form `SLT1`, applies its
+/// transactions and prints a line for each and the hash of their results. It answers the exit status of the process.
 pub fn run_program<I: Source, O: Sink, E: Sink>(
     alloc: Global,
     words: &[String],

@@ -1,5 +1,5 @@
--- One transaction: its checks in order, and its operation.
--- Source: stellar-core, TransactionFrame::commonValid, processSignatures and applyOperations; CAP-0001 for the operation.
+-- One transaction: its checks in order, and its operation. Source: stellar-core, TransactionFrame::commonValid,
+-- processSignatures and applyOperations; CAP-0001 for the operation.
 use Rattle.std.specs.Prelude.{ℤ, pos, ◌+ℤ◌, ◌||◌, int_lt, nat_lt, not, List, [], ◌∷◌, Bool, Option, Some, None}
 use Rattle.std.specs.Prelude.{if◌then◌else◌}
 use Rattle.std.specs.Int.{int_max}

@@ -1,5 +1,6 @@
 -- The first signer left that a signature matches, by its place among all signers.
-use Rattle.std.proofs.Common.{◌≡◌, ℕ, zero, suc, ◌+◌, ◌<◌, ◌≤◌, Bool, true, false, cond, not, ltb, ◌&&◌, List, [], ◌∷◌, length, get_or, set, replicate, Option, Some, None, refl, sym, ap, ◌∙◌, arith, inl, inr}
+use Rattle.std.proofs.Common.{◌≡◌, ℕ, zero, suc, ◌+◌, ◌<◌, ◌≤◌, Bool, true, false, cond, not, ltb, ◌&&◌, List, [], ◌∷◌}
+use Rattle.std.proofs.Common.{length, get_or, set, replicate, Option, Some, None, refl, sym, ap, ◌∙◌, arith, inl, inr}
 use Rattle.std.specs.Prelude.{position}
 use Rattle.std.specs.List.{prefix_len, zip}
 use Rattle.std.specs.Option.{option_map}
@@ -11,7 +12,9 @@ use Rattle.signer_check.specs.Weight.{matches_key, Match, behind, first_match}
 use Rattle.signer_check.specs.Progress.{left_of}
 
 -- the place in a list, one further on where the list has another item in front
-placed_later : (b : Bool) (n len : ℕ) → b ≡ false → cond (ltb (cond (not b) (1 + n) 0) (suc len)) (Some (cond (not b) (1 + n) 0)) None ≡ option_map suc (cond (ltb n len) (Some n) None)
+placed_later : (b : Bool) (n len : ℕ) → b ≡ false
+    → cond (ltb (cond (not b) (1 + n) 0) (suc len)) (Some (cond (not b) (1 + n) 0)) None
+    ≡ option_map suc (cond (ltb n len) (Some n) None)
 placed_later true n len e = absurd cc
 placed_later false n len e =
     elim (cases_lt n len) [
@@ -19,7 +22,8 @@ placed_later false n len e =
       | inr le ↦ rw (le-ltb n len le, le-ltb (1 + n) (suc len) (omega arith)) refl
     ]
 
-position_later : {X : Type 0} (p : X → Bool) (x : X) (xs : List X) → p x ≡ false → position p (x ∷ xs) ≡ option_map suc (position p xs)
+position_later : {X : Type 0} (p : X → Bool) (x : X) (xs : List X) → p x ≡ false
+    → position p (x ∷ xs) ≡ option_map suc (position p xs)
 position_later p x xs e = placed_later (p x) (prefix_len (λ y. not (p y)) xs) (length xs) e
 
 position_here : {X : Type 0} (p : X → Bool) (x : X) (xs : List X) → p x ≡ true → position p (x ∷ xs) ≡ Some 0
@@ -32,26 +36,36 @@ counts_by signature pair = not pair.1 && matches_key signature pair.0.key
 -- what is found at a place
 abbrev pub found_at : Signer → List Bool → List Signer → Option ℕ → Option Match
 found_at d flags signers None = None
-found_at d flags signers (Some i) = Some (record { signer = get_or signers i d; others = left_of (set flags i true) signers })
+found_at d flags signers (Some i) = Some (record {
+  signer = get_or signers i d;
+  others =
+      left_of (set flags i true) signers;
+})
 
-found_counted : (d x : Signer) (flags : List Bool) (xs : List Signer) (place : Option ℕ) → found_at d flags xs place ≡ found_at d (true ∷ flags) (x ∷ xs) (option_map suc place)
+found_counted : (d x : Signer) (flags : List Bool) (xs : List Signer) (place : Option ℕ)
+    → found_at d flags xs place ≡ found_at d (true ∷ flags) (x ∷ xs) (option_map suc place)
 found_counted d x flags xs None = refl
 found_counted d x flags xs (Some i) = refl
 
-found_behind : (d x : Signer) (flags : List Bool) (xs : List Signer) (place : Option ℕ) → behind x (found_at d flags xs place) ≡ found_at d (false ∷ flags) (x ∷ xs) (option_map suc place)
+found_behind : (d x : Signer) (flags : List Bool) (xs : List Signer) (place : Option ℕ)
+    → behind x (found_at d flags xs place) ≡ found_at d (false ∷ flags) (x ∷ xs) (option_map suc place)
 found_behind d x flags xs None = refl
 found_behind d x flags xs (Some i) = refl
 
-first_left : (s : HeldSignature) (d x : Signer) (flags : List Bool) (xs : List Signer) (b : Bool) → matches_key s x.key ≡ b
+first_left : (s : HeldSignature) (d x : Signer) (flags : List Bool) (xs : List Signer) (b : Bool)
+    → matches_key s x.key ≡ b
     → first_match s (left_of flags xs) ≡ found_at d flags xs (position (counts_by s) (zip xs flags))
-    → cond b (Some (record { signer = x; others = left_of flags xs })) (behind x (first_match s (left_of flags xs))) ≡ found_at d (false ∷ flags) (x ∷ xs) (position (counts_by s) ((x, false) ∷ zip xs flags))
-first_left s d x flags xs true e others = ap (found_at d (false ∷ flags) (x ∷ xs)) (sym (position_here (counts_by s) (x, false) (zip xs flags) e))
+    → cond b (Some (record { signer = x; others = left_of flags xs })) (behind x (first_match s (left_of flags xs)))
+    ≡ found_at d (false ∷ flags) (x ∷ xs) (position (counts_by s) ((x, false) ∷ zip xs flags))
+first_left s d x flags xs true e others =
+    ap (found_at d (false ∷ flags) (x ∷ xs)) (sym (position_here (counts_by s) (x, false) (zip xs flags) e))
 first_left s d x flags xs false e others =
     ap (behind x) others
     ∙ found_behind d x flags xs (position (counts_by s) (zip xs flags))
     ∙ ap (found_at d (false ∷ flags) (x ∷ xs)) (sym (position_later (counts_by s) (x, false) (zip xs flags) e))
 
-pub first_match_at : (s : HeldSignature) (d : Signer) (flags : List Bool) (signers : List Signer) → first_match s (left_of flags signers) ≡ found_at d flags signers (position (counts_by s) (zip signers flags))
+pub first_match_at : (s : HeldSignature) (d : Signer) (flags : List Bool) (signers : List Signer)
+    → first_match s (left_of flags signers) ≡ found_at d flags signers (position (counts_by s) (zip signers flags))
 unfolding first_match
 first_match_at s d flags [] = refl
 first_match_at s d [] (x ∷ xs) = refl
@@ -59,27 +73,33 @@ first_match_at s d (true ∷ flags) (x ∷ xs) =
     first_match_at s d flags xs
     ∙ found_counted d x flags xs (position (counts_by s) (zip xs flags))
     ∙ ap (found_at d (true ∷ flags) (x ∷ xs)) (sym (position_later (counts_by s) (x, true) (zip xs flags) refl))
-first_match_at s d (false ∷ flags) (x ∷ xs) = first_left s d x flags xs (matches_key s x.key) refl (first_match_at s d flags xs)
+first_match_at s d (false ∷ flags) (x ∷ xs) =
+    first_left s d x flags xs (matches_key s x.key) refl (first_match_at s d flags xs)
 
 -- by the place that was found
-pub matched_at : (s : HeldSignature) (d : Signer) (flags : List Bool) (signers : List Signer) (place : Option ℕ) → place ≡ position (counts_by s) (zip signers flags)
+pub matched_at : (s : HeldSignature) (d : Signer) (flags : List Bool) (signers : List Signer) (place : Option ℕ)
+    → place ≡ position (counts_by s) (zip signers flags)
     → first_match s (left_of flags signers) ≡ found_at d flags signers place
 matched_at s d flags signers place e = first_match_at s d flags signers ∙ ap (found_at d flags signers) (sym e)
 
-pub matched_nothing : (s : HeldSignature) (flags : List Bool) (signers : List Signer) → None ≡ position (counts_by s) (zip signers flags) → first_match s (left_of flags signers) ≡ None
+pub matched_nothing : (s : HeldSignature) (flags : List Bool) (signers : List Signer)
+    → None ≡ position (counts_by s) (zip signers flags) → first_match s (left_of flags signers) ≡ None
 unfolding first_match
 matched_nothing s flags [] e = refl
 matched_nothing s flags (x ∷ xs) e = matched_at s x flags (x ∷ xs) None e
 
 -- a place in both lists
-zip_within : (signers : List Signer) (flags : List Bool) (i : ℕ) → i < length (zip signers flags) → (i < length signers) × (i < length flags)
+zip_within : (signers : List Signer) (flags : List Bool) (i : ℕ) → i < length (zip signers flags)
+    → (i < length signers) × (i < length flags)
 zip_within [] flags i h = (h, absurd (omega arith))
 zip_within (x ∷ xs) [] i h = (omega arith, h)
 zip_within (x ∷ xs) (f ∷ fs) zero h = (omega arith, omega arith)
 zip_within (x ∷ xs) (f ∷ fs) (suc i) h = let t = zip_within xs fs i (omega arith) in (omega arith, omega arith)
 
-pub place_within : (s : HeldSignature) (d : Signer) (flags : List Bool) (signers : List Signer) (i : ℕ) → Some i ≡ position (counts_by s) (zip signers flags) → (i < length signers) × (i < length flags)
-place_within s d flags signers i e = zip_within signers flags i (position-Some (counts_by s) (zip signers flags) i (d, false) (sym e)).0
+pub place_within : (s : HeldSignature) (d : Signer) (flags : List Bool) (signers : List Signer) (i : ℕ)
+    → Some i ≡ position (counts_by s) (zip signers flags) → (i < length signers) × (i < length flags)
+place_within s d flags signers i e =
+    zip_within signers flags i (position-Some (counts_by s) (zip signers flags) i (d, false) (sym e)).0
 
 -- where no flag is set, all are left
 pub all_left : (n : ℕ) (signers : List Signer) → length signers ≤ n → left_of (replicate n false) signers ≡ signers

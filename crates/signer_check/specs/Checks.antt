@@ -14,4 +14,6 @@ pub record Checks : Type 0 where
 
 -- both are stored as they are
 abbrev pub checks_code : Coded Checks
-checks_code = code_by (Hash × List HeldSignature) (coded× hash.the_row.coded (coded_list held.the_row.coded)) (λ c. (c.hash, c.signatures)) (λ p. record { hash = p.0; signatures = p.1 }) (λ _. refl)
+checks_code =
+    code_by (Hash × List HeldSignature) (coded× hash.the_row.coded (coded_list held.the_row.coded))
+    (λ c. (c.hash, c.signatures)) (λ p. record { hash = p.0; signatures = p.1 }) (λ _. refl)

@@ -1,5 +1,6 @@
 -- How far a check has come: what is still missing, and which signers are left.
-use Rattle.std.specs.Prelude.{ℕ, ◌-◌, nat_le, List, [], ◌∷◌, Bool, true, false, Option, Some, None, option_and_then, if◌then◌else◌}
+use Rattle.std.specs.Prelude.{ℕ, ◌-◌, nat_le, List, [], ◌∷◌, Bool, true, false, Option, Some, None, option_and_then}
+use Rattle.std.specs.Prelude.{if◌then◌else◌}
 use Rattle.ledger_types.specs.declared.signer.Signer.{Signer}
 use Rattle.signer_check.specs.Weight.{Counted, Match}
 

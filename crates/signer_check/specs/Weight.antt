@@ -1,6 +1,7 @@
 -- The weight of signatures: which signers of an account count, in which order, and which signatures are used for them.
 -- Source: SignatureChecker::checkSignature and SignatureUtils in stellar-core.
-use Rattle.std.specs.Prelude.{ℕ, ◌+◌, ◌&&◌, ◌||◌, nat_eq, nat_le, min, zero, suc, List, [], ◌∷◌, ◌++◌, map, drop, slice_index, Bool, true, false, Option, Some, None, if◌then◌else◌}
+use Rattle.std.specs.Prelude.{ℕ, ◌+◌, ◌&&◌, ◌||◌, nat_eq, nat_le, min, zero, suc, List, [], ◌∷◌, ◌++◌, map, drop}
+use Rattle.std.specs.Prelude.{slice_index, Bool, true, false, Option, Some, None, if◌then◌else◌}
 use Rattle.std.specs.List.{filter}
 use Rattle.std.specs.Str.{bytes_eq}
 use Rattle.ledger_types.specs.declared.ids.Hash.{Hash}
@@ -37,10 +38,11 @@ is_authorised hash (PreAuthTx wanted) = bytes_eq wanted.0 hash.0
 is_authorised hash (Ed25519 key) = false
 is_authorised hash (HashX wanted) = false
 
--- A signature matches a hash-x signer whose last four bytes are its hint and whose hash is that of the signature. It never matches an
--- Ed25519 signer.
+-- A signature matches a hash-x signer whose last four bytes are its hint and whose hash is that of the signature. It
+-- never matches an Ed25519 signer.
 abbrev pub matches_key : HeldSignature → SignerKey → Bool
-matches_key signature (HashX wanted) = bytes_eq signature.hint (drop 28 wanted.0) && bytes_eq signature.digest.0 wanted.0
+matches_key signature (HashX wanted) =
+    bytes_eq signature.hint (drop 28 wanted.0) && bytes_eq signature.digest.0 wanted.0
 matches_key signature (Ed25519 key) = false
 matches_key signature (PreAuthTx wanted) = false
 
@@ -53,7 +55,9 @@ pub record Counted : Type 0 where
 
 -- the pre-authorised signers of this transaction
 abbrev pub counted_by_hash : Hash → List Signer → List Counted
-counted_by_hash hash signers = map (λ signer. record { weight = weight_of signer; signature = None }) (filter (λ signer. is_authorised hash signer.key) signers)
+counted_by_hash hash signers =
+    map (λ signer. record { weight = weight_of signer; signature = None })
+    (filter (λ signer. is_authorised hash signer.key) signers)
 
 -- the first signer that a signature matches, and the others
 pub record Match : Type 0 where
@@ -67,16 +71,19 @@ behind signer (Some match_of) = Some (record { signer = match_of.signer; others 
 unfoldable pub first_match : HeldSignature → List Signer → Option Match
 first_match signature [] = None
 first_match signature (signer ∷ others) =
-    if matches_key signature signer.key then Some (record { signer = signer; others = others }) else behind signer (first_match signature others)
+    if matches_key signature signer.key then Some (record { signer = signer; others = others })
+    else behind signer (first_match signature others)
 
--- Each signature in turn, from a place on: it counts the first signer left that it matches, if there is one. So each signer counts
--- once.
+-- Each signature in turn, from a place on: it counts the first signer left that it matches, if there is one. So each
+-- signer counts once.
 unfoldable pub counted_by_signatures : ℕ → List HeldSignature → List Signer → List Counted
 counted_by_signatures place [] left = []
 counted_by_signatures place (signature ∷ signatures) left =
     elim (first_match signature left) [
       | None ↦ counted_by_signatures (suc place) signatures left
-      | Some found ↦ record { weight = weight_of found.signer; signature = Some place } ∷ counted_by_signatures (suc place) signatures found.others
+      | Some found ↦
+          record { weight = weight_of found.signer; signature = Some place }
+          ∷ counted_by_signatures (suc place) signatures found.others
     ]
 
 -- all signers that count, in their order
@@ -93,7 +100,8 @@ reaches need sum (c ∷ cs) = nat_le need (sum + c.weight) || reaches need (sum 
 -- the signers that count up to the first one with which the sum reaches the need, or all where it never does
 unfoldable pub until_reached : (need sum : ℕ) → List Counted → List Counted
 until_reached need sum [] = []
-until_reached need sum (c ∷ cs) = c ∷ (if nat_le need (sum + c.weight) then [] else until_reached need (sum + c.weight) cs)
+until_reached need sum (c ∷ cs) =
+    c ∷ (if nat_le need (sum + c.weight) then [] else until_reached need (sum + c.weight) cs)
 
 -- ---- which signatures are used
 
@@ -117,6 +125,8 @@ used_for (c ∷ cs) signatures = used_for cs (used_by c.signature signatures)
 abbrev pub succeeds : Hash → List HeldSignature → AccountEntry → ℕ → Bool
 succeeds hash signatures account need = reaches need 0 (counted hash signatures (signers_of account))
 
--- The signatures after the check. A signature is used if it was before, or if it made a signer count up to the one that reached the need.
+-- The signatures after the check. A signature is used if it was before, or if it made a signer count up to the one that
+-- reached the need.
 abbrev pub after_check : Hash → List HeldSignature → AccountEntry → ℕ → List HeldSignature
-after_check hash signatures account need = used_for (until_reached need 0 (counted hash signatures (signers_of account))) signatures
+after_check hash signatures account need =
+    used_for (until_reached need 0 (counted hash signatures (signers_of account))) signatures

@@ -31,7 +31,8 @@ impl Model for Checker {
 }
 
 impl Checker {
-    /// The signatures of the transaction with this hash, of which none is used. It takes all the memory that checks need.
+    /// The signatures of the transaction with this hash, of which none is used. It takes all the memory that checks
+    /// need.
     pub fn new(
         alloc: Global,
         hash: &Hash,
@@ -49,9 +50,9 @@ impl Checker {
         })
     }
 
-    /// Whether the signatures reach a weight for an account: pre-authorised signers count first, and then the hash-x signers by the
-    /// signatures in their order, each signer once and with at most 255. The check ends as soon as a signer that counts brings the sum
-    /// to `needed`, so a need of 0 takes one signer. It takes no memory.
+    /// Whether the signatures reach a weight for an account: pre-authorised signers count first, and then the hash-x
+    /// signers by the signatures in their order, each signer once and with at most 255. The check ends as soon as a
+    /// signer that counts brings the sum to `needed`, so a need of 0 takes one signer. It takes no memory.
     pub fn check(&mut self, account: &AccountEntry, needed: u32) -> bool
         requires { length account.now.signers ≤ 20 }
         ensures succeeds { result ≡ succeeds self.old.hash self.old.signatures account.now needed }

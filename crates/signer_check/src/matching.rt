@@ -16,7 +16,8 @@ pub fn is_authorised(hash: &Hash, key: &SignerKey) -> bool
     }
 }
 
-/// Whether a signature matches a key: a hash-x key with its hint as the last four bytes, which is SHA-256 of the signature.
+/// Whether a signature matches a key: a hash-x key with its hint as the last four bytes, which is SHA-256 of the
+/// signature.
 pub fn matches_key(signature: &HeldSignature, key: &SignerKey) -> bool
     ensures { result ≡ key_matches signature.now key.now }
 {

@@ -1,7 +1,8 @@
 //! Whether the signers that count reach a weight.
 
 ghost use Rattle.std.specs.Prelude.{◌≡◌, ◌≤◌, length};
-ghost use Rattle.signer_check.specs.Weight.{counted as all_counted, counted_by_signatures, reaches, until_reached, used_for};
+ghost use Rattle.signer_check.specs.Weight.{counted as all_counted, counted_by_signatures, reaches, until_reached};
+ghost use Rattle.signer_check.specs.Weight.{used_for};
 
 use crate::counting::{MAX_SIGNERS, count_signer};
 use crate::held::HeldSignature;
@@ -10,8 +11,8 @@ use item_list::ItemList;
 use ledger_types::{Hash, Signer};
 use std::mem;
 
-/// Whether the signers that the signatures count, in their order, reach a weight. A signature that counts a signer up to there is
-/// used from then on.
+/// Whether the signers that the signatures count, in their order, reach a weight. A signature that counts a signer up
+/// to there is used from then on.
 fn reach_by_signatures(signatures: &mut [HeldSignature], signers: &[Signer], needed: u32) -> bool
     requires { length signers.now ≤ MAX_SIGNERS }
     ensures reached { result ≡ reaches needed 0 (counted_by_signatures 0 signatures.old signers.now) }
@@ -31,8 +32,8 @@ fn reach_by_signatures(signatures: &mut [HeldSignature], signers: &[Signer], nee
     false
 }
 
-/// Whether the signers that count reach a weight: the pre-authorised ones first, and then those that the signatures count, by which
-/// these are used.
+/// Whether the signers that count reach a weight: the pre-authorised ones first, and then those that the signatures
+/// count, by which these are used.
 fn reach(hash: &Hash, signatures: &mut [HeldSignature], signers: &[Signer], needed: u32) -> bool
     requires { length signers.now ≤ MAX_SIGNERS }
     ensures reached { result ≡ reaches needed 0 (all_counted hash.now signatures.old signers.now) }

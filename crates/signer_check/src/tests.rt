@@ -68,7 +68,8 @@ fn checker(alloc: Global, signatures: &[([u8; 4], &[u8])]) -> Result<Checker, Al
     Checker::new(alloc, &TRANSACTION, &all)
 }
 
-/// The signers of an account, what signs the transaction, the need, and whether the check succeeds and uses all signatures.
+/// The signers of an account, what signs the transaction, the need, and whether the check succeeds and uses all
+/// signatures.
 #[derive(Clone, Copy)]
 struct Case<'a> {
     signers: &'a [Signer],
@@ -90,7 +91,8 @@ fn succeeds(
     Ok(checker.check(&account, needed))
 }
 
-/// Whether the only check of a transaction succeeds, and whether it uses all signatures. No account has more than 20 signers.
+/// Whether the only check of a transaction succeeds, and whether it uses all signatures. No account has more than 20
+/// signers.
 fn outcome(
     alloc: Global,
     signers: &[Signer],
@@ -154,7 +156,11 @@ fn stays_used(alloc: Global) -> Result<[(bool, bool); 3], AllocError> {
     let one = succeeds(alloc, &mut checker, &[text_of(ONE, 1)], 1)?;
     let used_both = checker.all_used();
     let again = succeeds(alloc, &mut checker, &[text_of(ONE, 1)], 1)?;
-    Ok([(two, used_two), (one, used_both), (again, checker.all_used())])
+    Ok([
+        (two, used_two),
+        (one, used_both),
+        (again, checker.all_used()),
+    ])
 }
 
 #[test]

@@ -215,8 +215,8 @@ fn moved(
     move_data(alloc, &mut entries, ctx, key, payer)
 }
 
-/// The new payer alone is tested where something moves. The sponsor pays for the data, so the owner keeps 10,000,000 until
-/// it moves.
+/// The new payer alone is tested where something moves. The sponsor pays for the data, so the owner keeps 10,000,000
+/// until it moves.
 fn tell_moved_by<R: Print + AllocGlobal>(rt: &R, ctx: &Ctx, key: &LedgerKey) -> io::Result<()> {
     for other in [
         means_of(14_999_999, 0, 0),

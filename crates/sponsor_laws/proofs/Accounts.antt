@@ -64,7 +64,7 @@ pub with_count-count : (count other : Count) (n : ℕ) (a : AccountEntry)
 unfolding with_count
 with_count-count count other n a =
     elim (nat_eq n (count_in count a)) as (λ b. nat_eq n (count_in count a) ≡ b
-        → count_in other (cond b a (with_new_count count n a)) ≡ instead count other n (count_in other a)) [
+    → count_in other (cond b a (with_new_count count n a)) ≡ instead count other n (count_in other a)) [
       | true ↦ λ h. instead_same count other a ∙ ap (λ k. instead count other k (count_in other a))
           (sym (eqb-true _ _ h))
       | false ↦ λ h. with_new_count-count count other n a
@@ -93,7 +93,7 @@ pub with_count-keeps : (count : Count) (n : ℕ) (a : AccountEntry) → KeepsPar
 unfolding with_count
 with_count-keeps count n a = elim (nat_eq n (count_in count a)) as
     (λ b. KeepsParts a
-        (cond b a (with_new_count count n a))) [ true ↦ keeps_all a | false ↦ with_new_count-keeps count n a ]
+    (cond b a (with_new_count count n a))) [ true ↦ keeps_all a | false ↦ with_new_count-keeps count n a ]
 
 -- ---- items
 
@@ -129,7 +129,7 @@ own_part Sponsored id b = sponsored_signers id b
 
 pub counted_split : (count : Count) (id : AccountId) (e : LedgerEntry)
     → counted_for count id e ≡ share count id (multiplicity e.body) (owner_of e.body)
-        (sponsor_of e) + own_part count id e.body
+    (sponsor_of e) + own_part count id e.body
 counted_split SubEntries id e = omega arith
 counted_split Sponsoring id e = refl
 counted_split Sponsored id e = refl

@@ -51,9 +51,9 @@ module _ (old : EntryMap) (h : IsEven old) where
   added : (p : Shift) (m : EntryMap) (e : LedgerEntry) → IsShifted p no_shift old m → get old (key_of e) ≡ None
       → account_in e.body ≡ None → ((count : Count) (id : AccountId) → counted_for count id e ≡ p count id)
       → ((id : AccountId) → Names e id → HasAccount old id)
-          → ((id : AccountId) → total SubEntries id old + p SubEntries id ≤ 1000)
+      → ((id : AccountId) → total SubEntries id old + p SubEntries id ≤ 1000)
       → ((id : AccountId) → total SubEntries id old + total Sponsoring id old +
-          (p SubEntries id + p Sponsoring id) ≤ 4294967295) → IsEven (put m e)
+      (p SubEntries id + p Sponsoring id) ≤ 4294967295) → IsEven (put m e)
   added p m e s free plain balanced names few fits = placed p no_shift old m e h s (record {
     balanced = λ count id. let none : part_of (counted_for count id) (get old (key_of e)) ≡ 0 =
         ap (part_of (counted_for count id)) free in let is = balanced count id in omega arith;
@@ -79,7 +79,7 @@ module _ (old : EntryMap) (h : IsEven old) where
   added_subentry : (ctx : Ctx) (owner : AccountId) (k : ℕ) (e : LedgerEntry) (new : EntryMap)
       → IsSubentry e.body owner k → get old (key_of e) ≡ None → sponsor_of e ≡ None
       → HasAccount old owner → HasAccount old (payer_of ctx owner) → IsApart ctx owner
-          → map_after_adding_subentry ctx e owner k old ≡ Ok new → IsEven new
+      → map_after_adding_subentry ctx e owner k old ≡ Ok new → IsEven new
   added_subentry ctx owner k e new is free none stands payer_stands apart done =
       let s = open_sponsor ctx owner in
       let e' = sponsored_entry s e in
@@ -90,16 +90,16 @@ module _ (old : EntryMap) (h : IsEven old) where
       let same_body = sponsored_body s e in
       let payer_is : (x : AccountId) → s ≡ Some x → payer_of ctx owner ≡ x = λ x pays. ap (payer_by owner) pays in
       subst IsEven (done_by (subentry_tests ctx old owner k) (put m e') new done)
-          (added (plus p (shared k (Some owner) s)) m e' second (ap (λ b. get old (key_of_body b)) same_body
-              ∙ free) (ap account_in same_body ∙ is.no_account)
+      (added (plus p (shared k (Some owner) s)) m e' second (ap (λ b. get old (key_of_body b)) same_body
+      ∙ free) (ap account_in same_body ∙ is.no_account)
       (λ count id.
       let split = counted_split count id e' in
       let pays : share count id (multiplicity e'.body) (owner_of e'.body) (sponsor_of e')
-          ≡ share count id k (Some owner) s =
+      ≡ share count id k (Some owner) s =
       λ i. share count id ((ap multiplicity same_body ∙ is.times) i) ((ap owner_of same_body ∙ is.owns) i)
-          (sponsored_sponsor s e none i) in
+      (sponsored_sponsor s e none i) in
       let part : own_part count id e'.body ≡ at_one SubEntries k owner count id = ap (own_part count id) same_body
-          ∙ is.parts count id in
+      ∙ is.parts count id in
       omega arith)
       (λ id names. elim names [
         | inl owns ↦ let same : owner ≡ id = (let is_owner = sym (ap owner_of same_body ∙ is.owns) ∙ owns in cc) in
@@ -123,12 +123,12 @@ module _ (old : EntryMap) (h : IsEven old) where
       let first = shifted_raise no_shift no_shift Sponsoring k payer old old h.own (unshifted old h.own) in
       let over = payer_passed ctx old payer k (put m e') new done in
       subst IsEven (done_by (payer_tests ctx old payer k) (put m e') new done)
-          (added (plus no_shift (at_one Sponsoring k payer)) m e' first free (ap account_in is)
+      (added (plus no_shift (at_one Sponsoring k payer)) m e' first free (ap account_in is)
       (λ count id.
       let split = counted_split count id e' in
       let pays : share count id (multiplicity e.body) (owner_of e.body) (Some payer)
-          ≡ at_one Sponsoring k payer count id = ap (λ b. share count id (multiplicity b) (owner_of b) (Some payer)) is
-              ∙ shared_payer count id payer k in
+      ≡ at_one Sponsoring k payer count id = ap (λ b. share count id (multiplicity b) (owner_of b) (Some payer)) is
+      ∙ shared_payer count id payer k in
       let part : own_part count id e.body ≡ 0 = ap (own_part count id) is ∙ balance_part count id balance in
       omega arith)
       (λ id names. elim names [
@@ -138,7 +138,7 @@ module _ (old : EntryMap) (h : IsEven old) where
       ])
       (λ id. let le = all_few old id h in omega arith)
       (λ id. let le = pays_more old id (Some payer) k h (λ x pays. let same : payer ≡ x = cc in
-          subst (λ y. HasRoom old y k) same (has_room old payer k h stands over)) in omega arith))
+      subst (λ y. HasRoom old y k) same (has_room old payer k h stands over)) in omega arith))
 
   added_pool : (pool : LiquidityPoolEntry) (e : LedgerEntry) → e.body ≡ body.LiquidityPool pool
       → get old (key_of e) ≡ None → sponsor_of e ≡ None → IsEven (put old e)
@@ -146,8 +146,8 @@ module _ (old : EntryMap) (h : IsEven old) where
       (λ count id.
       let split = counted_split count id e in
       let pays : share count id (multiplicity e.body) (owner_of e.body) (sponsor_of e) ≡ 0 =
-          ap (λ b. share count id (multiplicity b) (owner_of b) (sponsor_of e)) is
-              ∙ share_nothing count id None (sponsor_of e) in
+      ap (λ b. share count id (multiplicity b) (owner_of b) (sponsor_of e)) is
+      ∙ share_nothing count id None (sponsor_of e) in
       let part : own_part count id e.body ≡ 0 = ap (own_part count id) is ∙ pool_part count id pool in
       omega arith)
       (λ id names. elim names [
@@ -177,54 +177,54 @@ module _ (old : EntryMap) (h : IsEven old) where
   added_account : (p : Shift) (m : EntryMap) (e : LedgerEntry) (account : AccountEntry) → IsShifted p no_shift old m
       → get old (key_of e) ≡ None → e.body ≡ body.Account account
       → account.signers ≡ [] → signer_sponsors account ≡ [] → ((count : Count) (id : AccountId)
-          → share count id 2 (Some account.account_id) (sponsor_of e) ≡ p count id)
+      → share count id 2 (Some account.account_id) (sponsor_of e) ≡ p count id)
       → ((count : Count) → count_in count account ≡ p count account.account_id)
-          → ((s : AccountId) → sponsor_of e ≡ Some s → HasAccount old s) → ((id : AccountId) → p SubEntries id ≡ 0)
+      → ((s : AccountId) → sponsor_of e ≡ Some s → HasAccount old s) → ((id : AccountId) → p SubEntries id ≡ 0)
       → ((id : AccountId) → total SubEntries id old + total Sponsoring id old + p Sponsoring id ≤ 4294967295)
-          → IsEven (put m e)
+      → IsEven (put m e)
   added_account p m e account s free is none unsponsored balanced counts stands no_subs fits =
       placed p no_shift old m e h s (record {
-    balanced = λ count id.
-        let nothing : part_of (counted_for count id) (get old (key_of e)) ≡ 0 =
+        balanced = λ count id.
+            let nothing : part_of (counted_for count id) (get old (key_of e)) ≡ 0 =
             ap (part_of (counted_for count id)) free in
-        let split = counted_split count id e in
-        let pays : share count id (multiplicity e.body) (owner_of e.body) (sponsor_of e)
+            let split = counted_split count id e in
+            let pays : share count id (multiplicity e.body) (owner_of e.body) (sponsor_of e)
             ≡ share count id 2 (Some account.account_id) (sponsor_of e) =
-                ap (λ b. share count id (multiplicity b) (owner_of b) (sponsor_of e)) is in
-        let part : own_part count id e.body ≡ 0 = ap (own_part count id) is
+            ap (λ b. share count id (multiplicity b) (owner_of b) (sponsor_of e)) is in
+            let part : own_part count id e.body ≡ 0 = ap (own_part count id) is
             ∙ empty_part count id account none unsponsored in
-        let same = balanced count id in
-        omega arith;
-    sums = λ other count holds.
-        let same : account ≡ other = (let its = ap account_in is in cc) in
-        subst (λ (x : AccountEntry). count_in count x + 0 ≡ total count x.account_id old + p count x.account_id) same (
-        let nothing = unstanding_total count account.account_id old h (λ standing.
-        let entry = account_entry old account.account_id standing.0 standing.1 in
-        let its : get old (key.Account account.account_id) ≡ None = ap (get old) (sym (ap key_of_body is)) ∙ free in
-        let found = entry.1.0 in
-        cc) in
-        let sum = counts count in
-        omega arith);
-    items = λ other holds. let same : account ≡ other = (let its = ap account_in is in cc) in
-        subst HasItems same (has_items account (ap length unsponsored ∙ sym (ap length none)));
-    names = λ id names. elim names [
-      | inl owns ↦ let same : account.account_id ≡ id = (let its = ap owner_of is in cc) in
-          subst (HasAccount (put m e)) same (stands_placed m e account (ap account_in is))
-      | inr (inl pays) ↦ stands_put m e id (stands_after p no_shift old m id s (stands id pays))
-      | inr (inr n) ↦ absurd (let same : account ≡ n.account = (let its = ap account_in is in let holds = n.is in cc) in
-          no_contained (Some id) (subst (λ xs. Contains xs (Some id)) (sym (ap signer_sponsors same)
+            let same = balanced count id in
+            omega arith;
+        sums = λ other count holds.
+            let same : account ≡ other = (let its = ap account_in is in cc) in
+            subst (λ (x : AccountEntry). count_in count x + 0 ≡ total count x.account_id old + p count x.account_id) same (
+            let nothing = unstanding_total count account.account_id old h (λ standing.
+            let entry = account_entry old account.account_id standing.0 standing.1 in
+            let its : get old (key.Account account.account_id) ≡ None = ap (get old) (sym (ap key_of_body is)) ∙ free in
+            let found = entry.1.0 in
+            cc) in
+            let sum = counts count in
+            omega arith);
+        items = λ other holds. let same : account ≡ other = (let its = ap account_in is in cc) in
+            subst HasItems same (has_items account (ap length unsponsored ∙ sym (ap length none)));
+        names = λ id names. elim names [
+          | inl owns ↦ let same : account.account_id ≡ id = (let its = ap owner_of is in cc) in
+              subst (HasAccount (put m e)) same (stands_placed m e account (ap account_in is))
+          | inr (inl pays) ↦ stands_put m e id (stands_after p no_shift old m id s (stands id pays))
+          | inr (inr n) ↦ absurd (let same : account ≡ n.account = (let its = ap account_in is in let holds = n.is in cc) in
+              no_contained (Some id) (subst (λ xs. Contains xs (Some id)) (sym (ap signer_sponsors same)
               ∙ unsponsored) n.sponsor))
-    ];
-    few = λ id. let le = all_few old id h in let nothing = no_subs id in omega arith;
-    fits = λ id. let le = fits id in let nothing = no_subs id in omega arith;
-  })
+        ];
+        few = λ id. let le = all_few old id h in let nothing = no_subs id in omega arith;
+        fits = λ id. let le = fits id in let nothing = no_subs id in omega arith;
+      })
 
   added_unsponsored : (e : LedgerEntry) (account : AccountEntry) → e.body ≡ body.Account account
       → get old (key_of e) ≡ None → sponsor_of e ≡ None → IsNewAccount account → IsEven (put old e)
   added_unsponsored e account is free none fresh = added_account no_shift old e account
       (unshifted old h.own) free is fresh.signers (no_signer_sponsors account fresh)
       (λ count id. ap (share count id 2 (Some account.account_id)) none
-          ∙ shared_none count id 2 (Some account.account_id)) fresh.counts (λ s pays. absurd (cc)) (λ id. refl)
+      ∙ shared_none count id 2 (Some account.account_id)) fresh.counts (λ s pays. absurd (cc)) (λ id. refl)
       (λ id. let le = all_fit old id h in omega arith)
 
   added_sponsored : (ctx : Ctx) (s : AccountId) (e : LedgerEntry) (account : AccountEntry) (new : EntryMap)
@@ -239,34 +239,34 @@ module _ (old : EntryMap) (h : IsEven old) where
       let own_free : get old (key.Account account.account_id) ≡ None = ap (get old) (sym (ap key_of_body is)) ∙ free in
       let first = shifted_raise no_shift no_shift Sponsoring 2 s old old h.own (unshifted old h.own) in
       let second = shifted_as (plus no_shift (at_one Sponsoring 2 s)) no_shift p no_shift old m
-          (λ x y other there holds count.
+      (λ x y other there holds count.
       let others = apart_ids account.account_id other.account_id (λ same.
       let at : key.Account account.account_id ≡ x = ap key.Account same ∙ sym (account_key y.body other holds)
-          ∙ h.own x y there in
+      ∙ h.own x y there in
       let found = ap (get old) at ∙ there in
       cc) in
       let none = elsewhere_none Sponsored count 2 account.account_id other.account_id others in
       let both = shared_both count other.account_id account.account_id s 2 in
       (omega arith, refl)) first in
       subst IsEven (done_by (payer_tests ctx old s 2) (put m e') new done)
-          (added_account p m e' more second (ap (λ x. get old (key.Account x)) parts.id ∙ own_free) refl
+      (added_account p m e' more second (ap (λ x. get old (key.Account x)) parts.id ∙ own_free) refl
       (parts.signers ∙ fresh.signers) (parts.sponsors ∙ no_signer_sponsors account fresh)
       (λ count id. ap (λ x. share count id 2 (Some x) (Some s)) parts.id)
       (λ count.
       let is_count = with_count-count Sponsored count (count_in Sponsored account + 2) account in
       let sum = instead_plus Sponsored count (count_in Sponsored account) (count_in count account) 2
-          (λ e. ap (λ c. count_in c account) e) in
+      (λ e. ap (λ c. count_in c account) e) in
       let nothing = fresh.counts count in
       let both = shared_both count more.account_id account.account_id s 2 in
       let mine = here Sponsored count 2 account.account_id more.account_id parts.id in
       let none = elsewhere_none Sponsoring count 2 s more.account_id
-          (apart_ids s more.account_id (λ same. apart (same ∙ parts.id))) in
+      (apart_ids s more.account_id (λ same. apart (same ∙ parts.id))) in
       omega arith)
       (λ x pays. let same : s ≡ x = cc in subst (HasAccount old) same stands)
       (λ id. refl)
       (λ id. pays_more old id (Some s) 2 h (λ x pays. let same : s ≡ x = cc in
-          subst (λ y. HasRoom old y 2) same (has_room old s 2 h stands
-              (payer_passed ctx old s 2 (put m e') new done)))))
+      subst (λ y. HasRoom old y 2) same (has_room old s 2 h stands
+      (payer_passed ctx old s 2 (put m e') new done)))))
 
 -- ---- all kinds
 
@@ -278,11 +278,11 @@ module _ (ctx : Ctx) (owner : AccountId) (e : LedgerEntry) (old new : EntryMap) 
 
   account_added : (account : AccountEntry) → e.body ≡ body.Account account → ((s : AccountId)
       → open_sponsor ctx owner ≡ Some s → HasAccount old s)
-          → map_after_adding_account ctx e account (open_sponsor ctx owner) old ≡ Ok new → IsEven new
+      → map_after_adding_account ctx e account (open_sponsor ctx owner) old ≡ Ok new → IsEven new
   account_added account is stands done =
       let fresh = addable.new_account account (ap account_in is) in
       elim (open_sponsor ctx owner) as (λ o. open_sponsor ctx owner ≡ o
-          → map_after_adding_account ctx e account o old ≡ Ok new → IsEven new) [
+      → map_after_adding_account ctx e account o old ≡ Ok new → IsEven new) [
         | None ↦ λ none added. subst IsEven (done_by (own_tests ctx account) (put old e) new added)
             (added_unsponsored old h e account is addable.free addable.unsponsored fresh)
         | Some s ↦ λ some added. added_sponsored old h ctx s e account new is addable.free fresh (stands s some)
@@ -298,14 +298,14 @@ module _ (ctx : Ctx) (owner : AccountId) (e : LedgerEntry) (old new : EntryMap) 
       (added_pool old h pool e is addable.free addable.unsponsored)
   added_by (body.TrustLine line) is stand done =
       added_subentry old h ctx owner (line_multiplicity line.asset) e new
-          (subentry_of _ _ _ is
-              (line_is e.body line is)) addable.free addable.unsponsored stand.0 stand.1 addable.apart done
+      (subentry_of _ _ _ is
+      (line_is e.body line is)) addable.free addable.unsponsored stand.0 stand.1 addable.apart done
   added_by (body.Offer offer) is stand done = added_subentry old h ctx owner 1 e new
       (subentry_of _ _ _ is
-          (offer_is e.body offer is)) addable.free addable.unsponsored stand.0 stand.1 addable.apart done
+      (offer_is e.body offer is)) addable.free addable.unsponsored stand.0 stand.1 addable.apart done
   added_by (body.Data data_entry) is stand done = added_subentry old h ctx owner 1 e new
       (subentry_of _ _ _ is
-          (data_is e.body data_entry is)) addable.free addable.unsponsored stand.0 stand.1 addable.apart done
+      (data_is e.body data_entry is)) addable.free addable.unsponsored stand.0 stand.1 addable.apart done
 
 pub adding_keeps : AddingKeeps
 adding_keeps ctx owner entry old new kept addable done = kept_of new

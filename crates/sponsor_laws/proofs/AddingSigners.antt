@@ -62,8 +62,8 @@ module _ (old : EntryMap) (h : IsEven old) (id : AccountId) (a : AccountEntry) (
       let c = with_signer signer s b in
       let within : place ≤ length b.signers = prefix_len-le-length _ b.signers in
       let sponsors : signer_sponsors c ≡ insert (signer_sponsors a) place s =
-          sponsors_inserted place signer s b (paid_for s b shifted)
-              ∙ ap (λ xs. insert xs place s) shifted.parts.sponsors in
+      sponsors_inserted place signer s b (paid_for s b shifted)
+      ∙ ap (λ xs. insert xs place s) shifted.parts.sponsors in
       let sums = λ (g : Option AccountId → ℕ). ap (sum_by g) sponsors ∙ sum_by-insert g (signer_sponsors a) place s in
       let same_length = ap length shifted.parts.signers in
       let longer = length-insert b.signers place signer within in
@@ -78,7 +78,7 @@ module _ (old : EntryMap) (h : IsEven old) (id : AccountId) (a : AccountEntry) (
             let before = own_of old h id a held count i a own in
             let after = own_of old h id a held count i c (shifted.parts.id ∙ own) in
             let more = signed_more count i id (length a.signers) (length c.signers) (signer_sponsors a)
-                (signer_sponsors c) s (omega arith) sums in
+            (signer_sponsors c) s (omega arith) sums in
             omega arith;
         names = λ i. named_stands old (signer_sponsors a) (signer_sponsors c) s i (let sum =
             sums (λ o. cond (is_this i o) 1 0) in omega arith) (payer i) (signer_stands old h id a held i);
@@ -94,10 +94,10 @@ module _ (old : EntryMap) (h : IsEven old) (id : AccountId) (a : AccountEntry) (
       let stands = own_stands old h id a held in
       let second = shifted_counting no_shift no_shift 1 old old h.own (unshifted old h.own) id s in
       let once = twice (map_after_charging 1 s old) id (with_subentry 1 s) (with_signer signer s) (charging_own old h s)
-          (with_subentry_id s) (λ b. refl) in
+      (with_subentry_id s) (λ b. refl) in
       let payer_is : (x : AccountId) → s ≡ Some x → payer_of ctx id ≡ x = λ x pays. ap (payer_by id) pays in
       subst IsEven (once ∙ done_by (subentry_tests ctx old id 1) after new done)
-          (edited (signer_shift id s) no_shift id (with_signer signer s) old m h second held.entry a held.there held.is
+      (edited (signer_shift id s) no_shift id (with_signer signer s) old m h second held.entry a held.there held.is
       (with_signer_edits signer s (λ x pays. subst (HasAccount old) (payer_is x pays) payer_stands))
       (λ i. let le = few_more old id i 1 h (has_few old id 1 h stands tests.not_full) in omega arith)
       (λ i. let le = both_more old i id s 1 h (has_room old id 1 h stands tests.owner) (λ x pays. (
@@ -108,4 +108,4 @@ module _ (old : EntryMap) (h : IsEven old) (id : AccountId) (a : AccountEntry) (
 pub adding_signer_keeps : AddingSignerKeeps
 adding_signer_keeps ctx id signer old new kept stands payer_stands apart done =
     kept_of new (signer_added old (even old kept) id stands.0
-        (held_by old id stands.0 stands.1) ctx signer new payer_stands apart done)
+    (held_by old id stands.0 stands.1) ctx signer new payer_stands apart done)

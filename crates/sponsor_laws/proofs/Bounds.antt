@@ -24,9 +24,9 @@ passed : (tests : Tests AddFault) (m new : EntryMap) → unless_first tests m �
     → (first_fault tests ≡ None) × (m ≡ new)
 passed tests m new is = elim (first_fault tests) as (λ o. first_fault tests ≡ o → unless_fault o m ≡ Ok new
     → (first_fault tests ≡ None) × (m ≡ new)) [
-  | None ↦ λ none done. (none, cc)
-  | Some fault ↦ λ some done. absurd (cc)
-] refl is
+      | None ↦ λ none done. (none, cc)
+      | Some fault ↦ λ some done. absurd (cc)
+    ] refl is
 
 first_passed : (b : Bool) (fault : AddFault) (tests : Tests AddFault) → first_fault ((b, fault) ∷ tests) ≡ None
     → (b ≡ false) × (first_fault tests ≡ None)
@@ -45,7 +45,7 @@ pub payer_passed : (ctx : Ctx) (m : EntryMap) (payer : AccountId) (k : ℕ) (aft
     → unless_first (payer_tests ctx m payer k) after ≡ Ok new → is_over (account_at m payer) k ≡ false
 payer_passed ctx m payer k after new is = (first_passed (is_over (account_at m payer) k) TooManySponsoring
     ((is_short ctx.base_reserve (account_at m payer) k, LowReserve) ∷ [])
-        (passed (payer_tests ctx m payer k) after new is).0).0
+    (passed (payer_tests ctx m payer k) after new is).0).0
 
 -- an owner and a payer that passed
 pub record HavePassed (ctx : Ctx) (m : EntryMap) (id : AccountId) (k : ℕ) : Type 0 where
@@ -57,12 +57,15 @@ pub have_passed : (ctx : Ctx) (m : EntryMap) (owner : AccountId) (k : ℕ) (afte
     → unless_first (subentry_tests ctx m owner k) after ≡ Ok new → HavePassed ctx m owner k
 have_passed ctx m owner k after new is =
     let short : Tests AddFault = (is_short ctx.base_reserve (account_at m (payer_of ctx owner)) k, LowReserve) ∷ [] in
-    let full = first_passed (is_full (account_at m owner) k) TooManySubentries ((is_over
-        (account_at m (payer_of ctx owner)) k || is_over (account_at m owner) k, TooManySponsoring) ∷ short)
-            (passed (subentry_tests ctx m owner k) after new is).0 in
+    let full = first_passed (is_full (account_at m owner) k) TooManySubentries ((
+      is_over
+          (account_at m (payer_of ctx owner)) k || is_over (account_at m owner) k,
+      TooManySponsoring,
+    ) ∷ short)
+    (passed (subentry_tests ctx m owner k) after new is).0 in
     let over = neither (is_over (account_at m (payer_of ctx owner)) k) (is_over (account_at m owner) k)
-        (first_passed (is_over (account_at m (payer_of ctx owner)) k || is_over
-            (account_at m owner) k) TooManySponsoring short full.1).0 in
+    (first_passed (is_over (account_at m (payer_of ctx owner)) k || is_over
+    (account_at m owner) k) TooManySponsoring short full.1).0 in
     record { not_full = full.0; payer = over.0; owner = over.1 }
 
 -- ---- room
@@ -115,7 +118,7 @@ pays_more m id payer k h room = one_more (is_this id payer) (total SubEntries id
 pub both_more : (m : EntryMap) (id owner : AccountId) (payer : Option AccountId) (k : ℕ) → IsEven m → HasRoom m owner k
     → ((s : AccountId) → payer ≡ Some s → HasRoom m s k × (s ≢ owner))
     → total SubEntries id m + total Sponsoring id m +
-        ((if is_account owner id then k else 0) + (if is_this id payer then k else 0)) ≤ 4294967295
+    ((if is_account owner id then k else 0) + (if is_this id payer then k else 0)) ≤ 4294967295
 both_more m id owner payer k h owner_room room = one_of_two (is_account owner id) (is_this id payer)
     (total SubEntries id m + total Sponsoring id m) k 4294967295
     (λ is. subst (λ x. HasRoom m x k) (same_account owner id is) owner_room)

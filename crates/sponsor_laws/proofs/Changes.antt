@@ -43,7 +43,7 @@ put_own m e own k x there = after_insert (λ q y. key_of y ≡ q) m (key_of e) e
 
 pub put_total : (m : EntryMap) (e : LedgerEntry) (count : Count) (id : AccountId)
     → total count id (put m e) + part_of (counted_for count id) (get m (key_of e))
-        ≡ total count id m + counted_for count id e
+    ≡ total count id m + counted_for count id e
 put_total m e count id = sum_in-insert keys_total (counted_for count id) m (key_of e) e
 
 -- ---- a change of one account
@@ -75,8 +75,11 @@ changed_by m id f e (body.Account a) is own there = inr (record {
   own_id = (let same : key.Account a.account_id ≡ key.Account id = sym (ap key_of_body is) ∙ own _ e there in cc);
   is_put = ap (with_account_of m f) there ∙ ap (with_account_in m e f) is;
 })
-changed_by m id f e other is own there = inl (ap account_of there ∙ ap account_in is, ap (with_account_of m f) there
-    ∙ ap (with_account_in m e f) is)
+changed_by m id f e other is own there = inl (
+  ap account_of there ∙ ap account_in is,
+  ap (with_account_of m f) there
+      ∙ ap (with_account_in m e f) is,
+)
 
 pub changed_at : (m : EntryMap) (id : AccountId) (f : AccountEntry → AccountEntry) → AreOwn m
     → IsMissing m id f ⊎ IsChangedAt m id f
@@ -92,7 +95,7 @@ put_both : (k q : LedgerKey) (m : EntryMap) (e f : LedgerEntry) → key_of f ≡
     → get (put (put m e) f) q ≡ get (put m f) q
 put_both k q m e f same = put_get (put m e) f q
     ∙ elim (eq_by_cmp key_cmp q (key_of f)) as (λ b. eq_by_cmp key_cmp q (key_of f) ≡ b
-        → cond b (Some f) (get (put m e) q) ≡ cond b (Some f) (get m q)) [
+    → cond b (Some f) (get (put m e) q) ≡ cond b (Some f) (get m q)) [
       | true ↦ λ tied. refl
       | false ↦ λ apart. put_get m e q ∙ ap (λ b. cond b (Some e) (get m q)) (ap (eq_by_cmp key_cmp q) (sym same)
           ∙ apart)
@@ -111,14 +114,14 @@ put_found m e id named = put_get m e (key.Account id) ∙ ap (λ b. cond b (Some
 changed_again : (m : EntryMap) (id : AccountId) (f g : AccountEntry → AccountEntry)
     → ((a : AccountEntry) → (f a).account_id ≡ a.account_id) → ((a : AccountEntry) → (g a).account_id ≡ a.account_id)
     → IsChangedAt m id f → IsChangedAt m id (λ a. g (f a))
-        → with_account (with_account m id f) id g ≡ with_account m id (λ a. g (f a))
+    → with_account (with_account m id f) id g ≡ with_account m id (λ a. g (f a))
 unfolding with_account
 changed_again m id f g keeps_f keeps_g first both =
     let e : LedgerEntry = record first.entry { body = body.Account (f first.account) } in
     let named : key_of e ≡ key.Account id = ap key.Account (keeps_f first.account ∙ first.own_id) in
     let same_entry : first.entry ≡ both.entry = (let one = first.there in let other = both.there in cc) in
     let same_body : body.Account first.account ≡ body.Account both.account = sym first.is
-        ∙ ap (λ (x : LedgerEntry). x.body) same_entry ∙ both.is in
+    ∙ ap (λ (x : LedgerEntry). x.body) same_entry ∙ both.is in
     let same_of : first.account ≡ both.account = cc in
     let last : LedgerEntry = record e { body = body.Account (g (f first.account)) } in
     ap (λ n. with_account n id g) first.is_put
@@ -149,8 +152,11 @@ twice m id f g own keeps_f keeps_g = elim (changed_at m id f own) [
 
     unchanged : (m : EntryMap) (id : AccountId) (g : AccountEntry → AccountEntry) → AreOwn m → account_at m id ≡ None
         → with_account m id g ≡ m
-    unchanged m id g own none = elim (changed_at m id g own) [ inl missing ↦ missing.1 | inr c ↦ absurd
-        (missing_not m id g none c) ]
+    unchanged m id g own none = elim (changed_at m id g own) [
+      | inl missing ↦ missing.1
+      | inr c ↦ absurd
+          (missing_not m id g none c)
+    ]
 
 -- the map with a count of an account raised, or lowered
 abbrev pub map_with_more : Count → ℕ → AccountId → EntryMap → EntryMap
@@ -178,13 +184,13 @@ module _ (p q p' q' : Shift) (id : AccountId) (f : AccountEntry → AccountEntry
 
   moved_bodies : (x : LedgerEntryBody) (a : AccountEntry) → Moves → key_of_body x ≡ key.Account id
       → ((was : AccountEntry) → account_in x ≡ Some was → account_at old id ≡ Some was)
-          → AlikeBodies p q x (body.Account a) → AlikeBodies p' q' x (body.Account (f a))
+      → AlikeBodies p q x (body.Account a) → AlikeBodies p' q' x (body.Account (f a))
   moved_bodies (body.Account was) a moves own stands h = moves was a (stands was refl) (cc) h
   moved_bodies other a moves own stands h = absurd (cc)
 
   moved_entry : (x : Option LedgerEntry) (e : LedgerEntry) (a : AccountEntry) → Moves → e.body ≡ body.Account a
       → ((y : LedgerEntry) → x ≡ Some y → key_of y ≡ key.Account id) → x ≡ get old (key.Account id)
-          → Alike p q x (Some e)
+      → Alike p q x (Some e)
       → Alike p' q' x (Some (record e { body = body.Account (f a) }))
   moved_entry None e a moves is own at h = absurd h
   moved_entry (Some x) e a moves is own at h = record {
@@ -200,11 +206,11 @@ module _ (p q p' q' : Shift) (id : AccountId) (f : AccountEntry → AccountEntry
 
   new_get : (m : EntryMap) → ((a : AccountEntry) → KeepsParts a (f a)) → (c : IsChangedAt m id f) (k : LedgerKey)
       → get (with_account m id f) k ≡ cond (eq_by_cmp key_cmp k (key.Account id))
-          (Some (record c.entry { body = body.Account (f c.account) })) (get m k)
+      (Some (record c.entry { body = body.Account (f c.account) })) (get m k)
   new_get m keeps c k =
       let e' : LedgerEntry = record c.entry { body = body.Account (f c.account) } in
       ap (λ n. get n k) c.is_put ∙ put_get m e' k ∙ ap (λ x. cond (eq_by_cmp key_cmp k x) (Some e') (get m k))
-          (new_key m keeps c)
+      (new_key m keeps c)
 
   changed_total : (m : EntryMap) → ((a : AccountEntry) → KeepsParts a (f a)) → IsChangedAt m id f
       → (count : Count) (i : AccountId) → total count i (with_account m id f) ≡ total count i m
@@ -213,9 +219,9 @@ module _ (p q p' q' : Shift) (id : AccountId) (f : AccountEntry → AccountEntry
       let sum = put_total m e' count i in
       let new : total count i (with_account m id f) ≡ total count i (put m e') = ap (total count i) c.is_put in
       let before : part_of (counted_for count i) (get m (key_of e')) ≡ counted_for count i c.entry =
-          ap (part_of (counted_for count i)) (ap (get m) (new_key m keeps c) ∙ c.there) in
+      ap (part_of (counted_for count i)) (ap (get m) (new_key m keeps c) ∙ c.there) in
       let same : counted_for count i e' ≡ counted_for count i c.entry =
-          counted-keeps count i c.entry c.account (f c.account) c.is (keeps c.account) in
+      counted-keeps count i c.entry c.account (f c.account) c.is (keeps c.account) in
       omega arith
 
   module _ (m : EntryMap) (own : AreOwn old) (h : IsShifted p q old m) (keeps : (a : AccountEntry)
@@ -234,7 +240,7 @@ module _ (p q p' q' : Shift) (id : AccountId) (f : AccountEntry → AccountEntry
     missing (none, is) = subst (IsShifted p' q' old) (sym is)
         (shifted_as p q p' q' old m (λ k e account there holds. elsewhere account.account_id
         (apart_ids id account.account_id (λ same. still_there k e account there holds (ap (account_at m) (sym same)
-            ∙ none)))) h)
+        ∙ none)))) h)
 
     changed : IsChangedAt m id f → IsShifted p' q' old (with_account m id f)
     changed c =
@@ -243,14 +249,14 @@ module _ (p q p' q' : Shift) (id : AccountId) (f : AccountEntry → AccountEntry
           own = subst AreOwn (sym c.is_put) (put_own m e' h.own);
           entries = λ k. subst (Alike p' q' (get old k)) (sym (new_get m keeps c k)) (
               elim (eq_by_cmp key_cmp k (key.Account id)) as (λ b. eq_by_cmp key_cmp k (key.Account id) ≡ b
-                  → Alike p' q' (get old k) (cond b (Some e') (get m k))) [
+              → Alike p' q' (get old k) (cond b (Some e') (get m k))) [
                 | true ↦ λ tied. let at = same_keys k (key.Account id) tied in
                     moved_entry (get old k) c.entry c.account moves c.is (λ y there. own k y there
-                        ∙ at) (ap (get old) at) (subst (Alike p q (get old k)) (ap (get m) at ∙ c.there) (h.entries k))
+                    ∙ at) (ap (get old) at) (subst (Alike p q (get old k)) (ap (get m) at ∙ c.there) (h.entries k))
                 | false ↦ λ apart. alike_agree p q p' q' (get old k) (get m k)
                     (λ e account there holds. elsewhere account.account_id (apart_ids id account.account_id (λ same.
                     let at : k ≡ key.Account id = sym (own k e there) ∙ account_key e.body account holds
-                        ∙ ap key.Account (sym same) in
+                    ∙ ap key.Account (sym same) in
                     let tied = ap (λ x. eq_by_cmp key_cmp x (key.Account id)) at ∙ same_itself (key.Account id) in
                     cc))) (h.entries k)
               ] refl);
@@ -303,7 +309,7 @@ module _ (p q : Shift) (count : Count) (k : ℕ) (id : AccountId) (old m : Entry
         counts = λ other.
             let is = with_count-count count other (count_in count account + k) account in
             let moved = instead_plus count other (count_in count account) (count_in other account) k
-                (λ e. ap (λ c. count_in c account) e) in
+            (λ e. ap (λ c. count_in c account) e) in
             let at = here count other k id was.account_id same in
             let before = s.counts other in
             omega arith;
@@ -312,7 +318,7 @@ module _ (p q : Shift) (count : Count) (k : ℕ) (id : AccountId) (old m : Entry
 
   pub shifted_lower : ((was : AccountEntry) → account_at old id ≡ Some was
       → q count id + k ≤ count_in count was + p count id)
-          → IsShifted p (plus q (at_one count k id)) old (map_with_less count k id m)
+      → IsShifted p (plus q (at_one count k id)) old (map_with_less count k id m)
   shifted_lower enough = shifted_change p q p (plus q (at_one count k id)) id (with_less count k) old m own h
       (λ a. with_count-keeps count (count_in count a - k) a)
       (λ was account stands same s. record {
@@ -321,9 +327,9 @@ module _ (p q : Shift) (count : Count) (k : ℕ) (id : AccountId) (old m : Entry
         counts = λ other.
             let is = with_count-count count other (count_in count account - k) account in
             let le : k ≤ count_in count account = (let at_id = enough was stands in let mine = s.counts count in
-                let q_at = ap (q count) same in let p_at = ap (p count) same in omega arith) in
+            let q_at = ap (q count) same in let p_at = ap (p count) same in omega arith) in
             let moved = instead_minus count other (count_in count account) (count_in other account) k
-                (λ e. ap (λ c. count_in c account) e) le in
+            (λ e. ap (λ c. count_in c account) e) le in
             let at = here count other k id was.account_id same in
             let before = s.counts other in
             omega arith;

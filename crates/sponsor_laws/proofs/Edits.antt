@@ -40,10 +40,10 @@ pub record IsEdited (p q : Shift) (old : EntryMap) (a c : AccountEntry) : Type 0
 module _ (p q : Shift) (id : AccountId) (f : AccountEntry → AccountEntry) (old m : EntryMap) (h : IsEven old)
     (s : IsShifted p q old m) (e : LedgerEntry) (a : AccountEntry)
     (there : get old (key.Account id) ≡ Some e) (is : e.body ≡ body.Account a) (edits : (b : AccountEntry)
-        → IsShiftedAccount p q a b → IsEdited p q old a (f b))
+    → IsShiftedAccount p q a b → IsEdited p q old a (f b))
     (few : (i : AccountId) → total SubEntries i old + p SubEntries i ≤ 1000 + q SubEntries i)
     (fits : (i : AccountId) → total SubEntries i old + total Sponsoring i old +
-        (p SubEntries i + p Sponsoring i) ≤ 4294967295 + (q SubEntries i + q Sponsoring i)) where
+    (p SubEntries i + p Sponsoring i) ≤ 4294967295 + (q SubEntries i + q Sponsoring i)) where
   own_id : a.account_id ≡ id
   own_id = let same : key.Account a.account_id ≡ key.Account id = sym (ap key_of_body is) ∙ h.own _ e there in cc
 
@@ -57,7 +57,7 @@ module _ (p q : Shift) (id : AccountId) (f : AccountEntry → AccountEntry) (old
     shifted_account : IsShiftedAccount p q a x.account
     shifted_account = let now = entry_after p q old m (key.Account id) e s there in
         subst (λ b. AlikeBodies p q b (body.Account x.account)) is
-            (subst (AlikeBodies p q e.body) (ap (λ y. y.body) now_same ∙ x.is) now.2.bodies)
+        (subst (AlikeBodies p q e.body) (ap (λ y. y.body) now_same ∙ x.is) now.2.bodies)
 
     edited_put : IsEven (put m (record x.entry { body = body.Account (f x.account) }))
     edited_put =
@@ -68,20 +68,20 @@ module _ (p q : Shift) (id : AccountId) (f : AccountEntry → AccountEntry) (old
         placed p q old m e' h s (record {
           balanced = λ count i.
               let part : part_of (counted_for count i) (get old (key_of e')) ≡ counted_for count i e =
-                  ap (part_of (counted_for count i)) (ap (get old) its_key ∙ there) in
+              ap (part_of (counted_for count i)) (ap (get old) its_key ∙ there) in
               let before = counted_split count i e in
               let after = counted_split count i e' in
               let own : own_part count i e.body ≡ own_part count i (body.Account a) = ap (own_part count i) is in
               let pays : share count i 2 (Some c.account_id) (sponsor_of x.entry)
-                  ≡ share count i (multiplicity e.body) (owner_of e.body) (sponsor_of e) =
+              ≡ share count i (multiplicity e.body) (owner_of e.body) (sponsor_of e) =
               (λ j. share count i 2 (Some (edit.id j)) (same_sponsor j))
-                  ∙ sym (ap (λ b. share count i (multiplicity b) (owner_of b) (sponsor_of e)) is) in
+              ∙ sym (ap (λ b. share count i (multiplicity b) (owner_of b) (sponsor_of e)) is) in
               let moved = edit.parts count i in
               omega arith;
           sums = λ account count holds.
               let same : c ≡ account = cc in
               subst (λ (y : AccountEntry). count_in count y + q count y.account_id
-                  ≡ total count y.account_id old + p count y.account_id) same (
+              ≡ total count y.account_id old + p count y.account_id) same (
               let sum = h.sums (key.Account id) e a count there (ap account_in is) in
               let moved = edit.counts count in
               subst (λ i. count_in count c + q count i ≡ total count i old + p count i) (sym edit.id) (omega arith));
@@ -93,8 +93,8 @@ module _ (p q : Shift) (id : AccountId) (f : AccountEntry → AccountEntry) (old
                 (h.names (key.Account id) e i there (inr (inl (sym same_sponsor ∙ pays)))))
             | inr (inr n) ↦ let same : c ≡ n.account = (let holds = n.is in cc) in
                 stands_put m e' i (stands_after p q old m i s
-                    (edit.names i (subst (λ (y : AccountEntry). Contains (signer_sponsors y) (Some i))
-                        (sym same) n.sponsor)))
+                (edit.names i (subst (λ (y : AccountEntry). Contains (signer_sponsors y) (Some i))
+                (sym same) n.sponsor)))
           ];
           few = few;
           fits = fits;
@@ -104,7 +104,7 @@ module _ (p q : Shift) (id : AccountId) (f : AccountEntry → AccountEntry) (old
   edited = elim (changed_at m id f s.own) [
     | inl missing ↦ absurd (
         let stands = stands_after p q old m id s (h.names (key.Account id) e id there (inl (ap owner_of is
-            ∙ ap Some own_id))) in
+        ∙ ap Some own_id))) in
         let found = stands.1 in let none = missing.0 in cc)
     | inr x ↦ subst IsEven (sym x.is_put) (edited_put x)
   ]
@@ -115,14 +115,14 @@ pub counted_once : (xs : List (Option AccountId)) (i : AccountId) → Contains x
 counted_once xs i has =
     let le = get_or-le-sum_by (λ (o : Option AccountId). cond (is_this i o) 1 0) xs has.0 (Some i) has.1 in
     let one : ◌≡◌ {A = ℕ} (cond (is_this i (slice_index_or xs has.0 (Some i))) 1 0) 1 =
-        ap (λ o. cond (is_this i o) 1 0) has.2 ∙ ap (λ t. cond t 1 0) (is_itself i) in
+    ap (λ o. cond (is_this i o) 1 0) has.2 ∙ ap (λ t. cond t 1 0) (is_itself i) in
     omega arith
 
 -- where a list has one sponsor more at most, who is named in it stands
 pub named_stands : (old : EntryMap) (xs more : List (Option AccountId)) (s : Option AccountId) (i : AccountId)
     → count_by (is_this i) more ≤ count_by (is_this i) xs + cond (is_this i s) 1 0
     → (s ≡ Some i → HasAccount old i) → (Contains xs (Some i) → HasAccount old i) → Contains more (Some i)
-        → HasAccount old i
+    → HasAccount old i
 named_stands old xs more s i le new before has = stands_or_not (HasAccount old i) old i (λ stands. stands) (λ apart.
     let once = counted_once more i has in
     let none = count_none i xs (λ there. apart (before there)) in
@@ -157,13 +157,13 @@ turned false false k = refl
 pub signed_more : (count : Count) (i id : AccountId) (n m : ℕ) (xs more : List (Option AccountId))
     (s : Option AccountId) → m ≡ n + 1
     → ((f : Option AccountId → ℕ) → sum_by f more ≡ sum_by f xs + f s)
-        → signed count i id m more ≡ signed count i id n xs +
-            (at_one SubEntries 1 id count i + share count i 1 (Some id) s)
+    → signed count i id m more ≡ signed count i id n xs +
+    (at_one SubEntries 1 id count i + share count i 1 (Some id) s)
 signed_more SubEntries i id n m xs more s one sums = let is = one_more_if (is_account id i) n m 1 one in omega arith
 signed_more Sponsoring i id n m xs more s one sums = let is = sums (λ o. cond (is_this i o) 1 0) in omega arith
 signed_more Sponsored i id n m xs more s one sums =
     let is = one_more_if (is_account id i) (count_by is_there xs) (count_by is_there more) (cond (is_there s) 1 0)
-        (sums (λ o. cond (is_there o) 1 0)) in
+    (sums (λ o. cond (is_there o) 1 0)) in
     let other = turned (is_account id i) (is_there s) 1 in
     omega arith
 
@@ -175,9 +175,9 @@ signed_other SubEntries i id n xs more s t sums = refl
 signed_other Sponsoring i id n xs more s t sums = sums (λ o. cond (is_this i o) 1 0)
 signed_other Sponsored i id n xs more s t sums =
     let old = one_more_if (is_account id i) (count_by is_there more) (count_by is_there more + cond (is_there s) 1 0)
-        (cond (is_there s) 1 0) refl in
+    (cond (is_there s) 1 0) refl in
     let new = one_more_if (is_account id i) (count_by is_there xs) (count_by is_there more + cond (is_there s) 1 0)
-        (cond (is_there t) 1 0) (sums (λ o. cond (is_there o) 1 0)) in
+    (cond (is_there t) 1 0) (sums (λ o. cond (is_there o) 1 0)) in
     let first = turned (is_account id i) (is_there s) 1 in
     let second = turned (is_account id i) (is_there t) 1 in
     omega arith

@@ -117,7 +117,7 @@ pub sums_of : (m : EntryMap) → IsEven m → (id : AccountId) (account : Accoun
 sums_of m h id account count there =
     let entry = account_entry m id account there in
     h.sums (key.Account id) entry.0 account count entry.1.0 entry.1.1
-        ∙ ap (λ x. total count x m) (same_id m id entry.0 account h.own entry.1.0 entry.1.1)
+    ∙ ap (λ x. total count x m) (same_id m id entry.0 account h.own entry.1.0 entry.1.1)
 
 pub even : (m : EntryMap) → AreKept m → IsEven m
 even m kept =
@@ -153,7 +153,7 @@ kept_of m h = record {
     sponsors = λ k e id there pays. h.names k e id there (inr (inl pays));
     signers = λ of account id there sponsor. let entry = account_entry m of account there in
         h.names (key.Account of) entry.0 id entry.1.0
-            (inr (inr (record { account = account; is = entry.1.1; sponsor = sponsor })));
+        (inr (inr (record { account = account; is = entry.1.1; sponsor = sponsor })));
   };
   items = λ id account there. let entry = account_entry m id account there in
       h.items (key.Account id) entry.0 account entry.1.0 entry.1.1;
@@ -183,9 +183,9 @@ pub count_none : (id : AccountId) (xs : List (Option AccountId)) → (Contains x
 count_none id [] none = refl
 count_none id (x ∷ xs) none =
     let here : ◌≡◌ {A = ℕ} (cond (is_this id x) 1 0) 0 =
-        ap (λ t. cond t 1 0) (not_this id x (λ is. none (0, omega arith, is))) in
+    ap (λ t. cond t 1 0) (not_this id x (λ is. none (0, omega arith, is))) in
     let rest : count_by (is_this id) xs ≡ 0 = count_none id xs
-        (λ later. none (suc later.0, omega (arith, later.1), later.2)) in
+    (λ later. none (suc later.0, omega (arith, later.1), later.2)) in
     let cons = sum_by-cons (λ (o : Option AccountId). cond (is_this id o) 1 0) x xs in
     omega arith
 
@@ -204,16 +204,16 @@ unnamed_counts_nothing SubEntries id e apart = subentries_none id e.body
     (not_this id (owner_of e.body) (λ h. apart (inl h)))
 unnamed_counts_nothing Sponsoring id e apart =
     let paid : (if is_this id (sponsor_of e) then multiplicity e.body else 0) ≡ 0 =
-        ap (λ t. if t then multiplicity e.body else 0) (not_this id (sponsor_of e) (λ h. apart (inr (inl h)))) in
+    ap (λ t. if t then multiplicity e.body else 0) (not_this id (sponsor_of e) (λ h. apart (inr (inl h)))) in
     let signers = sponsoring_none id e.body (λ account is there. apart
-        (inr (inr (record { account = account; is = is; sponsor = there })))) in
+    (inr (inr (record { account = account; is = is; sponsor = there })))) in
     omega arith
 unnamed_counts_nothing Sponsored id e apart =
     let owner = not_this id (owner_of e.body) (λ h. apart (inl h)) in
     let paid : (if is_there (sponsor_of e) then (if is_this id
-        (owner_of e.body) then multiplicity e.body else 0) else 0) ≡ 0 =
+    (owner_of e.body) then multiplicity e.body else 0) else 0) ≡ 0 =
     ap (λ t. if is_there (sponsor_of e) then (if t then multiplicity e.body else 0) else 0) owner
-        ∙ nothing_if (is_there (sponsor_of e)) 0 refl in
+    ∙ nothing_if (is_there (sponsor_of e)) 0 refl in
     let signers = sponsored_none id e.body owner in
     omega arith
 
@@ -242,4 +242,4 @@ all_few m id h = stands_or_not (total SubEntries id m ≤ 1000) m id (h.few id) 
 pub all_fit : (m : EntryMap) (id : AccountId) → IsEven m → total SubEntries id m + total Sponsoring id m ≤ 4294967295
 all_fit m id h = stands_or_not (total SubEntries id m + total Sponsoring id m ≤ 4294967295) m id (h.fits id)
     (λ apart. let none = unstanding_total SubEntries id m h apart in
-        let unpaid = unstanding_total Sponsoring id m h apart in omega arith)
+    let unpaid = unstanding_total Sponsoring id m h apart in omega arith)

@@ -45,21 +45,21 @@ other_is owner (Some payer) s is = elim (is_account payer owner) as (λ b. (if b
 
 pub room_of : (old : EntryMap) → IsEven old → (ctx : Ctx) (owner : AccountId) (s : Option AccountId) (n : ℕ)
     (after new : EntryMap) → ((id : AccountId) → s ≡ Some id → HasAccount old id)
-        → unless_first (move_tests ctx old owner s n) after ≡ Ok new
+    → unless_first (move_tests ctx old owner s n) after ≡ Ok new
     → (id : AccountId) → s ≡ Some id → HasRoom old id n
 room_of old h ctx owner None n after new stands done id is = absurd (cc)
 room_of old h ctx owner (Some payer) n after new stands done id is = let same : payer ≡ id = cc in
     subst (λ x. HasRoom old x n) same (has_room old payer n h (stands payer refl)
-        (payer_passed ctx old payer n after new done))
+    (payer_passed ctx old payer n after new done))
 
 module _ (old : EntryMap) (h : IsEven old) (k : LedgerKey) (e : LedgerEntry) (there : get old k ≡ Some e) where
   -- counts moved by what the entry counts for its sponsors
   moved_to : (p q : Shift) (m : EntryMap) (s : Option AccountId) → IsShifted p q old m
       → ((count : Count) (id : AccountId) → p count id + share count id (multiplicity e.body) (owner_of e.body)
-          (sponsor_of e) ≡ q count id + share count id (multiplicity e.body) (owner_of e.body) s)
+      (sponsor_of e) ≡ q count id + share count id (multiplicity e.body) (owner_of e.body) s)
       → ((id : AccountId) → s ≡ Some id → HasAccount old id) → ((id : AccountId) → p SubEntries id ≡ 0)
       → ((id : AccountId) → total SubEntries id old + total Sponsoring id old + p Sponsoring id ≤ 4294967295)
-          → IsEven (map_with_sponsor k s m)
+      → IsEven (map_with_sponsor k s m)
   unfolding map_with_sponsor
   moved_to p q m s shifted balanced stands no_subs fits =
       let now = entry_after p q old m k e shifted there in
@@ -69,25 +69,25 @@ module _ (old : EntryMap) (h : IsEven old) (k : LedgerKey) (e : LedgerEntry) (th
       subst IsEven (sym is_put) (placed p q old m e' h shifted (record {
         balanced = λ count id.
             let part : part_of (counted_for count id) (get old (key_of e')) ≡ counted_for count id e =
-                ap (part_of (counted_for count id)) (ap (get old) its_key ∙ there) in
+            ap (part_of (counted_for count id)) (ap (get old) its_key ∙ there) in
             let before = counted_split count id e in
             let after = counted_split count id e' in
             let own = same_own_part p q count id e.body now.0.body now.2.bodies in
             let pays : share count id (multiplicity now.0.body) (owner_of now.0.body) s
-                ≡ share count id (multiplicity e.body) (owner_of e.body) s =
+            ≡ share count id (multiplicity e.body) (owner_of e.body) s =
             λ i. share count id (same_multiplicity p q e.body now.0.body now.2.bodies i)
-                (same_owner p q e.body now.0.body now.2.bodies i) s in
+            (same_owner p q e.body now.0.body now.2.bodies i) s in
             let is = balanced count id in
             omega arith;
         sums = λ account count is.
             let was = account_before p q e.body now.0.body account now.2.bodies is in
             let sum = h.sums k e was.0 count there was.1 in
             subst (λ id. count_in count account + q count id ≡ total count id old + p count id) (sym was.2.parts.id)
-                (let map_after_moving_between = was.2.counts count in omega arith);
+            (let map_after_moving_between = was.2.counts count in omega arith);
         items = λ account is.
             let was = account_before p q e.body now.0.body account now.2.bodies is in
             has_items account (ap length was.2.parts.sponsors ∙ as_many was.0 (h.items k e was.0 there was.1)
-                ∙ sym (ap length was.2.parts.signers));
+            ∙ sym (ap length was.2.parts.signers));
         names = λ id names. stands_put m e' id (stands_after p q old m id shifted (elim names [
           | inl owns ↦ h.names k e id there (names_before p q e now.0 id now.2 (inl owns))
           | inr (inl pays) ↦ stands id pays
@@ -115,17 +115,17 @@ module _ (old : EntryMap) (h : IsEven old) (k : LedgerKey) (e : LedgerEntry) (th
       → multiplicity e.body ≡ n → ((id : AccountId) → s ≡ Some id → HasAccount old id)
       → ((id : AccountId) → s ≡ Some id → HasRoom old id n)
       → IsShifted (plus no_shift (shared n (Some owner) s)) (plus no_shift (shared n (Some owner) (sponsor_of e))) old
-          (map_with_other_payer owner n (sponsor_of e) s old)
+      (map_with_other_payer owner n (sponsor_of e) s old)
       → IsEven (map_with_sponsor k s (map_with_other_payer owner n (sponsor_of e) s old))
   moved_between owner n s owns times stands room second =
       let was = sponsor_of e in
       moved_to (plus no_shift (shared n (Some owner) s)) (plus no_shift (shared n (Some owner) was))
-          (map_with_other_payer owner n was s old) s second
+      (map_with_other_payer owner n was s old) s second
       (λ count id.
       let before : share count id (multiplicity e.body) (owner_of e.body) was ≡ share count id n (Some owner) was =
-          λ i. share count id (times i) (owns i) was in
+      λ i. share count id (times i) (owns i) was in
       let after : share count id (multiplicity e.body) (owner_of e.body) s ≡ share count id n (Some owner) s =
-          λ i. share count id (times i) (owns i) s in
+      λ i. share count id (times i) (owns i) s in
       omega arith)
       stands
       (λ id. refl)
@@ -134,7 +134,7 @@ module _ (old : EntryMap) (h : IsEven old) (k : LedgerKey) (e : LedgerEntry) (th
   between_done : (ctx : Ctx) (owner : AccountId) (n : ℕ) (was s : Option AccountId) (new : EntryMap)
       → (AreNone was s → ⊥) → map_after_moving_between ctx k owner n was s old ≡ Ok new
       → unless_first (move_tests ctx old owner s n) (map_with_sponsor k s (map_with_other_payer owner n was s old))
-          ≡ Ok new
+      ≡ Ok new
   between_done ctx owner n None None new some done = absurd (some (refl, refl))
   between_done ctx owner n was s new some done = done
 
@@ -152,12 +152,12 @@ module _ (old : EntryMap) (h : IsEven old) (k : LedgerKey) (e : LedgerEntry) (th
       let after = map_with_sponsor k s (map_with_other_payer owner n (sponsor_of e) s old) in
       let stand = λ (id : AccountId) (is : s ≡ Some id). stands id (other_is owner payer id is) in
       elim (shifted_payers no_shift no_shift n old old h.own (unshifted old h.own) owner (sponsor_of e) s
-          (enough_of owner n owns times)) [
+      (enough_of owner n owns times)) [
         | inl none ↦ subst IsEven (none_done ctx owner n (sponsor_of e) s new none.0 none.1 done) h
         | inr some ↦
             let tested = between_done ctx owner n (sponsor_of e) s new some.0 done in
             subst IsEven (done_by (move_tests ctx old owner s n) after new tested)
-                (moved_between owner n s owns times stand (room_of old h ctx owner s n after new stand tested) some.1)
+            (moved_between owner n s owns times stand (room_of old h ctx owner s n after new stand tested) some.1)
       ]
 
   -- ---- claimable balances
@@ -173,24 +173,24 @@ module _ (old : EntryMap) (h : IsEven old) (k : LedgerKey) (e : LedgerEntry) (th
       let times : multiplicity e.body ≡ n = ap multiplicity is in
       let nobody : owner_of e.body ≡ None = ap owner_of is in
       let first = shifted_payer no_shift no_shift n old old h.own (unshifted old h.own) was
-          (λ x pays. enough no_shift Sponsoring n x old k e h there
-              (subst (λ m. m ≤ counted_for Sponsoring x e) times (pays_for e x pays)) refl) in
+      (λ x pays. enough no_shift Sponsoring n x old k e h there
+      (subst (λ m. m ≤ counted_for Sponsoring x e) times (pays_for e x pays)) refl) in
       let second = shifted_raise no_shift q Sponsoring n payer old (map_after_releasing n was old) h.own first in
       let m = map_after_exchange n was (Some payer) old in
       let over = payer_passed ctx old payer n (map_with_sponsor k (Some payer) m) new done in
       subst IsEven (done_by (payer_tests ctx old payer n) (map_with_sponsor k (Some payer) m) new done)
-          (moved_to (plus no_shift (at_one Sponsoring n payer)) q m (Some payer) second
+      (moved_to (plus no_shift (at_one Sponsoring n payer)) q m (Some payer) second
       (λ count id.
       let before : share count id (multiplicity e.body) (owner_of e.body) was ≡ share count id n None was =
-          λ i. share count id (times i) (nobody i) was in
+      λ i. share count id (times i) (nobody i) was in
       let after : share count id (multiplicity e.body) (owner_of e.body) (Some payer)
-          ≡ share count id n None (Some payer) = λ i. share count id (times i) (nobody i) (Some payer) in
+      ≡ share count id n None (Some payer) = λ i. share count id (times i) (nobody i) (Some payer) in
       let one = shared_payer count id payer n in
       omega arith)
       (λ id same. stands id same)
       (λ id. refl)
       (λ id. let le = pays_more old id (Some payer) n h (λ x same. let one : payer ≡ x = cc in
-          subst (λ y. HasRoom old y n) one (has_room old payer n h (stands payer refl) over)) in omega arith))
+      subst (λ y. HasRoom old y n) one (has_room old payer n h (stands payer refl) over)) in omega arith))
 
   -- ---- all kinds
 
@@ -211,6 +211,6 @@ module _ (old : EntryMap) (h : IsEven old) (k : LedgerKey) (e : LedgerEntry) (th
 pub moving_keeps : MovingKeeps
 moving_keeps ctx key payer old new kept stands done = kept_of new (elim (get old key) as (λ o. get old key ≡ o
     → map_after_moving_entry ctx key payer old o ≡ Ok new → IsEven new) [
-  | None ↦ λ none same. subst IsEven (cc) (even old kept)
-  | Some e ↦ λ there moves. moved_by old (even old kept) key e there ctx e.body payer new refl stands moves
-] refl done)
+      | None ↦ λ none same. subst IsEven (cc) (even old kept)
+      | Some e ↦ λ there moves. moved_by old (even old kept) key e there ctx e.body payer new refl stands moves
+    ] refl done)

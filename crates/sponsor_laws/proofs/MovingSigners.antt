@@ -71,7 +71,7 @@ module _ (old : EntryMap) (h : IsEven old) (id : AccountId) (a : AccountEntry) (
   with_sponsor_edits t payer b shifted =
       let c = with_signer_sponsor place t b in
       let sponsors : signer_sponsors c ≡ slice_set (signer_sponsors a) place t =
-          sponsors_set place t b (paid_for t b shifted) ∙ ap (λ xs. slice_set xs place t) shifted.parts.sponsors in
+      sponsors_set place t b (paid_for t b shifted) ∙ ap (λ xs. slice_set xs place t) shifted.parts.sponsors in
       let same_length : length c.signers ≡ length a.signers = ap length shifted.parts.signers in
       let sums = sum-with old h id a held place within (signer_sponsors c) t sponsors in
       record {
@@ -84,10 +84,10 @@ module _ (old : EntryMap) (h : IsEven old) (id : AccountId) (a : AccountEntry) (
             let before = own_of old h id a held count i a own in
             let after = own_of old h id a held count i c (shifted.parts.id ∙ own) in
             let as_long : signed count i id (length c.signers) (signer_sponsors c)
-                ≡ signed count i id (length a.signers) (signer_sponsors c) =
-                    ap (λ n. signed count i id n (signer_sponsors c)) same_length in
+            ≡ signed count i id (length a.signers) (signer_sponsors c) =
+            ap (λ n. signed count i id n (signer_sponsors c)) same_length in
             let other = signed_other count i id (length a.signers) (signer_sponsors a) (signer_sponsors c)
-                (signer_sponsor a place) t sums in
+            (signer_sponsor a place) t sums in
             omega arith;
         names = λ i. named_stands old (signer_sponsors a) (signer_sponsors c) t i (let sum =
             sums (λ o. cond (is_this i o) 1 0) in omega arith) (payer i) (signer_stands old h id a held i);
@@ -104,19 +104,19 @@ module _ (old : EntryMap) (h : IsEven old) (id : AccountId) (a : AccountEntry) (
   exchange_own s (Some t) enough =
       let released = shifted_payer no_shift no_shift 1 old old h.own (unshifted old h.own) s enough in
       (shifted_raise no_shift (plus no_shift (shared 1 None s)) Sponsoring 1 t old
-          (map_after_releasing 1 s old) h.own released).own
+      (map_after_releasing 1 s old) h.own released).own
 
   moved_between : (t : Option AccountId) → ((x : AccountId) → t ≡ Some x → HasAccount old x)
       → ((x : AccountId) → t ≡ Some x → HasRoom old x 1)
       → IsShifted (comes t) goes old (map_with_other_payer id 1 (signer_sponsor a place) t old)
       → IsEven (with_account (map_after_exchange 1 (signer_sponsor a place) t old) id
-          (with_moved_signer place (signer_sponsor a place) t))
+      (with_moved_signer place (signer_sponsor a place) t))
   moved_between t payer room second =
       let s = signer_sponsor a place in
       let once = twice (map_after_exchange 1 s t old) id (with_other_payer 1 s t) (with_signer_sponsor place t)
-          (exchange_own s t (λ x pays. (enough_of x pays).1)) (with_other_payer_id s t) (λ b. refl) in
+      (exchange_own s t (λ x pays. (enough_of x pays).1)) (with_other_payer_id s t) (λ b. refl) in
       subst IsEven once (edited (comes t) goes id (with_signer_sponsor place t) old
-          (map_with_other_payer id 1 s t old) h second held.entry a held.there held.is (with_sponsor_edits t payer)
+      (map_with_other_payer id 1 s t old) h second held.entry a held.there held.is (with_sponsor_edits t payer)
       (λ i. let le = all_few old i h in omega arith)
       (λ i. let le = pays_more old i t 1 h room in omega arith))
 
@@ -129,7 +129,7 @@ module _ (old : EntryMap) (h : IsEven old) (id : AccountId) (a : AccountEntry) (
   between_done : (ctx : Ctx) (s t : Option AccountId) (new : EntryMap) → (AreNone s t → ⊥)
       → map_after_moving_signer_between ctx id place s t old ≡ Ok new
       → unless_first (move_tests ctx old id t 1) (with_account (map_after_exchange 1 s t old) id
-          (with_moved_signer place s t)) ≡ Ok new
+      (with_moved_signer place s t)) ≡ Ok new
   between_done ctx None None new some done = absurd (some (refl, refl))
   between_done ctx s t new some done = done
 
@@ -143,7 +143,7 @@ module _ (old : EntryMap) (h : IsEven old) (id : AccountId) (a : AccountEntry) (
         | inr some ↦
             let tested = between_done ctx s t new some.0 done in
             subst IsEven (done_by (move_tests ctx old id t 1) after new tested)
-                (moved_between t payer (room_of old h ctx id t 1 after new payer tested) some.1)
+            (moved_between t payer (room_of old h ctx id t 1 after new payer tested) some.1)
       ]
 
 module _ (old : EntryMap) (h : IsEven old) (id : AccountId) (key : SignerKey) (ctx : Ctx) (payer : Option AccountId)
@@ -155,7 +155,7 @@ module _ (old : EntryMap) (h : IsEven old) (id : AccountId) (key : SignerKey) (c
       let t = other_than id payer in
       let within = place_within_signers key a.signers place found in
       signer_moved old h id a (held_by old id a stands) place within ctx t new
-          (λ x is. payer_stands x (other_is id payer x is)) done
+      (λ x is. payer_stands x (other_is id payer x is)) done
 
   moved_from : (o : Option AccountEntry) → account_at old id ≡ o
       → map_after_moving_found ctx id payer old (found_signer key o) ≡ Ok new → IsEven new

@@ -48,7 +48,7 @@ pub is_paid_for : (e : LedgerEntry) (s owner : AccountId) → sponsor_of e ≡ S
 is_paid_for e s owner is owns =
     let here : share Sponsored owner (multiplicity e.body) (owner_of e.body) (sponsor_of e) ≡ multiplicity e.body =
     ap (λ o. if is_there o then (if is_this owner (owner_of e.body) then multiplicity e.body else 0) else 0) is
-        ∙ this_itself owner (owner_of e.body) (multiplicity e.body) owns in
+    ∙ this_itself owner (owner_of e.body) (multiplicity e.body) owns in
     let split = counted_split Sponsored owner e in
     omega arith
 
@@ -73,7 +73,7 @@ pub record IsSubentry (b : LedgerEntryBody) (owner : AccountId) (k : ℕ) : Type
 
 line_part : (count : Count) (id : AccountId) (line : TrustLineEntry)
     → own_part count id (body.TrustLine line) ≡ at_one SubEntries
-        (line_multiplicity line.asset) line.account_id count id
+    (line_multiplicity line.asset) line.account_id count id
 line_part SubEntries id line = refl
 line_part Sponsoring id line = refl
 line_part Sponsored id line = refl
@@ -92,17 +92,29 @@ data_part Sponsored id data_entry = refl
 
 pub line_is : (b : LedgerEntryBody) (line : TrustLineEntry) → b ≡ body.TrustLine line
     → IsSubentry b line.account_id (line_multiplicity line.asset)
-line_is b line is = record { owns = ap owner_of is; times = ap multiplicity is;
-    parts = λ count id. ap (own_part count id) is ∙ line_part count id line; no_account = ap account_in is }
+line_is b line is = record {
+  owns = ap owner_of is;
+  times = ap multiplicity is;
+  parts = λ count id. ap (own_part count id) is ∙ line_part count id line;
+  no_account = ap account_in is;
+}
 
 pub offer_is : (b : LedgerEntryBody) (offer : OfferEntry) → b ≡ body.Offer offer → IsSubentry b offer.seller_id 1
-offer_is b offer is = record { owns = ap owner_of is; times = ap multiplicity is;
-    parts = λ count id. ap (own_part count id) is ∙ offer_part count id offer; no_account = ap account_in is }
+offer_is b offer is = record {
+  owns = ap owner_of is;
+  times = ap multiplicity is;
+  parts = λ count id. ap (own_part count id) is ∙ offer_part count id offer;
+  no_account = ap account_in is;
+}
 
 pub data_is : (b : LedgerEntryBody) (data_entry : DataEntry) → b ≡ body.Data data_entry
     → IsSubentry b data_entry.account_id 1
-data_is b data_entry is = record { owns = ap owner_of is; times = ap multiplicity is;
-    parts = λ count id. ap (own_part count id) is ∙ data_part count id data_entry; no_account = ap account_in is }
+data_is b data_entry is = record {
+  owns = ap owner_of is;
+  times = ap multiplicity is;
+  parts = λ count id. ap (own_part count id) is ∙ data_part count id data_entry;
+  no_account = ap account_in is;
+}
 
 pub no_account_key : (b : LedgerEntryBody) (id : AccountId) → account_in b ≡ None → key_of_body b ≢ key.Account id
 no_account_key (body.Account a) id none is = absurd (cc)

@@ -43,7 +43,7 @@ module _ (old : EntryMap) (h : IsEven old) (k : LedgerKey) (e : LedgerEntry) (th
   -- what stands for others stays, where no account is taken away
   rest_stands : (q : Shift) (m : EntryMap) → IsShifted no_shift q old m → account_in e.body ≡ None
       → (x : LedgerKey) (y : LedgerEntry) (id : AccountId) → x ≢ k → get old x ≡ Some y → Names y id
-          → HasAccount (erase m k) id
+      → HasAccount (erase m k) id
   rest_stands q m s none x y id apart at names = stands_beside m k e id (h.own k e there) none
       (stands_after no_shift q old m id s (h.names x y id at names))
 
@@ -52,26 +52,26 @@ module _ (old : EntryMap) (h : IsEven old) (k : LedgerKey) (e : LedgerEntry) (th
   removed_subentry owner n is =
       let subs : n ≤ counted_for SubEntries owner e =
       (let part = is.parts SubEntries owner in let own = ap (λ t. if t then n else 0) (is_itself owner) in
-          let split = counted_split SubEntries owner e in omega arith) in
+      let split = counted_split SubEntries owner e in omega arith) in
       let q : Shift = plus no_shift (at_one SubEntries n owner) in
       let second = shifted_discounting no_shift no_shift n old old h.own (unshifted old h.own) owner (sponsor_of e)
-          (enough no_shift SubEntries n owner old k e h there subs refl) (λ s pays. (
+      (enough no_shift SubEntries n owner old k e h there subs refl) (λ s pays. (
         enough no_shift Sponsored n owner old k e h there
             (subst (λ x. x ≤ counted_for Sponsored owner e) is.times (is_paid_for e s owner pays is.owns)) refl,
         enough no_shift Sponsoring n s old k e h there
             (subst (λ x. x ≤ counted_for Sponsoring s e) is.times (pays_for e s pays)) refl,
       )) in
       erased (plus q (shared n (Some owner) (sponsor_of e))) old
-          (map_after_discounting owner n (sponsor_of e) old) k e h second there
+      (map_after_discounting owner n (sponsor_of e) old) k e h second there
       (λ count id stands.
       let split = counted_split count id e in
       let part = is.parts count id in
       let pays : share count id (multiplicity e.body) (owner_of e.body) (sponsor_of e)
-          ≡ share count id n (Some owner) (sponsor_of e) =
-              λ i. share count id (is.times i) (is.owns i) (sponsor_of e) in
+      ≡ share count id n (Some owner) (sponsor_of e) =
+      λ i. share count id (is.times i) (is.owns i) (sponsor_of e) in
       omega arith)
       (rest_stands (plus q (shared n (Some owner) (sponsor_of e)))
-          (map_after_discounting owner n (sponsor_of e) old) second is.no_account)
+      (map_after_discounting owner n (sponsor_of e) old) second is.no_account)
 
   -- ---- claimable balances and pools
 
@@ -82,14 +82,14 @@ module _ (old : EntryMap) (h : IsEven old) (k : LedgerKey) (e : LedgerEntry) (th
       let s = sponsor_of e in
       let times : multiplicity e.body ≡ n = ap multiplicity is in
       let first = shifted_payer no_shift no_shift n old old h.own (unshifted old h.own) s
-          (λ x pays. enough no_shift Sponsoring n x old k e h there
-              (subst (λ m. m ≤ counted_for Sponsoring x e) times (pays_for e x pays)) refl) in
+      (λ x pays. enough no_shift Sponsoring n x old k e h there
+      (subst (λ m. m ≤ counted_for Sponsoring x e) times (pays_for e x pays)) refl) in
       erased (plus no_shift (shared n None s)) old (map_after_releasing n s old) k e h first there
       (λ count id stands.
       let split = counted_split count id e in
       let part : own_part count id e.body ≡ 0 = ap (own_part count id) is ∙ balance_part count id balance in
       let pays : share count id (multiplicity e.body) (owner_of e.body) s ≡ share count id n None s =
-          ap (λ b. share count id (multiplicity b) (owner_of b) s) is in
+      ap (λ b. share count id (multiplicity b) (owner_of b) s) is in
       omega arith)
       (rest_stands (plus no_shift (shared n None s)) (map_after_releasing n s old) first (ap account_in is))
 
@@ -99,8 +99,8 @@ module _ (old : EntryMap) (h : IsEven old) (k : LedgerKey) (e : LedgerEntry) (th
       let split = counted_split count id e in
       let part : own_part count id e.body ≡ 0 = ap (own_part count id) is ∙ pool_part count id pool in
       let pays : share count id (multiplicity e.body) (owner_of e.body) (sponsor_of e) ≡ 0 =
-          ap (λ b. share count id (multiplicity b) (owner_of b) (sponsor_of e)) is
-              ∙ share_nothing count id None (sponsor_of e) in
+      ap (λ b. share count id (multiplicity b) (owner_of b) (sponsor_of e)) is
+      ∙ share_nothing count id None (sponsor_of e) in
       omega arith)
       (rest_stands no_shift old (unshifted old h.own) (ap account_in is))
 
@@ -117,8 +117,8 @@ module _ (old : EntryMap) (h : IsEven old) (k : LedgerKey) (e : LedgerEntry) (th
     no_sponsors =
         let many = as_many account (h.items k e account there (ap account_in is)) in
         let own : subentries_for account.account_id e.body ≡ length account.signers =
-            ap (subentries_for account.account_id) is
-                ∙ ap (λ t. if t then length account.signers else 0) (is_itself account.account_id) in
+        ap (subentries_for account.account_id) is
+        ∙ ap (λ t. if t then length account.signers else 0) (is_itself account.account_id) in
         let le = in_total old k e SubEntries account.account_id there in
         let none = no_subentries in
         no_items (signer_sponsors account) (omega arith)
@@ -127,10 +127,10 @@ module _ (old : EntryMap) (h : IsEven old) (k : LedgerKey) (e : LedgerEntry) (th
     unnamed : (x : LedgerKey) (y : LedgerEntry) → x ≢ k → get old x ≡ Some y → Names y account.account_id → ⊥
     unnamed x y apart at (inl owns) = account_or_not ⊥ y.body
         (λ none. let once = owned_counts y.body account.account_id none owns in
-            let le = in_total old x y SubEntries account.account_id at in let nothing = no_subentries in
-                absurd (omega arith))
+        let le = in_total old x y SubEntries account.account_id at in let nothing = no_subentries in
+        absurd (omega arith))
         (λ other holds. let same : other.account_id ≡ account.account_id =
-            (let its = ap owner_of (account_body y.body other holds) in cc) in
+        (let its = ap owner_of (account_body y.body other holds) in cc) in
         apart (sym (h.own x y at) ∙ account_key y.body other holds ∙ ap key.Account same ∙ sym its_key))
     unnamed x y apart at (inr (inl pays)) = bare.sponsors.entries x y at pays
     unnamed x y apart at (inr (inr n)) = bare.sponsors.signers n.account.account_id n.account
@@ -141,7 +141,7 @@ module _ (old : EntryMap) (h : IsEven old) (k : LedgerKey) (e : LedgerEntry) (th
     another m id stands = apart_ids account.account_id id (λ same.
         let entry = account_entry (erase m k) id stands.0 stands.1 in
         let gone : get (erase m k) (key.Account id) ≡ None = ap (get (erase m k)) (ap key.Account (sym same)
-            ∙ sym its_key) ∙ none_left m k in
+        ∙ sym its_key) ∙ none_left m k in
         let found = entry.1.0 in
         cc)
 
@@ -151,21 +151,21 @@ module _ (old : EntryMap) (h : IsEven old) (k : LedgerKey) (e : LedgerEntry) (th
         let times : multiplicity e.body ≡ 2 = ap multiplicity is in
         let m = map_after_releasing 2 s old in
         let first = shifted_payer no_shift no_shift 2 old old h.own (unshifted old h.own) s
-            (λ x pays. enough no_shift Sponsoring 2 x old k e h there
-                (subst (λ n. n ≤ counted_for Sponsoring x e) times (pays_for e x pays)) refl) in
+        (λ x pays. enough no_shift Sponsoring 2 x old k e h there
+        (subst (λ n. n ≤ counted_for Sponsoring x e) times (pays_for e x pays)) refl) in
         erased (plus no_shift (shared 2 None s)) old m k e h first there
         (λ count id stands.
         let apart = another m id stands in
         let split = counted_split count id e in
         let part : own_part count id e.body ≡ 0 = ap (own_part count id) is
-            ∙ bare_part count id account no_sponsors apart in
+        ∙ bare_part count id account no_sponsors apart in
         let pays : share count id (multiplicity e.body) (owner_of e.body) s ≡ share count id 2 None s =
-            ap (λ b. share count id (multiplicity b) (owner_of b) s) is
-                ∙ share_of_others count id account.account_id 2 s apart in
+        ap (λ b. share count id (multiplicity b) (owner_of b) s) is
+        ∙ share_of_others count id account.account_id 2 s apart in
         omega arith)
         (λ x y id apart at names. stands_erased m k id
         (λ same. let its : id ≡ account.account_id = (let keys : key.Account id ≡ key.Account account.account_id = same
-            ∙ its_key in cc) in unnamed x y apart at (subst (Names y) its names))
+        ∙ its_key in cc) in unnamed x y apart at (subst (Names y) its names))
         (stands_after no_shift (plus no_shift (shared 2 None s)) old m id first (h.names x y id at names)))
 
 -- ---- all kinds
@@ -186,6 +186,6 @@ removed_by old k e (body.Data data_entry) is h there removable =
 pub removing_keeps : RemovingKeeps
 removing_keeps key old kept removable = elim (get old key) as (λ o. get old key ≡ o
     → AreKept (map_after_removing_entry key old o)) [
-  | None ↦ λ none. kept
-  | Some e ↦ λ there. kept_of _ (removed_by old key e e.body refl (even old kept) there removable)
-] refl
+      | None ↦ λ none. kept
+      | Some e ↦ λ there. kept_of _ (removed_by old key e e.body refl (even old kept) there removable)
+    ] refl

@@ -48,7 +48,7 @@ module _ (old : EntryMap) (h : IsEven old) (id : AccountId) (a : AccountEntry) (
   without_signer_edits b shifted =
       let c = without_signer place b in
       let sponsors : signer_sponsors c ≡ remove (signer_sponsors a) place = sponsors_removed place b
-          ∙ ap (λ xs. remove xs place) shifted.parts.sponsors in
+      ∙ ap (λ xs. remove xs place) shifted.parts.sponsors in
       let signers : c.signers ≡ remove a.signers place = ap (λ xs. remove xs place) shifted.parts.signers in
       let shorter = length-remove a.signers place within in
       let length_now = ap length signers in
@@ -64,7 +64,7 @@ module _ (old : EntryMap) (h : IsEven old) (id : AccountId) (a : AccountEntry) (
             let before = own_of old h id a held count i a own in
             let after = own_of old h id a held count i c (shifted.parts.id ∙ own) in
             let more = signed_more count i id (length c.signers) (length a.signers) (signer_sponsors c)
-                (signer_sponsors a) (signer_sponsor a place) (omega arith) sums in
+            (signer_sponsors a) (signer_sponsor a place) (omega arith) sums in
             omega arith;
         names = λ i. named_stands old (signer_sponsors a) (signer_sponsors c) None i (let sum =
             sums (λ o. cond (is_this i o) 1 0) in omega arith) (λ none. absurd (cc)) (signer_stands old h id a held i);
@@ -81,13 +81,13 @@ module _ (old : EntryMap) (h : IsEven old) (id : AccountId) (a : AccountEntry) (
       let enough_of = sponsor_enough old h id a held place within no_shift refl (λ i. refl) in
       let second = shifted_discounting no_shift no_shift 1 old old h.own (unshifted old h.own) id s
       (enough no_shift SubEntries 1 id old (key.Account id) held.entry h held.there
-          (counts_subentry old h id a held place within) refl) enough_of in
+      (counts_subentry old h id a held place within) refl) enough_of in
       let own_after = (shifted_payer no_shift no_shift 1 old old h.own (unshifted old h.own) s
-          (λ x pays. (enough_of x pays).1)).own in
+      (λ x pays. (enough_of x pays).1)).own in
       let once = twice (map_after_releasing 1 s old) id (without_subentry 1 s) (without_signer place) own_after
-          (without_subentry_id s) (λ b. refl) in
+      (without_subentry_id s) (λ b. refl) in
       subst IsEven once (edited no_shift gone id (without_signer place) old
-          (map_after_discounting id 1 s old) h second held.entry a held.there held.is without_signer_edits
+      (map_after_discounting id 1 s old) h second held.entry a held.there held.is without_signer_edits
       (λ i. let le = all_few old i h in omega arith)
       (λ i. let le = all_fit old i h in omega arith))
 

@@ -33,8 +33,11 @@ names_before p q x y id h (inl owns) = inl (sym (same_owner p q x.body y.body h.
 names_before p q x y id h (inr (inl pays)) = inr (inl (sym h.sponsor ∙ pays))
 names_before p q x y id h (inr (inr n)) =
     let was = account_before p q x.body y.body n.account h.bodies n.is in
-    inr (inr (record { account = was.0; is = was.1;
-        sponsor = subst (λ xs. Contains xs (Some id)) was.2.parts.sponsors n.sponsor }))
+    inr (inr (record {
+      account = was.0;
+      is = was.1;
+      sponsor = subst (λ xs. Contains xs (Some id)) was.2.parts.sponsors n.sponsor;
+    }))
 
 part_alike : (p q : Shift) (count : Count) (id : AccountId) (x y : Option LedgerEntry) → Alike p q x y
     → part_of (counted_for count id) y ≡ part_of (counted_for count id) x
@@ -56,7 +59,7 @@ pub record IsSettledEntry (p q : Shift) (old new : EntryMap) (k : LedgerKey) (e 
   pub own : key_of e ≡ k
   pub sums : (account : AccountEntry) (count : Count) → account_in e.body ≡ Some account
       → count_in count account + q count account.account_id
-          ≡ total count account.account_id old + p count account.account_id
+      ≡ total count account.account_id old + p count account.account_id
   pub items : (account : AccountEntry) → account_in e.body ≡ Some account → HasItems account
   pub names : (id : AccountId) → Names e id → HasAccount new id
 
@@ -73,7 +76,7 @@ pub record Settles (p q : Shift) (old m new : EntryMap) (k : LedgerKey) (after :
   pub few : (id : AccountId) → HasAccount new id → total SubEntries id old + p SubEntries id ≤ 1000 + q SubEntries id
   pub fits : (id : AccountId) → HasAccount new id
       → total SubEntries id old + total Sponsoring id old + (p SubEntries id + p Sponsoring id) ≤ 4294967295 +
-          (q SubEntries id + q Sponsoring id)
+      (q SubEntries id + q Sponsoring id)
 
 module _ (p q : Shift) (old m new : EntryMap) (k : LedgerKey) (after : Option LedgerEntry) (even : IsEven old)
     (h : IsShifted p q old m) (s : Settles p q old m new k after) where
@@ -97,8 +100,11 @@ module _ (p q : Shift) (old m new : EntryMap) (k : LedgerKey) (after : Option Le
       ] refl (sym (s.got x) ∙ there)
 
   own_new : AreOwn new
-  own_new x e there = elim (from x e there) [ inl here ↦ (s.entry e here.1).own
-      ∙ sym here.0 | inr other ↦ h.own x e other.1 ]
+  own_new x e there = elim (from x e there) [
+    | inl here ↦ (s.entry e here.1).own
+        ∙ sym here.0
+    | inr other ↦ h.own x e other.1
+  ]
 
   sums_new : (x : LedgerKey) (e : LedgerEntry) (account : AccountEntry) (count : Count) → get new x ≡ Some e
       → account_in e.body ≡ Some account → count_in count account ≡ total count account.account_id new
@@ -112,7 +118,7 @@ module _ (p q : Shift) (old m new : EntryMap) (k : LedgerKey) (after : Option Le
             let moved = was.2.counts count in
             let before = even.sums x was_entry.0 was.0 count was_entry.1 was.1 in
             let at : total count account.account_id old ≡ total count was.0.account_id old =
-                ap (λ i. total count i old) was.2.parts.id in
+            ap (λ i. total count i old) was.2.parts.id in
             let p_at : p count account.account_id ≡ p count was.0.account_id = ap (p count) was.2.parts.id in
             let q_at : q count account.account_id ≡ q count was.0.account_id = ap (q count) was.2.parts.id in
             omega arith
@@ -126,7 +132,7 @@ module _ (p q : Shift) (old m new : EntryMap) (k : LedgerKey) (after : Option Le
         let was_entry = entry_before p q old m x e h other.1 in
         let was = account_before p q was_entry.0.body e.body account was_entry.2.bodies is in
         has_items account (ap length was.2.parts.sponsors ∙ as_many was.0
-            (even.items x was_entry.0 was.0 was_entry.1 was.1) ∙ sym (ap length was.2.parts.signers))
+        (even.items x was_entry.0 was.0 was_entry.1 was.1) ∙ sym (ap length was.2.parts.signers))
   ]
 
   names_new : (x : LedgerKey) (e : LedgerEntry) (id : AccountId) → get new x ≡ Some e → Names e id → HasAccount new id
@@ -165,10 +171,13 @@ pub left_over : (m : EntryMap) (k x : LedgerKey) (e : LedgerEntry) → get (eras
     → (x ≢ k) × (get m x ≡ Some e)
 left_over m k x e there = elim (eq_by_cmp key_cmp x k) as (λ b. eq_by_cmp key_cmp x k ≡ b
     → cond b None (get m x) ≡ Some e → (x ≢ k) × (get m x ≡ Some e)) [
-  | true ↦ λ tied is. absurd (cc)
-  | false ↦ λ apart is. (λ same. let none : get (erase m k) x ≡ None = ap (get (erase m k)) same ∙ none_left m k in
-      absurd (cc), is)
-] refl (sym (erase_get m k x) ∙ there)
+      | true ↦ λ tied is. absurd (cc)
+      | false ↦ λ apart is. (
+        λ same. let none : get (erase m k) x ≡ None = ap (get (erase m k)) same ∙ none_left m k in
+            absurd (cc),
+        is,
+      )
+    ] refl (sym (erase_get m k x) ∙ there)
 
 pub stands_erased : (m : EntryMap) (k : LedgerKey) (id : AccountId) → key.Account id ≢ k → HasAccount m id
     → HasAccount (erase m k) id
@@ -176,7 +185,7 @@ stands_erased m k id apart stands =
     let entry = account_entry m id stands.0 stands.1 in
     let left : get (erase m k) (key.Account id) ≡ get m (key.Account id) = erase_get m k (key.Account id)
     ∙ elim (eq_by_cmp key_cmp (key.Account id) k) as (λ b. eq_by_cmp key_cmp (key.Account id) k ≡ b
-        → cond b None (get m (key.Account id)) ≡ get m (key.Account id)) [
+    → cond b None (get m (key.Account id)) ≡ get m (key.Account id)) [
       | true ↦ λ tied. absurd (apart (same_keys _ k tied))
       | false ↦ λ h. refl
     ] refl in
@@ -187,13 +196,13 @@ pub erased : (q : Shift) (old m : EntryMap) (k : LedgerKey) (e : LedgerEntry) �
     → get old k ≡ Some e
     → ((count : Count) (id : AccountId) → HasAccount (erase m k) id → counted_for count id e ≡ q count id)
     → ((x : LedgerKey) (y : LedgerEntry) (id : AccountId) → x ≢ k → get old x ≡ Some y → Names y id
-        → HasAccount (erase m k) id) → IsEven (erase m k)
+    → HasAccount (erase m k) id) → IsEven (erase m k)
 erased q old m k e even h there balanced rest = settled no_shift q old m (erase m k) k None even h (record {
   got = erase_get m k;
   summed = λ count id.
       let now = entry_after no_shift q old m k e h there in
       let part : part_of (counted_for count id) (get m k) ≡ counted_for count id now.0 =
-          ap (part_of (counted_for count id)) now.1 in
+      ap (part_of (counted_for count id)) now.1 in
       let sum = erase_total m k now.0 count id now.1 in
       omega arith;
   balanced = λ count id stands. let part : part_of (counted_for count id) (get old k) ≡ counted_for count id e =
@@ -218,7 +227,7 @@ pub stands_put : (m : EntryMap) (e : LedgerEntry) (id : AccountId) → HasAccoun
 stands_put m e id stands =
     let entry = account_entry m id stands.0 stands.1 in
     elim (eq_by_cmp key_cmp (key.Account id) (key_of e)) as (λ b. eq_by_cmp key_cmp (key.Account id) (key_of e) ≡ b
-        → get (put m e) (key.Account id) ≡ cond b (Some e) (get m (key.Account id)) → HasAccount (put m e) id) [
+    → get (put m e) (key.Account id) ≡ cond b (Some e) (get m (key.Account id)) → HasAccount (put m e) id) [
       | true ↦ λ tied is. let new = account_body_of e.body id (sym (same_keys _ (key_of e) tied)) in
           (new.0, stands_in (put m e) id e new.0 is new.1)
       | false ↦ λ apart is. (stands.0, stands_in (put m e) id entry.0 stands.0 (is ∙ entry.1.0) entry.1.1)
@@ -226,8 +235,11 @@ stands_put m e id stands =
 
 pub stands_placed : (m : EntryMap) (e : LedgerEntry) (account : AccountEntry) → account_in e.body ≡ Some account
     → HasAccount (put m e) account.account_id
-stands_placed m e account is = (account, stands_in (put m e) account.account_id e account
-    (ap (get (put m e)) (sym (account_key e.body account is)) ∙ put_there m e) is)
+stands_placed m e account is = (
+  account,
+  stands_in (put m e) account.account_id e account
+      (ap (get (put m e)) (sym (account_key e.body account is)) ∙ put_there m e) is,
+)
 
 -- what an entry that is put must meet, for which counts went up by p and down by q
 pub record IsPlaced (p q : Shift) (old m : EntryMap) (e : LedgerEntry) : Type 0 where
@@ -235,7 +247,7 @@ pub record IsPlaced (p q : Shift) (old m : EntryMap) (e : LedgerEntry) : Type 0 
       ≡ q count id + counted_for count id e
   pub sums : (account : AccountEntry) (count : Count) → account_in e.body ≡ Some account
       → count_in count account + q count account.account_id
-          ≡ total count account.account_id old + p count account.account_id
+      ≡ total count account.account_id old + p count account.account_id
   pub items : (account : AccountEntry) → account_in e.body ≡ Some account → HasItems account
   pub names : (id : AccountId) → Names e id → HasAccount (put m e) id
   pub few : (id : AccountId) → total SubEntries id old + p SubEntries id ≤ 1000 + q SubEntries id

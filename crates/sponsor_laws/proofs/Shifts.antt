@@ -92,13 +92,13 @@ module _ (p q : Shift) where
       → counted_for count id y ≡ counted_for count id x
   same_counted count id x y h = counted_split count id y
       ∙ (λ i. share count id (same_multiplicity x.body y.body h.bodies i) (same_owner x.body y.body h.bodies i)
-          (h.sponsor i) + same_own_part count id x.body y.body h.bodies i)
+      (h.sponsor i) + same_own_part count id x.body y.body h.bodies i)
       ∙ sym (counted_split count id x)
 
   -- the account behind the one in an alike body
   pub account_before : (a b : LedgerEntryBody) (account : AccountEntry) → AlikeBodies p q a b
       → account_in b ≡ Some account → (was : AccountEntry) × (account_in a ≡ Some was)
-          × IsShiftedAccount p q was account
+      × IsShiftedAccount p q was account
   account_before (body.Account a) (body.Account b) account h is = let same : b ≡ account = cc in
       (a, refl, subst (IsShiftedAccount p q a) same h)
   account_before (body.Account a) other account h is = absurd h
@@ -106,7 +106,7 @@ module _ (p q : Shift) where
 
   pub account_after : (a b : LedgerEntryBody) (account : AccountEntry) → AlikeBodies p q a b
       → account_in a ≡ Some account → (now : AccountEntry) × (account_in b ≡ Some now)
-          × IsShiftedAccount p q account now
+      × IsShiftedAccount p q account now
   account_after (body.Account a) (body.Account b) account h is = let same : a ≡ account = cc in
       (b, refl, subst (λ x. IsShiftedAccount p q x b) same h)
   account_after (body.Account a) other account h is = absurd h
@@ -171,11 +171,16 @@ module _ (p q p' q' : Shift) where
   alike_agree None None agree h = tt
   alike_agree None (Some y) agree h = absurd h
   alike_agree (Some x) None agree h = absurd h
-  alike_agree (Some x) (Some y) agree h = record { sponsor = h.sponsor;
-      bodies = bodies_agree x.body y.body (λ account is. agree x account refl is) h.bodies }
+  alike_agree (Some x) (Some y) agree h = record {
+    sponsor = h.sponsor;
+    bodies = bodies_agree x.body y.body (λ account is. agree x account refl is) h.bodies;
+  }
 
   pub shifted_as : (old new : EntryMap) → ((k : LedgerKey) (e : LedgerEntry) (account : AccountEntry)
       → get old k ≡ Some e → account_in e.body ≡ Some account → Agree account.account_id)
       → IsShifted p q old new → IsShifted p' q' old new
-  shifted_as old new agree h = record { own = h.own;
-      entries = λ k. alike_agree (get old k) (get new k) (agree k) (h.entries k); totals = h.totals }
+  shifted_as old new agree h = record {
+    own = h.own;
+    entries = λ k. alike_agree (get old k) (get new k) (agree k) (h.entries k);
+    totals = h.totals;
+  }

@@ -98,10 +98,10 @@ module _ (old : EntryMap) (h : IsEven old) (id : AccountId) (a : AccountEntry) (
     counts_at : (p : Option AccountId → Bool) → cond (p (signer_sponsor a place)) 1 0 ≤ count_by p (signer_sponsors a)
     counts_at p =
         let le = get_or-le-sum_by (λ (o : Option AccountId). cond (p o) 1 0)
-            (signer_sponsors a) place None place_within in
+        (signer_sponsors a) place None place_within in
         let same : ◌≡◌ {A = ℕ} (cond (p (signer_sponsor a place)) 1 0)
-            (cond (p (get_or (signer_sponsors a) place None)) 1 0) =
-                ap (λ o. cond (p o) 1 0) (sponsor_at_place a place) in
+        (cond (p (get_or (signer_sponsors a) place None)) 1 0) =
+        ap (λ o. cond (p o) 1 0) (sponsor_at_place a place) in
         omega arith
 
     -- what the signer counts is within what the account's entry counts
@@ -109,7 +109,7 @@ module _ (old : EntryMap) (h : IsEven old) (id : AccountId) (a : AccountEntry) (
     counts_subentry =
         let split = counted_split SubEntries id held.entry in
         let part : own_part SubEntries id held.entry.body ≡ length a.signers = ap (own_part SubEntries id) held.is
-            ∙ own_of SubEntries id a own_id ∙ ap (λ t. if t then length a.signers else 0) (is_itself id) in
+        ∙ own_of SubEntries id a own_id ∙ ap (λ t. if t then length a.signers else 0) (is_itself id) in
         omega arith
 
     pub counts_sponsored : cond (is_there (signer_sponsor a place)) 1 0 ≤ counted_for Sponsored id held.entry
@@ -117,7 +117,7 @@ module _ (old : EntryMap) (h : IsEven old) (id : AccountId) (a : AccountEntry) (
         let split = counted_split Sponsored id held.entry in
         let part : own_part Sponsored id held.entry.body ≡ count_by is_there (signer_sponsors a) =
         ap (own_part Sponsored id) held.is ∙ own_of Sponsored id a own_id
-            ∙ ap (λ t. if t then count_by is_there (signer_sponsors a) else 0) (is_itself id) in
+        ∙ ap (λ t. if t then count_by is_there (signer_sponsors a) else 0) (is_itself id) in
         let le = counts_at is_there in
         omega arith
 
@@ -125,10 +125,10 @@ module _ (old : EntryMap) (h : IsEven old) (id : AccountId) (a : AccountEntry) (
     counts_sponsoring x pays =
         let split = counted_split Sponsoring x held.entry in
         let part : own_part Sponsoring x held.entry.body ≡ count_by (is_this x) (signer_sponsors a) =
-            ap (own_part Sponsoring x) held.is ∙ own_of Sponsoring x a own_id in
+        ap (own_part Sponsoring x) held.is ∙ own_of Sponsoring x a own_id in
         let le = counts_at (is_this x) in
         let one : ◌≡◌ {A = ℕ} (cond (is_this x (signer_sponsor a place)) 1 0) 1 = ap (λ o. cond (is_this x o) 1 0) pays
-            ∙ ap (λ t. cond t 1 0) (is_itself x) in
+        ∙ ap (λ t. cond t 1 0) (is_itself x) in
         omega arith
 
     counts_one : (x : AccountId) → signer_sponsor a place ≡ Some x → 1 ≤ counted_for Sponsored id held.entry
@@ -150,10 +150,10 @@ module _ (old : EntryMap) (h : IsEven old) (id : AccountId) (a : AccountEntry) (
 found_within : {X : Type 0} (p : X → Bool) (xs : List X) (place : ℕ) → position p xs ≡ Some place → place < length xs
 found_within p xs place found = elim (nat_lt (position_or_len p xs) (length xs)) as
     (λ b. nat_lt (position_or_len p xs) (length xs) ≡ b → cond b (Some (position_or_len p xs)) None ≡ Some place
-        → place < length xs) [
-  | true ↦ λ lt is. let same : position_or_len p xs ≡ place = cc in subst (λ n. n < length xs) same (ltb-true _ _ lt)
-  | false ↦ λ lt is. absurd (cc)
-] refl found
+    → place < length xs) [
+      | true ↦ λ lt is. let same : position_or_len p xs ≡ place = cc in subst (λ n. n < length xs) same (ltb-true _ _ lt)
+      | false ↦ λ lt is. absurd (cc)
+    ] refl found
 
 pub place_within_signers : (key : SignerKey) (signers : List Signer) (place : ℕ) → place_of key signers ≡ Some place
     → place < length signers

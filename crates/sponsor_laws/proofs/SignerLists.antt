@@ -46,14 +46,14 @@ module _ (change : List (Option AccountId) → List (Option AccountId)) where
   ids_edited : (signers more : List Signer) (o : Option AccountEntryExtensionV2)
       → (o ≡ None → none_each more ≡ change (none_each signers))
       → (sponsorship_in more (with_sponsors_in change o)).signer_sponsoring_ids
-          ≡ change (sponsorship_in signers o).signer_sponsoring_ids
+      ≡ change (sponsorship_in signers o).signer_sponsoring_ids
   ids_edited signers more None same = same refl
   ids_edited signers more (Some ext) same = refl
 
   sponsors_edited : (signers more : List Signer) (ext : Option AccountEntryExtensionV1)
       → (second_in ext ≡ None → none_each more ≡ change (none_each signers))
       → (sponsorship_in more (second_in (with_sponsors change ext))).signer_sponsoring_ids
-          ≡ change (sponsorship_in signers (second_in ext)).signer_sponsoring_ids
+      ≡ change (sponsorship_in signers (second_in ext)).signer_sponsoring_ids
   sponsors_edited signers more ext same = ap (λ o. (sponsorship_in more o).signer_sponsoring_ids)
       (second_edited change ext) ∙ ids_edited signers more (second_in ext) same
 
@@ -63,7 +63,7 @@ extended a le none = let nothing : count_in Sponsored a ≡ 0 = ap sponsored_in 
 
 pub sponsors_inserted : (place : ℕ) (signer : Signer) (s : Option AccountId) (a : AccountEntry)
     → (s ≢ None → 1 ≤ count_in Sponsored a) → signer_sponsors (with_signer_at place signer s a)
-        ≡ insert (signer_sponsors a) place s
+    ≡ insert (signer_sponsors a) place s
 sponsors_inserted place signer None a paid = sponsors_edited (λ sponsors. insert sponsors place None) a.signers
     (insert a.signers place signer) a.ext (λ none. none_inserted a.signers place signer)
 sponsors_inserted place signer (Some s) a paid = sponsors_edited (λ sponsors. insert sponsors place (Some s)) a.signers
@@ -96,7 +96,7 @@ none_at_place (x ∷ xs) (suc place) = none_at_place xs place
 
 sponsor_in_place : (signers : List Signer) (o : Option AccountEntryExtensionV2) (place : ℕ)
     → option_and_then (λ ext. option_and_then (λ sponsor. sponsor) (slice_get ext.signer_sponsoring_ids place)) o
-        ≡ get_or (sponsorship_in signers o).signer_sponsoring_ids place None
+    ≡ get_or (sponsorship_in signers o).signer_sponsoring_ids place None
 sponsor_in_place signers None place = none_at_place signers place
 sponsor_in_place signers (Some ext) place = at_place ext.signer_sponsoring_ids place
 

@@ -55,9 +55,9 @@ account_at_most id e account items is =
     let paid = paid_at_most id e in
     let own : (if is_this id (owner_of e.body) then multiplicity e.body else 0) ≤ 2 =
     subst (λ b. (if is_this id (owner_of b) then multiplicity b else 0) ≤ 2) (sym is)
-        (only_if (is_account account.account_id id) 2) in
+    (only_if (is_account account.account_id id) 2) in
     let signers : sponsored_signers id e.body ≤ subentries_for id e.body =
-        subst (λ b. sponsored_signers id b ≤ subentries_for id b) (sym is) (signers_at_most id account items) in
+    subst (λ b. sponsored_signers id b ≤ subentries_for id b) (sym is) (signers_at_most id account items) in
     omega arith
 
 -- any entry but the account's own takes reserves as its subentry only
@@ -81,7 +81,7 @@ others_at_most m id h = sum_in-at_most keys_total (counted_for Sponsored id) (co
     let was = left_over m (key.Account id) k e left in
     let paid = paid_at_most id e in
     let le = body_at_most id e.body (λ other is same. was.0 (sym (h.own k e was.1) ∙ account_key e.body other is
-        ∙ ap key.Account same)) in
+    ∙ ap key.Account same)) in
     omega arith)
 
 pub sponsored_at_most : SponsoredAtMost
@@ -89,7 +89,7 @@ sponsored_at_most id account m kept there =
     let h = even m kept in
     let entry = account_entry m id account there in
     let itself = account_at_most id entry.0 account (kept.items id account there)
-        (account_body entry.0.body account entry.1.1) in
+    (account_body entry.0.body account entry.1.1) in
     let others = others_at_most m id h in
     let sponsored = erase_total m (key.Account id) entry.0 Sponsored id entry.1.0 in
     let subentries = erase_total m (key.Account id) entry.0 SubEntries id entry.1.0 in

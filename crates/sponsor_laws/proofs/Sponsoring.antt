@@ -49,7 +49,7 @@ zero_sponsors id account m kept whole stands zero =
           let once = counted_once (signer_sponsors other) id has in
           let split = counted_split Sponsoring id entry.0 in
           let part : own_part Sponsoring id entry.0.body ≡ count_by (is_this id) (signer_sponsors other) =
-              ap (own_part Sponsoring id) (account_body entry.0.body other entry.1.1) in
+          ap (own_part Sponsoring id) (account_body entry.0.body other entry.1.1) in
           let le = in_total m (key.Account of) entry.0 Sponsoring id entry.1.0 in
           absurd (omega arith);
     }

@@ -66,10 +66,10 @@ module _ {K X : Type 0} {R : K → K → Ordering} (o : IsTotalOrder R) (f : X �
   sum_of-put k v (e ∷ es) h =
       let cons = sum_by-cons (λ (x : K × X). f x.1) e es in
       elim (R k e.0) as (λ r. R k e.0 ≡ r → sum_of (by_order r ((k, v) ∷ e ∷ es) ((e.0, v) ∷ es)
-          (e ∷ put R k v es)) + part_of f (cond (is_eq r) (Some e.1) (find R k es)) ≡ sum_of (e ∷ es) + f v) [
+      (e ∷ put R k v es)) + part_of f (cond (is_eq r) (Some e.1) (find R k es)) ≡ sum_of (e ∷ es) + f v) [
         | Less ↦ λ p.
             let none : part_of f (find R k es) ≡ 0 = ap (part_of f)
-                (not_below k es (below_less k e.0 es p (first_of_both _ _ h))) in
+            (not_below k es (below_less k e.0 es p (first_of_both _ _ h))) in
             let all = sum_by-cons (λ (x : K × X). f x.1) (k, v) (e ∷ es) in
             omega arith
         | Equal ↦ λ p. let here = sum_by-cons (λ (x : K × X). f x.1) (e.0, v) es in omega arith
@@ -89,10 +89,10 @@ module _ {K X : Type 0} {R : K → K → Ordering} (o : IsTotalOrder R) (f : X �
       → find R k (e ∷ es) ≡ Some x
   found_later e es k x h there = elim (R k e.0) as (λ r. R k e.0 ≡ r
       → cond (is_eq r) (Some e.1) (find R k es) ≡ Some x) [
-    | Less ↦ λ p. there
-    | Equal ↦ λ p. absurd (let missing = not_below k es (below_tied k e.0 es p h) in cc)
-    | Greater ↦ λ p. there
-  ] refl
+        | Less ↦ λ p. there
+        | Equal ↦ λ p. absurd (let missing = not_below k es (below_tied k e.0 es p h) in cc)
+        | Greater ↦ λ p. there
+      ] refl
 
   sum_of-none : (es : List (K × X)) → T (is_sorted R es) → ((k : K) (x : X) → find R k es ≡ Some x → f x ≡ 0)
       → sum_of es ≡ 0
@@ -108,7 +108,7 @@ module _ {K X : Type 0} {R : K → K → Ordering} (o : IsTotalOrder R) (f : X �
       (sum_by-cons (λ (x : K × X). g x.1) e es)
       (le e.0 e.1 (found_first e es))
       (sum_of-at_most g es (second_of_both _ _ h) (λ k x there. le k x
-          (found_later e es k x (first_of_both _ _ h) there)))
+      (found_later e es k x (first_of_both _ _ h) there)))
 
 -- ---- maps
 
@@ -120,7 +120,7 @@ module _ {K X : Type 0} {R : K → K → Ordering} (o : IsTotalOrder R) (f : X �
   sum_in-insert m k v =
       let is = sum_of-put o f k v (entries m) (entries_sorted m) in
       let new : sum_in (insert m k v) ≡ sum_of o f (put R k v (entries m)) =
-          ap (sum_by (λ e. f e.1)) (entries-insert o m k v) in
+      ap (sum_by (λ e. f e.1)) (entries-insert o m k v) in
       let old : part_of f (get m k) ≡ part_of f (find R k (entries m)) = ap (part_of f) (get-entries m k) in
       omega arith
 
@@ -140,14 +140,14 @@ module _ {K X : Type 0} {R : K → K → Ordering} (o : IsTotalOrder R) (f : X �
   put_back exact m k v there = same_map o exact _ _ (λ q. get-insert o (remove m k) k v q
       ∙ ap (cond (eq_by_cmp R q k) (Some v)) (get-remove o m k q)
       ∙ taken_back (eq_by_cmp R q k) (Some v) (get m q) (λ tied. sym (ap (get m) (exact q k ((Equal-is (R q k)).0 tied))
-          ∙ there)))
+      ∙ there)))
 
   pub sum_in-remove : IsAntisymmetric R → (m : FinMap R X) (k : K) (v : X) → get m k ≡ Some v
       → sum_in (remove m k) + f v ≡ sum_in m
   sum_in-remove exact m k v there =
       let back : sum_in (insert (remove m k) k v) ≡ sum_in m = ap sum_in (put_back exact m k v there) in
       let none : get (remove m k) k ≡ None = get-remove o m k k
-          ∙ ap (λ b. cond b None (get m k)) ((eq_by_cmp_equiv o).refl k) in
+      ∙ ap (λ b. cond b None (get m k)) ((eq_by_cmp_equiv o).refl k) in
       let no_part : part_of f (get (remove m k) k) ≡ 0 = ap (part_of f) none in
       let is = sum_in-insert (remove m k) k v in
       omega arith

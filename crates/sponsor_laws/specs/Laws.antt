@@ -98,7 +98,7 @@ MovingKeeps = (ctx : Ctx) (key : LedgerKey) (payer : Option AccountId) (old new 
 abbrev pub AddingSignerKeeps : Type 0
 AddingSignerKeeps =
     (ctx : Ctx) (id : AccountId) (signer : Signer) (old new : EntryMap) → AreKept old → HasAccount old id
-        → HasAccount old (payer_of ctx id) → IsApart ctx id
+    → HasAccount old (payer_of ctx id) → IsApart ctx id
     → map_after_adding_signer ctx id signer old ≡ Ok new → AreKept new
 
 abbrev pub RemovingSignerKeeps : Type 0
@@ -108,7 +108,7 @@ RemovingSignerKeeps = (id : AccountId) (key : SignerKey) (old : EntryMap) → Ar
 abbrev pub MovingSignerKeeps : Type 0
 MovingSignerKeeps =
     (ctx : Ctx) (id : AccountId) (key : SignerKey) (payer : Option AccountId) (old new : EntryMap) → AreKept old
-        → PayerStands payer old
+    → PayerStands payer old
     → map_after_moving_signer ctx id key payer old ≡ Ok new → AreKept new
 
 -- ---- sponsoring nothing
@@ -124,7 +124,7 @@ pub record SponsoredEntriesCount (m : EntryMap) : Type 0 where
 abbrev pub ZeroSponsorsNothing : Type 0
 ZeroSponsorsNothing =
     (id : AccountId) (account : AccountEntry) (m : EntryMap) → AreKept m → SponsoredEntriesCount m
-        → account_at m id ≡ Some account → count_in Sponsoring account ≡ 0
+    → account_at m id ≡ Some account → count_in Sponsoring account ≡ 0
     → SponsorsNothing m id
 
 -- ---- what others pay

@@ -50,8 +50,9 @@ sponsored_signers id other = 0
 
 abbrev pub sponsored_for : AccountId → LedgerEntry → ℕ
 sponsored_for id entry =
-    (if is_there (sponsor_of entry) then (if is_this id
-        (owner_of entry.body) then multiplicity entry.body else 0) else 0)
+    (if is_there (sponsor_of entry)
+    then (if is_this id (owner_of entry.body) then multiplicity entry.body else 0)
+    else 0)
     + sponsored_signers id entry.body
 
 -- how many reserves of signers this account pays

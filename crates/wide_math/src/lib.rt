@@ -1,5 +1,5 @@
-//! Exact whole-number arithmetic whose products need more than 64 bits: quotients, square roots, and the order of fractions.
-//! No call takes memory.
+//! Exact whole-number arithmetic whose products need more than 64 bits: quotients, square roots, and the order of
+//! fractions. No call takes memory.
 #![tactic(auto)]
 
 mod fraction;

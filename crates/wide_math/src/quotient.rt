@@ -20,7 +20,8 @@ pub fn mul_div(a: i64, b: i64, c: i64, round: Round) -> Option<i64>
     requires a_is_no_debt { pos 0 ≤ℤ a }
     requires b_is_no_debt { pos 0 ≤ℤ b }
     requires c_divides { pos 1 ≤ℤ c }
-    ensures { let q = quotient round (unsigned_abs a * unsigned_abs b) (unsigned_abs c) in SomeIff result (q < 2 ^ 63) (pos q) }
+    ensures { let q = quotient round (unsigned_abs a * unsigned_abs b) (unsigned_abs c) in
+        SomeIff result (q < 2 ^ 63) (pos q) }
 {
     signed(rounded(product_of(a, b), c.unsigned_abs() as u128, round))
 }

@@ -1,21 +1,7 @@
 -- The laws of ids, signers, assets and prices.
 use Rattle.std.proofs.Common.{pos, refl}
-use Rattle.xdr_core.proofs.FormatLaws.{
-  Laws,
-  u32_laws,
-  u64_laws,
-  i32_laws,
-  i64_laws,
-  fixed_laws,
-  empty_laws,
-  ◌&◌,
-  struct_laws,
-  marked_laws,
-  tag_laws,
-  arm_laws,
-  found,
-  union_laws,
-}
+use Rattle.xdr_core.proofs.FormatLaws.{Laws, u32_laws, u64_laws, i32_laws, i64_laws, fixed_laws, empty_laws, ◌&◌}
+use Rattle.xdr_core.proofs.FormatLaws.{struct_laws, marked_laws, tag_laws, arm_laws, found, union_laws}
 use Rattle.xdr_core.proofs.Unions.{IsFound}
 use Rattle.ledger_types.specs.declared.ids.MuxedAccount.{MuxedAccount}
 use Rattle.ledger_types.specs.declared.ids.MuxedAccount.TheVariants as muxed
@@ -27,53 +13,15 @@ use Rattle.ledger_types.specs.declared.asset.TrustLineAsset.{TrustLineAsset}
 use Rattle.ledger_types.specs.declared.asset.TrustLineAsset.TheVariants as line
 use Rattle.ledger_types.specs.declared.asset.ChangeTrustAsset.{ChangeTrustAsset}
 use Rattle.ledger_types.specs.declared.asset.ChangeTrustAsset.TheVariants as change
-use Rattle.xdr_entries.specs.Basic.{
-  hash_fields,
-  hash,
-  account_id_fields,
-  account_id,
-  balance_id_fields,
-  claimable_balance_id,
-  muxed_ed25519,
-  muxed_with_id,
-  muxed_arms,
-  muxed_part,
-  muxed_account,
-  signer_ed25519,
-  signer_pre_auth,
-  signer_hash_x,
-  signer_key_arms,
-  signer_key_part,
-  signer_key,
-  signer_fields,
-  signer,
-  native,
-  alphanum4,
-  alphanum12,
-  asset_arms,
-  asset_part,
-  asset,
-  line_native,
-  line_alphanum4,
-  line_alphanum12,
-  line_pool,
-  trust_line_asset_arms,
-  trust_line_asset_part,
-  trust_line_asset,
-  pool_params_fields,
-  pool_params,
-  change_native,
-  change_alphanum4,
-  change_alphanum12,
-  change_pool,
-  change_trust_asset_arms,
-  change_trust_asset_part,
-  change_trust_asset,
-  price_fields,
-  price,
-  liabilities_fields,
-  liabilities,
-}
+use Rattle.xdr_entries.specs.Basic.{hash_fields, hash, account_id_fields, account_id, balance_id_fields}
+use Rattle.xdr_entries.specs.Basic.{claimable_balance_id, muxed_ed25519, muxed_with_id, muxed_arms, muxed_part}
+use Rattle.xdr_entries.specs.Basic.{muxed_account, signer_ed25519, signer_pre_auth, signer_hash_x, signer_key_arms}
+use Rattle.xdr_entries.specs.Basic.{signer_key_part, signer_key, signer_fields, signer, native, alphanum4, alphanum12}
+use Rattle.xdr_entries.specs.Basic.{asset_arms, asset_part, asset, line_native, line_alphanum4, line_alphanum12}
+use Rattle.xdr_entries.specs.Basic.{line_pool, trust_line_asset_arms, trust_line_asset_part, trust_line_asset}
+use Rattle.xdr_entries.specs.Basic.{pool_params_fields, pool_params, change_native, change_alphanum4, change_alphanum12}
+use Rattle.xdr_entries.specs.Basic.{change_pool, change_trust_asset_arms, change_trust_asset_part, change_trust_asset}
+use Rattle.xdr_entries.specs.Basic.{price_fields, price, liabilities_fields, liabilities}
 
 -- ---- ids
 

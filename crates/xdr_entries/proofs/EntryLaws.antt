@@ -1,81 +1,23 @@
 -- The laws of ledger entries.
 use Rattle.std.proofs.Common.{pos, refl, arith}
-use Rattle.xdr_core.proofs.FormatLaws.{
-  Laws,
-  u32_laws,
-  i32_laws,
-  i64_laws,
-  fixed_laws,
-  var_laws,
-  ◌&◌,
-  struct_laws,
-  whole_laws,
-  marked_laws,
-  closed_laws,
-  tag_laws,
-  option_laws,
-  list_laws,
-  arm_laws,
-  found,
-  union_laws,
-  extension_laws,
-}
+use Rattle.xdr_core.proofs.FormatLaws.{Laws, u32_laws, i32_laws, i64_laws, fixed_laws, var_laws, ◌&◌, struct_laws}
+use Rattle.xdr_core.proofs.FormatLaws.{whole_laws, marked_laws, closed_laws, tag_laws, option_laws, list_laws, arm_laws}
+use Rattle.xdr_core.proofs.FormatLaws.{found, union_laws, extension_laws}
 use Rattle.xdr_core.proofs.Unions.{IsFound}
 use Rattle.ledger_types.specs.declared.bounds.TheConstants.{MAX_SIGNERS, MAX_HOME_DOMAIN_LEN}
 use Rattle.ledger_types.specs.declared.entry.LedgerEntryBody.{LedgerEntryBody}
 use Rattle.ledger_types.specs.declared.entry.LedgerEntryBody.TheVariants as body
-use Rattle.xdr_entries.specs.Entries.{
-  account_v2_fields,
-  account_extension_v2,
-  account_v1_fields,
-  account_extension_v1,
-  account_head,
-  account_tail,
-  account_fields,
-  account_entry,
-  line_v2_fields,
-  trust_line_extension_v2,
-  line_v1_fields,
-  trust_line_extension_v1,
-  line_fields,
-  trust_line_entry,
-  offer_fields,
-  offer_entry,
-  data_fields,
-  data_entry,
-  claimant_fields,
-  claimant,
-  balance_v1_fields,
-  claimable_balance_extension_v1,
-  balance_fields,
-  claimable_balance_entry,
-  pool_fields,
-  liquidity_pool_entry,
-  account_arm,
-  trust_line_arm,
-  offer_arm,
-  data_arm,
-  claimable_balance_arm,
-  liquidity_pool_arm,
-  body_arms,
-  body_part,
-  ledger_entry_body,
-  entry_v1_fields,
-  ledger_entry_extension_v1,
-  entry_fields,
-  ledger_entry,
-}
-use Rattle.xdr_entries.proofs.BasicLaws.{
-  hash_laws,
-  account_id_laws,
-  claimable_balance_id_laws,
-  signer_laws,
-  asset_laws,
-  trust_line_asset_laws,
-  pool_params_laws,
-  price_laws,
-  liabilities_laws,
-}
+use Rattle.xdr_entries.specs.Entries.{account_v2_fields, account_extension_v2, account_v1_fields, account_extension_v1}
+use Rattle.xdr_entries.specs.Entries.{account_head, account_tail, account_fields, account_entry, line_v2_fields}
+use Rattle.xdr_entries.specs.Entries.{trust_line_extension_v2, line_v1_fields, trust_line_extension_v1, line_fields}
+use Rattle.xdr_entries.specs.Entries.{trust_line_entry, offer_fields, offer_entry, data_fields, data_entry}
+use Rattle.xdr_entries.specs.Entries.{claimant_fields, claimant, balance_v1_fields, claimable_balance_extension_v1}
+use Rattle.xdr_entries.specs.Entries.{balance_fields, claimable_balance_entry, pool_fields, liquidity_pool_entry}
+use Rattle.xdr_entries.specs.Entries.{account_arm, trust_line_arm, offer_arm, data_arm, claimable_balance_arm}
+use Rattle.xdr_entries.specs.Entries.{liquidity_pool_arm, body_arms, body_part, ledger_entry_body, entry_v1_fields}
+use Rattle.xdr_entries.specs.Entries.{ledger_entry_extension_v1, entry_fields, ledger_entry}
+use Rattle.xdr_entries.proofs.BasicLaws.{hash_laws, account_id_laws, claimable_balance_id_laws, signer_laws, asset_laws}
+use Rattle.xdr_entries.proofs.BasicLaws.{trust_line_asset_laws, pool_params_laws, price_laws, liabilities_laws}
 use Rattle.xdr_entries.proofs.PredicateLaws.{claim_predicate_laws}
 
 pub account_extension_v2_laws : Laws account_extension_v2

@@ -1,41 +1,15 @@
 -- The laws of keys and items of buckets.
 use Rattle.std.proofs.Common.{pos, refl, arith}
-use Rattle.xdr_core.proofs.FormatLaws.{
-  Laws,
-  u32_laws,
-  i64_laws,
-  var_laws,
-  ◌&◌,
-  whole_laws,
-  closed_laws,
-  tag_laws,
-  arm_laws,
-  found,
-  union_laws,
-}
+use Rattle.xdr_core.proofs.FormatLaws.{Laws, u32_laws, i64_laws, var_laws, ◌&◌, whole_laws, closed_laws, tag_laws}
+use Rattle.xdr_core.proofs.FormatLaws.{arm_laws, found, union_laws}
 use Rattle.xdr_core.proofs.Unions.{IsFound}
 use Rattle.ledger_types.specs.declared.key.LedgerKey.{LedgerKey}
 use Rattle.ledger_types.specs.declared.key.LedgerKey.TheVariants as key
 use Rattle.ledger_types.specs.declared.bucket.BucketEntry.{BucketEntry}
 use Rattle.ledger_types.specs.declared.bucket.BucketEntry.TheVariants as bucket
-use Rattle.xdr_entries.specs.Keys.{
-  account_key,
-  trust_line_key,
-  offer_key,
-  data_key,
-  claimable_balance_key,
-  liquidity_pool_key,
-  key_arms,
-  key_part,
-  ledger_key,
-  meta_arm,
-  live_arm,
-  dead_arm,
-  init_arm,
-  bucket_arms,
-  bucket_part,
-  bucket_entry,
-}
+use Rattle.xdr_entries.specs.Keys.{account_key, trust_line_key, offer_key, data_key, claimable_balance_key}
+use Rattle.xdr_entries.specs.Keys.{liquidity_pool_key, key_arms, key_part, ledger_key, meta_arm, live_arm, dead_arm}
+use Rattle.xdr_entries.specs.Keys.{init_arm, bucket_arms, bucket_part, bucket_entry}
 use Rattle.xdr_entries.proofs.BasicLaws.{hash_laws, account_id_laws, claimable_balance_id_laws, trust_line_asset_laws}
 use Rattle.xdr_entries.proofs.EntryLaws.{ledger_entry_laws}
 

@@ -24,27 +24,15 @@ use Rattle.ledger_types.specs.declared.trust_line.TrustLineEntry.{TrustLineEntry
 use Rattle.ledger_types.specs.declared.offer.OfferEntry.{OfferEntry}
 use Rattle.ledger_types.specs.declared.data_entry.DataEntry.{DataEntry}
 use Rattle.ledger_types.specs.declared.claimable_balance.Claimant.{Claimant}
-use Rattle.ledger_types.specs.declared.claimable_balance.ClaimableBalanceEntryExtensionV1.{
-  ClaimableBalanceEntryExtensionV1,
-}
+use Rattle.ledger_types.specs.declared.claimable_balance.ClaimableBalanceEntryExtensionV1.{ClaimableBalanceEntryExtensionV1}
 use Rattle.ledger_types.specs.declared.claimable_balance.ClaimableBalanceEntry.{ClaimableBalanceEntry}
 use Rattle.ledger_types.specs.declared.liquidity_pool.LiquidityPoolEntry.{LiquidityPoolEntry}
 use Rattle.ledger_types.specs.declared.entry.LedgerEntryBody.{LedgerEntryBody}
 use Rattle.ledger_types.specs.declared.entry.LedgerEntryBody.TheVariants as body
 use Rattle.ledger_types.specs.declared.entry.LedgerEntryExtensionV1.{LedgerEntryExtensionV1}
 use Rattle.ledger_types.specs.declared.entry.LedgerEntry.{LedgerEntry}
-use Rattle.xdr_entries.specs.Basic.{
-  arm,
-  hash,
-  account_id,
-  claimable_balance_id,
-  signer,
-  asset,
-  trust_line_asset,
-  pool_params,
-  price,
-  liabilities,
-}
+use Rattle.xdr_entries.specs.Basic.{arm, hash, account_id, claimable_balance_id, signer, asset, trust_line_asset}
+use Rattle.xdr_entries.specs.Basic.{pool_params, price, liabilities}
 use Rattle.xdr_entries.specs.Predicates.{claim_predicate}
 
 -- ---- accounts

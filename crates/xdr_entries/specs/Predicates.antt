@@ -5,12 +5,9 @@ use Rattle.xdr_core.specs.Leaves.{i64}
 use Rattle.xdr_core.specs.Combinators.{Fields, struct_of, empty, Arm, Part, part}
 use Rattle.xdr_core.specs.Xdr.{Xdr, optional, list_of, union_of, too_deep}
 use Rattle.ledger_types.specs.declared.predicate.ClaimPredicate.{ClaimPredicate}
-use Rattle.ledger_types.specs.declared.predicate.ClaimPredicate.TheViews.{
-  out-ClaimPredicate,
-  roll-ClaimPredicate,
-  out-roll-ClaimPredicate,
-  roll-out-ClaimPredicate,
-}
+use Rattle.ledger_types.specs.declared.predicate.ClaimPredicate.TheViews.{out-ClaimPredicate, roll-ClaimPredicate}
+use Rattle.ledger_types.specs.declared.predicate.ClaimPredicate.TheViews.{out-roll-ClaimPredicate}
+use Rattle.ledger_types.specs.declared.predicate.ClaimPredicate.TheViews.{roll-out-ClaimPredicate}
 use Rattle.ledger_types.specs.declared.predicate.ClaimPredicate.TheOpen.{ClaimPredicate-F}
 use Rattle.xdr_entries.specs.Basic.{arm}
 

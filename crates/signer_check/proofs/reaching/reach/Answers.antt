@@ -12,8 +12,10 @@ returns-in-None c =
     let by_hash = filter (λ (signer : Signer). is_authorised c.args.hash.now signer.key) c.args.signers.now in
     let rest = counted_by_signatures 0 signatures c.args.signers.now in
     record {
-      reached = ap (λ (o : Option ℕ). reaches_from o rest) c.in-None.ensures ∙ sym (unsigned_reach c.args.needed by_hash rest);
-      used = ap (λ (o : Option ℕ). used_for (until_from o rest) signatures) c.in-None.ensures ∙ sym (unsigned_use c.args.needed by_hash rest signatures);
+      reached = ap (λ (o : Option ℕ). reaches_from o rest) c.in-None.ensures
+          ∙ sym (unsigned_reach c.args.needed by_hash rest);
+      used = ap (λ (o : Option ℕ). used_for (until_from o rest) signatures) c.in-None.ensures
+          ∙ sym (unsigned_use c.args.needed by_hash rest signatures);
     }
 
 pub returns-in-Some : goal.returns-in-Some
@@ -22,7 +24,8 @@ returns-in-Some c =
     let by_hash = filter (λ (signer : Signer). is_authorised c.args.hash.now signer.key) c.args.signers.now in
     let rest = counted_by_signatures 0 signatures c.args.signers.now in
     record {
-      reached = c.reach_by_signatures.ensures.reached ∙ ap (λ (o : Option ℕ). reaches_from o rest) c.in-Some.ensures ∙ sym (unsigned_reach c.args.needed by_hash rest);
+      reached = c.reach_by_signatures.ensures.reached ∙ ap (λ (o : Option ℕ). reaches_from o rest) c.in-Some.ensures
+          ∙ sym (unsigned_reach c.args.needed by_hash rest);
       used =
           c.reach_by_signatures.ensures.used
           ∙ ap (λ (o : Option ℕ). used_for (until_from o rest) signatures) c.in-Some.ensures

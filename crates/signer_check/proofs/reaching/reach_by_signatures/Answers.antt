@@ -33,10 +33,13 @@ loop-signature-preserved c =
     let after = left_of c.count_signer.new.counted c.args.signers.now in
     elim c.match-count_signer.branch [
       | in-Some+in-Some-missing_with w ↦
-          rw (w.missing-is, w.signature-items-is) (stands_on reached used c.loop-signature.missing w.in-Some-missing_with.rest now place left after (get_or now place past) past w.in-Some.signer.now
+          rw (w.missing-is, w.signature-items-is)
+          (stands_on reached used c.loop-signature.missing w.in-Some-missing_with.rest now place left after
+          (get_or now place past) past w.in-Some.signer.now
           (omega arith) refl w.in-Some.ensures.signer w.in-Some.ensures.others w.in-Some-missing_with.ensures c.loop-signature.invariant)
       | in_default w ↦
-          rw (w.missing-is, w.signature-items-is, set-get_or now place past) (stands_unmatched reached used c.loop-signature.missing now place left after (get_or now place past) past
+          rw (w.missing-is, w.signature-items-is, set-get_or now place past)
+          (stands_unmatched reached used c.loop-signature.missing now place left after (get_or now place past) past
           (omega arith) refl w.in_default.ensures.signer w.in_default.ensures.others c.loop-signature.invariant)
     ]
 
@@ -46,8 +49,10 @@ returns-in-None c =
     let used = used_for (until_reached c.args.needed 0 all) c.args.signatures.now in
     let now = c.loop-signature.signature-items in
     let place = c.loop-signature.signature-index in
-    let end = stands_end (reaches c.args.needed 0 all) used c.loop-signature.missing now place (left_of c.loop-signature.counted c.args.signers.now) (left_of c.count_signer.new.counted c.args.signers.now)
-    (get_or now place past) past c.in-Some.signer.now (omega arith) refl c.in-Some.ensures.signer c.in-Some.ensures.others c.in-None.ensures c.loop-signature.invariant in
+    let end = stands_end (reaches c.args.needed 0 all) used c.loop-signature.missing now place
+    (left_of c.loop-signature.counted c.args.signers.now) (left_of c.count_signer.new.counted c.args.signers.now)
+    (get_or now place past) past c.in-Some.signer.now
+    (omega arith) refl c.in-Some.ensures.signer c.in-Some.ensures.others c.in-None.ensures c.loop-signature.invariant in
     record { reached = end.0; used = end.1 }
 
 pub returns : goal.returns

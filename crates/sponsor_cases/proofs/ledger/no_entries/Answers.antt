@@ -10,4 +10,5 @@ unfolding IsDistinct
 none_is_twice = tt
 
 pub from_entries-requires : goal.from_entries-requires
-from_entries-requires c = subst (λ entries. IsDistinct (eq_by_cmp key_cmp) (map key_of entries)) (sym c.new.ensures.items) none_is_twice
+from_entries-requires c =
+    subst (λ entries. IsDistinct (eq_by_cmp key_cmp) (map key_of entries)) (sym c.new.ensures.items) none_is_twice

@@ -1,5 +1,5 @@
 -- What accounts' extensions say (CAP-0003, CAP-0033). What isn't there reads as zeros and none.
-use Rattle.std.specs.Prelude.{ℕ, ℤ, pos, Bool, ◌&&◌, List, map, Option, Some, None, if◌then◌else◌}
+use Rattle.std.specs.Prelude.{ℕ, pos, Bool, ◌&&◌, List, map, Option, Some, None, if◌then◌else◌}
 use Rattle.std.specs.List.{slice_get}
 use Rattle.std.specs.Option.{option_and_then}
 use Rattle.std.specs.Ordering.{int_eq}

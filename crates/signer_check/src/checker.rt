@@ -56,7 +56,8 @@ impl Checker {
     pub fn check(&mut self, account: &AccountEntry, needed: u32) -> bool
         requires { length account.now.signers ≤ 20 }
         ensures succeeds { result ≡ succeeds self.old.hash self.old.signatures account.now needed }
-        ensures used { self.new ≡ record self.old { signatures = after_check self.old.hash self.old.signatures account.now needed } }
+        ensures used { self.new ≡
+            record self.old { signatures = after_check self.old.hash self.old.signatures account.now needed } }
     {
         reach_in(
             &self.hash,

@@ -19,7 +19,8 @@ fn first_place(
     signers: &[Signer],
     signature: &HeldSignature,
 ) -> Option<usize>
-    ensures { result ≡ position (λ pair. not pair.1 && key_matches signature.now pair.0.key) (zip signers.now counted.now) }
+    ensures { result ≡
+        position (λ pair. not pair.1 && key_matches signature.now pair.0.key) (zip signers.now counted.now) }
 {
     signers.iter().zip(counted).position(|(signer, has_counted)| !*has_counted
         && matches_key(signature, &signer.key))
@@ -31,8 +32,10 @@ pub fn count_signer<'a>(
     signers: &'a [Signer],
     signature: &HeldSignature,
 ) -> Option<&'a Signer>
-    ensures signer { option_copied result ≡ option_map (λ found. found.signer) (first_match signature.now (left_of counted.old signers.now)) }
-    ensures others { left_of counted.new signers.now ≡ left_after (left_of counted.old signers.now) (first_match signature.now (left_of counted.old signers.now)) }
+    ensures signer { option_copied result ≡
+        option_map (λ found. found.signer) (first_match signature.now (left_of counted.old signers.now)) }
+    ensures others { left_of counted.new signers.now ≡
+        left_after (left_of counted.old signers.now) (first_match signature.now (left_of counted.old signers.now)) }
 {
     let place = first_place(counted, signers, signature)?;
     counted[place] = true;

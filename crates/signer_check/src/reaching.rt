@@ -16,7 +16,8 @@ use std::mem;
 fn reach_by_signatures(signatures: &mut [HeldSignature], signers: &[Signer], needed: u32) -> bool
     requires { length signers.now ≤ MAX_SIGNERS }
     ensures reached { result ≡ reaches needed 0 (counted_by_signatures 0 signatures.old signers.now) }
-    ensures used { signatures.new ≡ used_for (until_reached needed 0 (counted_by_signatures 0 signatures.old signers.now)) signatures.old }
+    ensures used { signatures.new ≡
+        used_for (until_reached needed 0 (counted_by_signatures 0 signatures.old signers.now)) signatures.old }
 {
     let mut counted = [false; MAX_SIGNERS];
     let mut missing = needed;
@@ -37,7 +38,8 @@ fn reach_by_signatures(signatures: &mut [HeldSignature], signers: &[Signer], nee
 fn reach(hash: &Hash, signatures: &mut [HeldSignature], signers: &[Signer], needed: u32) -> bool
     requires { length signers.now ≤ MAX_SIGNERS }
     ensures reached { result ≡ reaches needed 0 (all_counted hash.now signatures.old signers.now) }
-    ensures used { signatures.new ≡ used_for (until_reached needed 0 (all_counted hash.now signatures.old signers.now)) signatures.old }
+    ensures used { signatures.new ≡
+        used_for (until_reached needed 0 (all_counted hash.now signatures.old signers.now)) signatures.old }
 {
     match missing_after_hash(hash, signers, needed) {
         None => true,
@@ -54,7 +56,8 @@ pub fn reach_in(
 ) -> bool
     requires { length signers.now ≤ MAX_SIGNERS }
     ensures reached { result ≡ reaches needed 0 (all_counted hash.now signatures.old signers.now) }
-    ensures used { signatures.new ≡ used_for (until_reached needed 0 (all_counted hash.now signatures.old signers.now)) signatures.old }
+    ensures used { signatures.new ≡
+        used_for (until_reached needed 0 (all_counted hash.now signatures.old signers.now)) signatures.old }
 {
     let alloc = signatures.allocator();
     let mut all = mem::replace(signatures, ItemList::new(alloc)).into_vec();

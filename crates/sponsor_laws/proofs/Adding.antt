@@ -1,8 +1,7 @@
 -- Adding an entry keeps counts equal to their sums.
-use Rattle.std.proofs.Common.{◌≡◌, ◌≢◌, inl, inr, refl, sym, ap, subst, ◌∙◌, ℕ, ◌+◌, ◌*◌, ◌≤◌, pos, [], ◌∷◌, length}
+use Rattle.std.proofs.Common.{◌≡◌, ◌≢◌, inl, inr, refl, sym, ap, subst, ◌∙◌, ℕ, ◌+◌, ◌≤◌, [], length}
 use Rattle.std.proofs.Common.{Option, Some, None, Ok, Contains, arith}
 use Rattle.std.specs.List.{count_by}
-use Rattle.std.specs.Ordering.{is_lt, int_cmp}
 use Rattle.std.specs.FinMap.{get}
 use Rattle.ledger_types.specs.declared.ids.AccountId.{AccountId}
 use Rattle.ledger_types.specs.declared.account.AccountEntry.{AccountEntry}
@@ -15,7 +14,6 @@ use Rattle.ledger_types.specs.declared.key.LedgerKey.TheVariants as key
 use Rattle.ledger_types.specs.Keys.{key_of, key_of_body}
 use Rattle.entry_map.specs.EntryMap.{EntryMap, put}
 use Rattle.sponsor_rules.specs.declared.context.Ctx.{Ctx}
-use Rattle.sponsor_rules.specs.declared.fault.AddFault.TheVariants.{LowReserve}
 use Rattle.sponsor_rules.specs.declared.count.Count.{Count}
 use Rattle.sponsor_rules.specs.declared.count.Count.TheVariants.{SubEntries, Sponsoring, Sponsored}
 use Rattle.entry_slots.specs.Accounts.{account_in, HasAccount}
@@ -197,7 +195,8 @@ module _ (old : EntryMap) (h : IsEven old) where
             omega arith;
         sums = λ other count holds.
             let same : account ≡ other = (let its = ap account_in is in cc) in
-            subst (λ (x : AccountEntry). count_in count x + 0 ≡ total count x.account_id old + p count x.account_id) same (
+            subst (λ (x : AccountEntry). count_in count x + 0 ≡ total count x.account_id old + p count x.account_id)
+            same (
             let nothing = unstanding_total count account.account_id old h (λ standing.
             let entry = account_entry old account.account_id standing.0 standing.1 in
             let its : get old (key.Account account.account_id) ≡ None = ap (get old) (sym (ap key_of_body is)) ∙ free in
@@ -211,7 +210,8 @@ module _ (old : EntryMap) (h : IsEven old) where
           | inl owns ↦ let same : account.account_id ≡ id = (let its = ap owner_of is in cc) in
               subst (HasAccount (put m e)) same (stands_placed m e account (ap account_in is))
           | inr (inl pays) ↦ stands_put m e id (stands_after p no_shift old m id s (stands id pays))
-          | inr (inr n) ↦ absurd (let same : account ≡ n.account = (let its = ap account_in is in let holds = n.is in cc) in
+          | inr (inr n) ↦ absurd (let same : account ≡ n.account =
+              (let its = ap account_in is in let holds = n.is in cc) in
               no_contained (Some id) (subst (λ xs. Contains xs (Some id)) (sym (ap signer_sponsors same)
               ∙ unsponsored) n.sponsor))
         ];

@@ -9,7 +9,7 @@ use Rattle.ledger_types.specs.declared.account.AccountEntry.{AccountEntry}
 use Rattle.entry_map.specs.EntryMap.{EntryMap}
 use Rattle.sponsor_rules.specs.declared.context.Ctx.{Ctx}
 use Rattle.sponsor_rules.specs.declared.count.Count.TheVariants.{SubEntries, Sponsoring, Sponsored}
-use Rattle.entry_slots.specs.Accounts.{with_account, HasAccount}
+use Rattle.entry_slots.specs.Accounts.{HasAccount}
 use Rattle.sponsor_rules.specs.Counting.{count_in, with_more}
 use Rattle.sponsor_rules.specs.Paying.{map_after_charging, with_subentry}
 use Rattle.sponsor_rules.specs.Payers.{open_sponsor, payer_of, payer_by, subentry_tests}

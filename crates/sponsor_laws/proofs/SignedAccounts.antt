@@ -151,7 +151,8 @@ found_within : {X : Type 0} (p : X → Bool) (xs : List X) (place : ℕ) → pos
 found_within p xs place found = elim (nat_lt (position_or_len p xs) (length xs)) as
     (λ b. nat_lt (position_or_len p xs) (length xs) ≡ b → cond b (Some (position_or_len p xs)) None ≡ Some place
     → place < length xs) [
-      | true ↦ λ lt is. let same : position_or_len p xs ≡ place = cc in subst (λ n. n < length xs) same (ltb-true _ _ lt)
+      | true ↦ λ lt is. let same : position_or_len p xs ≡ place = cc in
+          subst (λ n. n < length xs) same (ltb-true _ _ lt)
       | false ↦ λ lt is. absurd (cc)
     ] refl found
 

@@ -9,12 +9,11 @@ use Rattle.ledger_types.specs.declared.signer.Signer.{Signer}
 use Rattle.ledger_types.specs.declared.account.AccountEntry.{AccountEntry}
 use Rattle.ledger_types.specs.declared.account.AccountEntryExtensionV1.{AccountEntryExtensionV1}
 use Rattle.ledger_types.specs.declared.account.AccountEntryExtensionV2.{AccountEntryExtensionV2}
-use Rattle.entry_slots.specs.AccountExtensions.{second_in, sponsored_in, sponsoring_in, sponsorship_in, signer_sponsor}
+use Rattle.entry_slots.specs.AccountExtensions.{second_in, sponsored_in, sponsorship_in, signer_sponsor}
 use Rattle.sponsor_rules.specs.Counting.{count_in}
 use Rattle.sponsor_rules.specs.SignerPlace.{with_sponsors, with_sponsors_in, with_signer_at, without_signer}
 use Rattle.sponsor_rules.specs.SignerPlace.{with_signer_sponsor}
-use Rattle.sponsor_rules.specs.declared.count.Count.{Count}
-use Rattle.sponsor_rules.specs.declared.count.Count.TheVariants.{SubEntries, Sponsoring, Sponsored}
+use Rattle.sponsor_rules.specs.declared.count.Count.TheVariants.{Sponsored}
 use Rattle.sponsor_rules.proofs.Keeping.{second_edited}
 use Rattle.sponsor_laws.specs.Sums.{signer_sponsors}
 

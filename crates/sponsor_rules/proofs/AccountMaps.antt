@@ -1,5 +1,5 @@
 -- A map in which an account's entry is put in place of the one that stood.
-use Rattle.std.proofs.Common.{◌≡◌, ◌≢◌, ◌⊎◌, inl, inr, refl, sym, ap, subst, ◌∙◌, ℕ, ◌≤◌, Bool, true, false, cond}
+use Rattle.std.proofs.Common.{◌≡◌, ◌≢◌, ◌⊎◌, inl, inr, refl, sym, ap, subst, ◌∙◌, ◌≤◌, Bool, true, false, cond}
 use Rattle.std.proofs.Common.{Option, Some, None, arith}
 use Rattle.std.specs.FinMap.{get, get-insert, get-remove}
 use Rattle.std.specs.Ordering.{eq_by_cmp}
@@ -21,7 +21,7 @@ use Rattle.entry_slots.specs.Accounts.{account_of_slot, account_in, entry_of_acc
 use Rattle.entry_slots.specs.Accounts.{with_account_of}
 use Rattle.entry_slots.specs.EntrySponsor.{with_sponsor}
 use Rattle.sponsor_rules.specs.declared.count.Count.{Count}
-use Rattle.sponsor_rules.specs.Counting.{count_in, count_if, count_at}
+use Rattle.sponsor_rules.specs.Counting.{count_if, count_at}
 use Rattle.sponsor_rules.specs.Keeping.{KeepsMeans, KeepsOtherCounts, RaisesNoCount, IsChanged, IsChangeOf, KeepsOthers}
 use Rattle.sponsor_rules.specs.Keeping.{RaisesNone, ChangesAtMost, IsLoaded, HasMeans, LeavesBalances}
 use Rattle.sponsor_rules.specs.Keeping.{LeavesOtherBalances}

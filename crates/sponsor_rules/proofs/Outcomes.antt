@@ -1,5 +1,5 @@
 -- What a call leaves, by the tests that were made first.
-use Rattle.std.proofs.Common.{◌≡◌, ap, Option, Some, None, Ok}
+use Rattle.std.proofs.Common.{◌≡◌, ap, None, Ok}
 use Rattle.entry_map.specs.EntryMap.{EntryMap}
 use Rattle.entry_map.specs.Undo.{Undo}
 use Rattle.entry_slots.specs.Tests.{Tests, first_fault, unless_fault, unless_first}

@@ -49,7 +49,8 @@ returns-in-None c =
     let used = used_for (until_reached c.args.needed 0 all) c.args.signatures.now in
     let now = c.loop-signature.signature-items in
     let place = c.loop-signature.signature-index in
-    let end = stands_end (reaches c.args.needed 0 all) used c.loop-signature.missing now place
+    let end =
+    stands_end (reaches c.args.needed 0 all) used c.loop-signature.missing now place
     (left_of c.loop-signature.counted c.args.signers.now) (left_of c.count_signer.new.counted c.args.signers.now)
     (get_or now place past) past c.in-Some.signer.now
     (omega arith) refl c.in-Some.ensures.signer c.in-Some.ensures.others c.in-None.ensures c.loop-signature.invariant in
@@ -59,6 +60,7 @@ pub returns : goal.returns
 returns c =
     let all = counted_by_signatures 0 c.args.signatures.now c.args.signers.now in
     let used = used_for (until_reached c.args.needed 0 all) c.args.signatures.now in
-    let end = stands_all (reaches c.args.needed 0 all) used c.loop-signature.missing c.loop-signature.signature-items c.loop-signature.signature-index (left_of c.loop-signature.counted c.args.signers.now)
+    let end =
+    stands_all (reaches c.args.needed 0 all) used c.loop-signature.missing c.loop-signature.signature-items c.loop-signature.signature-index (left_of c.loop-signature.counted c.args.signers.now)
     (omega arith) c.loop-signature.invariant in
     record { reached = end.0; used = end.1 }

@@ -1,4 +1,4 @@
-use Rattle.std.proofs.Common.{rules, ◌≡◌, ◌∙◌, sym, ap, Some, None}
+use Rattle.std.proofs.Common.{rules, ◌∙◌, sym, ap, Some, None}
 use Rattle.std.proofs.lemmas.Result.{on_ok_weaker}
 use Rattle.entry_map.specs.Undo.{with_current}
 use Rattle.sponsor_rules.specs.Keeping.{IsLoaded}

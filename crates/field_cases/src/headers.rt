@@ -1,0 +1,57 @@
+//! Headers, and changes of what they hold.
+
+use crate::parts::hash;
+use item_list::ItemList;
+use ledger_types::{LedgerHeader, LedgerUpgrade, StellarValue};
+use std::alloc::{AllocError, Global};
+use xdr_core::Builder;
+use xdr_header::{write_ledger_header, write_ledger_upgrade};
+
+/// Writes the value with this name, where it is one of these.
+pub fn write_case(alloc: Global, name: &str, builder: &mut Builder) -> Result<(), AllocError> {
+    match name.as_bytes() {
+        b"LedgerHeader" => write_header(alloc, builder),
+        b"LedgerUpgrade.Version" => write_ledger_upgrade(&LedgerUpgrade::Version(7), builder),
+        b"LedgerUpgrade.BaseFee" => write_ledger_upgrade(&LedgerUpgrade::BaseFee(7), builder),
+        b"LedgerUpgrade.MaxTxSetSize" => {
+            write_ledger_upgrade(&LedgerUpgrade::MaxTxSetSize(7), builder)
+        }
+        b"LedgerUpgrade.BaseReserve" => {
+            write_ledger_upgrade(&LedgerUpgrade::BaseReserve(7), builder)
+        }
+        b"LedgerUpgrade.Flags" => write_ledger_upgrade(&LedgerUpgrade::Flags(7), builder),
+        _ => Ok(()),
+    }
+}
+
+/// A header whose numbers and hashes all differ.
+fn write_header(alloc: Global, builder: &mut Builder) -> Result<(), AllocError> {
+    let header = LedgerHeader {
+        ledger_version: 1,
+        previous_ledger_hash: hash(2),
+        scp_value: value(alloc),
+        tx_set_result_hash: hash(5),
+        bucket_list_hash: hash(6),
+        ledger_seq: 7,
+        total_coins: 8,
+        fee_pool: 9,
+        inflation_seq: 10,
+        id_pool: 11,
+        base_fee: 12,
+        base_reserve: 13,
+        max_tx_set_size: 14,
+        skip_list: [hash(15), hash(16), hash(17), hash(18)],
+        ext: None,
+    };
+    write_ledger_header(&header, builder)
+}
+
+/// A value without upgrades and without a signature.
+fn value(alloc: Global) -> StellarValue {
+    StellarValue {
+        tx_set_hash: hash(3),
+        close_time: 4,
+        upgrades: ItemList::new(alloc),
+        ext: None,
+    }
+}

@@ -6,6 +6,7 @@ use Rattle.xdr_core.specs.Leaves.{i64}
 use Rattle.xdr_core.specs.Combinators.{◌⨾◌, Fields, struct_of, closed, Arm, Part, part}
 use Rattle.xdr_core.specs.Xdr.{Xdr, tag, list_of, union_of}
 use Rattle.ledger_types.specs.declared.ids.Hash.{Hash}
+use Rattle.op_types.specs.declared.operation_type.TheConstants as types
 use Rattle.op_types.specs.declared.operation_result.OperationResultTr.{OperationResultTr}
 use Rattle.op_types.specs.declared.operation_result.OperationResultTr.TheVariants as run
 use Rattle.op_types.specs.declared.operation_result.OperationResult.{OperationResult}
@@ -27,76 +28,76 @@ use Rattle.xdr_results.specs.Answers.{create_account_result, payment_result, pat
 -- ---- operations
 
 abbrev pub create_account_answer : Arm XdrFault OperationResultTr
-create_account_answer = arm (pos 0) create_account_result run.CreateAccount
+create_account_answer = arm types.CREATE_ACCOUNT create_account_result run.CreateAccount
 
 abbrev pub payment_answer : Arm XdrFault OperationResultTr
-payment_answer = arm (pos 1) payment_result run.Payment
+payment_answer = arm types.PAYMENT payment_result run.Payment
 
 abbrev pub path_payment_strict_receive_answer : Arm XdrFault OperationResultTr
-path_payment_strict_receive_answer = arm (pos 2) path_payment_strict_receive_result run.PathPaymentStrictReceive
+path_payment_strict_receive_answer = arm types.PATH_PAYMENT_STRICT_RECEIVE path_payment_strict_receive_result run.PathPaymentStrictReceive
 
 abbrev pub manage_sell_offer_answer : Arm XdrFault OperationResultTr
-manage_sell_offer_answer = arm (pos 3) manage_offer_result run.ManageSellOffer
+manage_sell_offer_answer = arm types.MANAGE_SELL_OFFER manage_offer_result run.ManageSellOffer
 
 abbrev pub create_passive_sell_offer_answer : Arm XdrFault OperationResultTr
-create_passive_sell_offer_answer = arm (pos 4) manage_offer_result run.CreatePassiveSellOffer
+create_passive_sell_offer_answer = arm types.CREATE_PASSIVE_SELL_OFFER manage_offer_result run.CreatePassiveSellOffer
 
 abbrev pub set_options_answer : Arm XdrFault OperationResultTr
-set_options_answer = arm (pos 5) set_options_result run.SetOptions
+set_options_answer = arm types.SET_OPTIONS set_options_result run.SetOptions
 
 abbrev pub change_trust_answer : Arm XdrFault OperationResultTr
-change_trust_answer = arm (pos 6) change_trust_result run.ChangeTrust
+change_trust_answer = arm types.CHANGE_TRUST change_trust_result run.ChangeTrust
 
 abbrev pub allow_trust_answer : Arm XdrFault OperationResultTr
-allow_trust_answer = arm (pos 7) allow_trust_result run.AllowTrust
+allow_trust_answer = arm types.ALLOW_TRUST allow_trust_result run.AllowTrust
 
 abbrev pub account_merge_answer : Arm XdrFault OperationResultTr
-account_merge_answer = arm (pos 8) account_merge_result run.AccountMerge
+account_merge_answer = arm types.ACCOUNT_MERGE account_merge_result run.AccountMerge
 
 abbrev pub inflation_answer : Arm XdrFault OperationResultTr
-inflation_answer = arm (pos 9) inflation_result run.Inflation
+inflation_answer = arm types.INFLATION inflation_result run.Inflation
 
 abbrev pub manage_data_answer : Arm XdrFault OperationResultTr
-manage_data_answer = arm (pos 10) manage_data_result run.ManageData
+manage_data_answer = arm types.MANAGE_DATA manage_data_result run.ManageData
 
 abbrev pub bump_sequence_answer : Arm XdrFault OperationResultTr
-bump_sequence_answer = arm (pos 11) bump_sequence_result run.BumpSequence
+bump_sequence_answer = arm types.BUMP_SEQUENCE bump_sequence_result run.BumpSequence
 
 abbrev pub manage_buy_offer_answer : Arm XdrFault OperationResultTr
-manage_buy_offer_answer = arm (pos 12) manage_offer_result run.ManageBuyOffer
+manage_buy_offer_answer = arm types.MANAGE_BUY_OFFER manage_offer_result run.ManageBuyOffer
 
 abbrev pub path_payment_strict_send_answer : Arm XdrFault OperationResultTr
-path_payment_strict_send_answer = arm (pos 13) path_payment_strict_send_result run.PathPaymentStrictSend
+path_payment_strict_send_answer = arm types.PATH_PAYMENT_STRICT_SEND path_payment_strict_send_result run.PathPaymentStrictSend
 
 abbrev pub create_claimable_balance_answer : Arm XdrFault OperationResultTr
-create_claimable_balance_answer = arm (pos 14) create_claimable_balance_result run.CreateClaimableBalance
+create_claimable_balance_answer = arm types.CREATE_CLAIMABLE_BALANCE create_claimable_balance_result run.CreateClaimableBalance
 
 abbrev pub claim_claimable_balance_answer : Arm XdrFault OperationResultTr
-claim_claimable_balance_answer = arm (pos 15) claim_claimable_balance_result run.ClaimClaimableBalance
+claim_claimable_balance_answer = arm types.CLAIM_CLAIMABLE_BALANCE claim_claimable_balance_result run.ClaimClaimableBalance
 
 abbrev pub begin_sponsoring_future_reserves_answer : Arm XdrFault OperationResultTr
-begin_sponsoring_future_reserves_answer = arm (pos 16) begin_sponsoring_future_reserves_result run.BeginSponsoringFutureReserves
+begin_sponsoring_future_reserves_answer = arm types.BEGIN_SPONSORING_FUTURE_RESERVES begin_sponsoring_future_reserves_result run.BeginSponsoringFutureReserves
 
 abbrev pub end_sponsoring_future_reserves_answer : Arm XdrFault OperationResultTr
-end_sponsoring_future_reserves_answer = arm (pos 17) end_sponsoring_future_reserves_result run.EndSponsoringFutureReserves
+end_sponsoring_future_reserves_answer = arm types.END_SPONSORING_FUTURE_RESERVES end_sponsoring_future_reserves_result run.EndSponsoringFutureReserves
 
 abbrev pub revoke_sponsorship_answer : Arm XdrFault OperationResultTr
-revoke_sponsorship_answer = arm (pos 18) revoke_sponsorship_result run.RevokeSponsorship
+revoke_sponsorship_answer = arm types.REVOKE_SPONSORSHIP revoke_sponsorship_result run.RevokeSponsorship
 
 abbrev pub clawback_answer : Arm XdrFault OperationResultTr
-clawback_answer = arm (pos 19) clawback_result run.Clawback
+clawback_answer = arm types.CLAWBACK clawback_result run.Clawback
 
 abbrev pub clawback_claimable_balance_answer : Arm XdrFault OperationResultTr
-clawback_claimable_balance_answer = arm (pos 20) clawback_claimable_balance_result run.ClawbackClaimableBalance
+clawback_claimable_balance_answer = arm types.CLAWBACK_CLAIMABLE_BALANCE clawback_claimable_balance_result run.ClawbackClaimableBalance
 
 abbrev pub set_trust_line_flags_answer : Arm XdrFault OperationResultTr
-set_trust_line_flags_answer = arm (pos 21) set_trust_line_flags_result run.SetTrustLineFlags
+set_trust_line_flags_answer = arm types.SET_TRUST_LINE_FLAGS set_trust_line_flags_result run.SetTrustLineFlags
 
 abbrev pub liquidity_pool_deposit_answer : Arm XdrFault OperationResultTr
-liquidity_pool_deposit_answer = arm (pos 22) liquidity_pool_deposit_result run.LiquidityPoolDeposit
+liquidity_pool_deposit_answer = arm types.LIQUIDITY_POOL_DEPOSIT liquidity_pool_deposit_result run.LiquidityPoolDeposit
 
 abbrev pub liquidity_pool_withdraw_answer : Arm XdrFault OperationResultTr
-liquidity_pool_withdraw_answer = arm (pos 23) liquidity_pool_withdraw_result run.LiquidityPoolWithdraw
+liquidity_pool_withdraw_answer = arm types.LIQUIDITY_POOL_WITHDRAW liquidity_pool_withdraw_result run.LiquidityPoolWithdraw
 
 -- the types from 18 on
 unfoldable pub last_run_arms : List (Arm XdrFault OperationResultTr)

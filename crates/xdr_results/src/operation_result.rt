@@ -40,84 +40,20 @@ use crate::trust_results::{
     read_set_trust_line_flags_result, write_allow_trust_result, write_change_trust_result,
     write_clawback_result, write_set_trust_line_flags_result,
 };
+use op_types::operation_type::{
+    ACCOUNT_MERGE, ALLOW_TRUST, BEGIN_SPONSORING_FUTURE_RESERVES, BUMP_SEQUENCE, CHANGE_TRUST,
+    CLAIM_CLAIMABLE_BALANCE, CLAWBACK, CLAWBACK_CLAIMABLE_BALANCE, CREATE_ACCOUNT,
+    CREATE_CLAIMABLE_BALANCE, CREATE_PASSIVE_SELL_OFFER, END_SPONSORING_FUTURE_RESERVES, INFLATION,
+    LIQUIDITY_POOL_DEPOSIT, LIQUIDITY_POOL_WITHDRAW, MANAGE_BUY_OFFER, MANAGE_DATA,
+    MANAGE_SELL_OFFER, PATH_PAYMENT_STRICT_RECEIVE, PATH_PAYMENT_STRICT_SEND, PAYMENT,
+    REVOKE_SPONSORSHIP, SET_OPTIONS, SET_TRUST_LINE_FLAGS,
+};
 use op_types::{Coded, OperationResult, OperationResultTr};
 use std::alloc::{AllocError, Global};
 use xdr_core::{Builder, Cursor, Decode, Encode, ReadFault, XdrKind};
 
 /// opINNER (Stellar-transaction.x).
 const OP_INNER: i32 = 0;
-
-/// CREATE_ACCOUNT (OperationType in Stellar-transaction.x).
-const CREATE_ACCOUNT: i32 = 0;
-
-/// PAYMENT (OperationType in Stellar-transaction.x).
-const PAYMENT: i32 = 1;
-
-/// PATH_PAYMENT_STRICT_RECEIVE (OperationType in Stellar-transaction.x).
-const PATH_PAYMENT_STRICT_RECEIVE: i32 = 2;
-
-/// MANAGE_SELL_OFFER (OperationType in Stellar-transaction.x).
-const MANAGE_SELL_OFFER: i32 = 3;
-
-/// CREATE_PASSIVE_SELL_OFFER (OperationType in Stellar-transaction.x).
-const CREATE_PASSIVE_SELL_OFFER: i32 = 4;
-
-/// SET_OPTIONS (OperationType in Stellar-transaction.x).
-const SET_OPTIONS: i32 = 5;
-
-/// CHANGE_TRUST (OperationType in Stellar-transaction.x).
-const CHANGE_TRUST: i32 = 6;
-
-/// ALLOW_TRUST (OperationType in Stellar-transaction.x).
-const ALLOW_TRUST: i32 = 7;
-
-/// ACCOUNT_MERGE (OperationType in Stellar-transaction.x).
-const ACCOUNT_MERGE: i32 = 8;
-
-/// INFLATION (OperationType in Stellar-transaction.x).
-const INFLATION: i32 = 9;
-
-/// MANAGE_DATA (OperationType in Stellar-transaction.x).
-const MANAGE_DATA: i32 = 10;
-
-/// BUMP_SEQUENCE (OperationType in Stellar-transaction.x).
-const BUMP_SEQUENCE: i32 = 11;
-
-/// MANAGE_BUY_OFFER (OperationType in Stellar-transaction.x).
-const MANAGE_BUY_OFFER: i32 = 12;
-
-/// PATH_PAYMENT_STRICT_SEND (OperationType in Stellar-transaction.x).
-const PATH_PAYMENT_STRICT_SEND: i32 = 13;
-
-/// CREATE_CLAIMABLE_BALANCE (OperationType in Stellar-transaction.x).
-const CREATE_CLAIMABLE_BALANCE: i32 = 14;
-
-/// CLAIM_CLAIMABLE_BALANCE (OperationType in Stellar-transaction.x).
-const CLAIM_CLAIMABLE_BALANCE: i32 = 15;
-
-/// BEGIN_SPONSORING_FUTURE_RESERVES (OperationType in Stellar-transaction.x).
-const BEGIN_SPONSORING_FUTURE_RESERVES: i32 = 16;
-
-/// END_SPONSORING_FUTURE_RESERVES (OperationType in Stellar-transaction.x).
-const END_SPONSORING_FUTURE_RESERVES: i32 = 17;
-
-/// REVOKE_SPONSORSHIP (OperationType in Stellar-transaction.x).
-const REVOKE_SPONSORSHIP: i32 = 18;
-
-/// CLAWBACK (OperationType in Stellar-transaction.x).
-const CLAWBACK: i32 = 19;
-
-/// CLAWBACK_CLAIMABLE_BALANCE (OperationType in Stellar-transaction.x).
-const CLAWBACK_CLAIMABLE_BALANCE: i32 = 20;
-
-/// SET_TRUST_LINE_FLAGS (OperationType in Stellar-transaction.x).
-const SET_TRUST_LINE_FLAGS: i32 = 21;
-
-/// LIQUIDITY_POOL_DEPOSIT (OperationType in Stellar-transaction.x).
-const LIQUIDITY_POOL_DEPOSIT: i32 = 22;
-
-/// LIQUIDITY_POOL_WITHDRAW (OperationType in Stellar-transaction.x).
-const LIQUIDITY_POOL_WITHDRAW: i32 = 23;
 
 /// Reads what an operation answers that was run.
 #[tactic(auto, unfolding(crate::specs::Results::operation_result_tr))]

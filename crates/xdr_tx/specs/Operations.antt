@@ -38,6 +38,7 @@ use Rattle.op_types.specs.declared.balance_ops.ClawbackClaimableBalanceOp.{Clawb
 use Rattle.op_types.specs.declared.trust_ops.SetTrustLineFlagsOp.{SetTrustLineFlagsOp}
 use Rattle.op_types.specs.declared.pool_ops.LiquidityPoolDepositOp.{LiquidityPoolDepositOp}
 use Rattle.op_types.specs.declared.pool_ops.LiquidityPoolWithdrawOp.{LiquidityPoolWithdrawOp}
+use Rattle.op_types.specs.declared.operation_type.TheConstants as types
 use Rattle.op_types.specs.declared.operation.OperationBody.{OperationBody}
 use Rattle.op_types.specs.declared.operation.OperationBody.TheVariants as body
 use Rattle.op_types.specs.declared.operation.Operation.{Operation}
@@ -325,76 +326,76 @@ liquidity_pool_withdraw_op = struct_of liquidity_pool_withdraw_op_fields (hash �
 -- ---- operations
 
 abbrev pub create_account_arm : Arm XdrFault OperationBody
-create_account_arm = arm (pos 0) create_account_op body.CreateAccount
+create_account_arm = arm types.CREATE_ACCOUNT create_account_op body.CreateAccount
 
 abbrev pub payment_arm : Arm XdrFault OperationBody
-payment_arm = arm (pos 1) payment_op body.Payment
+payment_arm = arm types.PAYMENT payment_op body.Payment
 
 abbrev pub path_payment_strict_receive_arm : Arm XdrFault OperationBody
-path_payment_strict_receive_arm = arm (pos 2) path_payment_strict_receive_op body.PathPaymentStrictReceive
+path_payment_strict_receive_arm = arm types.PATH_PAYMENT_STRICT_RECEIVE path_payment_strict_receive_op body.PathPaymentStrictReceive
 
 abbrev pub manage_sell_offer_arm : Arm XdrFault OperationBody
-manage_sell_offer_arm = arm (pos 3) manage_sell_offer_op body.ManageSellOffer
+manage_sell_offer_arm = arm types.MANAGE_SELL_OFFER manage_sell_offer_op body.ManageSellOffer
 
 abbrev pub create_passive_sell_offer_arm : Arm XdrFault OperationBody
-create_passive_sell_offer_arm = arm (pos 4) create_passive_sell_offer_op body.CreatePassiveSellOffer
+create_passive_sell_offer_arm = arm types.CREATE_PASSIVE_SELL_OFFER create_passive_sell_offer_op body.CreatePassiveSellOffer
 
 abbrev pub set_options_arm : Arm XdrFault OperationBody
-set_options_arm = arm (pos 5) set_options_op body.SetOptions
+set_options_arm = arm types.SET_OPTIONS set_options_op body.SetOptions
 
 abbrev pub change_trust_arm : Arm XdrFault OperationBody
-change_trust_arm = arm (pos 6) change_trust_op body.ChangeTrust
+change_trust_arm = arm types.CHANGE_TRUST change_trust_op body.ChangeTrust
 
 abbrev pub allow_trust_arm : Arm XdrFault OperationBody
-allow_trust_arm = arm (pos 7) allow_trust_op body.AllowTrust
+allow_trust_arm = arm types.ALLOW_TRUST allow_trust_op body.AllowTrust
 
 abbrev pub account_merge_arm : Arm XdrFault OperationBody
-account_merge_arm = arm (pos 8) account_merge_op body.AccountMerge
+account_merge_arm = arm types.ACCOUNT_MERGE account_merge_op body.AccountMerge
 
 abbrev pub inflation_arm : Arm XdrFault OperationBody
-inflation_arm = arm (pos 9) empty (λ v. body.Inflation)
+inflation_arm = arm types.INFLATION empty (λ v. body.Inflation)
 
 abbrev pub manage_data_arm : Arm XdrFault OperationBody
-manage_data_arm = arm (pos 10) manage_data_op body.ManageData
+manage_data_arm = arm types.MANAGE_DATA manage_data_op body.ManageData
 
 abbrev pub bump_sequence_arm : Arm XdrFault OperationBody
-bump_sequence_arm = arm (pos 11) bump_sequence_op body.BumpSequence
+bump_sequence_arm = arm types.BUMP_SEQUENCE bump_sequence_op body.BumpSequence
 
 abbrev pub manage_buy_offer_arm : Arm XdrFault OperationBody
-manage_buy_offer_arm = arm (pos 12) manage_buy_offer_op body.ManageBuyOffer
+manage_buy_offer_arm = arm types.MANAGE_BUY_OFFER manage_buy_offer_op body.ManageBuyOffer
 
 abbrev pub path_payment_strict_send_arm : Arm XdrFault OperationBody
-path_payment_strict_send_arm = arm (pos 13) path_payment_strict_send_op body.PathPaymentStrictSend
+path_payment_strict_send_arm = arm types.PATH_PAYMENT_STRICT_SEND path_payment_strict_send_op body.PathPaymentStrictSend
 
 abbrev pub create_claimable_balance_arm : Arm XdrFault OperationBody
-create_claimable_balance_arm = arm (pos 14) create_claimable_balance_op body.CreateClaimableBalance
+create_claimable_balance_arm = arm types.CREATE_CLAIMABLE_BALANCE create_claimable_balance_op body.CreateClaimableBalance
 
 abbrev pub claim_claimable_balance_arm : Arm XdrFault OperationBody
-claim_claimable_balance_arm = arm (pos 15) claim_claimable_balance_op body.ClaimClaimableBalance
+claim_claimable_balance_arm = arm types.CLAIM_CLAIMABLE_BALANCE claim_claimable_balance_op body.ClaimClaimableBalance
 
 abbrev pub begin_sponsoring_future_reserves_arm : Arm XdrFault OperationBody
-begin_sponsoring_future_reserves_arm = arm (pos 16) begin_sponsoring_future_reserves_op body.BeginSponsoringFutureReserves
+begin_sponsoring_future_reserves_arm = arm types.BEGIN_SPONSORING_FUTURE_RESERVES begin_sponsoring_future_reserves_op body.BeginSponsoringFutureReserves
 
 abbrev pub end_sponsoring_future_reserves_arm : Arm XdrFault OperationBody
-end_sponsoring_future_reserves_arm = arm (pos 17) empty (λ v. body.EndSponsoringFutureReserves)
+end_sponsoring_future_reserves_arm = arm types.END_SPONSORING_FUTURE_RESERVES empty (λ v. body.EndSponsoringFutureReserves)
 
 abbrev pub revoke_sponsorship_arm : Arm XdrFault OperationBody
-revoke_sponsorship_arm = arm (pos 18) revoke_sponsorship_op body.RevokeSponsorship
+revoke_sponsorship_arm = arm types.REVOKE_SPONSORSHIP revoke_sponsorship_op body.RevokeSponsorship
 
 abbrev pub clawback_arm : Arm XdrFault OperationBody
-clawback_arm = arm (pos 19) clawback_op body.Clawback
+clawback_arm = arm types.CLAWBACK clawback_op body.Clawback
 
 abbrev pub clawback_claimable_balance_arm : Arm XdrFault OperationBody
-clawback_claimable_balance_arm = arm (pos 20) clawback_claimable_balance_op body.ClawbackClaimableBalance
+clawback_claimable_balance_arm = arm types.CLAWBACK_CLAIMABLE_BALANCE clawback_claimable_balance_op body.ClawbackClaimableBalance
 
 abbrev pub set_trust_line_flags_arm : Arm XdrFault OperationBody
-set_trust_line_flags_arm = arm (pos 21) set_trust_line_flags_op body.SetTrustLineFlags
+set_trust_line_flags_arm = arm types.SET_TRUST_LINE_FLAGS set_trust_line_flags_op body.SetTrustLineFlags
 
 abbrev pub liquidity_pool_deposit_arm : Arm XdrFault OperationBody
-liquidity_pool_deposit_arm = arm (pos 22) liquidity_pool_deposit_op body.LiquidityPoolDeposit
+liquidity_pool_deposit_arm = arm types.LIQUIDITY_POOL_DEPOSIT liquidity_pool_deposit_op body.LiquidityPoolDeposit
 
 abbrev pub liquidity_pool_withdraw_arm : Arm XdrFault OperationBody
-liquidity_pool_withdraw_arm = arm (pos 23) liquidity_pool_withdraw_op body.LiquidityPoolWithdraw
+liquidity_pool_withdraw_arm = arm types.LIQUIDITY_POOL_WITHDRAW liquidity_pool_withdraw_op body.LiquidityPoolWithdraw
 
 -- the types from 18 on
 unfoldable pub last_body_arms : List (Arm XdrFault OperationBody)

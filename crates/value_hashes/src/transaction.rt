@@ -3,7 +3,10 @@
 
 ghost use Rattle.std.specs.Prelude.{◌≡◌, IfOk};
 ghost use Rattle.xdr_core.specs.Format.{Lawful};
-ghost use Rattle.xdr_tx.specs.Transactions.{transaction, transaction_v0, fee_bump_transaction, transaction_v1_envelope, transaction_v0_envelope, fee_bump_envelope};
+ghost use Rattle.xdr_tx.specs.Transactions.{
+    transaction, transaction_v0, fee_bump_transaction, transaction_v1_envelope, transaction_v0_envelope,
+    fee_bump_envelope,
+};
 ghost use Rattle.value_hashes.specs.Hashes.{transaction_hash_of, transaction_v0_hash_of, fee_bump_hash_of};
 
 use hash_ids::tx_hash;

@@ -6,6 +6,7 @@ use Rattle.xdr_core.specs.Xdr.{as_it_is, no_arm}
 use Rattle.xdr_core.proofs.LeafLaws.{u32_lawful, u64_lawful, i64_lawful}
 use Rattle.xdr_core.proofs.Opaque.{var_lawful}
 use Rattle.xdr_core.proofs.Combining.{◌&◌, struct_law, closed_law, list_law, times_law}
+use Rattle.xdr_core.proofs.Arms.{under}
 use Rattle.xdr_core.proofs.Unions.{IsFound, union_law}
 use Rattle.xdr_core.proofs.Extensions.{extension_law}
 use Rattle.xdr_core.proofs.Discriminants.{discriminant_fits, tag_law}
@@ -13,7 +14,24 @@ use Rattle.xdr_entries.proofs.BasicLaws.{hash_lawful, account_id_lawful}
 use Rattle.xdr_tx.proofs.TransactionLaws.{transaction_set_lawful}
 use Rattle.ledger_types.specs.declared.header.LedgerUpgrade.{LedgerUpgrade}
 use Rattle.ledger_types.specs.declared.header.LedgerUpgrade.TheVariants as upgrade
-use Rattle.xdr_header.specs.Header.{value_signature_fields, ledger_close_value_signature, value_fields, stellar_value, upgrade_version, upgrade_base_fee, upgrade_max_tx_set_size, upgrade_base_reserve, upgrade_flags, upgrade_arms, upgrade_part, ledger_upgrade, header_v1_fields, ledger_header_extension_v1, header_fields, ledger_header}
+use Rattle.xdr_header.specs.Header.{
+  value_signature_fields,
+  ledger_close_value_signature,
+  value_fields,
+  stellar_value,
+  upgrade_version,
+  upgrade_base_fee,
+  upgrade_max_tx_set_size,
+  upgrade_base_reserve,
+  upgrade_flags,
+  upgrade_arms,
+  upgrade_part,
+  ledger_upgrade,
+  header_v1_fields,
+  ledger_header_extension_v1,
+  header_fields,
+  ledger_header,
+}
 use Rattle.xdr_header.specs.Records.{record_fields, close_record}
 
 pub ledger_close_value_signature_lawful : Lawful ledger_close_value_signature
@@ -27,16 +45,30 @@ stellar_value_lawful = struct_law value_fields (
     & extension_law as_it_is (pos 1) refl (discriminant_fits (pos 1) tt) ledger_close_value_signature_lawful)
 
 upgrade_found : (v : LedgerUpgrade) → IsFound upgrade_part upgrade_arms v
-upgrade_found (upgrade.Version n) = record { arm = upgrade_version; body = n; law = u32_lawful; fits = discriminant_fits (pos 1) tt; is_part = refl; makes = refl; picked = λ wrong start p. refl }
-upgrade_found (upgrade.BaseFee n) = record { arm = upgrade_base_fee; body = n; law = u32_lawful; fits = discriminant_fits (pos 2) tt; is_part = refl; makes = refl; picked = λ wrong start p. refl }
-upgrade_found (upgrade.MaxTxSetSize n) = record { arm = upgrade_max_tx_set_size; body = n; law = u32_lawful; fits = discriminant_fits (pos 3) tt; is_part = refl; makes = refl; picked = λ wrong start p. refl }
-upgrade_found (upgrade.BaseReserve n) = record { arm = upgrade_base_reserve; body = n; law = u32_lawful; fits = discriminant_fits (pos 4) tt; is_part = refl; makes = refl; picked = λ wrong start p. refl }
-upgrade_found (upgrade.Flags n) = record { arm = upgrade_flags; body = n; law = u32_lawful; fits = discriminant_fits (pos 5) tt; is_part = refl; makes = refl; picked = λ wrong start p. refl }
+upgrade_found (upgrade.Version n) = under upgrade_version n u32_lawful tt refl refl (λ _ _ _. refl)
+upgrade_found (upgrade.BaseFee n) = under upgrade_base_fee n u32_lawful tt refl refl (λ _ _ _. refl)
+upgrade_found (upgrade.MaxTxSetSize n) = under upgrade_max_tx_set_size n u32_lawful tt refl refl (λ _ _ _. refl)
+upgrade_found (upgrade.BaseReserve n) = under upgrade_base_reserve n u32_lawful tt refl refl (λ _ _ _. refl)
+upgrade_found (upgrade.Flags n) = under upgrade_flags n u32_lawful tt refl refl (λ _ _ _. refl)
 
 pub ledger_upgrade_lawful : Lawful ledger_upgrade
 unfolding ledger_upgrade
-ledger_upgrade_lawful = union_law as_it_is upgrade_part upgrade_arms no_arm
-    (record { law = u32_lawful; is_part = λ x. refl }, (record { law = u32_lawful; is_part = λ x. refl }, (record { law = u32_lawful; is_part = λ x. refl }, (record { law = u32_lawful; is_part = λ x. refl }, (record { law = u32_lawful; is_part = λ x. refl }, tt)))))
+ledger_upgrade_lawful = union_law as_it_is upgrade_part upgrade_arms no_arm (
+  record { law = u32_lawful; is_part = λ x. refl },
+  (
+    record { law = u32_lawful; is_part = λ x. refl },
+    (
+      record { law = u32_lawful; is_part = λ x. refl },
+      (
+        record { law = u32_lawful; is_part = λ x. refl },
+        (
+          record { law = u32_lawful; is_part = λ x. refl },
+          tt,
+        ),
+      ),
+    ),
+  ),
+)
     upgrade_found
 
 pub ledger_header_extension_v1_lawful : Lawful ledger_header_extension_v1

@@ -1,5 +1,30 @@
 -- The laws of the formats of files and images.
-use Rattle.std.proofs.Common.{◌≡◌, ℕ, zero, suc, ◌+◌, ◌-◌, ◌^◌, ◌<◌, ◌≤◌, pos, ltb, List, [], ◌∷◌, ◌++◌, length, Ok, refl, sym, ap, subst, ◌∙◌, append_assoc, arith}
+use Rattle.std.proofs.Common.{
+  ◌≡◌,
+  ℕ,
+  zero,
+  suc,
+  ◌+◌,
+  ◌-◌,
+  ◌^◌,
+  ◌<◌,
+  ◌≤◌,
+  pos,
+  ltb,
+  List,
+  [],
+  ◌∷◌,
+  ◌++◌,
+  length,
+  Ok,
+  refl,
+  sym,
+  ap,
+  subst,
+  ◌∙◌,
+  append_assoc,
+  arith,
+}
 use Rattle.std.proofs.lemmas.Bool.{ltb-false, le-ltb}
 use Rattle.std.proofs.lemmas.List.{append-nil}
 use Rattle.xdr_core.specs.declared.fault.XdrFault.{XdrFault}
@@ -14,7 +39,17 @@ use Rattle.xdr_core.proofs.Opaque.{bytes_again}
 use Rattle.xdr_core.proofs.Marks.{bytes_takes, mark_lawful}
 use Rattle.xdr_core.proofs.Combining.{◌&◌, struct_law, marked_law}
 use Rattle.xdr_core.proofs.Discriminants.{tag_law}
-use Rattle.xdr_header.specs.Image.{file_at, file, no_files, front_and, spell_front, onto_front, files, image_fields, start_image}
+use Rattle.xdr_header.specs.Image.{
+  file_at,
+  file,
+  no_files,
+  front_and,
+  spell_front,
+  onto_front,
+  files,
+  image_fields,
+  start_image,
+}
 
 -- a number of 64 bits has a spelling
 u64_within : (v : ℕ) → u64.within v

@@ -1,5 +1,23 @@
 -- The format of what a ledger starts from: a header behind its record mark, and the files of eleven levels.
-use Rattle.std.specs.Prelude.{◌≡◌, ℕ, zero, suc, ◌-◌, ◌≤◌, pos, List, [], ◌∷◌, ◌++◌, length, nat_lt, if◌then◌else◌, Ok, Err, refl}
+use Rattle.std.specs.Prelude.{
+  ◌≡◌,
+  ℕ,
+  zero,
+  suc,
+  ◌-◌,
+  ◌≤◌,
+  pos,
+  List,
+  [],
+  ◌∷◌,
+  ◌++◌,
+  length,
+  nat_lt,
+  if◌then◌else◌,
+  Ok,
+  Err,
+  refl,
+}
 use Rattle.xdr_core.specs.declared.fault.XdrFault.{XdrFault}
 use Rattle.xdr_core.specs.declared.fault.XdrKind.TheVariants.{TooLong}
 use Rattle.xdr_core.specs.Place.{Place, Reading, fault_at, ◌>>=◌}

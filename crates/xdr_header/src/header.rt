@@ -5,7 +5,7 @@ ghost use Rattle.xdr_core.specs.Place.{Reads, itself};
 ghost use Rattle.xdr_core.specs.ReadFault.{cause_of};
 ghost use Rattle.xdr_core.specs.Combinators.{times};
 ghost use Rattle.xdr_entries.specs.Basic.{hash};
-ghost use Rattle.xdr_header.specs.Header.{ledger_header_extension_v1 as v1_format, ledger_header as header_format};
+ghost use Rattle.xdr_header.specs.Header as spec;
 
 use crate::value::{read_stellar_value, write_stellar_value};
 use ledger_types::{Hash, LedgerHeader, LedgerHeaderExtensionV1};
@@ -20,7 +20,7 @@ use xdr_entries::{read_hash, write_hash};
 pub fn read_ledger_header_extension_v1(
     cursor: &mut Cursor<'_>,
 ) -> Result<LedgerHeaderExtensionV1, XdrFault>
-    ensures { Reads itself result cursor.old cursor.new (v1_format.read cursor.old) }
+    ensures { Reads itself result cursor.old cursor.new (spec.ledger_header_extension_v1.read cursor.old) }
 {
     let mut ahead = cursor.fork();
     let flags = ahead.u32()?;
@@ -35,7 +35,7 @@ pub fn write_ledger_header_extension_v1(
     value: &LedgerHeaderExtensionV1,
     builder: &mut Builder,
 ) -> Result<(), AllocError>
-    ensures { OnOk result (builder.new ≡ v1_format.onto builder.old value.now) }
+    ensures { OnOk result (builder.new ≡ spec.ledger_header_extension_v1.onto builder.old value.now) }
 {
     builder.u32(value.flags)?;
     builder.i32(0)
@@ -71,7 +71,7 @@ fn write_skip_list(skip_list: &[Hash; 4], builder: &mut Builder) -> Result<(), A
 /// Reads a header.
 #[tactic(auto, unfolding(crate::specs::Header::ledger_header))]
 pub fn read_ledger_header(alloc: Global, cursor: &mut Cursor<'_>) -> Result<LedgerHeader, ReadFault>
-    ensures { Reads cause_of result cursor.old cursor.new (header_format.read cursor.old) }
+    ensures { Reads cause_of result cursor.old cursor.new (spec.ledger_header.read cursor.old) }
 {
     let mut ahead = cursor.fork();
     let ledger_version = ahead.u32()?;
@@ -112,8 +112,8 @@ pub fn read_ledger_header(alloc: Global, cursor: &mut Cursor<'_>) -> Result<Ledg
 /// Writes a header.
 #[tactic(auto, unfolding(crate::specs::Header::ledger_header))]
 pub fn write_ledger_header(value: &LedgerHeader, builder: &mut Builder) -> Result<(), AllocError>
-    requires { header_format.within value.now }
-    ensures { OnOk result (builder.new ≡ header_format.onto builder.old value.now) }
+    requires { spec.ledger_header.within value.now }
+    ensures { OnOk result (builder.new ≡ spec.ledger_header.onto builder.old value.now) }
 {
     builder.u32(value.ledger_version)?;
     write_hash(&value.previous_ledger_hash, builder)?;
@@ -140,7 +140,7 @@ impl Decode for LedgerHeaderExtensionV1Format {
 
     type Failure = ReadFault;
 
-    ghost format = { v1_format };
+    ghost format = { spec.ledger_header_extension_v1 };
 
     fn decode(
         _alloc: Global,

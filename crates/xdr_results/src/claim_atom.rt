@@ -2,7 +2,7 @@
 
 ghost use Rattle.std.specs.Prelude.{◌≡◌, OnOk};
 ghost use Rattle.xdr_core.specs.Place.{Reads, itself};
-ghost use Rattle.xdr_results.specs.Answers.{claim_atom as claim_atom_format};
+ghost use Rattle.xdr_results.specs.Answers as spec;
 
 use ledger_types::ClaimAtom;
 use std::alloc::{AllocError, Global};
@@ -23,7 +23,7 @@ const CLAIM_ATOM_TYPE_LIQUIDITY_POOL: i32 = 2;
 /// Reads what a trade moved.
 #[tactic(auto, unfolding(crate::specs::Answers::claim_atom))]
 pub fn read_claim_atom(cursor: &mut Cursor<'_>) -> Result<ClaimAtom, XdrFault>
-    ensures { Reads itself result cursor.old cursor.new (claim_atom_format.read cursor.old) }
+    ensures { Reads itself result cursor.old cursor.new (spec.claim_atom.read cursor.old) }
 {
     let mut ahead = cursor.fork();
     let atom = match ahead.i32()? {
@@ -59,7 +59,7 @@ pub fn read_claim_atom(cursor: &mut Cursor<'_>) -> Result<ClaimAtom, XdrFault>
 /// Writes what a trade moved.
 #[tactic(auto, unfolding(crate::specs::Answers::claim_atom))]
 pub fn write_claim_atom(value: &ClaimAtom, builder: &mut Builder) -> Result<(), AllocError>
-    ensures { OnOk result (builder.new ≡ claim_atom_format.onto builder.old value.now) }
+    ensures { OnOk result (builder.new ≡ spec.claim_atom.onto builder.old value.now) }
 {
     match value {
         ClaimAtom::V0 {
@@ -119,7 +119,7 @@ impl Decode for ClaimAtomFormat {
 
     type Failure = ReadFault;
 
-    ghost format = { claim_atom_format };
+    ghost format = { spec.claim_atom };
 
     fn decode(_alloc: Global, cursor: &mut Cursor<'_>) -> Result<ClaimAtom, ReadFault> {
         Ok(read_claim_atom(cursor)?)

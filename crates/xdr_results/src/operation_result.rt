@@ -5,7 +5,7 @@ ghost use Rattle.xdr_core.specs.Place.{Reads};
 ghost use Rattle.xdr_core.specs.ReadFault.{cause_of};
 ghost use Rattle.xdr_core.specs.Combinators.{pick};
 ghost use Rattle.xdr_core.specs.Xdr.{no_arm};
-ghost use Rattle.xdr_results.specs.Results.{second_run_arms, third_run_arms, last_run_arms, operation_result_tr as operation_result_tr_format, operation_result as operation_result_format};
+ghost use Rattle.xdr_results.specs.Results as spec;
 
 use crate::account_results::{
     read_account_merge_result, read_bump_sequence_result, read_inflation_result,
@@ -61,7 +61,7 @@ pub fn read_operation_result_tr(
     alloc: Global,
     cursor: &mut Cursor<'_>,
 ) -> Result<OperationResultTr, ReadFault>
-    ensures { Reads cause_of result cursor.old cursor.new (operation_result_tr_format.read cursor.old) }
+    ensures { Reads cause_of result cursor.old cursor.new (spec.operation_result_tr.read cursor.old) }
 {
     let mut ahead = cursor.fork();
     let answer = match ahead.i32()? {
@@ -91,7 +91,7 @@ fn read_second_run(
     kind: i32,
     cursor: &mut Cursor<'_>,
 ) -> Result<OperationResultTr, ReadFault>
-    ensures { Reads cause_of result cursor.old cursor.new (pick second_run_arms no_arm start.now (kind, cursor.old)) }
+    ensures { Reads cause_of result cursor.old cursor.new (pick spec.second_run_arms no_arm start.now (kind, cursor.old)) }
 {
     let mut ahead = cursor.fork();
     let answer = match kind {
@@ -115,7 +115,7 @@ fn read_third_run(
     kind: i32,
     cursor: &mut Cursor<'_>,
 ) -> Result<OperationResultTr, ReadFault>
-    ensures { Reads cause_of result cursor.old cursor.new (pick third_run_arms no_arm start.now (kind, cursor.old)) }
+    ensures { Reads cause_of result cursor.old cursor.new (pick spec.third_run_arms no_arm start.now (kind, cursor.old)) }
 {
     let mut ahead = cursor.fork();
     let answer = match kind {
@@ -151,7 +151,7 @@ fn read_last_run(
     kind: i32,
     cursor: &mut Cursor<'_>,
 ) -> Result<OperationResultTr, ReadFault>
-    ensures { Reads cause_of result cursor.old cursor.new (pick last_run_arms no_arm start.now (kind, cursor.old)) }
+    ensures { Reads cause_of result cursor.old cursor.new (pick spec.last_run_arms no_arm start.now (kind, cursor.old)) }
 {
     let mut ahead = cursor.fork();
     let answer = match kind {
@@ -183,8 +183,8 @@ pub fn write_operation_result_tr(
     value: &OperationResultTr,
     builder: &mut Builder,
 ) -> Result<(), AllocError>
-    requires { operation_result_tr_format.within value.now }
-    ensures { OnOk result (builder.new ≡ operation_result_tr_format.onto builder.old value.now) }
+    requires { spec.operation_result_tr.within value.now }
+    ensures { OnOk result (builder.new ≡ spec.operation_result_tr.onto builder.old value.now) }
 {
     match value {
         OperationResultTr::CreateAccount(answer) => {
@@ -292,7 +292,7 @@ pub fn read_operation_result(
     alloc: Global,
     cursor: &mut Cursor<'_>,
 ) -> Result<OperationResult, ReadFault>
-    ensures { Reads cause_of result cursor.old cursor.new (operation_result_format.read cursor.old) }
+    ensures { Reads cause_of result cursor.old cursor.new (spec.operation_result.read cursor.old) }
 {
     let mut ahead = cursor.fork();
     let answer = match ahead.i32()? {
@@ -309,8 +309,8 @@ pub fn write_operation_result(
     value: &OperationResult,
     builder: &mut Builder,
 ) -> Result<(), AllocError>
-    requires { operation_result_format.within value.now }
-    ensures { OnOk result (builder.new ≡ operation_result_format.onto builder.old value.now) }
+    requires { spec.operation_result.within value.now }
+    ensures { OnOk result (builder.new ≡ spec.operation_result.onto builder.old value.now) }
 {
     builder.i32(value.code())?;
     match value {
@@ -327,7 +327,7 @@ impl Decode for OperationResultFormat {
 
     type Failure = ReadFault;
 
-    ghost format = { operation_result_format };
+    ghost format = { spec.operation_result };
 
     fn decode(alloc: Global, cursor: &mut Cursor<'_>) -> Result<OperationResult, ReadFault> {
         read_operation_result(alloc, cursor)

@@ -5,16 +5,80 @@ use Rattle.xdr_core.specs.Xdr.{as_it_is, no_arm}
 use Rattle.xdr_core.proofs.LeafLaws.{u32_lawful, i64_lawful}
 use Rattle.xdr_core.proofs.Opaque.{fixed_lawful, var_lawful}
 use Rattle.xdr_core.proofs.Combining.{◌&◌, struct_law, option_law, list_law}
+use Rattle.xdr_core.proofs.Arms.{under}
 use Rattle.xdr_core.proofs.Unions.{IsFound, union_law}
 use Rattle.xdr_core.proofs.Discriminants.{discriminant_fits}
-use Rattle.xdr_entries.proofs.BasicLaws.{hash_lawful, account_id_lawful, claimable_balance_id_lawful, muxed_account_lawful, signer_key_lawful, signer_lawful, asset_lawful, change_trust_asset_lawful, price_lawful}
+use Rattle.xdr_entries.proofs.BasicLaws.{
+  hash_lawful,
+  account_id_lawful,
+  claimable_balance_id_lawful,
+  muxed_account_lawful,
+  signer_key_lawful,
+  signer_lawful,
+  asset_lawful,
+  change_trust_asset_lawful,
+  price_lawful,
+}
 use Rattle.xdr_entries.proofs.EntryLaws.{claimant_lawful}
 use Rattle.xdr_entries.proofs.KeyLaws.{ledger_key_lawful}
 use Rattle.op_types.specs.declared.trust_ops.AssetCode.{AssetCode}
 use Rattle.op_types.specs.declared.trust_ops.AssetCode.TheVariants as asset_codes
 use Rattle.op_types.specs.declared.sponsor_ops.RevokeSponsorshipOp.{RevokeSponsorshipOp}
 use Rattle.op_types.specs.declared.sponsor_ops.RevokeSponsorshipOp.TheVariants as revoking
-use Rattle.xdr_tx.specs.Operations.{create_account_op_fields, create_account_op, set_options_op_fields, set_options_op, account_merge_op_fields, account_merge_op, manage_data_op_fields, manage_data_op, bump_sequence_op_fields, bump_sequence_op, payment_op_fields, payment_op, path_payment_strict_receive_op_fields, path_payment_strict_receive_op, path_payment_strict_send_op_fields, path_payment_strict_send_op, manage_sell_offer_op_fields, manage_sell_offer_op, create_passive_sell_offer_op_fields, create_passive_sell_offer_op, manage_buy_offer_op_fields, manage_buy_offer_op, change_trust_op_fields, change_trust_op, code4, code12, asset_code_arms, asset_code_part, asset_code, allow_trust_op_fields, allow_trust_op, set_trust_line_flags_op_fields, set_trust_line_flags_op, clawback_op_fields, clawback_op, create_claimable_balance_op_fields, create_claimable_balance_op, claim_claimable_balance_op_fields, claim_claimable_balance_op, clawback_claimable_balance_op_fields, clawback_claimable_balance_op, begin_sponsoring_future_reserves_op_fields, begin_sponsoring_future_reserves_op, revoke_entry, revoke_signer, revoke_arms, revoke_part, revoke_sponsorship_op, liquidity_pool_deposit_op_fields, liquidity_pool_deposit_op, liquidity_pool_withdraw_op_fields, liquidity_pool_withdraw_op}
+use Rattle.xdr_tx.specs.Operations.{
+  create_account_op_fields,
+  create_account_op,
+  set_options_op_fields,
+  set_options_op,
+  account_merge_op_fields,
+  account_merge_op,
+  manage_data_op_fields,
+  manage_data_op,
+  bump_sequence_op_fields,
+  bump_sequence_op,
+  payment_op_fields,
+  payment_op,
+  path_payment_strict_receive_op_fields,
+  path_payment_strict_receive_op,
+  path_payment_strict_send_op_fields,
+  path_payment_strict_send_op,
+  manage_sell_offer_op_fields,
+  manage_sell_offer_op,
+  create_passive_sell_offer_op_fields,
+  create_passive_sell_offer_op,
+  manage_buy_offer_op_fields,
+  manage_buy_offer_op,
+  change_trust_op_fields,
+  change_trust_op,
+  code4,
+  code12,
+  asset_code_arms,
+  asset_code_part,
+  asset_code,
+  allow_trust_op_fields,
+  allow_trust_op,
+  set_trust_line_flags_op_fields,
+  set_trust_line_flags_op,
+  clawback_op_fields,
+  clawback_op,
+  create_claimable_balance_op_fields,
+  create_claimable_balance_op,
+  claim_claimable_balance_op_fields,
+  claim_claimable_balance_op,
+  clawback_claimable_balance_op_fields,
+  clawback_claimable_balance_op,
+  begin_sponsoring_future_reserves_op_fields,
+  begin_sponsoring_future_reserves_op,
+  revoke_entry,
+  revoke_signer,
+  revoke_arms,
+  revoke_part,
+  revoke_sponsorship_op,
+  liquidity_pool_deposit_op_fields,
+  liquidity_pool_deposit_op,
+  liquidity_pool_withdraw_op_fields,
+  liquidity_pool_withdraw_op,
+}
 
 pub create_account_op_lawful : Lawful create_account_op
 unfolding create_account_op
@@ -65,13 +129,18 @@ unfolding change_trust_op
 change_trust_op_lawful = struct_law change_trust_op_fields (change_trust_asset_lawful & i64_lawful)
 
 asset_code_found : (v : AssetCode) → IsFound asset_code_part asset_code_arms v
-asset_code_found (asset_codes.Alphanum4 code) = record { arm = code4; body = code; law = fixed_lawful 4; fits = discriminant_fits (pos 1) tt; is_part = refl; makes = refl; picked = λ wrong start p. refl }
-asset_code_found (asset_codes.Alphanum12 code) = record { arm = code12; body = code; law = fixed_lawful 12; fits = discriminant_fits (pos 2) tt; is_part = refl; makes = refl; picked = λ wrong start p. refl }
+asset_code_found (asset_codes.Alphanum4 code) = under code4 code (fixed_lawful 4) tt refl refl (λ _ _ _. refl)
+asset_code_found (asset_codes.Alphanum12 code) = under code12 code (fixed_lawful 12) tt refl refl (λ _ _ _. refl)
 
 pub asset_code_lawful : Lawful asset_code
 unfolding asset_code
-asset_code_lawful = union_law as_it_is asset_code_part asset_code_arms no_arm
-    (record { law = fixed_lawful 4; is_part = λ x. refl }, (record { law = fixed_lawful 12; is_part = λ x. refl }, tt))
+asset_code_lawful = union_law as_it_is asset_code_part asset_code_arms no_arm (
+  record { law = fixed_lawful 4; is_part = λ x. refl },
+  (
+    record { law = fixed_lawful 12; is_part = λ x. refl },
+    tt,
+  ),
+)
     asset_code_found
 
 pub allow_trust_op_lawful : Lawful allow_trust_op
@@ -103,13 +172,20 @@ unfolding begin_sponsoring_future_reserves_op
 begin_sponsoring_future_reserves_op_lawful = struct_law begin_sponsoring_future_reserves_op_fields (account_id_lawful)
 
 revoke_sponsorship_op_found : (v : RevokeSponsorshipOp) → IsFound revoke_part revoke_arms v
-revoke_sponsorship_op_found (revoking.LedgerEntry key) = record { arm = revoke_entry; body = key; law = ledger_key_lawful; fits = discriminant_fits (pos 0) tt; is_part = refl; makes = refl; picked = λ wrong start p. refl }
-revoke_sponsorship_op_found (revoking.Signer id key) = record { arm = revoke_signer; body = (id, key); law = account_id_lawful & signer_key_lawful; fits = discriminant_fits (pos 1) tt; is_part = refl; makes = refl; picked = λ wrong start p. refl }
+revoke_sponsorship_op_found (revoking.LedgerEntry key) =
+    under revoke_entry key ledger_key_lawful tt refl refl (λ _ _ _. refl)
+revoke_sponsorship_op_found (revoking.Signer id key) =
+    under revoke_signer (id, key) (account_id_lawful & signer_key_lawful) tt refl refl (λ _ _ _. refl)
 
 pub revoke_sponsorship_op_lawful : Lawful revoke_sponsorship_op
 unfolding revoke_sponsorship_op
-revoke_sponsorship_op_lawful = union_law as_it_is revoke_part revoke_arms no_arm
-    (record { law = ledger_key_lawful; is_part = λ x. refl }, (record { law = account_id_lawful & signer_key_lawful; is_part = λ x. refl }, tt))
+revoke_sponsorship_op_lawful = union_law as_it_is revoke_part revoke_arms no_arm (
+  record { law = ledger_key_lawful; is_part = λ x. refl },
+  (
+    record { law = account_id_lawful & signer_key_lawful; is_part = λ x. refl },
+    tt,
+  ),
+)
     revoke_sponsorship_op_found
 
 pub liquidity_pool_deposit_op_lawful : Lawful liquidity_pool_deposit_op

@@ -5,6 +5,7 @@ use Rattle.xdr_core.specs.Xdr.{as_it_is, no_arm}
 use Rattle.xdr_core.proofs.LeafLaws.{u32_lawful, u64_lawful, i64_lawful}
 use Rattle.xdr_core.proofs.Opaque.{fixed_lawful, var_lawful}
 use Rattle.xdr_core.proofs.Combining.{◌&◌, struct_law, marked_law, closed_law, option_law, list_law}
+use Rattle.xdr_core.proofs.Arms.{under}
 use Rattle.xdr_core.proofs.Unions.{IsFound, union_law}
 use Rattle.xdr_core.proofs.Extensions.{empty_law}
 use Rattle.xdr_core.proofs.Discriminants.{discriminant_fits, tag_law}
@@ -14,19 +15,66 @@ use Rattle.op_types.specs.declared.transaction.Memo.TheVariants as memos
 use Rattle.op_types.specs.declared.transaction.TransactionEnvelope.{TransactionEnvelope}
 use Rattle.op_types.specs.declared.transaction.TransactionEnvelope.TheVariants as envelope
 use Rattle.xdr_tx.proofs.BodyLaws.{operation_lawful}
-use Rattle.xdr_tx.specs.Transactions.{memo_none, memo_text, memo_id, memo_hash, memo_return, memo_arms, memo_part, memo, time_bounds_fields, time_bounds, signature_fields, decorated_signature, transaction_fields, transaction, transaction_v0_fields, transaction_v0, v1_fields, transaction_v1_envelope, v0_fields, transaction_v0_envelope, fee_bump_fields, fee_bump_transaction, bump_fields, fee_bump_envelope, envelope_v0, envelope_v1, envelope_fee_bump, envelope_arms, envelope_part, transaction_envelope, set_fields, transaction_set}
+use Rattle.xdr_tx.specs.Transactions.{
+  memo_none,
+  memo_text,
+  memo_id,
+  memo_hash,
+  memo_return,
+  memo_arms,
+  memo_part,
+  memo,
+  time_bounds_fields,
+  time_bounds,
+  signature_fields,
+  decorated_signature,
+  transaction_fields,
+  transaction,
+  transaction_v0_fields,
+  transaction_v0,
+  v1_fields,
+  transaction_v1_envelope,
+  v0_fields,
+  transaction_v0_envelope,
+  fee_bump_fields,
+  fee_bump_transaction,
+  bump_fields,
+  fee_bump_envelope,
+  envelope_v0,
+  envelope_v1,
+  envelope_fee_bump,
+  envelope_arms,
+  envelope_part,
+  transaction_envelope,
+  set_fields,
+  transaction_set,
+}
 
 memo_found : (v : Memo) → IsFound memo_part memo_arms v
-memo_found memos.None = record { arm = memo_none; body = tt; law = empty_law; fits = discriminant_fits (pos 0) tt; is_part = refl; makes = refl; picked = λ wrong start p. refl }
-memo_found (memos.Text text) = record { arm = memo_text; body = text; law = var_lawful 28 (omega arith); fits = discriminant_fits (pos 1) tt; is_part = refl; makes = refl; picked = λ wrong start p. refl }
-memo_found (memos.Id id) = record { arm = memo_id; body = id; law = u64_lawful; fits = discriminant_fits (pos 2) tt; is_part = refl; makes = refl; picked = λ wrong start p. refl }
-memo_found (memos.Hash digest) = record { arm = memo_hash; body = digest; law = hash_lawful; fits = discriminant_fits (pos 3) tt; is_part = refl; makes = refl; picked = λ wrong start p. refl }
-memo_found (memos.Return digest) = record { arm = memo_return; body = digest; law = hash_lawful; fits = discriminant_fits (pos 4) tt; is_part = refl; makes = refl; picked = λ wrong start p. refl }
+memo_found memos.None = under memo_none tt empty_law tt refl refl (λ _ _ _. refl)
+memo_found (memos.Text text) = under memo_text text (var_lawful 28 (omega arith)) tt refl refl (λ _ _ _. refl)
+memo_found (memos.Id id) = under memo_id id u64_lawful tt refl refl (λ _ _ _. refl)
+memo_found (memos.Hash digest) = under memo_hash digest hash_lawful tt refl refl (λ _ _ _. refl)
+memo_found (memos.Return digest) = under memo_return digest hash_lawful tt refl refl (λ _ _ _. refl)
 
 pub memo_lawful : Lawful memo
 unfolding memo
-memo_lawful = union_law as_it_is memo_part memo_arms no_arm
-    (record { law = empty_law; is_part = λ x. refl }, (record { law = var_lawful 28 (omega arith); is_part = λ x. refl }, (record { law = u64_lawful; is_part = λ x. refl }, (record { law = hash_lawful; is_part = λ x. refl }, (record { law = hash_lawful; is_part = λ x. refl }, tt)))))
+memo_lawful = union_law as_it_is memo_part memo_arms no_arm (
+  record { law = empty_law; is_part = λ x. refl },
+  (
+    record { law = var_lawful 28 (omega arith); is_part = λ x. refl },
+    (
+      record { law = u64_lawful; is_part = λ x. refl },
+      (
+        record { law = hash_lawful; is_part = λ x. refl },
+        (
+          record { law = hash_lawful; is_part = λ x. refl },
+          tt,
+        ),
+      ),
+    ),
+  ),
+)
     memo_found
 
 pub time_bounds_lawful : Lawful time_bounds
@@ -62,14 +110,25 @@ unfolding fee_bump_envelope
 fee_bump_envelope_lawful = struct_law bump_fields (fee_bump_transaction_lawful & list_law as_it_is 20 (omega arith) decorated_signature_lawful)
 
 transaction_envelope_found : (v : TransactionEnvelope) → IsFound envelope_part envelope_arms v
-transaction_envelope_found (envelope.V0 inner) = record { arm = envelope_v0; body = inner; law = transaction_v0_envelope_lawful; fits = discriminant_fits (pos 0) tt; is_part = refl; makes = refl; picked = λ wrong start p. refl }
-transaction_envelope_found (envelope.V1 inner) = record { arm = envelope_v1; body = inner; law = transaction_v1_envelope_lawful; fits = discriminant_fits (pos 2) tt; is_part = refl; makes = refl; picked = λ wrong start p. refl }
-transaction_envelope_found (envelope.FeeBump inner) = record { arm = envelope_fee_bump; body = inner; law = fee_bump_envelope_lawful; fits = discriminant_fits (pos 5) tt; is_part = refl; makes = refl; picked = λ wrong start p. refl }
+transaction_envelope_found (envelope.V0 inner) =
+    under envelope_v0 inner transaction_v0_envelope_lawful tt refl refl (λ _ _ _. refl)
+transaction_envelope_found (envelope.V1 inner) =
+    under envelope_v1 inner transaction_v1_envelope_lawful tt refl refl (λ _ _ _. refl)
+transaction_envelope_found (envelope.FeeBump inner) =
+    under envelope_fee_bump inner fee_bump_envelope_lawful tt refl refl (λ _ _ _. refl)
 
 pub transaction_envelope_lawful : Lawful transaction_envelope
 unfolding transaction_envelope
-transaction_envelope_lawful = union_law as_it_is envelope_part envelope_arms no_arm
-    (record { law = transaction_v0_envelope_lawful; is_part = λ x. refl }, (record { law = transaction_v1_envelope_lawful; is_part = λ x. refl }, (record { law = fee_bump_envelope_lawful; is_part = λ x. refl }, tt)))
+transaction_envelope_lawful = union_law as_it_is envelope_part envelope_arms no_arm (
+  record { law = transaction_v0_envelope_lawful; is_part = λ x. refl },
+  (
+    record { law = transaction_v1_envelope_lawful; is_part = λ x. refl },
+    (
+      record { law = fee_bump_envelope_lawful; is_part = λ x. refl },
+      tt,
+    ),
+  ),
+)
     transaction_envelope_found
 
 pub transaction_set_lawful : Lawful transaction_set

@@ -3,7 +3,7 @@
 ghost use Rattle.std.specs.Prelude.{◌≡◌, OnOk};
 ghost use Rattle.xdr_core.specs.Place.{Reads};
 ghost use Rattle.xdr_core.specs.ReadFault.{cause_of};
-ghost use Rattle.xdr_tx.specs.Transactions.{transaction_v0_envelope as transaction_v0_envelope_format, transaction_v1_envelope as transaction_v1_envelope_format, fee_bump_transaction as fee_bump_format, fee_bump_envelope as fee_bump_envelope_format, transaction_envelope as envelope_format, transaction_set as set_format};
+ghost use Rattle.xdr_tx.specs.Transactions as spec;
 
 use crate::signature::{DecoratedSignatureFormat, MAX_SIGNATURES};
 use crate::transaction::{
@@ -32,7 +32,7 @@ pub fn read_transaction_v0_envelope(
     alloc: Global,
     cursor: &mut Cursor<'_>,
 ) -> Result<TransactionV0Envelope, ReadFault>
-    ensures { Reads cause_of result cursor.old cursor.new (transaction_v0_envelope_format.read cursor.old) }
+    ensures { Reads cause_of result cursor.old cursor.new (spec.transaction_v0_envelope.read cursor.old) }
 {
     let mut ahead = cursor.fork();
     let tx = read_transaction_v0(alloc, &mut ahead)?;
@@ -47,8 +47,8 @@ pub fn write_transaction_v0_envelope(
     value: &TransactionV0Envelope,
     builder: &mut Builder,
 ) -> Result<(), AllocError>
-    requires { transaction_v0_envelope_format.within value.now }
-    ensures { OnOk result (builder.new ≡ transaction_v0_envelope_format.onto builder.old value.now) }
+    requires { spec.transaction_v0_envelope.within value.now }
+    ensures { OnOk result (builder.new ≡ spec.transaction_v0_envelope.onto builder.old value.now) }
 {
     write_transaction_v0(&value.tx, builder)?;
     write_list::<DecoratedSignatureFormat>(value.signatures.as_slice(), MAX_SIGNATURES, builder)
@@ -60,7 +60,7 @@ pub fn read_transaction_v1_envelope(
     alloc: Global,
     cursor: &mut Cursor<'_>,
 ) -> Result<TransactionV1Envelope, ReadFault>
-    ensures { Reads cause_of result cursor.old cursor.new (transaction_v1_envelope_format.read cursor.old) }
+    ensures { Reads cause_of result cursor.old cursor.new (spec.transaction_v1_envelope.read cursor.old) }
 {
     let mut ahead = cursor.fork();
     let tx = read_transaction(alloc, &mut ahead)?;
@@ -75,8 +75,8 @@ pub fn write_transaction_v1_envelope(
     value: &TransactionV1Envelope,
     builder: &mut Builder,
 ) -> Result<(), AllocError>
-    requires { transaction_v1_envelope_format.within value.now }
-    ensures { OnOk result (builder.new ≡ transaction_v1_envelope_format.onto builder.old value.now) }
+    requires { spec.transaction_v1_envelope.within value.now }
+    ensures { OnOk result (builder.new ≡ spec.transaction_v1_envelope.onto builder.old value.now) }
 {
     write_transaction(&value.tx, builder)?;
     write_list::<DecoratedSignatureFormat>(value.signatures.as_slice(), MAX_SIGNATURES, builder)
@@ -88,7 +88,7 @@ pub fn read_fee_bump_transaction(
     alloc: Global,
     cursor: &mut Cursor<'_>,
 ) -> Result<FeeBumpTransaction, ReadFault>
-    ensures { Reads cause_of result cursor.old cursor.new (fee_bump_format.read cursor.old) }
+    ensures { Reads cause_of result cursor.old cursor.new (spec.fee_bump_transaction.read cursor.old) }
 {
     let mut ahead = cursor.fork();
     let fee_source = read_muxed_account(&mut ahead)?;
@@ -110,8 +110,8 @@ pub fn write_fee_bump_transaction(
     value: &FeeBumpTransaction,
     builder: &mut Builder,
 ) -> Result<(), AllocError>
-    requires { fee_bump_format.within value.now }
-    ensures { OnOk result (builder.new ≡ fee_bump_format.onto builder.old value.now) }
+    requires { spec.fee_bump_transaction.within value.now }
+    ensures { OnOk result (builder.new ≡ spec.fee_bump_transaction.onto builder.old value.now) }
 {
     write_muxed_account(&value.fee_source, builder)?;
     builder.i64(value.fee)?;
@@ -126,7 +126,7 @@ pub fn read_fee_bump_envelope(
     alloc: Global,
     cursor: &mut Cursor<'_>,
 ) -> Result<FeeBumpTransactionEnvelope, ReadFault>
-    ensures { Reads cause_of result cursor.old cursor.new (fee_bump_envelope_format.read cursor.old) }
+    ensures { Reads cause_of result cursor.old cursor.new (spec.fee_bump_envelope.read cursor.old) }
 {
     let mut ahead = cursor.fork();
     let tx = read_fee_bump_transaction(alloc, &mut ahead)?;
@@ -141,8 +141,8 @@ pub fn write_fee_bump_envelope(
     value: &FeeBumpTransactionEnvelope,
     builder: &mut Builder,
 ) -> Result<(), AllocError>
-    requires { fee_bump_envelope_format.within value.now }
-    ensures { OnOk result (builder.new ≡ fee_bump_envelope_format.onto builder.old value.now) }
+    requires { spec.fee_bump_envelope.within value.now }
+    ensures { OnOk result (builder.new ≡ spec.fee_bump_envelope.onto builder.old value.now) }
 {
     write_fee_bump_transaction(&value.tx, builder)?;
     write_list::<DecoratedSignatureFormat>(value.signatures.as_slice(), MAX_SIGNATURES, builder)
@@ -154,7 +154,7 @@ pub fn read_transaction_envelope(
     alloc: Global,
     cursor: &mut Cursor<'_>,
 ) -> Result<TransactionEnvelope, ReadFault>
-    ensures { Reads cause_of result cursor.old cursor.new (envelope_format.read cursor.old) }
+    ensures { Reads cause_of result cursor.old cursor.new (spec.transaction_envelope.read cursor.old) }
 {
     let mut ahead = cursor.fork();
     let envelope = match ahead.i32()? {
@@ -179,8 +179,8 @@ pub fn write_transaction_envelope(
     value: &TransactionEnvelope,
     builder: &mut Builder,
 ) -> Result<(), AllocError>
-    requires { envelope_format.within value.now }
-    ensures { OnOk result (builder.new ≡ envelope_format.onto builder.old value.now) }
+    requires { spec.transaction_envelope.within value.now }
+    ensures { OnOk result (builder.new ≡ spec.transaction_envelope.onto builder.old value.now) }
 {
     match value {
         TransactionEnvelope::V0(envelope) => {
@@ -206,7 +206,7 @@ impl Decode for TransactionEnvelopeFormat {
 
     type Failure = ReadFault;
 
-    ghost format = { envelope_format };
+    ghost format = { spec.transaction_envelope };
 
     fn decode(alloc: Global, cursor: &mut Cursor<'_>) -> Result<TransactionEnvelope, ReadFault> {
         read_transaction_envelope(alloc, cursor)
@@ -225,7 +225,7 @@ pub fn read_transaction_set(
     alloc: Global,
     cursor: &mut Cursor<'_>,
 ) -> Result<TransactionSet, ReadFault>
-    ensures { Reads cause_of result cursor.old cursor.new (set_format.read cursor.old) }
+    ensures { Reads cause_of result cursor.old cursor.new (spec.transaction_set.read cursor.old) }
 {
     let mut ahead = cursor.fork();
     let previous_ledger_hash = read_hash(&mut ahead)?;
@@ -243,8 +243,8 @@ pub fn write_transaction_set(
     value: &TransactionSet,
     builder: &mut Builder,
 ) -> Result<(), AllocError>
-    requires { set_format.within value.now }
-    ensures { OnOk result (builder.new ≡ set_format.onto builder.old value.now) }
+    requires { spec.transaction_set.within value.now }
+    ensures { OnOk result (builder.new ≡ spec.transaction_set.onto builder.old value.now) }
 {
     write_hash(&value.previous_ledger_hash, builder)?;
     write_list::<TransactionEnvelopeFormat>(value.txs.as_slice(), u32::MAX, builder)

@@ -5,7 +5,7 @@ ghost use Rattle.xdr_core.specs.Place.{Place, Reads};
 ghost use Rattle.xdr_core.specs.ReadFault.{cause_of};
 ghost use Rattle.xdr_core.specs.Combinators.{pick};
 ghost use Rattle.xdr_core.specs.Xdr.{no_arm};
-ghost use Rattle.xdr_tx.specs.Operations.{second_body_arms, third_body_arms, last_body_arms, operation_body as body_format, operation as operation_format};
+ghost use Rattle.xdr_tx.specs.Operations as spec;
 
 use crate::account_ops::{
     read_account_merge_op, read_bump_sequence_op, read_create_account_op, read_manage_data_op,
@@ -56,7 +56,7 @@ pub fn read_operation_body(
     alloc: Global,
     cursor: &mut Cursor<'_>,
 ) -> Result<OperationBody, ReadFault>
-    ensures { Reads cause_of result cursor.old cursor.new (body_format.read cursor.old) }
+    ensures { Reads cause_of result cursor.old cursor.new (spec.operation_body.read cursor.old) }
 {
     let mut ahead = cursor.fork();
     let body = match ahead.i32()? {
@@ -84,7 +84,7 @@ fn read_second_body(
     kind: i32,
     cursor: &mut Cursor<'_>,
 ) -> Result<OperationBody, ReadFault>
-    ensures { Reads cause_of result cursor.old cursor.new (pick second_body_arms no_arm start.now (kind, cursor.old)) }
+    ensures { Reads cause_of result cursor.old cursor.new (pick spec.second_body_arms no_arm start.now (kind, cursor.old)) }
 {
     let mut ahead = cursor.fork();
     let body = match kind {
@@ -108,7 +108,7 @@ fn read_third_body(
     kind: i32,
     cursor: &mut Cursor<'_>,
 ) -> Result<OperationBody, ReadFault>
-    ensures { Reads cause_of result cursor.old cursor.new (pick third_body_arms no_arm start.now (kind, cursor.old)) }
+    ensures { Reads cause_of result cursor.old cursor.new (pick spec.third_body_arms no_arm start.now (kind, cursor.old)) }
 {
     let mut ahead = cursor.fork();
     let body = match kind {
@@ -140,7 +140,7 @@ fn read_last_body(
     kind: i32,
     cursor: &mut Cursor<'_>,
 ) -> Result<OperationBody, ReadFault>
-    ensures { Reads cause_of result cursor.old cursor.new (pick last_body_arms no_arm start.now (kind, cursor.old)) }
+    ensures { Reads cause_of result cursor.old cursor.new (pick spec.last_body_arms no_arm start.now (kind, cursor.old)) }
 {
     let mut ahead = cursor.fork();
     let body = match kind {
@@ -169,8 +169,8 @@ fn read_last_body(
 /// Writes what an operation does.
 #[tactic(auto, unfolding(crate::specs::Operations::operation_body))]
 pub fn write_operation_body(value: &OperationBody, builder: &mut Builder) -> Result<(), AllocError>
-    requires { body_format.within value.now }
-    ensures { OnOk result (builder.new ≡ body_format.onto builder.old value.now) }
+    requires { spec.operation_body.within value.now }
+    ensures { OnOk result (builder.new ≡ spec.operation_body.onto builder.old value.now) }
 {
     match value {
         OperationBody::CreateAccount(op) => {
@@ -269,7 +269,7 @@ pub fn write_operation_body(value: &OperationBody, builder: &mut Builder) -> Res
 /// Reads an operation.
 #[tactic(auto, unfolding(crate::specs::Operations::operation))]
 pub fn read_operation(alloc: Global, cursor: &mut Cursor<'_>) -> Result<Operation, ReadFault>
-    ensures { Reads cause_of result cursor.old cursor.new (operation_format.read cursor.old) }
+    ensures { Reads cause_of result cursor.old cursor.new (spec.operation.read cursor.old) }
 {
     let mut ahead = cursor.fork();
     let source_account = read_option::<MuxedAccountFormat>(alloc, &mut ahead)?;
@@ -284,8 +284,8 @@ pub fn read_operation(alloc: Global, cursor: &mut Cursor<'_>) -> Result<Operatio
 /// Writes an operation.
 #[tactic(auto, unfolding(crate::specs::Operations::operation))]
 pub fn write_operation(value: &Operation, builder: &mut Builder) -> Result<(), AllocError>
-    requires { operation_format.within value.now }
-    ensures { OnOk result (builder.new ≡ operation_format.onto builder.old value.now) }
+    requires { spec.operation.within value.now }
+    ensures { OnOk result (builder.new ≡ spec.operation.onto builder.old value.now) }
 {
     write_option::<MuxedAccountFormat>(&value.source_account, builder)?;
     write_operation_body(&value.body, builder)
@@ -299,7 +299,7 @@ impl Decode for OperationFormat {
 
     type Failure = ReadFault;
 
-    ghost format = { operation_format };
+    ghost format = { spec.operation };
 
     fn decode(alloc: Global, cursor: &mut Cursor<'_>) -> Result<Operation, ReadFault> {
         read_operation(alloc, cursor)

@@ -3,7 +3,7 @@
 ghost use Rattle.std.specs.Prelude.{◌≡◌, OnOk};
 ghost use Rattle.xdr_core.specs.Place.{Reads};
 ghost use Rattle.xdr_core.specs.ReadFault.{cause_of};
-ghost use Rattle.xdr_tx.specs.Transactions.{transaction as transaction_format, transaction_v0 as transaction_v0_format};
+ghost use Rattle.xdr_tx.specs.Transactions as spec;
 
 use crate::memo::{read_memo, write_memo};
 use crate::operation::OperationFormat;
@@ -19,7 +19,7 @@ const MAX_OPERATIONS: u32 = 100;
 /// Reads a transaction.
 #[tactic(auto, unfolding(crate::specs::Transactions::transaction))]
 pub fn read_transaction(alloc: Global, cursor: &mut Cursor<'_>) -> Result<Transaction, ReadFault>
-    ensures { Reads cause_of result cursor.old cursor.new (transaction_format.read cursor.old) }
+    ensures { Reads cause_of result cursor.old cursor.new (spec.transaction.read cursor.old) }
 {
     let mut ahead = cursor.fork();
     let source_account = read_muxed_account(&mut ahead)?;
@@ -43,8 +43,8 @@ pub fn read_transaction(alloc: Global, cursor: &mut Cursor<'_>) -> Result<Transa
 /// Writes a transaction.
 #[tactic(auto, unfolding(crate::specs::Transactions::transaction, xdr_core::specs::Combinators::constant))]
 pub fn write_transaction(value: &Transaction, builder: &mut Builder) -> Result<(), AllocError>
-    requires { transaction_format.within value.now }
-    ensures { OnOk result (builder.new ≡ transaction_format.onto builder.old value.now) }
+    requires { spec.transaction.within value.now }
+    ensures { OnOk result (builder.new ≡ spec.transaction.onto builder.old value.now) }
 {
     write_muxed_account(&value.source_account, builder)?;
     builder.u32(value.fee)?;
@@ -61,7 +61,7 @@ pub fn read_transaction_v0(
     alloc: Global,
     cursor: &mut Cursor<'_>,
 ) -> Result<TransactionV0, ReadFault>
-    ensures { Reads cause_of result cursor.old cursor.new (transaction_v0_format.read cursor.old) }
+    ensures { Reads cause_of result cursor.old cursor.new (spec.transaction_v0.read cursor.old) }
 {
     let mut ahead = cursor.fork();
     let source_account_ed25519 = ahead.array::<32>()?;
@@ -85,8 +85,8 @@ pub fn read_transaction_v0(
 /// Writes a transaction of the first version.
 #[tactic(auto, unfolding(crate::specs::Transactions::transaction_v0, xdr_core::specs::Combinators::constant))]
 pub fn write_transaction_v0(value: &TransactionV0, builder: &mut Builder) -> Result<(), AllocError>
-    requires { transaction_v0_format.within value.now }
-    ensures { OnOk result (builder.new ≡ transaction_v0_format.onto builder.old value.now) }
+    requires { spec.transaction_v0.within value.now }
+    ensures { OnOk result (builder.new ≡ spec.transaction_v0.onto builder.old value.now) }
 {
     builder.fixed(&value.source_account_ed25519)?;
     builder.u32(value.fee)?;

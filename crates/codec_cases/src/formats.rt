@@ -1,4 +1,4 @@
-//! The codecs of whole types, as formats. Where a type has copies, a copy of what was read is answered.
+//! The codecs of whole types, as formats with copies.
 
 ghost use Rattle.xdr_entries.specs.Basic.{price, signer_key, trust_line_asset};
 ghost use Rattle.xdr_entries.specs.Entries.{ledger_entry};
@@ -9,18 +9,28 @@ ghost use Rattle.xdr_header.specs.Image.{start_image};
 ghost use Rattle.xdr_header.specs.Records.{close_record};
 ghost use Rattle.xdr_results.specs.Results.{transaction_result_set};
 ghost use Rattle.xdr_tx.specs.Transactions.{memo, transaction_set};
+ghost use Rattle.xdr_entries.proofs.BasicLaws.{price_lawful, signer_key_lawful, trust_line_asset_lawful};
+ghost use Rattle.xdr_entries.proofs.EntryLaws.{ledger_entry_lawful};
+ghost use Rattle.xdr_entries.proofs.KeyLaws.{ledger_key_lawful, bucket_entry_lawful};
+ghost use Rattle.xdr_entries.proofs.PredicateLaws.{claim_predicate_lawful};
+ghost use Rattle.xdr_header.proofs.HeaderLaws.{close_record_lawful, ledger_header_lawful, ledger_upgrade_lawful, stellar_value_lawful};
+ghost use Rattle.xdr_header.proofs.ImageLaws.{start_image_lawful};
+ghost use Rattle.xdr_results.proofs.TransactionLaws.{transaction_result_set_lawful};
+ghost use Rattle.xdr_tx.proofs.TransactionLaws.{memo_lawful, transaction_set_lawful};
 
+use crate::verdict::Case;
 use ledger_types::{
-    BucketEntry, ClaimPredicate, LedgerEntry, LedgerHeader, LedgerKey, LedgerUpgrade, Price,
-    SignerKey, StellarValue, TrustLineAsset,
+    Asset, BucketEntry, ClaimPredicate, Claimant, LedgerEntry, LedgerHeader, LedgerKey,
+    LedgerUpgrade, Price, Signer, SignerKey, StellarValue, TrustLineAsset,
 };
-use op_types::{Memo, TransactionResultSet, TransactionSet};
+use op_types::{Memo, Operation, TransactionEnvelope, TransactionResultSet, TransactionSet};
 use std::alloc::{AllocError, Global};
 use xdr_core::{Builder, Cursor, Decode, Encode, ReadFault};
 use xdr_entries::{
-    read_bucket_entry, read_claim_predicate, read_ledger_entry, read_ledger_key, read_price,
-    read_signer_key, read_trust_line_asset, write_bucket_entry, write_claim_predicate,
-    write_ledger_entry, write_ledger_key, write_price, write_signer_key, write_trust_line_asset,
+    AssetFormat, ClaimantFormat, SignerFormat, read_bucket_entry, read_claim_predicate,
+    read_ledger_entry, read_ledger_key, read_price, read_signer_key, read_trust_line_asset,
+    write_bucket_entry, write_claim_predicate, write_ledger_entry, write_ledger_key, write_price,
+    write_signer_key, write_trust_line_asset,
 };
 use xdr_header::{
     CloseRecord, StartImage, read_close_record, read_ledger_header, read_ledger_upgrade,
@@ -28,7 +38,10 @@ use xdr_header::{
     write_ledger_upgrade, write_start_image, write_stellar_value,
 };
 use xdr_results::{read_transaction_result_set, write_transaction_result_set};
-use xdr_tx::{read_memo, read_transaction_set, write_memo, write_transaction_set};
+use xdr_tx::{
+    OperationFormat, TransactionEnvelopeFormat, read_memo, read_transaction_set, write_memo,
+    write_transaction_set,
+};
 
 /// CloseRecord, as a format.
 pub enum CloseRecordFormat {}
@@ -41,16 +54,21 @@ impl Decode for CloseRecordFormat {
     ghost format = { close_record };
 
     fn decode(alloc: Global, cursor: &mut Cursor<'_>) -> Result<CloseRecord, ReadFault> {
-        let mut ahead = cursor.fork();
-        let value = read_close_record(alloc, &mut ahead)?.copy()?;
-        *cursor = ahead;
-        Ok(value)
+        read_close_record(alloc, cursor)
     }
 }
 
 impl Encode for CloseRecordFormat {
+    ghost lawful = { close_record_lawful };
+
     fn encode(value: &CloseRecord, builder: &mut Builder) -> Result<(), AllocError> {
         write_close_record(value, builder)
+    }
+}
+
+impl Case for CloseRecordFormat {
+    fn copy(value: &CloseRecord) -> Result<CloseRecord, AllocError> {
+        value.copy()
     }
 }
 
@@ -65,16 +83,21 @@ impl Decode for LedgerEntryFormat {
     ghost format = { ledger_entry };
 
     fn decode(alloc: Global, cursor: &mut Cursor<'_>) -> Result<LedgerEntry, ReadFault> {
-        let mut ahead = cursor.fork();
-        let value = read_ledger_entry(alloc, &mut ahead)?.copy()?;
-        *cursor = ahead;
-        Ok(value)
+        read_ledger_entry(alloc, cursor)
     }
 }
 
 impl Encode for LedgerEntryFormat {
+    ghost lawful = { ledger_entry_lawful };
+
     fn encode(value: &LedgerEntry, builder: &mut Builder) -> Result<(), AllocError> {
         write_ledger_entry(value, builder)
+    }
+}
+
+impl Case for LedgerEntryFormat {
+    fn copy(value: &LedgerEntry) -> Result<LedgerEntry, AllocError> {
+        value.copy()
     }
 }
 
@@ -89,16 +112,21 @@ impl Decode for LedgerHeaderFormat {
     ghost format = { ledger_header };
 
     fn decode(alloc: Global, cursor: &mut Cursor<'_>) -> Result<LedgerHeader, ReadFault> {
-        let mut ahead = cursor.fork();
-        let value = read_ledger_header(alloc, &mut ahead)?.copy()?;
-        *cursor = ahead;
-        Ok(value)
+        read_ledger_header(alloc, cursor)
     }
 }
 
 impl Encode for LedgerHeaderFormat {
+    ghost lawful = { ledger_header_lawful };
+
     fn encode(value: &LedgerHeader, builder: &mut Builder) -> Result<(), AllocError> {
         write_ledger_header(value, builder)
+    }
+}
+
+impl Case for LedgerHeaderFormat {
+    fn copy(value: &LedgerHeader) -> Result<LedgerHeader, AllocError> {
+        value.copy()
     }
 }
 
@@ -113,16 +141,21 @@ impl Decode for LedgerKeyFormat {
     ghost format = { ledger_key };
 
     fn decode(alloc: Global, cursor: &mut Cursor<'_>) -> Result<LedgerKey, ReadFault> {
-        let mut ahead = cursor.fork();
-        let value = read_ledger_key(alloc, &mut ahead)?.copy()?;
-        *cursor = ahead;
-        Ok(value)
+        read_ledger_key(alloc, cursor)
     }
 }
 
 impl Encode for LedgerKeyFormat {
+    ghost lawful = { ledger_key_lawful };
+
     fn encode(value: &LedgerKey, builder: &mut Builder) -> Result<(), AllocError> {
         write_ledger_key(value, builder)
+    }
+}
+
+impl Case for LedgerKeyFormat {
+    fn copy(value: &LedgerKey) -> Result<LedgerKey, AllocError> {
+        value.copy()
     }
 }
 
@@ -142,8 +175,16 @@ impl Decode for LedgerUpgradeFormat {
 }
 
 impl Encode for LedgerUpgradeFormat {
+    ghost lawful = { ledger_upgrade_lawful };
+
     fn encode(value: &LedgerUpgrade, builder: &mut Builder) -> Result<(), AllocError> {
         write_ledger_upgrade(value, builder)
+    }
+}
+
+impl Case for LedgerUpgradeFormat {
+    fn copy(value: &LedgerUpgrade) -> Result<LedgerUpgrade, AllocError> {
+        Ok(*value)
     }
 }
 
@@ -158,16 +199,22 @@ impl Decode for MemoFormat {
     ghost format = { memo };
 
     fn decode(alloc: Global, cursor: &mut Cursor<'_>) -> Result<Memo, ReadFault> {
-        let mut ahead = cursor.fork();
-        let value = read_memo(alloc, &mut ahead)?.copy()?;
-        *cursor = ahead;
-        Ok(value)
+        read_memo(alloc, cursor)
     }
 }
 
 impl Encode for MemoFormat {
+    ghost lawful = { memo_lawful };
+
+    #[tactic(auto, using(xdr_core::proofs::Grammar::written, xdr_tx::proofs::TransactionLaws::memo_lawful))]
     fn encode(value: &Memo, builder: &mut Builder) -> Result<(), AllocError> {
         write_memo(value, builder)
+    }
+}
+
+impl Case for MemoFormat {
+    fn copy(value: &Memo) -> Result<Memo, AllocError> {
+        value.copy()
     }
 }
 
@@ -182,16 +229,21 @@ impl Decode for PredicateFormat {
     ghost format = { claim_predicate };
 
     fn decode(alloc: Global, cursor: &mut Cursor<'_>) -> Result<ClaimPredicate, ReadFault> {
-        let mut ahead = cursor.fork();
-        let value = read_claim_predicate(alloc, &mut ahead)?.copy()?;
-        *cursor = ahead;
-        Ok(value)
+        read_claim_predicate(alloc, cursor)
     }
 }
 
 impl Encode for PredicateFormat {
+    ghost lawful = { claim_predicate_lawful };
+
     fn encode(value: &ClaimPredicate, builder: &mut Builder) -> Result<(), AllocError> {
         write_claim_predicate(value, builder)
+    }
+}
+
+impl Case for PredicateFormat {
+    fn copy(value: &ClaimPredicate) -> Result<ClaimPredicate, AllocError> {
+        value.copy()
     }
 }
 
@@ -211,8 +263,17 @@ impl Decode for PriceFormat {
 }
 
 impl Encode for PriceFormat {
+    ghost lawful = { price_lawful };
+
+    #[tactic(auto, using(xdr_core::proofs::Grammar::written, xdr_entries::proofs::BasicLaws::price_lawful))]
     fn encode(value: &Price, builder: &mut Builder) -> Result<(), AllocError> {
         write_price(value, builder)
+    }
+}
+
+impl Case for PriceFormat {
+    fn copy(value: &Price) -> Result<Price, AllocError> {
+        Ok(*value)
     }
 }
 
@@ -232,8 +293,17 @@ impl Decode for SignerKeyFormat {
 }
 
 impl Encode for SignerKeyFormat {
+    ghost lawful = { signer_key_lawful };
+
+    #[tactic(auto, using(xdr_core::proofs::Grammar::written, xdr_entries::proofs::BasicLaws::signer_key_lawful))]
     fn encode(value: &SignerKey, builder: &mut Builder) -> Result<(), AllocError> {
         write_signer_key(value, builder)
+    }
+}
+
+impl Case for SignerKeyFormat {
+    fn copy(value: &SignerKey) -> Result<SignerKey, AllocError> {
+        Ok(*value)
     }
 }
 
@@ -248,16 +318,21 @@ impl Decode for StellarValueFormat {
     ghost format = { stellar_value };
 
     fn decode(alloc: Global, cursor: &mut Cursor<'_>) -> Result<StellarValue, ReadFault> {
-        let mut ahead = cursor.fork();
-        let value = read_stellar_value(alloc, &mut ahead)?.copy()?;
-        *cursor = ahead;
-        Ok(value)
+        read_stellar_value(alloc, cursor)
     }
 }
 
 impl Encode for StellarValueFormat {
+    ghost lawful = { stellar_value_lawful };
+
     fn encode(value: &StellarValue, builder: &mut Builder) -> Result<(), AllocError> {
         write_stellar_value(value, builder)
+    }
+}
+
+impl Case for StellarValueFormat {
+    fn copy(value: &StellarValue) -> Result<StellarValue, AllocError> {
+        value.copy()
     }
 }
 
@@ -272,16 +347,21 @@ impl Decode for TransactionSetFormat {
     ghost format = { transaction_set };
 
     fn decode(alloc: Global, cursor: &mut Cursor<'_>) -> Result<TransactionSet, ReadFault> {
-        let mut ahead = cursor.fork();
-        let value = read_transaction_set(alloc, &mut ahead)?.copy()?;
-        *cursor = ahead;
-        Ok(value)
+        read_transaction_set(alloc, cursor)
     }
 }
 
 impl Encode for TransactionSetFormat {
+    ghost lawful = { transaction_set_lawful };
+
     fn encode(value: &TransactionSet, builder: &mut Builder) -> Result<(), AllocError> {
         write_transaction_set(value, builder)
+    }
+}
+
+impl Case for TransactionSetFormat {
+    fn copy(value: &TransactionSet) -> Result<TransactionSet, AllocError> {
+        value.copy()
     }
 }
 
@@ -301,8 +381,17 @@ impl Decode for TrustLineAssetFormat {
 }
 
 impl Encode for TrustLineAssetFormat {
+    ghost lawful = { trust_line_asset_lawful };
+
+    #[tactic(auto, using(xdr_core::proofs::Grammar::written, xdr_entries::proofs::BasicLaws::trust_line_asset_lawful))]
     fn encode(value: &TrustLineAsset, builder: &mut Builder) -> Result<(), AllocError> {
         write_trust_line_asset(value, builder)
+    }
+}
+
+impl Case for TrustLineAssetFormat {
+    fn copy(value: &TrustLineAsset) -> Result<TrustLineAsset, AllocError> {
+        Ok(*value)
     }
 }
 
@@ -317,16 +406,21 @@ impl Decode for ResultSetFormat {
     ghost format = { transaction_result_set };
 
     fn decode(alloc: Global, cursor: &mut Cursor<'_>) -> Result<TransactionResultSet, ReadFault> {
-        let mut ahead = cursor.fork();
-        let value = read_transaction_result_set(alloc, &mut ahead)?.copy()?;
-        *cursor = ahead;
-        Ok(value)
+        read_transaction_result_set(alloc, cursor)
     }
 }
 
 impl Encode for ResultSetFormat {
+    ghost lawful = { transaction_result_set_lawful };
+
     fn encode(value: &TransactionResultSet, builder: &mut Builder) -> Result<(), AllocError> {
         write_transaction_result_set(value, builder)
+    }
+}
+
+impl Case for ResultSetFormat {
+    fn copy(value: &TransactionResultSet) -> Result<TransactionResultSet, AllocError> {
+        value.copy()
     }
 }
 
@@ -341,16 +435,21 @@ impl Decode for ImageFormat {
     ghost format = { start_image };
 
     fn decode(alloc: Global, cursor: &mut Cursor<'_>) -> Result<StartImage, ReadFault> {
-        let mut ahead = cursor.fork();
-        let value = read_start_image(alloc, &mut ahead)?.copy()?;
-        *cursor = ahead;
-        Ok(value)
+        read_start_image(alloc, cursor)
     }
 }
 
 impl Encode for ImageFormat {
+    ghost lawful = { start_image_lawful };
+
     fn encode(value: &StartImage, builder: &mut Builder) -> Result<(), AllocError> {
         write_start_image(value, builder)
+    }
+}
+
+impl Case for ImageFormat {
+    fn copy(value: &StartImage) -> Result<StartImage, AllocError> {
+        value.copy()
     }
 }
 
@@ -365,15 +464,50 @@ impl Decode for BucketEntryFormat {
     ghost format = { bucket_entry };
 
     fn decode(alloc: Global, cursor: &mut Cursor<'_>) -> Result<BucketEntry, ReadFault> {
-        let mut ahead = cursor.fork();
-        let value = read_bucket_entry(alloc, &mut ahead)?.copy()?;
-        *cursor = ahead;
-        Ok(value)
+        read_bucket_entry(alloc, cursor)
     }
 }
 
 impl Encode for BucketEntryFormat {
+    ghost lawful = { bucket_entry_lawful };
+
     fn encode(value: &BucketEntry, builder: &mut Builder) -> Result<(), AllocError> {
         write_bucket_entry(value, builder)
+    }
+}
+
+impl Case for BucketEntryFormat {
+    fn copy(value: &BucketEntry) -> Result<BucketEntry, AllocError> {
+        value.copy()
+    }
+}
+
+impl Case for AssetFormat {
+    fn copy(value: &Asset) -> Result<Asset, AllocError> {
+        Ok(*value)
+    }
+}
+
+impl Case for ClaimantFormat {
+    fn copy(value: &Claimant) -> Result<Claimant, AllocError> {
+        value.copy()
+    }
+}
+
+impl Case for SignerFormat {
+    fn copy(value: &Signer) -> Result<Signer, AllocError> {
+        Ok(*value)
+    }
+}
+
+impl Case for OperationFormat {
+    fn copy(value: &Operation) -> Result<Operation, AllocError> {
+        value.copy()
+    }
+}
+
+impl Case for TransactionEnvelopeFormat {
+    fn copy(value: &TransactionEnvelope) -> Result<TransactionEnvelope, AllocError> {
+        value.copy()
     }
 }

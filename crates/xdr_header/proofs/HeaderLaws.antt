@@ -2,10 +2,11 @@
 -- the spelling at the end.
 use Rattle.std.proofs.Common.{pos, refl, arith}
 use Rattle.xdr_core.specs.Format.{Lawful}
+use Rattle.xdr_core.specs.Leaves.{var}
 use Rattle.xdr_core.specs.Xdr.{as_it_is, no_arm}
 use Rattle.xdr_core.proofs.LeafLaws.{u32_lawful, u64_lawful, i64_lawful}
 use Rattle.xdr_core.proofs.Opaque.{var_lawful}
-use Rattle.xdr_core.proofs.Combining.{◌&◌, struct_law, closed_law, list_law, times_law}
+use Rattle.xdr_core.proofs.Combining.{◌&◌, struct_law, whole_law, closed_law, list_law, times_law}
 use Rattle.xdr_core.proofs.Arms.{under}
 use Rattle.xdr_core.proofs.Unions.{IsFound, union_law}
 use Rattle.xdr_core.proofs.Extensions.{extension_law}
@@ -38,10 +39,13 @@ pub ledger_close_value_signature_lawful : Lawful ledger_close_value_signature
 unfolding ledger_close_value_signature
 ledger_close_value_signature_lawful = struct_law value_signature_fields (account_id_lawful & var_lawful 64 (omega arith))
 
+pub upgrade_bytes_lawful : Lawful (var 128)
+upgrade_bytes_lawful = var_lawful 128 (omega arith)
+
 pub stellar_value_lawful : Lawful stellar_value
 unfolding stellar_value
 stellar_value_lawful = struct_law value_fields (
-    hash_lawful & u64_lawful & list_law as_it_is 6 (omega arith) (var_lawful 128 (omega arith))
+    hash_lawful & u64_lawful & list_law as_it_is 6 (omega arith) upgrade_bytes_lawful
     & extension_law as_it_is (pos 1) refl (discriminant_fits (pos 1) tt) ledger_close_value_signature_lawful)
 
 upgrade_found : (v : LedgerUpgrade) → IsFound upgrade_part upgrade_arms v
@@ -78,9 +82,10 @@ ledger_header_extension_v1_lawful = struct_law header_v1_fields (closed_law u32_
 pub ledger_header_lawful : Lawful ledger_header
 unfolding ledger_header
 ledger_header_lawful = struct_law header_fields (
-    u32_lawful & hash_lawful & stellar_value_lawful & hash_lawful & hash_lawful & u32_lawful & i64_lawful & i64_lawful & u32_lawful & u64_lawful & u32_lawful & u32_lawful & u32_lawful
+    u32_lawful & hash_lawful & whole_law stellar_value_lawful & hash_lawful & hash_lawful & u32_lawful & i64_lawful
+    & i64_lawful & u32_lawful & u64_lawful & u32_lawful & u32_lawful & u32_lawful
     & times_law 4 hash_lawful & extension_law as_it_is (pos 1) refl (discriminant_fits (pos 1) tt) ledger_header_extension_v1_lawful)
 
 pub close_record_lawful : Lawful close_record
 unfolding close_record
-close_record_lawful = struct_law record_fields (u32_lawful & transaction_set_lawful & stellar_value_lawful)
+close_record_lawful = struct_law record_fields (u32_lawful & whole_law transaction_set_lawful & whole_law stellar_value_lawful)

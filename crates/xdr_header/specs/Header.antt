@@ -2,7 +2,7 @@
 use Rattle.std.specs.Prelude.{ℕ, ℤ, pos, List, [], ◌∷◌, Option, refl}
 use Rattle.xdr_core.specs.declared.fault.XdrFault.{XdrFault}
 use Rattle.xdr_core.specs.Leaves.{u32, u64, i64, var}
-use Rattle.xdr_core.specs.Combinators.{◌⨾◌, Fields, struct_of, closed, times, Arm, Part, part}
+use Rattle.xdr_core.specs.Combinators.{◌⨾◌, Fields, struct_of, whole, closed, times, Arm, Part, part}
 use Rattle.xdr_core.specs.Xdr.{Xdr, tag, list_of, union_of, extension_of}
 use Rattle.ledger_types.specs.declared.ids.AccountId.{AccountId}
 use Rattle.ledger_types.specs.declared.ids.Hash.{Hash}
@@ -100,4 +100,5 @@ header_fields = record {
 
 unfoldable pub ledger_header : Xdr LedgerHeader
 ledger_header = struct_of header_fields
-    (u32 ⨾ hash ⨾ stellar_value ⨾ hash ⨾ hash ⨾ u32 ⨾ i64 ⨾ i64 ⨾ u32 ⨾ u64 ⨾ u32 ⨾ u32 ⨾ u32 ⨾ times 4 hash ⨾ extension_of (pos 1) ledger_header_extension_v1)
+    (u32 ⨾ hash ⨾ whole stellar_value ⨾ hash ⨾ hash ⨾ u32 ⨾ i64 ⨾ i64 ⨾ u32 ⨾ u64 ⨾ u32 ⨾ u32 ⨾ u32 ⨾ times 4 hash
+    ⨾ extension_of (pos 1) ledger_header_extension_v1)

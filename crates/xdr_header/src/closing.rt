@@ -1,6 +1,6 @@
 //! Records of closes.
 
-ghost use Rattle.std.specs.Prelude.{◌≡◌, OnOk};
+ghost use Rattle.std.specs.Prelude.{◌≡◌, ◌++◌, OnOk};
 ghost use Rattle.xdr_core.specs.Place.{Reads};
 ghost use Rattle.xdr_core.specs.ReadFault.{cause_of};
 ghost use Rattle.xdr_header.specs.Records as spec;
@@ -29,8 +29,17 @@ pub fn read_close_record(alloc: Global, cursor: &mut Cursor<'_>) -> Result<Close
 }
 
 /// Writes a record of a close.
-#[tactic(auto, unfolding(crate::specs::Records::close_record))]
+#[tactic(auto, using(xdr_core::proofs::Grammar::written, crate::proofs::HeaderLaws::close_record_lawful))]
 pub fn write_close_record(value: &CloseRecord, builder: &mut Builder) -> Result<(), AllocError>
+    requires { spec.close_record.within value.now }
+    ensures { OnOk result (builder.new ≡ builder.old ++ spec.close_record.spell value.now) }
+{
+    write_record_fields(value, builder)
+}
+
+/// Writes the fields of a record.
+#[tactic(auto, unfolding(crate::specs::Records::close_record))]
+fn write_record_fields(value: &CloseRecord, builder: &mut Builder) -> Result<(), AllocError>
     requires { spec.close_record.within value.now }
     ensures { OnOk result (builder.new ≡ spec.close_record.onto builder.old value.now) }
 {

@@ -1,11 +1,12 @@
 //! Ledger headers.
 
-ghost use Rattle.std.specs.Prelude.{◌≡◌, OnOk};
+ghost use Rattle.std.specs.Prelude.{◌≡◌, ◌++◌, OnOk};
 ghost use Rattle.xdr_core.specs.Place.{Reads, itself};
 ghost use Rattle.xdr_core.specs.ReadFault.{cause_of};
 ghost use Rattle.xdr_core.specs.Combinators.{times};
 ghost use Rattle.xdr_entries.specs.Basic.{hash};
 ghost use Rattle.xdr_header.specs.Header as spec;
+ghost use Rattle.xdr_header.proofs.HeaderLaws.{ledger_header_extension_v1_lawful};
 
 use crate::value::{read_stellar_value, write_stellar_value};
 use ledger_types::{Hash, LedgerHeader, LedgerHeaderExtensionV1};
@@ -110,8 +111,17 @@ pub fn read_ledger_header(alloc: Global, cursor: &mut Cursor<'_>) -> Result<Ledg
 }
 
 /// Writes a header.
-#[tactic(auto, unfolding(crate::specs::Header::ledger_header))]
+#[tactic(auto, using(xdr_core::proofs::Grammar::written, crate::proofs::HeaderLaws::ledger_header_lawful))]
 pub fn write_ledger_header(value: &LedgerHeader, builder: &mut Builder) -> Result<(), AllocError>
+    requires { spec.ledger_header.within value.now }
+    ensures { OnOk result (builder.new ≡ builder.old ++ spec.ledger_header.spell value.now) }
+{
+    write_header_fields(value, builder)
+}
+
+/// Writes the fields of a header.
+#[tactic(auto, unfolding(crate::specs::Header::ledger_header))]
+fn write_header_fields(value: &LedgerHeader, builder: &mut Builder) -> Result<(), AllocError>
     requires { spec.ledger_header.within value.now }
     ensures { OnOk result (builder.new ≡ spec.ledger_header.onto builder.old value.now) }
 {
@@ -151,6 +161,9 @@ impl Decode for LedgerHeaderExtensionV1Format {
 }
 
 impl Encode for LedgerHeaderExtensionV1Format {
+    ghost lawful = { ledger_header_extension_v1_lawful };
+
+    #[tactic(auto, using(xdr_core::proofs::Grammar::written, crate::proofs::HeaderLaws::ledger_header_extension_v1_lawful))]
     fn encode(value: &LedgerHeaderExtensionV1, builder: &mut Builder) -> Result<(), AllocError> {
         write_ledger_header_extension_v1(value, builder)
     }

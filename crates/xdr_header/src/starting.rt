@@ -1,6 +1,6 @@
 //! Start images.
 
-ghost use Rattle.std.specs.Prelude.{◌≡◌, ◌≤◌, length, IfOk, OnOk};
+ghost use Rattle.std.specs.Prelude.{◌≡◌, ◌++◌, ◌≤◌, length, IfOk, OnOk};
 ghost use Rattle.xdr_core.specs.Place.{Reads, ReadsBy, itself};
 ghost use Rattle.xdr_core.specs.ReadFault.{cause_of};
 ghost use Rattle.xdr_header.specs.Image as spec;
@@ -85,8 +85,17 @@ pub fn read_start_image(alloc: Global, cursor: &mut Cursor<'_>) -> Result<StartI
 }
 
 /// Writes a start image.
-#[tactic(auto, unfolding(crate::specs::Image::start_image, xdr_core::specs::Combinators::constant))]
+#[tactic(auto, using(xdr_core::proofs::Grammar::written, crate::proofs::ImageLaws::start_image_lawful))]
 pub fn write_start_image(value: &StartImage, builder: &mut Builder) -> Result<(), AllocError>
+    requires { spec.start_image.within value.now }
+    ensures { OnOk result (builder.new ≡ builder.old ++ spec.start_image.spell value.now) }
+{
+    write_image_fields(value, builder)
+}
+
+/// Writes the mark of an image, its header and its files.
+#[tactic(auto, unfolding(crate::specs::Image::start_image, xdr_core::specs::Combinators::constant))]
+fn write_image_fields(value: &StartImage, builder: &mut Builder) -> Result<(), AllocError>
     requires { spec.start_image.within value.now }
     ensures { OnOk result (builder.new ≡ spec.start_image.onto builder.old value.now) }
 {

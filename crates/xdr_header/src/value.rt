@@ -1,10 +1,11 @@
 //! What the network agrees upon, and upgrades.
 
-ghost use Rattle.std.specs.Prelude.{◌≡◌, OnOk};
+ghost use Rattle.std.specs.Prelude.{◌≡◌, ◌++◌, OnOk};
 ghost use Rattle.xdr_core.specs.Place.{Reads, itself};
 ghost use Rattle.xdr_core.specs.ReadFault.{cause_of};
 ghost use Rattle.xdr_core.specs.Leaves.{var};
 ghost use Rattle.xdr_header.specs.Header as spec;
+ghost use Rattle.xdr_header.proofs.HeaderLaws.{ledger_close_value_signature_lawful, upgrade_bytes_lawful};
 
 use item_list::ItemList;
 use ledger_types::{LedgerCloseValueSignature, LedgerUpgrade, StellarValue};
@@ -87,8 +88,17 @@ pub fn read_stellar_value(alloc: Global, cursor: &mut Cursor<'_>) -> Result<Stel
 }
 
 /// Writes what the network agreed upon.
-#[tactic(auto, unfolding(crate::specs::Header::stellar_value))]
+#[tactic(auto, using(xdr_core::proofs::Grammar::written, crate::proofs::HeaderLaws::stellar_value_lawful))]
 pub fn write_stellar_value(value: &StellarValue, builder: &mut Builder) -> Result<(), AllocError>
+    requires { spec.stellar_value.within value.now }
+    ensures { OnOk result (builder.new ≡ builder.old ++ spec.stellar_value.spell value.now) }
+{
+    write_value_fields(value, builder)
+}
+
+/// Writes the fields of what the network agreed upon.
+#[tactic(auto, unfolding(crate::specs::Header::stellar_value))]
+fn write_value_fields(value: &StellarValue, builder: &mut Builder) -> Result<(), AllocError>
     requires { spec.stellar_value.within value.now }
     ensures { OnOk result (builder.new ≡ spec.stellar_value.onto builder.old value.now) }
 {
@@ -117,8 +127,16 @@ pub fn read_ledger_upgrade(cursor: &mut Cursor<'_>) -> Result<LedgerUpgrade, Xdr
 }
 
 /// Writes an upgrade.
-#[tactic(auto, unfolding(crate::specs::Header::ledger_upgrade))]
+#[tactic(auto, using(xdr_core::proofs::Grammar::written, crate::proofs::HeaderLaws::ledger_upgrade_lawful))]
 pub fn write_ledger_upgrade(value: &LedgerUpgrade, builder: &mut Builder) -> Result<(), AllocError>
+    ensures { OnOk result (builder.new ≡ builder.old ++ spec.ledger_upgrade.spell value.now) }
+{
+    write_upgrade_arm(value, builder)
+}
+
+/// Writes the type of an upgrade and what stands behind it.
+#[tactic(auto, unfolding(crate::specs::Header::ledger_upgrade))]
+fn write_upgrade_arm(value: &LedgerUpgrade, builder: &mut Builder) -> Result<(), AllocError>
     ensures { OnOk result (builder.new ≡ spec.ledger_upgrade.onto builder.old value.now) }
 {
     match value {
@@ -164,6 +182,9 @@ impl Decode for LedgerCloseValueSignatureFormat {
 }
 
 impl Encode for LedgerCloseValueSignatureFormat {
+    ghost lawful = { ledger_close_value_signature_lawful };
+
+    #[tactic(auto, using(xdr_core::proofs::Grammar::written, crate::proofs::HeaderLaws::ledger_close_value_signature_lawful))]
     fn encode(value: &LedgerCloseValueSignature, builder: &mut Builder) -> Result<(), AllocError> {
         write_ledger_close_value_signature(value, builder)
     }
@@ -188,6 +209,9 @@ impl Decode for UpgradeBytesFormat {
 }
 
 impl Encode for UpgradeBytesFormat {
+    ghost lawful = { upgrade_bytes_lawful };
+
+    #[tactic(auto, using(xdr_core::proofs::Grammar::written, crate::proofs::HeaderLaws::upgrade_bytes_lawful))]
     fn encode(value: &ItemList<u8>, builder: &mut Builder) -> Result<(), AllocError> {
         builder.var(value.as_slice(), MAX_UPGRADE_LEN)
     }

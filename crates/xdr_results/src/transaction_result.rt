@@ -1,9 +1,10 @@
 //! What transactions answer.
 
-ghost use Rattle.std.specs.Prelude.{◌≡◌, OnOk};
+ghost use Rattle.std.specs.Prelude.{◌≡◌, ◌++◌, OnOk};
 ghost use Rattle.xdr_core.specs.Place.{Reads};
 ghost use Rattle.xdr_core.specs.ReadFault.{cause_of};
 ghost use Rattle.xdr_results.specs.Results as spec;
+ghost use Rattle.xdr_results.proofs.TransactionLaws.{transaction_result_pair_lawful};
 
 use crate::coded::plain_value;
 use crate::operation_result::OperationResultFormat;
@@ -257,11 +258,20 @@ pub fn read_transaction_result_pair(
 }
 
 /// Writes a transaction's result beside its hash.
-#[tactic(auto, unfolding(crate::specs::Results::transaction_result_pair))]
+#[tactic(auto, using(xdr_core::proofs::Grammar::written, crate::proofs::TransactionLaws::transaction_result_pair_lawful))]
 pub fn write_transaction_result_pair(
     value: &TransactionResultPair,
     builder: &mut Builder,
 ) -> Result<(), AllocError>
+    requires { spec.transaction_result_pair.within value.now }
+    ensures { OnOk result (builder.new ≡ builder.old ++ spec.transaction_result_pair.spell value.now) }
+{
+    write_pair_fields(value, builder)
+}
+
+/// Writes the fields of a result with its transaction's hash.
+#[tactic(auto, unfolding(crate::specs::Results::transaction_result_pair))]
+fn write_pair_fields(value: &TransactionResultPair, builder: &mut Builder) -> Result<(), AllocError>
     requires { spec.transaction_result_pair.within value.now }
     ensures { OnOk result (builder.new ≡ spec.transaction_result_pair.onto builder.old value.now) }
 {
@@ -285,6 +295,8 @@ impl Decode for TransactionResultPairFormat {
 }
 
 impl Encode for TransactionResultPairFormat {
+    ghost lawful = { transaction_result_pair_lawful };
+
     fn encode(value: &TransactionResultPair, builder: &mut Builder) -> Result<(), AllocError> {
         write_transaction_result_pair(value, builder)
     }
@@ -305,11 +317,20 @@ pub fn read_transaction_result_set(
 }
 
 /// Writes the results of a set.
-#[tactic(auto, unfolding(crate::specs::Results::transaction_result_set))]
+#[tactic(auto, using(xdr_core::proofs::Grammar::written, crate::proofs::TransactionLaws::transaction_result_set_lawful))]
 pub fn write_transaction_result_set(
     value: &TransactionResultSet,
     builder: &mut Builder,
 ) -> Result<(), AllocError>
+    requires { spec.transaction_result_set.within value.now }
+    ensures { OnOk result (builder.new ≡ builder.old ++ spec.transaction_result_set.spell value.now) }
+{
+    write_set_fields(value, builder)
+}
+
+/// Writes the results of a set one behind another, behind their number.
+#[tactic(auto, unfolding(crate::specs::Results::transaction_result_set))]
+fn write_set_fields(value: &TransactionResultSet, builder: &mut Builder) -> Result<(), AllocError>
     requires { spec.transaction_result_set.within value.now }
     ensures { OnOk result (builder.new ≡ spec.transaction_result_set.onto builder.old value.now) }
 {

@@ -4,7 +4,7 @@ use Rattle.xdr_core.specs.Format.{Lawful}
 use Rattle.xdr_core.specs.Xdr.{as_it_is, no_arm}
 use Rattle.xdr_core.proofs.LeafLaws.{u32_lawful, i64_lawful}
 use Rattle.xdr_core.proofs.Opaque.{fixed_lawful, var_lawful}
-use Rattle.xdr_core.proofs.Combining.{◌&◌, struct_law, option_law, list_law}
+use Rattle.xdr_core.proofs.Combining.{◌&◌, struct_law, whole_law, option_law, list_law}
 use Rattle.xdr_core.proofs.Arms.{under}
 use Rattle.xdr_core.proofs.Unions.{IsFound, union_law}
 use Rattle.xdr_core.proofs.Discriminants.{discriminant_fits}
@@ -173,14 +173,14 @@ begin_sponsoring_future_reserves_op_lawful = struct_law begin_sponsoring_future_
 
 revoke_sponsorship_op_found : (v : RevokeSponsorshipOp) → IsFound revoke_part revoke_arms v
 revoke_sponsorship_op_found (revoking.LedgerEntry key) =
-    under revoke_entry key ledger_key_lawful tt refl refl (λ _ _ _. refl)
+    under revoke_entry key (whole_law ledger_key_lawful) tt refl refl (λ _ _ _. refl)
 revoke_sponsorship_op_found (revoking.Signer id key) =
     under revoke_signer (id, key) (account_id_lawful & signer_key_lawful) tt refl refl (λ _ _ _. refl)
 
 pub revoke_sponsorship_op_lawful : Lawful revoke_sponsorship_op
 unfolding revoke_sponsorship_op
 revoke_sponsorship_op_lawful = union_law as_it_is revoke_part revoke_arms no_arm (
-  record { law = ledger_key_lawful; is_part = λ x. refl },
+  record { law = whole_law ledger_key_lawful; is_part = λ x. refl },
   (
     record { law = account_id_lawful & signer_key_lawful; is_part = λ x. refl },
     tt,

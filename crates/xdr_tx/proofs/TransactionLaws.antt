@@ -4,7 +4,7 @@ use Rattle.xdr_core.specs.Format.{Lawful}
 use Rattle.xdr_core.specs.Xdr.{as_it_is, no_arm}
 use Rattle.xdr_core.proofs.LeafLaws.{u32_lawful, u64_lawful, i64_lawful}
 use Rattle.xdr_core.proofs.Opaque.{fixed_lawful, var_lawful}
-use Rattle.xdr_core.proofs.Combining.{◌&◌, struct_law, marked_law, closed_law, option_law, list_law}
+use Rattle.xdr_core.proofs.Combining.{◌&◌, struct_law, whole_law, marked_law, closed_law, option_law, list_law}
 use Rattle.xdr_core.proofs.Arms.{under}
 use Rattle.xdr_core.proofs.Unions.{IsFound, union_law}
 use Rattle.xdr_core.proofs.Extensions.{empty_law}
@@ -95,11 +95,11 @@ transaction_v0_lawful = struct_law transaction_v0_fields (fixed_lawful 32 & u32_
 
 pub transaction_v1_envelope_lawful : Lawful transaction_v1_envelope
 unfolding transaction_v1_envelope
-transaction_v1_envelope_lawful = struct_law v1_fields (transaction_lawful & list_law as_it_is 20 (omega arith) decorated_signature_lawful)
+transaction_v1_envelope_lawful = struct_law v1_fields (whole_law transaction_lawful & list_law as_it_is 20 (omega arith) decorated_signature_lawful)
 
 pub transaction_v0_envelope_lawful : Lawful transaction_v0_envelope
 unfolding transaction_v0_envelope
-transaction_v0_envelope_lawful = struct_law v0_fields (transaction_v0_lawful & list_law as_it_is 20 (omega arith) decorated_signature_lawful)
+transaction_v0_envelope_lawful = struct_law v0_fields (whole_law transaction_v0_lawful & list_law as_it_is 20 (omega arith) decorated_signature_lawful)
 
 pub fee_bump_transaction_lawful : Lawful fee_bump_transaction
 unfolding fee_bump_transaction
@@ -107,7 +107,7 @@ fee_bump_transaction_lawful = struct_law fee_bump_fields (muxed_account_lawful &
 
 pub fee_bump_envelope_lawful : Lawful fee_bump_envelope
 unfolding fee_bump_envelope
-fee_bump_envelope_lawful = struct_law bump_fields (fee_bump_transaction_lawful & list_law as_it_is 20 (omega arith) decorated_signature_lawful)
+fee_bump_envelope_lawful = struct_law bump_fields (whole_law fee_bump_transaction_lawful & list_law as_it_is 20 (omega arith) decorated_signature_lawful)
 
 transaction_envelope_found : (v : TransactionEnvelope) → IsFound envelope_part envelope_arms v
 transaction_envelope_found (envelope.V0 inner) =

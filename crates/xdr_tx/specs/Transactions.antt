@@ -3,8 +3,9 @@
 use Rattle.std.specs.Prelude.{ℕ, ℤ, pos, List, [], ◌∷◌, Option, refl}
 use Rattle.xdr_core.specs.declared.fault.XdrFault.{XdrFault}
 use Rattle.xdr_core.specs.Leaves.{u32, u64, i64, fixed, var}
-use Rattle.xdr_core.specs.Combinators.{◌⨾◌, Fields, struct_of, marked, closed, empty, Arm, Part, part}
+use Rattle.xdr_core.specs.Combinators.{◌⨾◌, Fields, struct_of, whole, marked, closed, empty, Arm, Part, part}
 use Rattle.xdr_core.specs.Xdr.{Xdr, tag, optional, list_of, union_of}
+use Rattle.ledger_types.specs.declared.envelope_type.TheConstants as types
 use Rattle.ledger_types.specs.declared.ids.MuxedAccount.{MuxedAccount}
 use Rattle.ledger_types.specs.declared.ids.Hash.{Hash}
 use Rattle.op_types.specs.declared.operation.Operation.{Operation}
@@ -111,13 +112,13 @@ abbrev pub v1_fields : Fields (Transaction × List DecoratedSignature) Transacti
 v1_fields = record { to = λ v. record { tx = v.0; signatures = v.1 }; from = λ e. (e.tx, e.signatures); there = λ _. refl; back = λ _. refl }
 
 unfoldable pub transaction_v1_envelope : Xdr TransactionV1Envelope
-transaction_v1_envelope = struct_of v1_fields (transaction ⨾ list_of 20 decorated_signature)
+transaction_v1_envelope = struct_of v1_fields (whole transaction ⨾ list_of 20 decorated_signature)
 
 abbrev pub v0_fields : Fields (TransactionV0 × List DecoratedSignature) TransactionV0Envelope
 v0_fields = record { to = λ v. record { tx = v.0; signatures = v.1 }; from = λ e. (e.tx, e.signatures); there = λ _. refl; back = λ _. refl }
 
 unfoldable pub transaction_v0_envelope : Xdr TransactionV0Envelope
-transaction_v0_envelope = struct_of v0_fields (transaction_v0 ⨾ list_of 20 decorated_signature)
+transaction_v0_envelope = struct_of v0_fields (whole transaction_v0 ⨾ list_of 20 decorated_signature)
 
 abbrev pub fee_bump_fields : Fields (MuxedAccount × (ℤ × TransactionV1Envelope)) FeeBumpTransaction
 fee_bump_fields = record {
@@ -129,22 +130,22 @@ fee_bump_fields = record {
 
 -- its inner transaction has one arm, ENVELOPE_TYPE_TX
 unfoldable pub fee_bump_transaction : Xdr FeeBumpTransaction
-fee_bump_transaction = struct_of fee_bump_fields (muxed_account ⨾ i64 ⨾ closed (marked (tag (pos 2)) transaction_v1_envelope) (tag (pos 0)))
+fee_bump_transaction = struct_of fee_bump_fields (muxed_account ⨾ i64 ⨾ closed (marked (tag types.ENVELOPE_TYPE_TX) transaction_v1_envelope) (tag (pos 0)))
 
 abbrev pub bump_fields : Fields (FeeBumpTransaction × List DecoratedSignature) FeeBumpTransactionEnvelope
 bump_fields = record { to = λ v. record { tx = v.0; signatures = v.1 }; from = λ e. (e.tx, e.signatures); there = λ _. refl; back = λ _. refl }
 
 unfoldable pub fee_bump_envelope : Xdr FeeBumpTransactionEnvelope
-fee_bump_envelope = struct_of bump_fields (fee_bump_transaction ⨾ list_of 20 decorated_signature)
+fee_bump_envelope = struct_of bump_fields (whole fee_bump_transaction ⨾ list_of 20 decorated_signature)
 
 abbrev pub envelope_v0 : Arm XdrFault TransactionEnvelope
-envelope_v0 = arm (pos 0) transaction_v0_envelope envelope.V0
+envelope_v0 = arm types.ENVELOPE_TYPE_TX_V0 transaction_v0_envelope envelope.V0
 
 abbrev pub envelope_v1 : Arm XdrFault TransactionEnvelope
-envelope_v1 = arm (pos 2) transaction_v1_envelope envelope.V1
+envelope_v1 = arm types.ENVELOPE_TYPE_TX transaction_v1_envelope envelope.V1
 
 abbrev pub envelope_fee_bump : Arm XdrFault TransactionEnvelope
-envelope_fee_bump = arm (pos 5) fee_bump_envelope envelope.FeeBump
+envelope_fee_bump = arm types.ENVELOPE_TYPE_TX_FEE_BUMP fee_bump_envelope envelope.FeeBump
 
 abbrev pub envelope_arms : List (Arm XdrFault TransactionEnvelope)
 envelope_arms = envelope_v0 ∷ envelope_v1 ∷ envelope_fee_bump ∷ []

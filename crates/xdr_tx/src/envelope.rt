@@ -1,14 +1,16 @@
 //! Transactions with their signatures, and sets of them.
 
-ghost use Rattle.std.specs.Prelude.{◌≡◌, OnOk};
+ghost use Rattle.std.specs.Prelude.{◌≡◌, ◌++◌, OnOk};
 ghost use Rattle.xdr_core.specs.Place.{Reads};
 ghost use Rattle.xdr_core.specs.ReadFault.{cause_of};
 ghost use Rattle.xdr_tx.specs.Transactions as spec;
+ghost use Rattle.xdr_tx.proofs.TransactionLaws.{transaction_envelope_lawful};
 
 use crate::signature::{DecoratedSignatureFormat, MAX_SIGNATURES};
 use crate::transaction::{
     read_transaction, read_transaction_v0, write_transaction, write_transaction_v0,
 };
+use ledger_types::{ENVELOPE_TYPE_TX, ENVELOPE_TYPE_TX_FEE_BUMP, ENVELOPE_TYPE_TX_V0};
 use op_types::{
     FeeBumpTransaction, FeeBumpTransactionEnvelope, TransactionEnvelope, TransactionSet,
     TransactionV0Envelope, TransactionV1Envelope,
@@ -16,15 +18,6 @@ use op_types::{
 use std::alloc::{AllocError, Global};
 use xdr_core::{Builder, Cursor, Decode, Encode, ReadFault, XdrKind, read_list, write_list};
 use xdr_entries::{read_hash, read_muxed_account, write_hash, write_muxed_account};
-
-/// ENVELOPE_TYPE_TX_V0 (Stellar-ledger-entries.x).
-const ENVELOPE_TYPE_TX_V0: i32 = 0;
-
-/// ENVELOPE_TYPE_TX (Stellar-ledger-entries.x).
-const ENVELOPE_TYPE_TX: i32 = 2;
-
-/// ENVELOPE_TYPE_TX_FEE_BUMP (Stellar-ledger-entries.x).
-const ENVELOPE_TYPE_TX_FEE_BUMP: i32 = 5;
 
 /// Reads a transaction of the first version and its signatures.
 #[tactic(auto, unfolding(crate::specs::Transactions::transaction_v0_envelope))]
@@ -105,8 +98,20 @@ pub fn read_fee_bump_transaction(
 }
 
 /// Writes a fee bump.
-#[tactic(auto, unfolding(crate::specs::Transactions::fee_bump_transaction, xdr_core::specs::Combinators::constant))]
+#[tactic(auto, using(xdr_core::proofs::Grammar::written, crate::proofs::TransactionLaws::fee_bump_transaction_lawful))]
 pub fn write_fee_bump_transaction(
+    value: &FeeBumpTransaction,
+    builder: &mut Builder,
+) -> Result<(), AllocError>
+    requires { spec.fee_bump_transaction.within value.now }
+    ensures { OnOk result (builder.new ≡ builder.old ++ spec.fee_bump_transaction.spell value.now) }
+{
+    write_fee_bump_fields(value, builder)
+}
+
+/// Writes the fields of a fee bump.
+#[tactic(auto, unfolding(crate::specs::Transactions::fee_bump_transaction, xdr_core::specs::Combinators::constant))]
+fn write_fee_bump_fields(
     value: &FeeBumpTransaction,
     builder: &mut Builder,
 ) -> Result<(), AllocError>
@@ -174,11 +179,20 @@ pub fn read_transaction_envelope(
 }
 
 /// Writes an envelope.
-#[tactic(auto, unfolding(crate::specs::Transactions::transaction_envelope))]
+#[tactic(auto, using(xdr_core::proofs::Grammar::written, crate::proofs::TransactionLaws::transaction_envelope_lawful))]
 pub fn write_transaction_envelope(
     value: &TransactionEnvelope,
     builder: &mut Builder,
 ) -> Result<(), AllocError>
+    requires { spec.transaction_envelope.within value.now }
+    ensures { OnOk result (builder.new ≡ builder.old ++ spec.transaction_envelope.spell value.now) }
+{
+    write_envelope_arm(value, builder)
+}
+
+/// Writes the type of an envelope and what stands behind it.
+#[tactic(auto, unfolding(crate::specs::Transactions::transaction_envelope))]
+fn write_envelope_arm(value: &TransactionEnvelope, builder: &mut Builder) -> Result<(), AllocError>
     requires { spec.transaction_envelope.within value.now }
     ensures { OnOk result (builder.new ≡ spec.transaction_envelope.onto builder.old value.now) }
 {
@@ -214,6 +228,8 @@ impl Decode for TransactionEnvelopeFormat {
 }
 
 impl Encode for TransactionEnvelopeFormat {
+    ghost lawful = { transaction_envelope_lawful };
+
     fn encode(value: &TransactionEnvelope, builder: &mut Builder) -> Result<(), AllocError> {
         write_transaction_envelope(value, builder)
     }
@@ -238,11 +254,20 @@ pub fn read_transaction_set(
 }
 
 /// Writes a set of transactions.
-#[tactic(auto, unfolding(crate::specs::Transactions::transaction_set))]
+#[tactic(auto, using(xdr_core::proofs::Grammar::written, crate::proofs::TransactionLaws::transaction_set_lawful))]
 pub fn write_transaction_set(
     value: &TransactionSet,
     builder: &mut Builder,
 ) -> Result<(), AllocError>
+    requires { spec.transaction_set.within value.now }
+    ensures { OnOk result (builder.new ≡ builder.old ++ spec.transaction_set.spell value.now) }
+{
+    write_set_fields(value, builder)
+}
+
+/// Writes the fields of a set of transactions.
+#[tactic(auto, unfolding(crate::specs::Transactions::transaction_set))]
+fn write_set_fields(value: &TransactionSet, builder: &mut Builder) -> Result<(), AllocError>
     requires { spec.transaction_set.within value.now }
     ensures { OnOk result (builder.new ≡ spec.transaction_set.onto builder.old value.now) }
 {

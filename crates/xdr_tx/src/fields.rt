@@ -1,14 +1,14 @@
 //! Fields that may be absent.
 
 ghost use Rattle.xdr_core.specs.Leaves.{u32 as u32_format, var};
+ghost use Rattle.xdr_core.proofs.LeafLaws.{u32_lawful};
+ghost use Rattle.xdr_tx.proofs.FieldLaws.{home_domain_lawful, data_value_lawful};
 
 use item_list::ItemList;
+use ledger_types::MAX_HOME_DOMAIN_LEN;
 use std::alloc::{AllocError, Global};
 use xdr_core::{Builder, Cursor, Decode, Encode, ReadFault};
 use xdr_entries::MAX_DATA_VALUE_LEN;
-
-/// The most bytes of a home domain (string32 in Stellar-ledger-entries.x).
-const MAX_HOME_DOMAIN_LEN: u32 = 32;
 
 /// Numbers of 32 bits, as a format.
 pub enum U32Format {}
@@ -26,6 +26,9 @@ impl Decode for U32Format {
 }
 
 impl Encode for U32Format {
+    ghost lawful = { u32_lawful };
+
+    #[tactic(auto, using(xdr_core::proofs::Grammar::written, xdr_core::proofs::LeafLaws::u32_lawful))]
     fn encode(value: &u32, builder: &mut Builder) -> Result<(), AllocError> {
         builder.u32(*value)
     }
@@ -50,6 +53,9 @@ impl Decode for HomeDomainFormat {
 }
 
 impl Encode for HomeDomainFormat {
+    ghost lawful = { home_domain_lawful };
+
+    #[tactic(auto, using(xdr_core::proofs::Grammar::written, crate::proofs::FieldLaws::home_domain_lawful))]
     fn encode(value: &ItemList<u8>, builder: &mut Builder) -> Result<(), AllocError> {
         builder.var(value.as_slice(), MAX_HOME_DOMAIN_LEN)
     }
@@ -74,6 +80,9 @@ impl Decode for DataValueFormat {
 }
 
 impl Encode for DataValueFormat {
+    ghost lawful = { data_value_lawful };
+
+    #[tactic(auto, using(xdr_core::proofs::Grammar::written, crate::proofs::FieldLaws::data_value_lawful))]
     fn encode(value: &ItemList<u8>, builder: &mut Builder) -> Result<(), AllocError> {
         builder.var(value.as_slice(), MAX_DATA_VALUE_LEN)
     }

@@ -1,6 +1,6 @@
 //! Transactions without their signatures.
 
-ghost use Rattle.std.specs.Prelude.{◌≡◌, OnOk};
+ghost use Rattle.std.specs.Prelude.{◌≡◌, ◌++◌, OnOk};
 ghost use Rattle.xdr_core.specs.Place.{Reads};
 ghost use Rattle.xdr_core.specs.ReadFault.{cause_of};
 ghost use Rattle.xdr_tx.specs.Transactions as spec;
@@ -41,8 +41,17 @@ pub fn read_transaction(alloc: Global, cursor: &mut Cursor<'_>) -> Result<Transa
 }
 
 /// Writes a transaction.
-#[tactic(auto, unfolding(crate::specs::Transactions::transaction, xdr_core::specs::Combinators::constant))]
+#[tactic(auto, using(xdr_core::proofs::Grammar::written, crate::proofs::TransactionLaws::transaction_lawful))]
 pub fn write_transaction(value: &Transaction, builder: &mut Builder) -> Result<(), AllocError>
+    requires { spec.transaction.within value.now }
+    ensures { OnOk result (builder.new ≡ builder.old ++ spec.transaction.spell value.now) }
+{
+    write_transaction_fields(value, builder)
+}
+
+/// Writes the fields of a transaction.
+#[tactic(auto, unfolding(crate::specs::Transactions::transaction, xdr_core::specs::Combinators::constant))]
+fn write_transaction_fields(value: &Transaction, builder: &mut Builder) -> Result<(), AllocError>
     requires { spec.transaction.within value.now }
     ensures { OnOk result (builder.new ≡ spec.transaction.onto builder.old value.now) }
 {
@@ -83,8 +92,20 @@ pub fn read_transaction_v0(
 }
 
 /// Writes a transaction of the first version.
-#[tactic(auto, unfolding(crate::specs::Transactions::transaction_v0, xdr_core::specs::Combinators::constant))]
+#[tactic(auto, using(xdr_core::proofs::Grammar::written, crate::proofs::TransactionLaws::transaction_v0_lawful))]
 pub fn write_transaction_v0(value: &TransactionV0, builder: &mut Builder) -> Result<(), AllocError>
+    requires { spec.transaction_v0.within value.now }
+    ensures { OnOk result (builder.new ≡ builder.old ++ spec.transaction_v0.spell value.now) }
+{
+    write_transaction_v0_fields(value, builder)
+}
+
+/// Writes the fields of a transaction of the first version.
+#[tactic(auto, unfolding(crate::specs::Transactions::transaction_v0, xdr_core::specs::Combinators::constant))]
+fn write_transaction_v0_fields(
+    value: &TransactionV0,
+    builder: &mut Builder,
+) -> Result<(), AllocError>
     requires { spec.transaction_v0.within value.now }
     ensures { OnOk result (builder.new ≡ spec.transaction_v0.onto builder.old value.now) }
 {

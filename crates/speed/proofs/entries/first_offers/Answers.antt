@@ -1,5 +1,22 @@
 use Rattle.std.proofs.Common.{
-    ◌≡◌, ℕ, zero, suc, ◌≤◌, refl, sym, ap, subst, ◌∙◌, arith, Bool, true, false, ◌||◌, [], ◌∷◌, pos
+  ◌≡◌,
+  ℕ,
+  zero,
+  suc,
+  ◌≤◌,
+  refl,
+  sym,
+  ap,
+  subst,
+  ◌∙◌,
+  arith,
+  Bool,
+  true,
+  false,
+  ◌||◌,
+  [],
+  ◌∷◌,
+  pos,
 }
 use Rattle.std.specs.List.{IsDistinct, list_any}
 use Rattle.std.specs.Ordering.{eq_by_cmp}

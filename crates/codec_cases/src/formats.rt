@@ -9,14 +9,15 @@ ghost use Rattle.xdr_header.specs.Image.{start_image};
 ghost use Rattle.xdr_header.specs.Records.{close_record};
 ghost use Rattle.xdr_results.specs.Results.{transaction_result_set};
 ghost use Rattle.xdr_tx.specs.Transactions.{memo, transaction_set};
-ghost use Rattle.xdr_entries.proofs.BasicLaws.{price_lawful, signer_key_lawful, trust_line_asset_lawful};
-ghost use Rattle.xdr_entries.proofs.EntryLaws.{ledger_entry_lawful};
+ghost use Rattle.xdr_entries.proofs.BasicLaws.{price_lawful, signer_key_lawful, trust_line_asset_lawful, asset_lawful, signer_lawful};
+ghost use Rattle.xdr_entries.proofs.EntryLaws.{ledger_entry_lawful, claimant_lawful};
 ghost use Rattle.xdr_entries.proofs.KeyLaws.{ledger_key_lawful, bucket_entry_lawful};
 ghost use Rattle.xdr_entries.proofs.PredicateLaws.{claim_predicate_lawful};
 ghost use Rattle.xdr_header.proofs.HeaderLaws.{close_record_lawful, ledger_header_lawful, ledger_upgrade_lawful, stellar_value_lawful};
 ghost use Rattle.xdr_header.proofs.ImageLaws.{start_image_lawful};
 ghost use Rattle.xdr_results.proofs.TransactionLaws.{transaction_result_set_lawful};
-ghost use Rattle.xdr_tx.proofs.TransactionLaws.{memo_lawful, transaction_set_lawful};
+ghost use Rattle.xdr_tx.proofs.TransactionLaws.{memo_lawful, transaction_set_lawful, transaction_envelope_lawful};
+ghost use Rattle.xdr_tx.proofs.BodyLaws.{operation_lawful};
 
 use crate::verdict::Case;
 use ledger_types::{
@@ -59,14 +60,14 @@ impl Decode for CloseRecordFormat {
 }
 
 impl Encode for CloseRecordFormat {
-    ghost lawful = { close_record_lawful };
-
     fn encode(value: &CloseRecord, builder: &mut Builder) -> Result<(), AllocError> {
         write_close_record(value, builder)
     }
 }
 
 impl Case for CloseRecordFormat {
+    ghost lawful = { close_record_lawful };
+
     fn copy(value: &CloseRecord) -> Result<CloseRecord, AllocError> {
         value.copy()
     }
@@ -88,14 +89,14 @@ impl Decode for LedgerEntryFormat {
 }
 
 impl Encode for LedgerEntryFormat {
-    ghost lawful = { ledger_entry_lawful };
-
     fn encode(value: &LedgerEntry, builder: &mut Builder) -> Result<(), AllocError> {
         write_ledger_entry(value, builder)
     }
 }
 
 impl Case for LedgerEntryFormat {
+    ghost lawful = { ledger_entry_lawful };
+
     fn copy(value: &LedgerEntry) -> Result<LedgerEntry, AllocError> {
         value.copy()
     }
@@ -117,14 +118,14 @@ impl Decode for LedgerHeaderFormat {
 }
 
 impl Encode for LedgerHeaderFormat {
-    ghost lawful = { ledger_header_lawful };
-
     fn encode(value: &LedgerHeader, builder: &mut Builder) -> Result<(), AllocError> {
         write_ledger_header(value, builder)
     }
 }
 
 impl Case for LedgerHeaderFormat {
+    ghost lawful = { ledger_header_lawful };
+
     fn copy(value: &LedgerHeader) -> Result<LedgerHeader, AllocError> {
         value.copy()
     }
@@ -146,14 +147,14 @@ impl Decode for LedgerKeyFormat {
 }
 
 impl Encode for LedgerKeyFormat {
-    ghost lawful = { ledger_key_lawful };
-
     fn encode(value: &LedgerKey, builder: &mut Builder) -> Result<(), AllocError> {
         write_ledger_key(value, builder)
     }
 }
 
 impl Case for LedgerKeyFormat {
+    ghost lawful = { ledger_key_lawful };
+
     fn copy(value: &LedgerKey) -> Result<LedgerKey, AllocError> {
         value.copy()
     }
@@ -175,14 +176,14 @@ impl Decode for LedgerUpgradeFormat {
 }
 
 impl Encode for LedgerUpgradeFormat {
-    ghost lawful = { ledger_upgrade_lawful };
-
     fn encode(value: &LedgerUpgrade, builder: &mut Builder) -> Result<(), AllocError> {
         write_ledger_upgrade(value, builder)
     }
 }
 
 impl Case for LedgerUpgradeFormat {
+    ghost lawful = { ledger_upgrade_lawful };
+
     fn copy(value: &LedgerUpgrade) -> Result<LedgerUpgrade, AllocError> {
         Ok(*value)
     }
@@ -204,8 +205,6 @@ impl Decode for MemoFormat {
 }
 
 impl Encode for MemoFormat {
-    ghost lawful = { memo_lawful };
-
     #[tactic(auto, using(xdr_core::proofs::Grammar::written, xdr_tx::proofs::TransactionLaws::memo_lawful))]
     fn encode(value: &Memo, builder: &mut Builder) -> Result<(), AllocError> {
         write_memo(value, builder)
@@ -213,6 +212,8 @@ impl Encode for MemoFormat {
 }
 
 impl Case for MemoFormat {
+    ghost lawful = { memo_lawful };
+
     fn copy(value: &Memo) -> Result<Memo, AllocError> {
         value.copy()
     }
@@ -234,14 +235,14 @@ impl Decode for PredicateFormat {
 }
 
 impl Encode for PredicateFormat {
-    ghost lawful = { claim_predicate_lawful };
-
     fn encode(value: &ClaimPredicate, builder: &mut Builder) -> Result<(), AllocError> {
         write_claim_predicate(value, builder)
     }
 }
 
 impl Case for PredicateFormat {
+    ghost lawful = { claim_predicate_lawful };
+
     fn copy(value: &ClaimPredicate) -> Result<ClaimPredicate, AllocError> {
         value.copy()
     }
@@ -263,8 +264,6 @@ impl Decode for PriceFormat {
 }
 
 impl Encode for PriceFormat {
-    ghost lawful = { price_lawful };
-
     #[tactic(auto, using(xdr_core::proofs::Grammar::written, xdr_entries::proofs::BasicLaws::price_lawful))]
     fn encode(value: &Price, builder: &mut Builder) -> Result<(), AllocError> {
         write_price(value, builder)
@@ -272,6 +271,8 @@ impl Encode for PriceFormat {
 }
 
 impl Case for PriceFormat {
+    ghost lawful = { price_lawful };
+
     fn copy(value: &Price) -> Result<Price, AllocError> {
         Ok(*value)
     }
@@ -293,8 +294,6 @@ impl Decode for SignerKeyFormat {
 }
 
 impl Encode for SignerKeyFormat {
-    ghost lawful = { signer_key_lawful };
-
     #[tactic(auto, using(xdr_core::proofs::Grammar::written, xdr_entries::proofs::BasicLaws::signer_key_lawful))]
     fn encode(value: &SignerKey, builder: &mut Builder) -> Result<(), AllocError> {
         write_signer_key(value, builder)
@@ -302,6 +301,8 @@ impl Encode for SignerKeyFormat {
 }
 
 impl Case for SignerKeyFormat {
+    ghost lawful = { signer_key_lawful };
+
     fn copy(value: &SignerKey) -> Result<SignerKey, AllocError> {
         Ok(*value)
     }
@@ -323,14 +324,14 @@ impl Decode for StellarValueFormat {
 }
 
 impl Encode for StellarValueFormat {
-    ghost lawful = { stellar_value_lawful };
-
     fn encode(value: &StellarValue, builder: &mut Builder) -> Result<(), AllocError> {
         write_stellar_value(value, builder)
     }
 }
 
 impl Case for StellarValueFormat {
+    ghost lawful = { stellar_value_lawful };
+
     fn copy(value: &StellarValue) -> Result<StellarValue, AllocError> {
         value.copy()
     }
@@ -352,14 +353,14 @@ impl Decode for TransactionSetFormat {
 }
 
 impl Encode for TransactionSetFormat {
-    ghost lawful = { transaction_set_lawful };
-
     fn encode(value: &TransactionSet, builder: &mut Builder) -> Result<(), AllocError> {
         write_transaction_set(value, builder)
     }
 }
 
 impl Case for TransactionSetFormat {
+    ghost lawful = { transaction_set_lawful };
+
     fn copy(value: &TransactionSet) -> Result<TransactionSet, AllocError> {
         value.copy()
     }
@@ -381,8 +382,6 @@ impl Decode for TrustLineAssetFormat {
 }
 
 impl Encode for TrustLineAssetFormat {
-    ghost lawful = { trust_line_asset_lawful };
-
     #[tactic(auto, using(xdr_core::proofs::Grammar::written, xdr_entries::proofs::BasicLaws::trust_line_asset_lawful))]
     fn encode(value: &TrustLineAsset, builder: &mut Builder) -> Result<(), AllocError> {
         write_trust_line_asset(value, builder)
@@ -390,6 +389,8 @@ impl Encode for TrustLineAssetFormat {
 }
 
 impl Case for TrustLineAssetFormat {
+    ghost lawful = { trust_line_asset_lawful };
+
     fn copy(value: &TrustLineAsset) -> Result<TrustLineAsset, AllocError> {
         Ok(*value)
     }
@@ -411,14 +412,14 @@ impl Decode for ResultSetFormat {
 }
 
 impl Encode for ResultSetFormat {
-    ghost lawful = { transaction_result_set_lawful };
-
     fn encode(value: &TransactionResultSet, builder: &mut Builder) -> Result<(), AllocError> {
         write_transaction_result_set(value, builder)
     }
 }
 
 impl Case for ResultSetFormat {
+    ghost lawful = { transaction_result_set_lawful };
+
     fn copy(value: &TransactionResultSet) -> Result<TransactionResultSet, AllocError> {
         value.copy()
     }
@@ -440,14 +441,14 @@ impl Decode for ImageFormat {
 }
 
 impl Encode for ImageFormat {
-    ghost lawful = { start_image_lawful };
-
     fn encode(value: &StartImage, builder: &mut Builder) -> Result<(), AllocError> {
         write_start_image(value, builder)
     }
 }
 
 impl Case for ImageFormat {
+    ghost lawful = { start_image_lawful };
+
     fn copy(value: &StartImage) -> Result<StartImage, AllocError> {
         value.copy()
     }
@@ -469,44 +470,54 @@ impl Decode for BucketEntryFormat {
 }
 
 impl Encode for BucketEntryFormat {
-    ghost lawful = { bucket_entry_lawful };
-
     fn encode(value: &BucketEntry, builder: &mut Builder) -> Result<(), AllocError> {
         write_bucket_entry(value, builder)
     }
 }
 
 impl Case for BucketEntryFormat {
+    ghost lawful = { bucket_entry_lawful };
+
     fn copy(value: &BucketEntry) -> Result<BucketEntry, AllocError> {
         value.copy()
     }
 }
 
 impl Case for AssetFormat {
+    ghost lawful = { asset_lawful };
+
     fn copy(value: &Asset) -> Result<Asset, AllocError> {
         Ok(*value)
     }
 }
 
 impl Case for ClaimantFormat {
+    ghost lawful = { claimant_lawful };
+
     fn copy(value: &Claimant) -> Result<Claimant, AllocError> {
         value.copy()
     }
 }
 
 impl Case for SignerFormat {
+    ghost lawful = { signer_lawful };
+
     fn copy(value: &Signer) -> Result<Signer, AllocError> {
         Ok(*value)
     }
 }
 
 impl Case for OperationFormat {
+    ghost lawful = { operation_lawful };
+
     fn copy(value: &Operation) -> Result<Operation, AllocError> {
         value.copy()
     }
 }
 
 impl Case for TransactionEnvelopeFormat {
+    ghost lawful = { transaction_envelope_lawful };
+
     fn copy(value: &TransactionEnvelope) -> Result<TransactionEnvelope, AllocError> {
         value.copy()
     }

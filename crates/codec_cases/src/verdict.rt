@@ -1,12 +1,16 @@
 //! What a codec makes of an input.
 
 ghost use Rattle.std.specs.Prelude.{◌≡◌, IfOk};
+ghost use Rattle.xdr_core.specs.Format.{Lawful};
 
 use std::alloc::{AllocError, Global};
 use xdr_core::{Builder, Cursor, Decode, Encode, ReadFault, XdrKind};
 
 /// A type that vectors are of: its codec, and how a value is copied.
 pub trait Case: Encode {
+    // What is read is spelled so, and what is spelled so is read.
+    ghost lawful: { Lawful Self.format };
+
     /// The same value once more.
     fn copy(value: &Self::Value) -> Result<Self::Value, AllocError>
         ensures { IfOk result (λ copy. copy ≡ value.now) };

@@ -6,7 +6,6 @@ ghost use Rattle.xdr_core.specs.ReadFault.{cause_of};
 ghost use Rattle.xdr_core.specs.Combinators.{times};
 ghost use Rattle.xdr_entries.specs.Basic.{hash};
 ghost use Rattle.xdr_header.specs.Header as spec;
-ghost use Rattle.xdr_header.proofs.HeaderLaws.{ledger_header_extension_v1_lawful};
 
 use crate::value::{read_stellar_value, write_stellar_value};
 use ledger_types::{Hash, LedgerHeader, LedgerHeaderExtensionV1};
@@ -161,8 +160,6 @@ impl Decode for LedgerHeaderExtensionV1Format {
 }
 
 impl Encode for LedgerHeaderExtensionV1Format {
-    ghost lawful = { ledger_header_extension_v1_lawful };
-
     #[tactic(auto, using(xdr_core::proofs::Grammar::written, crate::proofs::HeaderLaws::ledger_header_extension_v1_lawful))]
     fn encode(value: &LedgerHeaderExtensionV1, builder: &mut Builder) -> Result<(), AllocError> {
         write_ledger_header_extension_v1(value, builder)

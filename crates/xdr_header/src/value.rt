@@ -5,7 +5,6 @@ ghost use Rattle.xdr_core.specs.Place.{Reads, itself};
 ghost use Rattle.xdr_core.specs.ReadFault.{cause_of};
 ghost use Rattle.xdr_core.specs.Leaves.{var};
 ghost use Rattle.xdr_header.specs.Header as spec;
-ghost use Rattle.xdr_header.proofs.HeaderLaws.{ledger_close_value_signature_lawful, upgrade_bytes_lawful};
 
 use item_list::ItemList;
 use ledger_types::{LedgerCloseValueSignature, LedgerUpgrade, StellarValue};
@@ -182,8 +181,6 @@ impl Decode for LedgerCloseValueSignatureFormat {
 }
 
 impl Encode for LedgerCloseValueSignatureFormat {
-    ghost lawful = { ledger_close_value_signature_lawful };
-
     #[tactic(auto, using(xdr_core::proofs::Grammar::written, crate::proofs::HeaderLaws::ledger_close_value_signature_lawful))]
     fn encode(value: &LedgerCloseValueSignature, builder: &mut Builder) -> Result<(), AllocError> {
         write_ledger_close_value_signature(value, builder)
@@ -209,8 +206,6 @@ impl Decode for UpgradeBytesFormat {
 }
 
 impl Encode for UpgradeBytesFormat {
-    ghost lawful = { upgrade_bytes_lawful };
-
     #[tactic(auto, using(xdr_core::proofs::Grammar::written, crate::proofs::HeaderLaws::upgrade_bytes_lawful))]
     fn encode(value: &ItemList<u8>, builder: &mut Builder) -> Result<(), AllocError> {
         builder.var(value.as_slice(), MAX_UPGRADE_LEN)

@@ -4,7 +4,6 @@ ghost use Rattle.std.specs.Prelude.{◌≡◌, OnOk};
 ghost use Rattle.xdr_core.specs.Place.{Reads, itself};
 ghost use Rattle.xdr_core.specs.ReadFault.{cause_of};
 ghost use Rattle.xdr_results.specs.Answers as spec;
-ghost use Rattle.xdr_results.proofs.PayloadLaws.{inflation_payout_lawful};
 
 use crate::coded::{plain_value, read_code, write_code};
 use op_types::{
@@ -64,8 +63,6 @@ impl Decode for InflationPayoutFormat {
 }
 
 impl Encode for InflationPayoutFormat {
-    ghost lawful = { inflation_payout_lawful };
-
     #[tactic(auto, using(xdr_core::proofs::Grammar::written, crate::proofs::PayloadLaws::inflation_payout_lawful))]
     fn encode(value: &InflationPayout, builder: &mut Builder) -> Result<(), AllocError> {
         write_inflation_payout(value, builder)

@@ -3,7 +3,6 @@
 ghost use Rattle.std.specs.Prelude.{◌≡◌, OnOk};
 ghost use Rattle.xdr_core.specs.Place.{Reads, itself};
 ghost use Rattle.xdr_results.specs.Answers as spec;
-ghost use Rattle.xdr_results.proofs.PayloadLaws.{claim_atom_lawful};
 
 use ledger_types::ClaimAtom;
 use std::alloc::{AllocError, Global};
@@ -128,8 +127,6 @@ impl Decode for ClaimAtomFormat {
 }
 
 impl Encode for ClaimAtomFormat {
-    ghost lawful = { claim_atom_lawful };
-
     #[tactic(auto, using(xdr_core::proofs::Grammar::written, crate::proofs::PayloadLaws::claim_atom_lawful))]
     fn encode(value: &ClaimAtom, builder: &mut Builder) -> Result<(), AllocError> {
         write_claim_atom(value, builder)

@@ -6,7 +6,6 @@ ghost use Rattle.xdr_core.specs.ReadFault.{cause_of};
 ghost use Rattle.xdr_core.specs.Combinators.{pick};
 ghost use Rattle.xdr_core.specs.Xdr.{no_arm};
 ghost use Rattle.xdr_results.specs.Results as spec;
-ghost use Rattle.xdr_results.proofs.OperationLaws.{operation_result_lawful};
 
 use crate::account_results::{
     read_account_merge_result, read_bump_sequence_result, read_inflation_result,
@@ -336,8 +335,6 @@ impl Decode for OperationResultFormat {
 }
 
 impl Encode for OperationResultFormat {
-    ghost lawful = { operation_result_lawful };
-
     #[tactic(auto, using(xdr_core::proofs::Grammar::written, crate::proofs::OperationLaws::operation_result_lawful))]
     fn encode(value: &OperationResult, builder: &mut Builder) -> Result<(), AllocError> {
         write_operation_result(value, builder)

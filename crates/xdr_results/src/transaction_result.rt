@@ -4,7 +4,6 @@ ghost use Rattle.std.specs.Prelude.{◌≡◌, ◌++◌, OnOk};
 ghost use Rattle.xdr_core.specs.Place.{Reads};
 ghost use Rattle.xdr_core.specs.ReadFault.{cause_of};
 ghost use Rattle.xdr_results.specs.Results as spec;
-ghost use Rattle.xdr_results.proofs.TransactionLaws.{transaction_result_pair_lawful};
 
 use crate::coded::plain_value;
 use crate::operation_result::OperationResultFormat;
@@ -295,8 +294,6 @@ impl Decode for TransactionResultPairFormat {
 }
 
 impl Encode for TransactionResultPairFormat {
-    ghost lawful = { transaction_result_pair_lawful };
-
     fn encode(value: &TransactionResultPair, builder: &mut Builder) -> Result<(), AllocError> {
         write_transaction_result_pair(value, builder)
     }

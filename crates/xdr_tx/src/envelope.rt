@@ -4,7 +4,6 @@ ghost use Rattle.std.specs.Prelude.{◌≡◌, ◌++◌, OnOk};
 ghost use Rattle.xdr_core.specs.Place.{Reads};
 ghost use Rattle.xdr_core.specs.ReadFault.{cause_of};
 ghost use Rattle.xdr_tx.specs.Transactions as spec;
-ghost use Rattle.xdr_tx.proofs.TransactionLaws.{transaction_envelope_lawful};
 
 use crate::signature::{DecoratedSignatureFormat, MAX_SIGNATURES};
 use crate::transaction::{
@@ -228,8 +227,6 @@ impl Decode for TransactionEnvelopeFormat {
 }
 
 impl Encode for TransactionEnvelopeFormat {
-    ghost lawful = { transaction_envelope_lawful };
-
     fn encode(value: &TransactionEnvelope, builder: &mut Builder) -> Result<(), AllocError> {
         write_transaction_envelope(value, builder)
     }

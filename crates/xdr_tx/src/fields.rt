@@ -1,8 +1,6 @@
 //! Fields that may be absent.
 
 ghost use Rattle.xdr_core.specs.Leaves.{u32 as u32_format, var};
-ghost use Rattle.xdr_core.proofs.LeafLaws.{u32_lawful};
-ghost use Rattle.xdr_tx.proofs.FieldLaws.{home_domain_lawful, data_value_lawful};
 
 use item_list::ItemList;
 use ledger_types::MAX_HOME_DOMAIN_LEN;
@@ -26,8 +24,6 @@ impl Decode for U32Format {
 }
 
 impl Encode for U32Format {
-    ghost lawful = { u32_lawful };
-
     #[tactic(auto, using(xdr_core::proofs::Grammar::written, xdr_core::proofs::LeafLaws::u32_lawful))]
     fn encode(value: &u32, builder: &mut Builder) -> Result<(), AllocError> {
         builder.u32(*value)
@@ -53,8 +49,6 @@ impl Decode for HomeDomainFormat {
 }
 
 impl Encode for HomeDomainFormat {
-    ghost lawful = { home_domain_lawful };
-
     #[tactic(auto, using(xdr_core::proofs::Grammar::written, crate::proofs::FieldLaws::home_domain_lawful))]
     fn encode(value: &ItemList<u8>, builder: &mut Builder) -> Result<(), AllocError> {
         builder.var(value.as_slice(), MAX_HOME_DOMAIN_LEN)
@@ -80,8 +74,6 @@ impl Decode for DataValueFormat {
 }
 
 impl Encode for DataValueFormat {
-    ghost lawful = { data_value_lawful };
-
     #[tactic(auto, using(xdr_core::proofs::Grammar::written, crate::proofs::FieldLaws::data_value_lawful))]
     fn encode(value: &ItemList<u8>, builder: &mut Builder) -> Result<(), AllocError> {
         builder.var(value.as_slice(), MAX_DATA_VALUE_LEN)

@@ -6,7 +6,6 @@ ghost use Rattle.xdr_core.specs.ReadFault.{cause_of};
 ghost use Rattle.xdr_core.specs.Combinators.{pick};
 ghost use Rattle.xdr_core.specs.Xdr.{no_arm};
 ghost use Rattle.xdr_tx.specs.Operations as spec;
-ghost use Rattle.xdr_tx.proofs.BodyLaws.{operation_lawful};
 
 use crate::account_ops::{
     read_account_merge_op, read_bump_sequence_op, read_create_account_op, read_manage_data_op,
@@ -308,8 +307,6 @@ impl Decode for OperationFormat {
 }
 
 impl Encode for OperationFormat {
-    ghost lawful = { operation_lawful };
-
     #[tactic(auto, using(xdr_core::proofs::Grammar::written, crate::proofs::BodyLaws::operation_lawful))]
     fn encode(value: &Operation, builder: &mut Builder) -> Result<(), AllocError> {
         write_operation(value, builder)

@@ -4,7 +4,6 @@ ghost use Rattle.std.specs.Prelude.{◌≡◌, OnOk};
 ghost use Rattle.xdr_core.specs.Place.{Reads};
 ghost use Rattle.xdr_core.specs.ReadFault.{cause_of};
 ghost use Rattle.xdr_tx.specs.Transactions as spec;
-ghost use Rattle.xdr_tx.proofs.TransactionLaws.{decorated_signature_lawful};
 
 use item_list::ItemList;
 use op_types::DecoratedSignature;
@@ -61,8 +60,6 @@ impl Decode for DecoratedSignatureFormat {
 }
 
 impl Encode for DecoratedSignatureFormat {
-    ghost lawful = { decorated_signature_lawful };
-
     #[tactic(auto, using(xdr_core::proofs::Grammar::written, crate::proofs::TransactionLaws::decorated_signature_lawful))]
     fn encode(value: &DecoratedSignature, builder: &mut Builder) -> Result<(), AllocError> {
         write_decorated_signature(value, builder)

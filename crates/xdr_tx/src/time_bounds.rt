@@ -3,7 +3,6 @@
 ghost use Rattle.std.specs.Prelude.{◌≡◌, OnOk};
 ghost use Rattle.xdr_core.specs.Place.{Reads, itself};
 ghost use Rattle.xdr_tx.specs.Transactions as spec;
-ghost use Rattle.xdr_tx.proofs.TransactionLaws.{time_bounds_lawful};
 
 use op_types::TimeBounds;
 use std::alloc::{AllocError, Global};
@@ -46,8 +45,6 @@ impl Decode for TimeBoundsFormat {
 }
 
 impl Encode for TimeBoundsFormat {
-    ghost lawful = { time_bounds_lawful };
-
     #[tactic(auto, using(xdr_core::proofs::Grammar::written, crate::proofs::TransactionLaws::time_bounds_lawful))]
     fn encode(value: &TimeBounds, builder: &mut Builder) -> Result<(), AllocError> {
         write_time_bounds(value, builder)

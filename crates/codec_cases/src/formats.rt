@@ -205,7 +205,7 @@ impl Decode for MemoFormat {
 }
 
 impl Encode for MemoFormat {
-    #[tactic(auto, using(xdr_core::proofs::Grammar::written, xdr_tx::proofs::TransactionLaws::memo_lawful))]
+    #[tactic(auto, using(xdr_core::proofs::FormatLaws::written, xdr_tx::proofs::TransactionLaws::memo_laws))]
     fn encode(value: &Memo, builder: &mut Builder) -> Result<(), AllocError> {
         write_memo(value, builder)
     }
@@ -264,7 +264,7 @@ impl Decode for PriceFormat {
 }
 
 impl Encode for PriceFormat {
-    #[tactic(auto, using(xdr_core::proofs::Grammar::written, xdr_entries::proofs::BasicLaws::price_lawful))]
+    #[tactic(auto, using(xdr_core::proofs::FormatLaws::written, xdr_entries::proofs::BasicLaws::price_laws))]
     fn encode(value: &Price, builder: &mut Builder) -> Result<(), AllocError> {
         write_price(value, builder)
     }
@@ -294,7 +294,7 @@ impl Decode for SignerKeyFormat {
 }
 
 impl Encode for SignerKeyFormat {
-    #[tactic(auto, using(xdr_core::proofs::Grammar::written, xdr_entries::proofs::BasicLaws::signer_key_lawful))]
+    #[tactic(auto, using(xdr_core::proofs::FormatLaws::written, xdr_entries::proofs::BasicLaws::signer_key_laws))]
     fn encode(value: &SignerKey, builder: &mut Builder) -> Result<(), AllocError> {
         write_signer_key(value, builder)
     }
@@ -382,7 +382,7 @@ impl Decode for TrustLineAssetFormat {
 }
 
 impl Encode for TrustLineAssetFormat {
-    #[tactic(auto, using(xdr_core::proofs::Grammar::written, xdr_entries::proofs::BasicLaws::trust_line_asset_lawful))]
+    #[tactic(auto, using(xdr_core::proofs::FormatLaws::written, xdr_entries::proofs::BasicLaws::trust_line_asset_laws))]
     fn encode(value: &TrustLineAsset, builder: &mut Builder) -> Result<(), AllocError> {
         write_trust_line_asset(value, builder)
     }

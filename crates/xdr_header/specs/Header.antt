@@ -17,21 +17,32 @@ use Rattle.xdr_entries.specs.Basic.{arm, hash, account_id}
 -- ---- values
 
 abbrev pub value_signature_fields : Fields (AccountId × List ℕ) LedgerCloseValueSignature
-value_signature_fields = record { to = λ v. record { node_id = v.0; signature = v.1 }; from = λ s. (s.node_id, s.signature); there = λ _. refl; back = λ _. refl }
+value_signature_fields = record {
+  to = λ v. record { node_id = v.0; signature = v.1 };
+  from = λ s. (s.node_id, s.signature);
+  there = λ _. refl;
+  back = λ _. refl;
+}
 
 unfoldable pub ledger_close_value_signature : Xdr LedgerCloseValueSignature
 ledger_close_value_signature = struct_of value_signature_fields (account_id ⨾ var 64)
 
 abbrev pub value_fields : Fields (Hash × (ℕ × (List (List ℕ) × Option LedgerCloseValueSignature))) StellarValue
 value_fields = record {
-  to = λ (hash, (time, (upgrades, ext))). record { tx_set_hash = hash; close_time = time; upgrades = upgrades; ext = ext };
+  to = λ (hash, (time, (upgrades, ext))). record {
+    tx_set_hash = hash;
+    close_time = time;
+    upgrades = upgrades;
+    ext = ext;
+  };
   from = λ v. (v.tx_set_hash, (v.close_time, (v.upgrades, v.ext)));
   there = λ _. refl;
   back = λ _. refl;
 }
 
 unfoldable pub stellar_value : Xdr StellarValue
-stellar_value = struct_of value_fields (hash ⨾ u64 ⨾ list_of 6 (var 128) ⨾ extension_of (pos 1) ledger_close_value_signature)
+stellar_value =
+    struct_of value_fields (hash ⨾ u64 ⨾ list_of 6 (var 128) ⨾ extension_of (pos 1) ledger_close_value_signature)
 
 -- ---- upgrades
 
@@ -66,17 +77,57 @@ ledger_upgrade = union_of upgrade_part upgrade_arms
 -- ---- headers
 
 abbrev pub header_v1_fields : Fields ℕ LedgerHeaderExtensionV1
-header_v1_fields = record { to = λ flags. record { flags = flags }; from = λ e. e.flags; there = λ _. refl; back = λ _. refl }
+header_v1_fields = record {
+  to = λ flags. record { flags = flags };
+  from = λ e. e.flags;
+  there = λ _. refl;
+  back = λ _. refl;
+}
 
 unfoldable pub ledger_header_extension_v1 : Xdr LedgerHeaderExtensionV1
 ledger_header_extension_v1 = struct_of header_v1_fields (closed u32 (tag (pos 0)))
 
 abbrev pub HeaderParts : Type 0
-HeaderParts = ℕ × (Hash × (StellarValue × (Hash × (Hash × (ℕ × (ℤ × (ℤ × (ℕ × (ℕ × (ℕ × (ℕ × (ℕ × (List Hash × Option LedgerHeaderExtensionV1)))))))))))))
+HeaderParts =
+    ℕ × (Hash × (StellarValue × (Hash × (Hash × (ℕ × (ℤ × (ℤ × (ℕ × (ℕ × (ℕ × (ℕ × (ℕ
+    × (List Hash × Option LedgerHeaderExtensionV1)))))))))))))
 
 abbrev pub header_fields : Fields HeaderParts LedgerHeader
 header_fields = record {
-  to = λ (version, (previous, (value, (results, (buckets, (seq, (coins, (fees, (inflation, (ids, (base_fee, (base_reserve, (size, (skips, ext)))))))))))))). record {
+  to = λ (
+    version,
+    (
+      previous,
+      (
+        value,
+        (
+          results,
+          (
+            buckets,
+            (
+              seq,
+              (
+                coins,
+                (
+                  fees,
+                  (
+                    inflation,
+                    (
+                      ids,
+                      (
+                        base_fee,
+                        (base_reserve, (size, (skips, ext))),
+                      ),
+                    ),
+                  ),
+                ),
+              ),
+            ),
+          ),
+        ),
+      ),
+    ),
+  ). record {
     ledger_version = version;
     previous_ledger_hash = previous;
     scp_value = value;
@@ -93,7 +144,43 @@ header_fields = record {
     skip_list = skips;
     ext = ext;
   };
-  from = λ h. (h.ledger_version, (h.previous_ledger_hash, (h.scp_value, (h.tx_set_result_hash, (h.bucket_list_hash, (h.ledger_seq, (h.total_coins, (h.fee_pool, (h.inflation_seq, (h.id_pool, (h.base_fee, (h.base_reserve, (h.max_tx_set_size, (h.skip_list, h.ext))))))))))))));
+  from = λ h. (
+    h.ledger_version,
+    (
+      h.previous_ledger_hash,
+      (
+        h.scp_value,
+        (
+          h.tx_set_result_hash,
+          (
+            h.bucket_list_hash,
+            (
+              h.ledger_seq,
+              (
+                h.total_coins,
+                (
+                  h.fee_pool,
+                  (
+                    h.inflation_seq,
+                    (
+                      h.id_pool,
+                      (
+                        h.base_fee,
+                        (
+                          h.base_reserve,
+                          (h.max_tx_set_size, (h.skip_list, h.ext)),
+                        ),
+                      ),
+                    ),
+                  ),
+                ),
+              ),
+            ),
+          ),
+        ),
+      ),
+    ),
+  );
   there = λ _. refl;
   back = λ _. refl;
 }

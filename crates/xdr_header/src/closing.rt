@@ -29,7 +29,7 @@ pub fn read_close_record(alloc: Global, cursor: &mut Cursor<'_>) -> Result<Close
 }
 
 /// Writes a record of a close.
-#[tactic(auto, using(xdr_core::proofs::Grammar::written, crate::proofs::HeaderLaws::close_record_lawful))]
+#[tactic(auto, using(xdr_core::proofs::FormatLaws::written, crate::proofs::HeaderLaws::close_record_laws))]
 pub fn write_close_record(value: &CloseRecord, builder: &mut Builder) -> Result<(), AllocError>
     requires { spec.close_record.within value.now }
     ensures { OnOk result (builder.new ≡ builder.old ++ spec.close_record.spell value.now) }

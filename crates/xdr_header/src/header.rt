@@ -110,7 +110,7 @@ pub fn read_ledger_header(alloc: Global, cursor: &mut Cursor<'_>) -> Result<Ledg
 }
 
 /// Writes a header.
-#[tactic(auto, using(xdr_core::proofs::Grammar::written, crate::proofs::HeaderLaws::ledger_header_lawful))]
+#[tactic(auto, using(xdr_core::proofs::FormatLaws::written, crate::proofs::HeaderLaws::ledger_header_laws))]
 pub fn write_ledger_header(value: &LedgerHeader, builder: &mut Builder) -> Result<(), AllocError>
     requires { spec.ledger_header.within value.now }
     ensures { OnOk result (builder.new ≡ builder.old ++ spec.ledger_header.spell value.now) }
@@ -160,7 +160,7 @@ impl Decode for LedgerHeaderExtensionV1Format {
 }
 
 impl Encode for LedgerHeaderExtensionV1Format {
-    #[tactic(auto, using(xdr_core::proofs::Grammar::written, crate::proofs::HeaderLaws::ledger_header_extension_v1_lawful))]
+    #[tactic(auto, using(xdr_core::proofs::FormatLaws::written, crate::proofs::HeaderLaws::ledger_header_extension_v1_laws))]
     fn encode(value: &LedgerHeaderExtensionV1, builder: &mut Builder) -> Result<(), AllocError> {
         write_ledger_header_extension_v1(value, builder)
     }

@@ -1,6 +1,6 @@
 //! The laws of the formats, as contracts.
 
-ghost use Rattle.xdr_core.specs.Format.{Lawful, IsPrefixFree, FaultsRightly};
+ghost use Rattle.xdr_core.specs.Format.{Lawful, IsPrefixFree, FaultsRightly, PlacesFaults};
 ghost use Rattle.xdr_header.specs.Header as header_formats;
 ghost use Rattle.xdr_header.specs.Records as record_formats;
 ghost use Rattle.xdr_header.specs.Image as image_formats;
@@ -39,4 +39,17 @@ pub fn faults_come_only_without_spelling()
     ensures ledger_headers { FaultsRightly header_formats.ledger_header }
     ensures close_records { FaultsRightly record_formats.close_record }
     ensures start_images { FaultsRightly image_formats.start_image }
+{}
+
+/// Where a text ends too early the fault's place is the text's end, and any other fault stays the same whatever bytes
+/// follow.
+#[tactic(auto, using(crate::proofs::AllLaws::all_laws))]
+pub fn faults_are_placed()
+    ensures value_signatures { PlacesFaults header_formats.ledger_close_value_signature }
+    ensures stellar_values { PlacesFaults header_formats.stellar_value }
+    ensures ledger_upgrades { PlacesFaults header_formats.ledger_upgrade }
+    ensures header_extensions_v1 { PlacesFaults header_formats.ledger_header_extension_v1 }
+    ensures ledger_headers { PlacesFaults header_formats.ledger_header }
+    ensures close_records { PlacesFaults record_formats.close_record }
+    ensures start_images { PlacesFaults image_formats.start_image }
 {}

@@ -85,7 +85,7 @@ pub fn read_start_image(alloc: Global, cursor: &mut Cursor<'_>) -> Result<StartI
 }
 
 /// Writes a start image.
-#[tactic(auto, using(xdr_core::proofs::Grammar::written, crate::proofs::ImageLaws::start_image_lawful))]
+#[tactic(auto, using(xdr_core::proofs::FormatLaws::written, crate::proofs::ImageLaws::start_image_laws))]
 pub fn write_start_image(value: &StartImage, builder: &mut Builder) -> Result<(), AllocError>
     requires { spec.start_image.within value.now }
     ensures { OnOk result (builder.new ≡ builder.old ++ spec.start_image.spell value.now) }

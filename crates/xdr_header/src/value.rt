@@ -87,7 +87,7 @@ pub fn read_stellar_value(alloc: Global, cursor: &mut Cursor<'_>) -> Result<Stel
 }
 
 /// Writes what the network agreed upon.
-#[tactic(auto, using(xdr_core::proofs::Grammar::written, crate::proofs::HeaderLaws::stellar_value_lawful))]
+#[tactic(auto, using(xdr_core::proofs::FormatLaws::written, crate::proofs::HeaderLaws::stellar_value_laws))]
 pub fn write_stellar_value(value: &StellarValue, builder: &mut Builder) -> Result<(), AllocError>
     requires { spec.stellar_value.within value.now }
     ensures { OnOk result (builder.new ≡ builder.old ++ spec.stellar_value.spell value.now) }
@@ -126,7 +126,7 @@ pub fn read_ledger_upgrade(cursor: &mut Cursor<'_>) -> Result<LedgerUpgrade, Xdr
 }
 
 /// Writes an upgrade.
-#[tactic(auto, using(xdr_core::proofs::Grammar::written, crate::proofs::HeaderLaws::ledger_upgrade_lawful))]
+#[tactic(auto, using(xdr_core::proofs::FormatLaws::written, crate::proofs::HeaderLaws::ledger_upgrade_laws))]
 pub fn write_ledger_upgrade(value: &LedgerUpgrade, builder: &mut Builder) -> Result<(), AllocError>
     ensures { OnOk result (builder.new ≡ builder.old ++ spec.ledger_upgrade.spell value.now) }
 {
@@ -181,7 +181,7 @@ impl Decode for LedgerCloseValueSignatureFormat {
 }
 
 impl Encode for LedgerCloseValueSignatureFormat {
-    #[tactic(auto, using(xdr_core::proofs::Grammar::written, crate::proofs::HeaderLaws::ledger_close_value_signature_lawful))]
+    #[tactic(auto, using(xdr_core::proofs::FormatLaws::written, crate::proofs::HeaderLaws::ledger_close_value_signature_laws))]
     fn encode(value: &LedgerCloseValueSignature, builder: &mut Builder) -> Result<(), AllocError> {
         write_ledger_close_value_signature(value, builder)
     }
@@ -206,7 +206,7 @@ impl Decode for UpgradeBytesFormat {
 }
 
 impl Encode for UpgradeBytesFormat {
-    #[tactic(auto, using(xdr_core::proofs::Grammar::written, crate::proofs::HeaderLaws::upgrade_bytes_lawful))]
+    #[tactic(auto, using(xdr_core::proofs::FormatLaws::written, crate::proofs::HeaderLaws::upgrade_bytes_laws))]
     fn encode(value: &ItemList<u8>, builder: &mut Builder) -> Result<(), AllocError> {
         builder.var(value.as_slice(), MAX_UPGRADE_LEN)
     }

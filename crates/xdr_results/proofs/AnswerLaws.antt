@@ -1,16 +1,9 @@
--- The laws of the formats of what each type of operation answers: what is read is spelled so, what is spelled so is read, and writing puts the spelling at the end.
+-- The laws of the formats of what each type of operation answers.
 use Rattle.std.proofs.Common.{pos, negsuc, refl, arith}
-use Rattle.xdr_core.specs.Format.{Lawful}
-use Rattle.xdr_core.specs.Xdr.{as_it_is, no_arm}
-use Rattle.xdr_core.proofs.LeafLaws.{i64_lawful}
-use Rattle.xdr_core.proofs.Combining.{list_law}
-use Rattle.xdr_core.proofs.Arms.{under}
-use Rattle.xdr_results.proofs.Plain.{plain_under, plain_are}
-use Rattle.xdr_core.proofs.Unions.{IsFound, union_law}
-use Rattle.xdr_core.proofs.Extensions.{empty_law}
-use Rattle.xdr_core.proofs.Discriminants.{discriminant_fits}
-use Rattle.xdr_entries.proofs.BasicLaws.{claimable_balance_id_lawful, asset_lawful}
-use Rattle.xdr_core.specs.Combinators.{part}
+use Rattle.xdr_core.proofs.FormatLaws.{Laws, i64_laws, list_laws, arm_laws, found, union_laws}
+use Rattle.xdr_results.proofs.Plain.{plain_under, plain_are, IsListed, codes_laws}
+use Rattle.xdr_core.proofs.Unions.{IsFound}
+use Rattle.xdr_entries.proofs.BasicLaws.{claimable_balance_id_laws, asset_laws}
 use Rattle.op_types.specs.declared.payment_results.CreateAccountResult.{CreateAccountResult}
 use Rattle.op_types.specs.declared.payment_results.CreateAccountResult.TheVariants as create_account
 use Rattle.op_types.specs.declared.payment_results.PaymentResult.{PaymentResult}
@@ -58,114 +51,46 @@ use Rattle.op_types.specs.declared.pool_results.LiquidityPoolDepositResult.TheVa
 use Rattle.op_types.specs.declared.pool_results.LiquidityPoolWithdrawResult.{LiquidityPoolWithdrawResult}
 use Rattle.op_types.specs.declared.pool_results.LiquidityPoolWithdrawResult.TheVariants as liquidity_pool_withdraw
 use Rattle.op_types.specs.Codes.{
-  create_account_code,
-  payment_code,
-  path_payment_strict_receive_code,
-  path_payment_strict_send_code,
-  manage_offer_code,
-  set_options_code,
-  change_trust_code,
-  allow_trust_code,
-  account_merge_code,
-  inflation_code,
-  manage_data_code,
-  bump_sequence_code,
-  create_claimable_balance_code,
-  claim_claimable_balance_code,
-  begin_sponsoring_future_reserves_code,
-  end_sponsoring_future_reserves_code,
-  revoke_sponsorship_code,
-  clawback_code,
-  clawback_claimable_balance_code,
-  set_trust_line_flags_code,
-  liquidity_pool_deposit_code,
-  liquidity_pool_withdraw_code,
-  create_account_values,
-  payment_values,
-  set_options_values,
-  change_trust_values,
-  allow_trust_values,
-  manage_data_values,
-  bump_sequence_values,
-  claim_claimable_balance_values,
-  begin_sponsoring_future_reserves_values,
-  end_sponsoring_future_reserves_values,
-  revoke_sponsorship_values,
-  clawback_values,
-  clawback_claimable_balance_values,
-  set_trust_line_flags_values,
-  liquidity_pool_deposit_values,
-  liquidity_pool_withdraw_values,
+  create_account_code, payment_code, path_payment_strict_receive_code, path_payment_strict_send_code, manage_offer_code,
+  set_options_code, change_trust_code, allow_trust_code, account_merge_code, inflation_code, manage_data_code,
+  bump_sequence_code, create_claimable_balance_code, claim_claimable_balance_code,
+  begin_sponsoring_future_reserves_code, end_sponsoring_future_reserves_code, revoke_sponsorship_code, clawback_code,
+  clawback_claimable_balance_code, set_trust_line_flags_code, liquidity_pool_deposit_code, liquidity_pool_withdraw_code,
+  create_account_values, payment_values, set_options_values, change_trust_values, allow_trust_values,
+  manage_data_values, bump_sequence_values, claim_claimable_balance_values, begin_sponsoring_future_reserves_values,
+  end_sponsoring_future_reserves_values, revoke_sponsorship_values, clawback_values, clawback_claimable_balance_values,
+  set_trust_line_flags_values, liquidity_pool_deposit_values, liquidity_pool_withdraw_values,
+  path_payment_strict_receive_values, path_payment_strict_send_values, manage_offer_values, account_merge_values,
+  inflation_values, create_claimable_balance_values,
 }
-use Rattle.xdr_results.proofs.PayloadLaws.{
-  path_payment_success_lawful,
-  manage_offer_success_lawful,
-  inflation_payout_lawful,
-}
-use Rattle.xdr_results.specs.Coded.{plain, plain_arms}
+use Rattle.xdr_results.proofs.PayloadLaws.{path_payment_success_laws, manage_offer_success_laws, inflation_payout_laws}
 use Rattle.xdr_results.specs.Answers.{
-  create_account_result,
-  payment_result,
-  path_payment_strict_receive_success_arm,
-  path_payment_strict_receive_no_issuer_arm,
-  path_payment_strict_receive_result_arms,
-  path_payment_strict_receive_result_part,
-  path_payment_strict_receive_result,
-  path_payment_strict_send_success_arm,
-  path_payment_strict_send_no_issuer_arm,
-  path_payment_strict_send_result_arms,
-  path_payment_strict_send_result_part,
-  path_payment_strict_send_result,
-  manage_offer_success_arm,
-  manage_offer_result_arms,
-  manage_offer_result_part,
-  manage_offer_result,
-  set_options_result,
-  change_trust_result,
-  allow_trust_result,
-  account_merge_success_arm,
-  account_merge_result_arms,
-  account_merge_result_part,
-  account_merge_result,
-  inflation_success_arm,
-  inflation_result_arms,
-  inflation_result_part,
-  inflation_result,
-  manage_data_result,
-  bump_sequence_result,
-  create_claimable_balance_success_arm,
-  create_claimable_balance_result_arms,
-  create_claimable_balance_result_part,
-  create_claimable_balance_result,
-  claim_claimable_balance_result,
-  begin_sponsoring_future_reserves_result,
-  end_sponsoring_future_reserves_result,
-  revoke_sponsorship_result,
-  clawback_result,
-  clawback_claimable_balance_result,
-  set_trust_line_flags_result,
-  liquidity_pool_deposit_result,
-  liquidity_pool_withdraw_result,
+  create_account_result, payment_result, path_payment_strict_receive_success_arm,
+  path_payment_strict_receive_no_issuer_arm, path_payment_strict_receive_result_arms,
+  path_payment_strict_receive_result_part, path_payment_strict_receive_result, path_payment_strict_send_success_arm,
+  path_payment_strict_send_no_issuer_arm, path_payment_strict_send_result_arms, path_payment_strict_send_result_part,
+  path_payment_strict_send_result, manage_offer_success_arm, manage_offer_result_arms, manage_offer_result_part,
+  manage_offer_result, set_options_result, change_trust_result, allow_trust_result, account_merge_success_arm,
+  account_merge_result_arms, account_merge_result_part, account_merge_result, inflation_success_arm,
+  inflation_result_arms, inflation_result_part, inflation_result, manage_data_result, bump_sequence_result,
+  create_claimable_balance_success_arm, create_claimable_balance_result_arms, create_claimable_balance_result_part,
+  create_claimable_balance_result, claim_claimable_balance_result, begin_sponsoring_future_reserves_result,
+  end_sponsoring_future_reserves_result, revoke_sponsorship_result, clawback_result, clawback_claimable_balance_result,
+  set_trust_line_flags_result, liquidity_pool_deposit_result, liquidity_pool_withdraw_result,
 }
 
-create_account_result_found : (v : CreateAccountResult) →
-    IsFound (λ value. part (plain create_account_code value) tt) (plain_arms create_account_code create_account_values) v
+create_account_result_found : (v : CreateAccountResult) → IsListed create_account_code create_account_values v
 create_account_result_found create_account.Success = plain_under create_account_code tt refl (λ _ _ _. refl)
 create_account_result_found create_account.Malformed = plain_under create_account_code tt refl (λ _ _ _. refl)
 create_account_result_found create_account.Underfunded = plain_under create_account_code tt refl (λ _ _ _. refl)
 create_account_result_found create_account.LowReserve = plain_under create_account_code tt refl (λ _ _ _. refl)
 create_account_result_found create_account.AlreadyExist = plain_under create_account_code tt refl (λ _ _ _. refl)
 
-pub create_account_result_lawful : Lawful create_account_result
+pub create_account_result_laws : Laws create_account_result
 unfolding create_account_result
-create_account_result_lawful =
-    union_law as_it_is (λ value. part (plain create_account_code value) tt)
-    (plain_arms create_account_code create_account_values) no_arm
-    (plain_are create_account_code create_account_values (refl, (refl, (refl, (refl, (refl, tt))))))
-    create_account_result_found
+create_account_result_laws = codes_laws create_account_code create_account_values create_account_result_found
 
-payment_result_found : (v : PaymentResult) →
-    IsFound (λ value. part (plain payment_code value) tt) (plain_arms payment_code payment_values) v
+payment_result_found : (v : PaymentResult) → IsListed payment_code payment_values v
 payment_result_found payment.Success = plain_under payment_code tt refl (λ _ _ _. refl)
 payment_result_found payment.Malformed = plain_under payment_code tt refl (λ _ _ _. refl)
 payment_result_found payment.Underfunded = plain_under payment_code tt refl (λ _ _ _. refl)
@@ -177,20 +102,16 @@ payment_result_found payment.NotAuthorized = plain_under payment_code tt refl (�
 payment_result_found payment.LineFull = plain_under payment_code tt refl (λ _ _ _. refl)
 payment_result_found payment.NoIssuer = plain_under payment_code tt refl (λ _ _ _. refl)
 
-pub payment_result_lawful : Lawful payment_result
+pub payment_result_laws : Laws payment_result
 unfolding payment_result
-payment_result_lawful =
-    union_law as_it_is (λ value. part (plain payment_code value) tt) (plain_arms payment_code payment_values) no_arm
-    (plain_are payment_code payment_values
-    (refl, (refl, (refl, (refl, (refl, (refl, (refl, (refl, (refl, (refl, tt)))))))))))
-    payment_result_found
+payment_result_laws = codes_laws payment_code payment_values payment_result_found
 
 path_payment_strict_receive_result_found : (v : PathPaymentStrictReceiveResult) →
     IsFound path_payment_strict_receive_result_part path_payment_strict_receive_result_arms v
 path_payment_strict_receive_result_found (path_payment_strict_receive.Success x) =
-    under path_payment_strict_receive_success_arm x path_payment_success_lawful tt refl refl (λ _ _ _. refl)
+    found path_payment_strict_receive_success_arm x path_payment_success_laws tt refl refl (λ _ _ _. refl)
 path_payment_strict_receive_result_found (path_payment_strict_receive.NoIssuer x) =
-    under path_payment_strict_receive_no_issuer_arm x asset_lawful tt refl refl (λ _ _ _. refl)
+    found path_payment_strict_receive_no_issuer_arm x asset_laws tt refl refl (λ _ _ _. refl)
 path_payment_strict_receive_result_found path_payment_strict_receive.Malformed =
     plain_under path_payment_strict_receive_code tt refl (λ _ _ _. refl)
 path_payment_strict_receive_result_found path_payment_strict_receive.Underfunded =
@@ -214,25 +135,21 @@ path_payment_strict_receive_result_found path_payment_strict_receive.OfferCrossS
 path_payment_strict_receive_result_found path_payment_strict_receive.OverSendmax =
     plain_under path_payment_strict_receive_code tt refl (λ _ _ _. refl)
 
-pub path_payment_strict_receive_result_lawful : Lawful path_payment_strict_receive_result
+pub path_payment_strict_receive_result_laws : Laws path_payment_strict_receive_result
 unfolding path_payment_strict_receive_result
-path_payment_strict_receive_result_lawful =
-    union_law as_it_is path_payment_strict_receive_result_part path_payment_strict_receive_result_arms no_arm (
-      record { law = path_payment_success_lawful; is_part = λ x. refl },
-      (
-        record { law = asset_lawful; is_part = λ x. refl },
-        plain_are path_payment_strict_receive_code path_payment_strict_receive_values
-            (refl, (refl, (refl, (refl, (refl, (refl, (refl, (refl, (refl, (refl, (refl, tt))))))))))),
-      ),
-    )
+path_payment_strict_receive_result_laws = union_laws
+    (arm_laws path_payment_success_laws (λ x. refl),
+      (arm_laws asset_laws (λ x. refl),
+      plain_are path_payment_strict_receive_code path_payment_strict_receive_values
+        (refl, (refl, (refl, (refl, (refl, (refl, (refl, (refl, (refl, (refl, (refl, tt)))))))))))))
     path_payment_strict_receive_result_found
 
 path_payment_strict_send_result_found : (v : PathPaymentStrictSendResult) →
     IsFound path_payment_strict_send_result_part path_payment_strict_send_result_arms v
 path_payment_strict_send_result_found (path_payment_strict_send.Success x) =
-    under path_payment_strict_send_success_arm x path_payment_success_lawful tt refl refl (λ _ _ _. refl)
+    found path_payment_strict_send_success_arm x path_payment_success_laws tt refl refl (λ _ _ _. refl)
 path_payment_strict_send_result_found (path_payment_strict_send.NoIssuer x) =
-    under path_payment_strict_send_no_issuer_arm x asset_lawful tt refl refl (λ _ _ _. refl)
+    found path_payment_strict_send_no_issuer_arm x asset_laws tt refl refl (λ _ _ _. refl)
 path_payment_strict_send_result_found path_payment_strict_send.Malformed =
     plain_under path_payment_strict_send_code tt refl (λ _ _ _. refl)
 path_payment_strict_send_result_found path_payment_strict_send.Underfunded =
@@ -256,22 +173,18 @@ path_payment_strict_send_result_found path_payment_strict_send.OfferCrossSelf =
 path_payment_strict_send_result_found path_payment_strict_send.UnderDestmin =
     plain_under path_payment_strict_send_code tt refl (λ _ _ _. refl)
 
-pub path_payment_strict_send_result_lawful : Lawful path_payment_strict_send_result
+pub path_payment_strict_send_result_laws : Laws path_payment_strict_send_result
 unfolding path_payment_strict_send_result
-path_payment_strict_send_result_lawful =
-    union_law as_it_is path_payment_strict_send_result_part path_payment_strict_send_result_arms no_arm (
-      record { law = path_payment_success_lawful; is_part = λ x. refl },
-      (
-        record { law = asset_lawful; is_part = λ x. refl },
-        plain_are path_payment_strict_send_code path_payment_strict_send_values
-            (refl, (refl, (refl, (refl, (refl, (refl, (refl, (refl, (refl, (refl, (refl, tt))))))))))),
-      ),
-    )
+path_payment_strict_send_result_laws = union_laws
+    (arm_laws path_payment_success_laws (λ x. refl),
+      (arm_laws asset_laws (λ x. refl),
+      plain_are path_payment_strict_send_code path_payment_strict_send_values
+        (refl, (refl, (refl, (refl, (refl, (refl, (refl, (refl, (refl, (refl, (refl, tt)))))))))))))
     path_payment_strict_send_result_found
 
 manage_offer_result_found : (v : ManageOfferResult) → IsFound manage_offer_result_part manage_offer_result_arms v
 manage_offer_result_found (manage_offer.Success x) =
-    under manage_offer_success_arm x manage_offer_success_lawful tt refl refl (λ _ _ _. refl)
+    found manage_offer_success_arm x manage_offer_success_laws tt refl refl (λ _ _ _. refl)
 manage_offer_result_found manage_offer.Malformed = plain_under manage_offer_code tt refl (λ _ _ _. refl)
 manage_offer_result_found manage_offer.SellNoTrust = plain_under manage_offer_code tt refl (λ _ _ _. refl)
 manage_offer_result_found manage_offer.BuyNoTrust = plain_under manage_offer_code tt refl (λ _ _ _. refl)
@@ -285,17 +198,15 @@ manage_offer_result_found manage_offer.BuyNoIssuer = plain_under manage_offer_co
 manage_offer_result_found manage_offer.NotFound = plain_under manage_offer_code tt refl (λ _ _ _. refl)
 manage_offer_result_found manage_offer.LowReserve = plain_under manage_offer_code tt refl (λ _ _ _. refl)
 
-pub manage_offer_result_lawful : Lawful manage_offer_result
+pub manage_offer_result_laws : Laws manage_offer_result
 unfolding manage_offer_result
-manage_offer_result_lawful = union_law as_it_is manage_offer_result_part manage_offer_result_arms no_arm (
-  record { law = manage_offer_success_lawful; is_part = λ x. refl },
-  plain_are manage_offer_code manage_offer_values
-      (refl, (refl, (refl, (refl, (refl, (refl, (refl, (refl, (refl, (refl, (refl, (refl, tt)))))))))))),
-)
+manage_offer_result_laws = union_laws
+    (arm_laws manage_offer_success_laws (λ x. refl),
+      plain_are manage_offer_code manage_offer_values
+        (refl, (refl, (refl, (refl, (refl, (refl, (refl, (refl, (refl, (refl, (refl, (refl, tt)))))))))))))
     manage_offer_result_found
 
-set_options_result_found : (v : SetOptionsResult) →
-    IsFound (λ value. part (plain set_options_code value) tt) (plain_arms set_options_code set_options_values) v
+set_options_result_found : (v : SetOptionsResult) → IsListed set_options_code set_options_values v
 set_options_result_found set_options.Success = plain_under set_options_code tt refl (λ _ _ _. refl)
 set_options_result_found set_options.LowReserve = plain_under set_options_code tt refl (λ _ _ _. refl)
 set_options_result_found set_options.TooManySigners = plain_under set_options_code tt refl (λ _ _ _. refl)
@@ -308,17 +219,11 @@ set_options_result_found set_options.BadSigner = plain_under set_options_code tt
 set_options_result_found set_options.InvalidHomeDomain = plain_under set_options_code tt refl (λ _ _ _. refl)
 set_options_result_found set_options.AuthRevocableRequired = plain_under set_options_code tt refl (λ _ _ _. refl)
 
-pub set_options_result_lawful : Lawful set_options_result
+pub set_options_result_laws : Laws set_options_result
 unfolding set_options_result
-set_options_result_lawful =
-    union_law as_it_is (λ value. part (plain set_options_code value) tt)
-    (plain_arms set_options_code set_options_values) no_arm
-    (plain_are set_options_code set_options_values
-    (refl, (refl, (refl, (refl, (refl, (refl, (refl, (refl, (refl, (refl, (refl, tt))))))))))))
-    set_options_result_found
+set_options_result_laws = codes_laws set_options_code set_options_values set_options_result_found
 
-change_trust_result_found : (v : ChangeTrustResult) →
-    IsFound (λ value. part (plain change_trust_code value) tt) (plain_arms change_trust_code change_trust_values) v
+change_trust_result_found : (v : ChangeTrustResult) → IsListed change_trust_code change_trust_values v
 change_trust_result_found change_trust.Success = plain_under change_trust_code tt refl (λ _ _ _. refl)
 change_trust_result_found change_trust.Malformed = plain_under change_trust_code tt refl (λ _ _ _. refl)
 change_trust_result_found change_trust.NoIssuer = plain_under change_trust_code tt refl (λ _ _ _. refl)
@@ -330,17 +235,11 @@ change_trust_result_found change_trust.CannotDelete = plain_under change_trust_c
 change_trust_result_found change_trust.NotAuthMaintainLiabilities =
     plain_under change_trust_code tt refl (λ _ _ _. refl)
 
-pub change_trust_result_lawful : Lawful change_trust_result
+pub change_trust_result_laws : Laws change_trust_result
 unfolding change_trust_result
-change_trust_result_lawful =
-    union_law as_it_is (λ value. part (plain change_trust_code value) tt)
-    (plain_arms change_trust_code change_trust_values) no_arm
-    (plain_are change_trust_code change_trust_values
-    (refl, (refl, (refl, (refl, (refl, (refl, (refl, (refl, (refl, tt))))))))))
-    change_trust_result_found
+change_trust_result_laws = codes_laws change_trust_code change_trust_values change_trust_result_found
 
-allow_trust_result_found : (v : AllowTrustResult) →
-    IsFound (λ value. part (plain allow_trust_code value) tt) (plain_arms allow_trust_code allow_trust_values) v
+allow_trust_result_found : (v : AllowTrustResult) → IsListed allow_trust_code allow_trust_values v
 allow_trust_result_found allow_trust.Success = plain_under allow_trust_code tt refl (λ _ _ _. refl)
 allow_trust_result_found allow_trust.Malformed = plain_under allow_trust_code tt refl (λ _ _ _. refl)
 allow_trust_result_found allow_trust.NoTrustLine = plain_under allow_trust_code tt refl (λ _ _ _. refl)
@@ -349,17 +248,13 @@ allow_trust_result_found allow_trust.CantRevoke = plain_under allow_trust_code t
 allow_trust_result_found allow_trust.SelfNotAllowed = plain_under allow_trust_code tt refl (λ _ _ _. refl)
 allow_trust_result_found allow_trust.LowReserve = plain_under allow_trust_code tt refl (λ _ _ _. refl)
 
-pub allow_trust_result_lawful : Lawful allow_trust_result
+pub allow_trust_result_laws : Laws allow_trust_result
 unfolding allow_trust_result
-allow_trust_result_lawful =
-    union_law as_it_is (λ value. part (plain allow_trust_code value) tt)
-    (plain_arms allow_trust_code allow_trust_values) no_arm
-    (plain_are allow_trust_code allow_trust_values (refl, (refl, (refl, (refl, (refl, (refl, (refl, tt))))))))
-    allow_trust_result_found
+allow_trust_result_laws = codes_laws allow_trust_code allow_trust_values allow_trust_result_found
 
 account_merge_result_found : (v : AccountMergeResult) → IsFound account_merge_result_part account_merge_result_arms v
 account_merge_result_found (account_merge.Success x) =
-    under account_merge_success_arm x i64_lawful tt refl refl (λ _ _ _. refl)
+    found account_merge_success_arm x i64_laws tt refl refl (λ _ _ _. refl)
 account_merge_result_found account_merge.Malformed = plain_under account_merge_code tt refl (λ _ _ _. refl)
 account_merge_result_found account_merge.NoAccount = plain_under account_merge_code tt refl (λ _ _ _. refl)
 account_merge_result_found account_merge.ImmutableSet = plain_under account_merge_code tt refl (λ _ _ _. refl)
@@ -368,61 +263,49 @@ account_merge_result_found account_merge.SeqnumTooFar = plain_under account_merg
 account_merge_result_found account_merge.DestFull = plain_under account_merge_code tt refl (λ _ _ _. refl)
 account_merge_result_found account_merge.IsSponsor = plain_under account_merge_code tt refl (λ _ _ _. refl)
 
-pub account_merge_result_lawful : Lawful account_merge_result
+pub account_merge_result_laws : Laws account_merge_result
 unfolding account_merge_result
-account_merge_result_lawful = union_law as_it_is account_merge_result_part account_merge_result_arms no_arm (
-  record { law = i64_lawful; is_part = λ x. refl },
-  plain_are account_merge_code account_merge_values (refl, (refl, (refl, (refl, (refl, (refl, (refl, tt))))))),
-)
+account_merge_result_laws = union_laws
+    (arm_laws i64_laws (λ x. refl),
+      plain_are account_merge_code account_merge_values (refl, (refl, (refl, (refl, (refl, (refl, (refl, tt))))))))
     account_merge_result_found
 
 inflation_result_found : (v : InflationResult) → IsFound inflation_result_part inflation_result_arms v
 inflation_result_found (inflation.Success x) =
-    under inflation_success_arm x
-    (list_law as_it_is 4294967295 (omega arith) inflation_payout_lawful) tt refl refl (λ _ _ _. refl)
+    found inflation_success_arm x
+    (list_laws 4294967295 (omega arith) inflation_payout_laws) tt refl refl (λ _ _ _. refl)
 inflation_result_found inflation.NotTime = plain_under inflation_code tt refl (λ _ _ _. refl)
 
-pub inflation_result_lawful : Lawful inflation_result
+pub inflation_result_laws : Laws inflation_result
 unfolding inflation_result
-inflation_result_lawful = union_law as_it_is inflation_result_part inflation_result_arms no_arm (
-  record { law = list_law as_it_is 4294967295 (omega arith) inflation_payout_lawful; is_part = λ x. refl },
-  plain_are inflation_code inflation_values (refl, tt),
-)
+inflation_result_laws = union_laws
+    (arm_laws (list_laws 4294967295 (omega arith) inflation_payout_laws) (λ x. refl),
+      plain_are inflation_code inflation_values (refl, tt))
     inflation_result_found
 
-manage_data_result_found : (v : ManageDataResult) →
-    IsFound (λ value. part (plain manage_data_code value) tt) (plain_arms manage_data_code manage_data_values) v
+manage_data_result_found : (v : ManageDataResult) → IsListed manage_data_code manage_data_values v
 manage_data_result_found manage_data.Success = plain_under manage_data_code tt refl (λ _ _ _. refl)
 manage_data_result_found manage_data.NotSupportedYet = plain_under manage_data_code tt refl (λ _ _ _. refl)
 manage_data_result_found manage_data.NameNotFound = plain_under manage_data_code tt refl (λ _ _ _. refl)
 manage_data_result_found manage_data.LowReserve = plain_under manage_data_code tt refl (λ _ _ _. refl)
 manage_data_result_found manage_data.InvalidName = plain_under manage_data_code tt refl (λ _ _ _. refl)
 
-pub manage_data_result_lawful : Lawful manage_data_result
+pub manage_data_result_laws : Laws manage_data_result
 unfolding manage_data_result
-manage_data_result_lawful =
-    union_law as_it_is (λ value. part (plain manage_data_code value) tt)
-    (plain_arms manage_data_code manage_data_values) no_arm
-    (plain_are manage_data_code manage_data_values (refl, (refl, (refl, (refl, (refl, tt))))))
-    manage_data_result_found
+manage_data_result_laws = codes_laws manage_data_code manage_data_values manage_data_result_found
 
-bump_sequence_result_found : (v : BumpSequenceResult) →
-    IsFound (λ value. part (plain bump_sequence_code value) tt) (plain_arms bump_sequence_code bump_sequence_values) v
+bump_sequence_result_found : (v : BumpSequenceResult) → IsListed bump_sequence_code bump_sequence_values v
 bump_sequence_result_found bump_sequence.Success = plain_under bump_sequence_code tt refl (λ _ _ _. refl)
 bump_sequence_result_found bump_sequence.BadSeq = plain_under bump_sequence_code tt refl (λ _ _ _. refl)
 
-pub bump_sequence_result_lawful : Lawful bump_sequence_result
+pub bump_sequence_result_laws : Laws bump_sequence_result
 unfolding bump_sequence_result
-bump_sequence_result_lawful =
-    union_law as_it_is (λ value. part (plain bump_sequence_code value) tt)
-    (plain_arms bump_sequence_code bump_sequence_values) no_arm
-    (plain_are bump_sequence_code bump_sequence_values (refl, (refl, tt)))
-    bump_sequence_result_found
+bump_sequence_result_laws = codes_laws bump_sequence_code bump_sequence_values bump_sequence_result_found
 
 create_claimable_balance_result_found : (v : CreateClaimableBalanceResult) →
     IsFound create_claimable_balance_result_part create_claimable_balance_result_arms v
 create_claimable_balance_result_found (create_claimable_balance.Success x) =
-    under create_claimable_balance_success_arm x claimable_balance_id_lawful tt refl refl (λ _ _ _. refl)
+    found create_claimable_balance_success_arm x claimable_balance_id_laws tt refl refl (λ _ _ _. refl)
 create_claimable_balance_result_found create_claimable_balance.Malformed =
     plain_under create_claimable_balance_code tt refl (λ _ _ _. refl)
 create_claimable_balance_result_found create_claimable_balance.LowReserve =
@@ -434,17 +317,16 @@ create_claimable_balance_result_found create_claimable_balance.NotAuthorized =
 create_claimable_balance_result_found create_claimable_balance.Underfunded =
     plain_under create_claimable_balance_code tt refl (λ _ _ _. refl)
 
-pub create_claimable_balance_result_lawful : Lawful create_claimable_balance_result
+pub create_claimable_balance_result_laws : Laws create_claimable_balance_result
 unfolding create_claimable_balance_result
-create_claimable_balance_result_lawful =
-    union_law as_it_is create_claimable_balance_result_part create_claimable_balance_result_arms no_arm (
-      record { law = claimable_balance_id_lawful; is_part = λ x. refl },
-      plain_are create_claimable_balance_code create_claimable_balance_values (refl, (refl, (refl, (refl, (refl, tt))))),
-    )
+create_claimable_balance_result_laws = union_laws
+    (arm_laws claimable_balance_id_laws (λ x. refl),
+      plain_are create_claimable_balance_code create_claimable_balance_values
+        (refl, (refl, (refl, (refl, (refl, tt))))))
     create_claimable_balance_result_found
 
 claim_claimable_balance_result_found : (v : ClaimClaimableBalanceResult) →
-    IsFound (λ value. part (plain claim_claimable_balance_code value) tt) (plain_arms claim_claimable_balance_code claim_claimable_balance_values) v
+    IsListed claim_claimable_balance_code claim_claimable_balance_values v
 claim_claimable_balance_result_found claim_claimable_balance.Success =
     plain_under claim_claimable_balance_code tt refl (λ _ _ _. refl)
 claim_claimable_balance_result_found claim_claimable_balance.DoesNotExist =
@@ -458,17 +340,13 @@ claim_claimable_balance_result_found claim_claimable_balance.NoTrust =
 claim_claimable_balance_result_found claim_claimable_balance.NotAuthorized =
     plain_under claim_claimable_balance_code tt refl (λ _ _ _. refl)
 
-pub claim_claimable_balance_result_lawful : Lawful claim_claimable_balance_result
+pub claim_claimable_balance_result_laws : Laws claim_claimable_balance_result
 unfolding claim_claimable_balance_result
-claim_claimable_balance_result_lawful =
-    union_law as_it_is (λ value. part (plain claim_claimable_balance_code value) tt)
-    (plain_arms claim_claimable_balance_code claim_claimable_balance_values) no_arm
-    (plain_are claim_claimable_balance_code claim_claimable_balance_values
-    (refl, (refl, (refl, (refl, (refl, (refl, tt)))))))
-    claim_claimable_balance_result_found
+claim_claimable_balance_result_laws =
+    codes_laws claim_claimable_balance_code claim_claimable_balance_values claim_claimable_balance_result_found
 
 begin_sponsoring_future_reserves_result_found : (v : BeginSponsoringFutureReservesResult) →
-    IsFound (λ value. part (plain begin_sponsoring_future_reserves_code value) tt) (plain_arms begin_sponsoring_future_reserves_code begin_sponsoring_future_reserves_values) v
+    IsListed begin_sponsoring_future_reserves_code begin_sponsoring_future_reserves_values v
 begin_sponsoring_future_reserves_result_found begin_sponsoring_future_reserves.Success =
     plain_under begin_sponsoring_future_reserves_code tt refl (λ _ _ _. refl)
 begin_sponsoring_future_reserves_result_found begin_sponsoring_future_reserves.Malformed =
@@ -478,32 +356,25 @@ begin_sponsoring_future_reserves_result_found begin_sponsoring_future_reserves.A
 begin_sponsoring_future_reserves_result_found begin_sponsoring_future_reserves.Recursive =
     plain_under begin_sponsoring_future_reserves_code tt refl (λ _ _ _. refl)
 
-pub begin_sponsoring_future_reserves_result_lawful : Lawful begin_sponsoring_future_reserves_result
+pub begin_sponsoring_future_reserves_result_laws : Laws begin_sponsoring_future_reserves_result
 unfolding begin_sponsoring_future_reserves_result
-begin_sponsoring_future_reserves_result_lawful =
-    union_law as_it_is (λ value. part (plain begin_sponsoring_future_reserves_code value) tt)
-    (plain_arms begin_sponsoring_future_reserves_code begin_sponsoring_future_reserves_values) no_arm
-    (plain_are begin_sponsoring_future_reserves_code begin_sponsoring_future_reserves_values
-    (refl, (refl, (refl, (refl, tt)))))
-    begin_sponsoring_future_reserves_result_found
+begin_sponsoring_future_reserves_result_laws =
+    codes_laws begin_sponsoring_future_reserves_code begin_sponsoring_future_reserves_values begin_sponsoring_future_reserves_result_found
 
 end_sponsoring_future_reserves_result_found : (v : EndSponsoringFutureReservesResult) →
-    IsFound (λ value. part (plain end_sponsoring_future_reserves_code value) tt) (plain_arms end_sponsoring_future_reserves_code end_sponsoring_future_reserves_values) v
+    IsListed end_sponsoring_future_reserves_code end_sponsoring_future_reserves_values v
 end_sponsoring_future_reserves_result_found end_sponsoring_future_reserves.Success =
     plain_under end_sponsoring_future_reserves_code tt refl (λ _ _ _. refl)
 end_sponsoring_future_reserves_result_found end_sponsoring_future_reserves.NotSponsored =
     plain_under end_sponsoring_future_reserves_code tt refl (λ _ _ _. refl)
 
-pub end_sponsoring_future_reserves_result_lawful : Lawful end_sponsoring_future_reserves_result
+pub end_sponsoring_future_reserves_result_laws : Laws end_sponsoring_future_reserves_result
 unfolding end_sponsoring_future_reserves_result
-end_sponsoring_future_reserves_result_lawful =
-    union_law as_it_is (λ value. part (plain end_sponsoring_future_reserves_code value) tt)
-    (plain_arms end_sponsoring_future_reserves_code end_sponsoring_future_reserves_values) no_arm
-    (plain_are end_sponsoring_future_reserves_code end_sponsoring_future_reserves_values (refl, (refl, tt)))
-    end_sponsoring_future_reserves_result_found
+end_sponsoring_future_reserves_result_laws =
+    codes_laws end_sponsoring_future_reserves_code end_sponsoring_future_reserves_values end_sponsoring_future_reserves_result_found
 
 revoke_sponsorship_result_found : (v : RevokeSponsorshipResult) →
-    IsFound (λ value. part (plain revoke_sponsorship_code value) tt) (plain_arms revoke_sponsorship_code revoke_sponsorship_values) v
+    IsListed revoke_sponsorship_code revoke_sponsorship_values v
 revoke_sponsorship_result_found revoke_sponsorship.Success = plain_under revoke_sponsorship_code tt refl (λ _ _ _. refl)
 revoke_sponsorship_result_found revoke_sponsorship.DoesNotExist =
     plain_under revoke_sponsorship_code tt refl (λ _ _ _. refl)
@@ -516,31 +387,24 @@ revoke_sponsorship_result_found revoke_sponsorship.OnlyTransferable =
 revoke_sponsorship_result_found revoke_sponsorship.Malformed =
     plain_under revoke_sponsorship_code tt refl (λ _ _ _. refl)
 
-pub revoke_sponsorship_result_lawful : Lawful revoke_sponsorship_result
+pub revoke_sponsorship_result_laws : Laws revoke_sponsorship_result
 unfolding revoke_sponsorship_result
-revoke_sponsorship_result_lawful =
-    union_law as_it_is (λ value. part (plain revoke_sponsorship_code value) tt)
-    (plain_arms revoke_sponsorship_code revoke_sponsorship_values) no_arm
-    (plain_are revoke_sponsorship_code revoke_sponsorship_values (refl, (refl, (refl, (refl, (refl, (refl, tt)))))))
-    revoke_sponsorship_result_found
+revoke_sponsorship_result_laws =
+    codes_laws revoke_sponsorship_code revoke_sponsorship_values revoke_sponsorship_result_found
 
-clawback_result_found : (v : ClawbackResult) →
-    IsFound (λ value. part (plain clawback_code value) tt) (plain_arms clawback_code clawback_values) v
+clawback_result_found : (v : ClawbackResult) → IsListed clawback_code clawback_values v
 clawback_result_found clawback.Success = plain_under clawback_code tt refl (λ _ _ _. refl)
 clawback_result_found clawback.Malformed = plain_under clawback_code tt refl (λ _ _ _. refl)
 clawback_result_found clawback.NotClawbackEnabled = plain_under clawback_code tt refl (λ _ _ _. refl)
 clawback_result_found clawback.NoTrust = plain_under clawback_code tt refl (λ _ _ _. refl)
 clawback_result_found clawback.Underfunded = plain_under clawback_code tt refl (λ _ _ _. refl)
 
-pub clawback_result_lawful : Lawful clawback_result
+pub clawback_result_laws : Laws clawback_result
 unfolding clawback_result
-clawback_result_lawful =
-    union_law as_it_is (λ value. part (plain clawback_code value) tt) (plain_arms clawback_code clawback_values) no_arm
-    (plain_are clawback_code clawback_values (refl, (refl, (refl, (refl, (refl, tt))))))
-    clawback_result_found
+clawback_result_laws = codes_laws clawback_code clawback_values clawback_result_found
 
 clawback_claimable_balance_result_found : (v : ClawbackClaimableBalanceResult) →
-    IsFound (λ value. part (plain clawback_claimable_balance_code value) tt) (plain_arms clawback_claimable_balance_code clawback_claimable_balance_values) v
+    IsListed clawback_claimable_balance_code clawback_claimable_balance_values v
 clawback_claimable_balance_result_found clawback_claimable_balance.Success =
     plain_under clawback_claimable_balance_code tt refl (λ _ _ _. refl)
 clawback_claimable_balance_result_found clawback_claimable_balance.DoesNotExist =
@@ -550,16 +414,13 @@ clawback_claimable_balance_result_found clawback_claimable_balance.NotIssuer =
 clawback_claimable_balance_result_found clawback_claimable_balance.NotClawbackEnabled =
     plain_under clawback_claimable_balance_code tt refl (λ _ _ _. refl)
 
-pub clawback_claimable_balance_result_lawful : Lawful clawback_claimable_balance_result
+pub clawback_claimable_balance_result_laws : Laws clawback_claimable_balance_result
 unfolding clawback_claimable_balance_result
-clawback_claimable_balance_result_lawful =
-    union_law as_it_is (λ value. part (plain clawback_claimable_balance_code value) tt)
-    (plain_arms clawback_claimable_balance_code clawback_claimable_balance_values) no_arm
-    (plain_are clawback_claimable_balance_code clawback_claimable_balance_values (refl, (refl, (refl, (refl, tt)))))
-    clawback_claimable_balance_result_found
+clawback_claimable_balance_result_laws =
+    codes_laws clawback_claimable_balance_code clawback_claimable_balance_values clawback_claimable_balance_result_found
 
 set_trust_line_flags_result_found : (v : SetTrustLineFlagsResult) →
-    IsFound (λ value. part (plain set_trust_line_flags_code value) tt) (plain_arms set_trust_line_flags_code set_trust_line_flags_values) v
+    IsListed set_trust_line_flags_code set_trust_line_flags_values v
 set_trust_line_flags_result_found set_trust_line_flags.Success =
     plain_under set_trust_line_flags_code tt refl (λ _ _ _. refl)
 set_trust_line_flags_result_found set_trust_line_flags.Malformed =
@@ -573,16 +434,13 @@ set_trust_line_flags_result_found set_trust_line_flags.InvalidState =
 set_trust_line_flags_result_found set_trust_line_flags.LowReserve =
     plain_under set_trust_line_flags_code tt refl (λ _ _ _. refl)
 
-pub set_trust_line_flags_result_lawful : Lawful set_trust_line_flags_result
+pub set_trust_line_flags_result_laws : Laws set_trust_line_flags_result
 unfolding set_trust_line_flags_result
-set_trust_line_flags_result_lawful =
-    union_law as_it_is (λ value. part (plain set_trust_line_flags_code value) tt)
-    (plain_arms set_trust_line_flags_code set_trust_line_flags_values) no_arm
-    (plain_are set_trust_line_flags_code set_trust_line_flags_values (refl, (refl, (refl, (refl, (refl, (refl, tt)))))))
-    set_trust_line_flags_result_found
+set_trust_line_flags_result_laws =
+    codes_laws set_trust_line_flags_code set_trust_line_flags_values set_trust_line_flags_result_found
 
 liquidity_pool_deposit_result_found : (v : LiquidityPoolDepositResult) →
-    IsFound (λ value. part (plain liquidity_pool_deposit_code value) tt) (plain_arms liquidity_pool_deposit_code liquidity_pool_deposit_values) v
+    IsListed liquidity_pool_deposit_code liquidity_pool_deposit_values v
 liquidity_pool_deposit_result_found liquidity_pool_deposit.Success =
     plain_under liquidity_pool_deposit_code tt refl (λ _ _ _. refl)
 liquidity_pool_deposit_result_found liquidity_pool_deposit.Malformed =
@@ -600,17 +458,13 @@ liquidity_pool_deposit_result_found liquidity_pool_deposit.BadPrice =
 liquidity_pool_deposit_result_found liquidity_pool_deposit.PoolFull =
     plain_under liquidity_pool_deposit_code tt refl (λ _ _ _. refl)
 
-pub liquidity_pool_deposit_result_lawful : Lawful liquidity_pool_deposit_result
+pub liquidity_pool_deposit_result_laws : Laws liquidity_pool_deposit_result
 unfolding liquidity_pool_deposit_result
-liquidity_pool_deposit_result_lawful =
-    union_law as_it_is (λ value. part (plain liquidity_pool_deposit_code value) tt)
-    (plain_arms liquidity_pool_deposit_code liquidity_pool_deposit_values) no_arm
-    (plain_are liquidity_pool_deposit_code liquidity_pool_deposit_values
-    (refl, (refl, (refl, (refl, (refl, (refl, (refl, (refl, tt)))))))))
-    liquidity_pool_deposit_result_found
+liquidity_pool_deposit_result_laws =
+    codes_laws liquidity_pool_deposit_code liquidity_pool_deposit_values liquidity_pool_deposit_result_found
 
 liquidity_pool_withdraw_result_found : (v : LiquidityPoolWithdrawResult) →
-    IsFound (λ value. part (plain liquidity_pool_withdraw_code value) tt) (plain_arms liquidity_pool_withdraw_code liquidity_pool_withdraw_values) v
+    IsListed liquidity_pool_withdraw_code liquidity_pool_withdraw_values v
 liquidity_pool_withdraw_result_found liquidity_pool_withdraw.Success =
     plain_under liquidity_pool_withdraw_code tt refl (λ _ _ _. refl)
 liquidity_pool_withdraw_result_found liquidity_pool_withdraw.Malformed =
@@ -624,11 +478,7 @@ liquidity_pool_withdraw_result_found liquidity_pool_withdraw.LineFull =
 liquidity_pool_withdraw_result_found liquidity_pool_withdraw.UnderMinimum =
     plain_under liquidity_pool_withdraw_code tt refl (λ _ _ _. refl)
 
-pub liquidity_pool_withdraw_result_lawful : Lawful liquidity_pool_withdraw_result
+pub liquidity_pool_withdraw_result_laws : Laws liquidity_pool_withdraw_result
 unfolding liquidity_pool_withdraw_result
-liquidity_pool_withdraw_result_lawful =
-    union_law as_it_is (λ value. part (plain liquidity_pool_withdraw_code value) tt)
-    (plain_arms liquidity_pool_withdraw_code liquidity_pool_withdraw_values) no_arm
-    (plain_are liquidity_pool_withdraw_code liquidity_pool_withdraw_values
-    (refl, (refl, (refl, (refl, (refl, (refl, tt)))))))
-    liquidity_pool_withdraw_result_found
+liquidity_pool_withdraw_result_laws =
+    codes_laws liquidity_pool_withdraw_code liquidity_pool_withdraw_values liquidity_pool_withdraw_result_found

@@ -1,54 +1,32 @@
--- The laws of the formats of what transactions answer: what is read is spelled so, what is spelled so is read, and writing puts the spelling at the end.
+-- The laws of the formats of what transactions answer.
 use Rattle.std.proofs.Common.{pos, negsuc, refl, arith}
-use Rattle.xdr_core.specs.Format.{Lawful}
-use Rattle.xdr_core.specs.Xdr.{as_it_is, no_arm}
-use Rattle.xdr_core.proofs.LeafLaws.{i64_lawful}
-use Rattle.xdr_core.proofs.Combining.{◌&◌, struct_law, closed_law, list_law}
-use Rattle.xdr_core.proofs.Arms.{under}
+use Rattle.xdr_core.proofs.FormatLaws.{
+  Laws, i64_laws, ◌&◌, struct_laws, closed_laws, tag_laws, list_laws, arm_laws, found, union_laws,
+}
 use Rattle.xdr_results.proofs.Plain.{plain_under, plain_are}
-use Rattle.xdr_core.proofs.Unions.{IsFound, union_law}
-use Rattle.xdr_core.proofs.Extensions.{empty_law}
-use Rattle.xdr_core.proofs.Discriminants.{discriminant_fits, tag_law}
-use Rattle.xdr_entries.proofs.BasicLaws.{hash_lawful}
+use Rattle.xdr_core.proofs.Unions.{IsFound}
+use Rattle.xdr_entries.proofs.BasicLaws.{hash_laws}
 use Rattle.op_types.specs.declared.transaction_result.InnerTransactionOutcome.{InnerTransactionOutcome}
 use Rattle.op_types.specs.declared.transaction_result.InnerTransactionOutcome.TheVariants as inner
 use Rattle.op_types.specs.declared.transaction_result.TransactionOutcome.{TransactionOutcome}
 use Rattle.op_types.specs.declared.transaction_result.TransactionOutcome.TheVariants as outcome
-use Rattle.op_types.specs.Codes.{inner_code, outcome_code}
-use Rattle.xdr_results.proofs.OperationLaws.{operation_result_lawful}
+use Rattle.op_types.specs.Codes.{inner_code, outcome_code, inner_values, outcome_values}
+use Rattle.xdr_results.proofs.OperationLaws.{operation_result_laws}
 use Rattle.xdr_results.specs.Coded.{plain}
 use Rattle.xdr_results.specs.Results.{
-  inner_success,
-  inner_failed,
-  inner_arms,
-  inner_part,
-  inner_transaction_outcome,
-  inner_result_fields,
-  inner_transaction_result,
-  inner_pair_fields,
-  inner_transaction_result_pair,
-  outcome_success,
-  outcome_failed,
-  outcome_inner_success,
-  outcome_inner_failed,
-  outcome_arms,
-  outcome_part,
-  transaction_outcome,
-  result_fields,
-  transaction_result,
-  pair_fields,
-  transaction_result_pair,
-  result_set_fields,
-  transaction_result_set,
+  inner_success, inner_failed, inner_arms, inner_part, inner_transaction_outcome, inner_result_fields,
+  inner_transaction_result, inner_pair_fields, inner_transaction_result_pair, outcome_success, outcome_failed,
+  outcome_inner_success, outcome_inner_failed, outcome_arms, outcome_part, transaction_outcome, result_fields,
+  transaction_result, pair_fields, transaction_result_pair, result_set_fields, transaction_result_set,
 }
 
 inner_transaction_outcome_found : (v : InnerTransactionOutcome) → IsFound inner_part inner_arms v
 inner_transaction_outcome_found (inner.Success results) =
-    under inner_success results
-    (list_law as_it_is 4294967295 (omega arith) operation_result_lawful) tt refl refl (λ _ _ _. refl)
+    found inner_success results
+    (list_laws 4294967295 (omega arith) operation_result_laws) tt refl refl (λ _ _ _. refl)
 inner_transaction_outcome_found (inner.Failed results) =
-    under inner_failed results
-    (list_law as_it_is 4294967295 (omega arith) operation_result_lawful) tt refl refl (λ _ _ _. refl)
+    found inner_failed results
+    (list_laws 4294967295 (omega arith) operation_result_laws) tt refl refl (λ _ _ _. refl)
 inner_transaction_outcome_found inner.TooEarly = plain_under inner_code tt refl (λ _ _ _. refl)
 inner_transaction_outcome_found inner.TooLate = plain_under inner_code tt refl (λ _ _ _. refl)
 inner_transaction_outcome_found inner.MissingOperation = plain_under inner_code tt refl (λ _ _ _. refl)
@@ -64,37 +42,35 @@ inner_transaction_outcome_found inner.FeeBumpInnerFailed = plain_under inner_cod
 inner_transaction_outcome_found inner.BadSponsorship = plain_under inner_code tt refl (λ _ _ _. refl)
 inner_transaction_outcome_found inner.FeeBumpInnerSuccess = plain_under inner_code tt refl (λ _ _ _. refl)
 
-pub inner_transaction_outcome_lawful : Lawful inner_transaction_outcome
+pub inner_transaction_outcome_laws : Laws inner_transaction_outcome
 unfolding inner_transaction_outcome
-inner_transaction_outcome_lawful = union_law as_it_is inner_part inner_arms no_arm (
-  record { law = list_law as_it_is 4294967295 (omega arith) operation_result_lawful; is_part = λ x. refl },
-  (
-    record { law = list_law as_it_is 4294967295 (omega arith) operation_result_lawful; is_part = λ x. refl },
-    plain_are inner_code inner_values
-        (refl, (refl, (refl, (refl, (refl, (refl, (refl, (refl, (refl, (refl, (refl, (refl, (refl, (refl, tt)))))))))))))),
-  ),
-)
+inner_transaction_outcome_laws = union_laws
+    (arm_laws (list_laws 4294967295 (omega arith) operation_result_laws) (λ x. refl),
+      (arm_laws (list_laws 4294967295 (omega arith) operation_result_laws) (λ x. refl),
+      plain_are inner_code inner_values
+        (refl, (refl, (refl, (refl, (refl, (refl, (refl, (refl, (refl, (refl, (refl, (refl, (refl, (refl, tt))))))))))))))))
     inner_transaction_outcome_found
 
-pub inner_transaction_result_lawful : Lawful inner_transaction_result
+pub inner_transaction_result_laws : Laws inner_transaction_result
 unfolding inner_transaction_result
-inner_transaction_result_lawful = struct_law inner_result_fields (i64_lawful & closed_law inner_transaction_outcome_lawful (tag_law (pos 0) tt))
+inner_transaction_result_laws = struct_laws inner_result_fields
+    (i64_laws & closed_laws inner_transaction_outcome_laws (tag_laws (pos 0) tt))
 
-pub inner_transaction_result_pair_lawful : Lawful inner_transaction_result_pair
+pub inner_transaction_result_pair_laws : Laws inner_transaction_result_pair
 unfolding inner_transaction_result_pair
-inner_transaction_result_pair_lawful = struct_law inner_pair_fields (hash_lawful & inner_transaction_result_lawful)
+inner_transaction_result_pair_laws = struct_laws inner_pair_fields (hash_laws & inner_transaction_result_laws)
 
 transaction_outcome_found : (v : TransactionOutcome) → IsFound outcome_part outcome_arms v
 transaction_outcome_found (outcome.Success results) =
-    under outcome_success results
-    (list_law as_it_is 4294967295 (omega arith) operation_result_lawful) tt refl refl (λ _ _ _. refl)
+    found outcome_success results
+    (list_laws 4294967295 (omega arith) operation_result_laws) tt refl refl (λ _ _ _. refl)
 transaction_outcome_found (outcome.Failed results) =
-    under outcome_failed results
-    (list_law as_it_is 4294967295 (omega arith) operation_result_lawful) tt refl refl (λ _ _ _. refl)
+    found outcome_failed results
+    (list_laws 4294967295 (omega arith) operation_result_laws) tt refl refl (λ _ _ _. refl)
 transaction_outcome_found (outcome.FeeBumpInnerSuccess pair) =
-    under outcome_inner_success pair inner_transaction_result_pair_lawful tt refl refl (λ _ _ _. refl)
+    found outcome_inner_success pair inner_transaction_result_pair_laws tt refl refl (λ _ _ _. refl)
 transaction_outcome_found (outcome.FeeBumpInnerFailed pair) =
-    under outcome_inner_failed pair inner_transaction_result_pair_lawful tt refl refl (λ _ _ _. refl)
+    found outcome_inner_failed pair inner_transaction_result_pair_laws tt refl refl (λ _ _ _. refl)
 transaction_outcome_found outcome.TooEarly = plain_under outcome_code tt refl (λ _ _ _. refl)
 transaction_outcome_found outcome.TooLate = plain_under outcome_code tt refl (λ _ _ _. refl)
 transaction_outcome_found outcome.MissingOperation = plain_under outcome_code tt refl (λ _ _ _. refl)
@@ -108,32 +84,27 @@ transaction_outcome_found outcome.InternalError = plain_under outcome_code tt re
 transaction_outcome_found outcome.NotSupported = plain_under outcome_code tt refl (λ _ _ _. refl)
 transaction_outcome_found outcome.BadSponsorship = plain_under outcome_code tt refl (λ _ _ _. refl)
 
-pub transaction_outcome_lawful : Lawful transaction_outcome
+pub transaction_outcome_laws : Laws transaction_outcome
 unfolding transaction_outcome
-transaction_outcome_lawful = union_law as_it_is outcome_part outcome_arms no_arm (
-  record { law = list_law as_it_is 4294967295 (omega arith) operation_result_lawful; is_part = λ x. refl },
-  (
-    record { law = list_law as_it_is 4294967295 (omega arith) operation_result_lawful; is_part = λ x. refl },
-    (
-      record { law = inner_transaction_result_pair_lawful; is_part = λ x. refl },
-      (
-        record { law = inner_transaction_result_pair_lawful; is_part = λ x. refl },
-        plain_are outcome_code outcome_values
-            (refl, (refl, (refl, (refl, (refl, (refl, (refl, (refl, (refl, (refl, (refl, (refl, tt)))))))))))),
-      ),
-    ),
-  ),
-)
+transaction_outcome_laws = union_laws
+    (arm_laws (list_laws 4294967295 (omega arith) operation_result_laws) (λ x. refl),
+      (arm_laws (list_laws 4294967295 (omega arith) operation_result_laws) (λ x. refl),
+      (arm_laws inner_transaction_result_pair_laws (λ x. refl),
+      (arm_laws inner_transaction_result_pair_laws (λ x. refl),
+      plain_are outcome_code outcome_values
+        (refl, (refl, (refl, (refl, (refl, (refl, (refl, (refl, (refl, (refl, (refl, (refl, tt))))))))))))))))
     transaction_outcome_found
 
-pub transaction_result_lawful : Lawful transaction_result
+pub transaction_result_laws : Laws transaction_result
 unfolding transaction_result
-transaction_result_lawful = struct_law result_fields (i64_lawful & closed_law transaction_outcome_lawful (tag_law (pos 0) tt))
+transaction_result_laws = struct_laws result_fields
+    (i64_laws & closed_laws transaction_outcome_laws (tag_laws (pos 0) tt))
 
-pub transaction_result_pair_lawful : Lawful transaction_result_pair
+pub transaction_result_pair_laws : Laws transaction_result_pair
 unfolding transaction_result_pair
-transaction_result_pair_lawful = struct_law pair_fields (hash_lawful & transaction_result_lawful)
+transaction_result_pair_laws = struct_laws pair_fields (hash_laws & transaction_result_laws)
 
-pub transaction_result_set_lawful : Lawful transaction_result_set
+pub transaction_result_set_laws : Laws transaction_result_set
 unfolding transaction_result_set
-transaction_result_set_lawful = struct_law result_set_fields (list_law as_it_is 4294967295 (omega arith) transaction_result_pair_lawful)
+transaction_result_set_laws = struct_laws result_set_fields
+    (list_laws 4294967295 (omega arith) transaction_result_pair_laws)

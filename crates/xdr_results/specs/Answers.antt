@@ -1,5 +1,5 @@
 -- The formats of what operations answer (Stellar-transaction.x of protocol 18, over RFC 4506).
-use Rattle.std.specs.Prelude.{ℤ, pos, negsuc, List, [], ◌∷◌, refl}
+use Rattle.std.specs.Prelude.{ℤ, pos, List, [], ◌∷◌, refl}
 use Rattle.xdr_core.specs.declared.fault.XdrFault.{XdrFault}
 use Rattle.xdr_core.specs.Leaves.{i64, fixed}
 use Rattle.xdr_core.specs.Combinators.{◌⨾◌, Fields, struct_of, empty, Arm, Part, part}
@@ -44,6 +44,7 @@ use Rattle.op_types.specs.declared.balance_results.ClawbackClaimableBalanceResul
 use Rattle.op_types.specs.declared.trust_results.SetTrustLineFlagsResult.{SetTrustLineFlagsResult}
 use Rattle.op_types.specs.declared.pool_results.LiquidityPoolDepositResult.{LiquidityPoolDepositResult}
 use Rattle.op_types.specs.declared.pool_results.LiquidityPoolWithdrawResult.{LiquidityPoolWithdrawResult}
+use Rattle.op_types.specs.Numbers.{minus}
 use Rattle.op_types.specs.Codes.{
   create_account_code,
   create_account_values,
@@ -179,7 +180,7 @@ abbrev pub path_payment_strict_receive_success_arm : Arm XdrFault PathPaymentStr
 path_payment_strict_receive_success_arm = arm (pos 0) path_payment_success path_payment_strict_receive.Success
 
 abbrev pub path_payment_strict_receive_no_issuer_arm : Arm XdrFault PathPaymentStrictReceiveResult
-path_payment_strict_receive_no_issuer_arm = arm (negsuc 8) asset path_payment_strict_receive.NoIssuer
+path_payment_strict_receive_no_issuer_arm = arm (minus 9) asset path_payment_strict_receive.NoIssuer
 
 abbrev pub path_payment_strict_receive_result_arms : List (Arm XdrFault PathPaymentStrictReceiveResult)
 path_payment_strict_receive_result_arms = path_payment_strict_receive_success_arm ∷ path_payment_strict_receive_no_issuer_arm ∷ plain_arms path_payment_strict_receive_code path_payment_strict_receive_values
@@ -196,7 +197,7 @@ abbrev pub path_payment_strict_send_success_arm : Arm XdrFault PathPaymentStrict
 path_payment_strict_send_success_arm = arm (pos 0) path_payment_success path_payment_strict_send.Success
 
 abbrev pub path_payment_strict_send_no_issuer_arm : Arm XdrFault PathPaymentStrictSendResult
-path_payment_strict_send_no_issuer_arm = arm (negsuc 8) asset path_payment_strict_send.NoIssuer
+path_payment_strict_send_no_issuer_arm = arm (minus 9) asset path_payment_strict_send.NoIssuer
 
 abbrev pub path_payment_strict_send_result_arms : List (Arm XdrFault PathPaymentStrictSendResult)
 path_payment_strict_send_result_arms = path_payment_strict_send_success_arm ∷ path_payment_strict_send_no_issuer_arm ∷ plain_arms path_payment_strict_send_code path_payment_strict_send_values

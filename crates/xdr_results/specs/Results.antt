@@ -1,6 +1,6 @@
 -- The formats of what operations and transactions answer, and of the results of a set (Stellar-transaction.x and Stellar-ledger.x of
 -- protocol 18, over RFC 4506).
-use Rattle.std.specs.Prelude.{ℤ, pos, negsuc, List, [], ◌∷◌, refl}
+use Rattle.std.specs.Prelude.{ℤ, pos, List, [], ◌∷◌, refl}
 use Rattle.xdr_core.specs.declared.fault.XdrFault.{XdrFault}
 use Rattle.xdr_core.specs.Leaves.{i64}
 use Rattle.xdr_core.specs.Combinators.{◌⨾◌, Fields, struct_of, closed, Arm, Part, part}
@@ -20,6 +20,7 @@ use Rattle.op_types.specs.declared.transaction_result.TransactionResultPair.{Tra
 use Rattle.op_types.specs.declared.transaction_result.TransactionResultSet.{TransactionResultSet}
 use Rattle.op_types.specs.declared.transaction_result.InnerTransactionOutcome.TheVariants as inner
 use Rattle.op_types.specs.declared.transaction_result.TransactionOutcome.TheVariants as outcome
+use Rattle.op_types.specs.Numbers.{minus}
 use Rattle.op_types.specs.Codes.{
   operation_code,
   operation_values,
@@ -192,7 +193,7 @@ abbrev pub inner_success : Arm XdrFault InnerTransactionOutcome
 inner_success = arm (pos 0) (list_of 4294967295 operation_result) inner.Success
 
 abbrev pub inner_failed : Arm XdrFault InnerTransactionOutcome
-inner_failed = arm (negsuc 0) (list_of 4294967295 operation_result) inner.Failed
+inner_failed = arm (minus 1) (list_of 4294967295 operation_result) inner.Failed
 
 abbrev pub inner_arms : List (Arm XdrFault InnerTransactionOutcome)
 inner_arms = inner_success ∷ inner_failed ∷ plain_arms inner_code inner_values
@@ -223,13 +224,13 @@ abbrev pub outcome_success : Arm XdrFault TransactionOutcome
 outcome_success = arm (pos 0) (list_of 4294967295 operation_result) outcome.Success
 
 abbrev pub outcome_failed : Arm XdrFault TransactionOutcome
-outcome_failed = arm (negsuc 0) (list_of 4294967295 operation_result) outcome.Failed
+outcome_failed = arm (minus 1) (list_of 4294967295 operation_result) outcome.Failed
 
 abbrev pub outcome_inner_success : Arm XdrFault TransactionOutcome
 outcome_inner_success = arm (pos 1) inner_transaction_result_pair outcome.FeeBumpInnerSuccess
 
 abbrev pub outcome_inner_failed : Arm XdrFault TransactionOutcome
-outcome_inner_failed = arm (negsuc 12) inner_transaction_result_pair outcome.FeeBumpInnerFailed
+outcome_inner_failed = arm (minus 13) inner_transaction_result_pair outcome.FeeBumpInnerFailed
 
 abbrev pub outcome_arms : List (Arm XdrFault TransactionOutcome)
 outcome_arms = outcome_success ∷ outcome_failed ∷ outcome_inner_success ∷ outcome_inner_failed ∷ plain_arms outcome_code outcome_values

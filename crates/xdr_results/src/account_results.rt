@@ -63,7 +63,7 @@ impl Decode for InflationPayoutFormat {
 }
 
 impl Encode for InflationPayoutFormat {
-    #[tactic(auto, using(xdr_core::proofs::Grammar::written, crate::proofs::PayloadLaws::inflation_payout_lawful))]
+    #[tactic(auto, using(xdr_core::proofs::FormatLaws::written, crate::proofs::PayloadLaws::inflation_payout_laws))]
     fn encode(value: &InflationPayout, builder: &mut Builder) -> Result<(), AllocError> {
         write_inflation_payout(value, builder)
     }

@@ -127,7 +127,7 @@ impl Decode for ClaimAtomFormat {
 }
 
 impl Encode for ClaimAtomFormat {
-    #[tactic(auto, using(xdr_core::proofs::Grammar::written, crate::proofs::PayloadLaws::claim_atom_lawful))]
+    #[tactic(auto, using(xdr_core::proofs::FormatLaws::written, crate::proofs::PayloadLaws::claim_atom_laws))]
     fn encode(value: &ClaimAtom, builder: &mut Builder) -> Result<(), AllocError> {
         write_claim_atom(value, builder)
     }

@@ -335,7 +335,7 @@ impl Decode for OperationResultFormat {
 }
 
 impl Encode for OperationResultFormat {
-    #[tactic(auto, using(xdr_core::proofs::Grammar::written, crate::proofs::OperationLaws::operation_result_lawful))]
+    #[tactic(auto, using(xdr_core::proofs::FormatLaws::written, crate::proofs::OperationLaws::operation_result_laws))]
     fn encode(value: &OperationResult, builder: &mut Builder) -> Result<(), AllocError> {
         write_operation_result(value, builder)
     }

@@ -97,7 +97,7 @@ pub fn read_fee_bump_transaction(
 }
 
 /// Writes a fee bump.
-#[tactic(auto, using(xdr_core::proofs::Grammar::written, crate::proofs::TransactionLaws::fee_bump_transaction_lawful))]
+#[tactic(auto, using(xdr_core::proofs::FormatLaws::written, crate::proofs::TransactionLaws::fee_bump_transaction_laws))]
 pub fn write_fee_bump_transaction(
     value: &FeeBumpTransaction,
     builder: &mut Builder,
@@ -178,7 +178,7 @@ pub fn read_transaction_envelope(
 }
 
 /// Writes an envelope.
-#[tactic(auto, using(xdr_core::proofs::Grammar::written, crate::proofs::TransactionLaws::transaction_envelope_lawful))]
+#[tactic(auto, using(xdr_core::proofs::FormatLaws::written, crate::proofs::TransactionLaws::transaction_envelope_laws))]
 pub fn write_transaction_envelope(
     value: &TransactionEnvelope,
     builder: &mut Builder,
@@ -251,7 +251,7 @@ pub fn read_transaction_set(
 }
 
 /// Writes a set of transactions.
-#[tactic(auto, using(xdr_core::proofs::Grammar::written, crate::proofs::TransactionLaws::transaction_set_lawful))]
+#[tactic(auto, using(xdr_core::proofs::FormatLaws::written, crate::proofs::TransactionLaws::transaction_set_laws))]
 pub fn write_transaction_set(
     value: &TransactionSet,
     builder: &mut Builder,

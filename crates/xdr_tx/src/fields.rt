@@ -24,7 +24,7 @@ impl Decode for U32Format {
 }
 
 impl Encode for U32Format {
-    #[tactic(auto, using(xdr_core::proofs::Grammar::written, xdr_core::proofs::LeafLaws::u32_lawful))]
+    #[tactic(auto, using(xdr_core::proofs::FormatLaws::written, xdr_core::proofs::FormatLaws::u32_laws))]
     fn encode(value: &u32, builder: &mut Builder) -> Result<(), AllocError> {
         builder.u32(*value)
     }
@@ -49,7 +49,7 @@ impl Decode for HomeDomainFormat {
 }
 
 impl Encode for HomeDomainFormat {
-    #[tactic(auto, using(xdr_core::proofs::Grammar::written, crate::proofs::FieldLaws::home_domain_lawful))]
+    #[tactic(auto, using(xdr_core::proofs::FormatLaws::written, crate::proofs::FieldLaws::home_domain_laws))]
     fn encode(value: &ItemList<u8>, builder: &mut Builder) -> Result<(), AllocError> {
         builder.var(value.as_slice(), MAX_HOME_DOMAIN_LEN)
     }
@@ -74,7 +74,7 @@ impl Decode for DataValueFormat {
 }
 
 impl Encode for DataValueFormat {
-    #[tactic(auto, using(xdr_core::proofs::Grammar::written, crate::proofs::FieldLaws::data_value_lawful))]
+    #[tactic(auto, using(xdr_core::proofs::FormatLaws::written, crate::proofs::FieldLaws::data_value_laws))]
     fn encode(value: &ItemList<u8>, builder: &mut Builder) -> Result<(), AllocError> {
         builder.var(value.as_slice(), MAX_DATA_VALUE_LEN)
     }

@@ -307,7 +307,7 @@ impl Decode for OperationFormat {
 }
 
 impl Encode for OperationFormat {
-    #[tactic(auto, using(xdr_core::proofs::Grammar::written, crate::proofs::BodyLaws::operation_lawful))]
+    #[tactic(auto, using(xdr_core::proofs::FormatLaws::written, crate::proofs::BodyLaws::operation_laws))]
     fn encode(value: &Operation, builder: &mut Builder) -> Result<(), AllocError> {
         write_operation(value, builder)
     }

@@ -45,7 +45,7 @@ impl Decode for TimeBoundsFormat {
 }
 
 impl Encode for TimeBoundsFormat {
-    #[tactic(auto, using(xdr_core::proofs::Grammar::written, crate::proofs::TransactionLaws::time_bounds_lawful))]
+    #[tactic(auto, using(xdr_core::proofs::FormatLaws::written, crate::proofs::TransactionLaws::time_bounds_laws))]
     fn encode(value: &TimeBounds, builder: &mut Builder) -> Result<(), AllocError> {
         write_time_bounds(value, builder)
     }

@@ -41,7 +41,7 @@ pub fn read_transaction(alloc: Global, cursor: &mut Cursor<'_>) -> Result<Transa
 }
 
 /// Writes a transaction.
-#[tactic(auto, using(xdr_core::proofs::Grammar::written, crate::proofs::TransactionLaws::transaction_lawful))]
+#[tactic(auto, using(xdr_core::proofs::FormatLaws::written, crate::proofs::TransactionLaws::transaction_laws))]
 pub fn write_transaction(value: &Transaction, builder: &mut Builder) -> Result<(), AllocError>
     requires { spec.transaction.within value.now }
     ensures { OnOk result (builder.new ≡ builder.old ++ spec.transaction.spell value.now) }
@@ -92,7 +92,7 @@ pub fn read_transaction_v0(
 }
 
 /// Writes a transaction of the first version.
-#[tactic(auto, using(xdr_core::proofs::Grammar::written, crate::proofs::TransactionLaws::transaction_v0_lawful))]
+#[tactic(auto, using(xdr_core::proofs::FormatLaws::written, crate::proofs::TransactionLaws::transaction_v0_laws))]
 pub fn write_transaction_v0(value: &TransactionV0, builder: &mut Builder) -> Result<(), AllocError>
     requires { spec.transaction_v0.within value.now }
     ensures { OnOk result (builder.new ≡ builder.old ++ spec.transaction_v0.spell value.now) }

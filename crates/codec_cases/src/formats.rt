@@ -9,15 +9,15 @@ ghost use Rattle.xdr_header.specs.Image.{start_image};
 ghost use Rattle.xdr_header.specs.Records.{close_record};
 ghost use Rattle.xdr_results.specs.Results.{transaction_result_set};
 ghost use Rattle.xdr_tx.specs.Transactions.{memo, transaction_set};
-ghost use Rattle.xdr_entries.proofs.BasicLaws.{price_lawful, signer_key_lawful, trust_line_asset_lawful, asset_lawful, signer_lawful};
-ghost use Rattle.xdr_entries.proofs.EntryLaws.{ledger_entry_lawful, claimant_lawful};
-ghost use Rattle.xdr_entries.proofs.KeyLaws.{ledger_key_lawful, bucket_entry_lawful};
-ghost use Rattle.xdr_entries.proofs.PredicateLaws.{claim_predicate_lawful};
-ghost use Rattle.xdr_header.proofs.HeaderLaws.{close_record_lawful, ledger_header_lawful, ledger_upgrade_lawful, stellar_value_lawful};
-ghost use Rattle.xdr_header.proofs.ImageLaws.{start_image_lawful};
-ghost use Rattle.xdr_results.proofs.TransactionLaws.{transaction_result_set_lawful};
-ghost use Rattle.xdr_tx.proofs.TransactionLaws.{memo_lawful, transaction_set_lawful, transaction_envelope_lawful};
-ghost use Rattle.xdr_tx.proofs.BodyLaws.{operation_lawful};
+ghost use Rattle.xdr_entries.proofs.BasicLaws.{price_laws, signer_key_laws, trust_line_asset_laws, asset_laws, signer_laws};
+ghost use Rattle.xdr_entries.proofs.EntryLaws.{ledger_entry_laws, claimant_laws};
+ghost use Rattle.xdr_entries.proofs.KeyLaws.{ledger_key_laws, bucket_entry_laws};
+ghost use Rattle.xdr_entries.proofs.PredicateLaws.{claim_predicate_laws};
+ghost use Rattle.xdr_header.proofs.HeaderLaws.{close_record_laws, ledger_header_laws, ledger_upgrade_laws, stellar_value_laws};
+ghost use Rattle.xdr_header.proofs.ImageLaws.{start_image_laws};
+ghost use Rattle.xdr_results.proofs.TransactionLaws.{transaction_result_set_laws};
+ghost use Rattle.xdr_tx.proofs.TransactionLaws.{memo_laws, transaction_set_laws, transaction_envelope_laws};
+ghost use Rattle.xdr_tx.proofs.BodyLaws.{operation_laws};
 
 use crate::verdict::Case;
 use ledger_types::{
@@ -66,7 +66,7 @@ impl Encode for CloseRecordFormat {
 }
 
 impl Case for CloseRecordFormat {
-    ghost lawful = { close_record_lawful };
+    ghost lawful = { close_record_laws.lawful };
 
     fn copy(value: &CloseRecord) -> Result<CloseRecord, AllocError> {
         value.copy()
@@ -95,7 +95,7 @@ impl Encode for LedgerEntryFormat {
 }
 
 impl Case for LedgerEntryFormat {
-    ghost lawful = { ledger_entry_lawful };
+    ghost lawful = { ledger_entry_laws.lawful };
 
     fn copy(value: &LedgerEntry) -> Result<LedgerEntry, AllocError> {
         value.copy()
@@ -124,7 +124,7 @@ impl Encode for LedgerHeaderFormat {
 }
 
 impl Case for LedgerHeaderFormat {
-    ghost lawful = { ledger_header_lawful };
+    ghost lawful = { ledger_header_laws.lawful };
 
     fn copy(value: &LedgerHeader) -> Result<LedgerHeader, AllocError> {
         value.copy()
@@ -153,7 +153,7 @@ impl Encode for LedgerKeyFormat {
 }
 
 impl Case for LedgerKeyFormat {
-    ghost lawful = { ledger_key_lawful };
+    ghost lawful = { ledger_key_laws.lawful };
 
     fn copy(value: &LedgerKey) -> Result<LedgerKey, AllocError> {
         value.copy()
@@ -182,7 +182,7 @@ impl Encode for LedgerUpgradeFormat {
 }
 
 impl Case for LedgerUpgradeFormat {
-    ghost lawful = { ledger_upgrade_lawful };
+    ghost lawful = { ledger_upgrade_laws.lawful };
 
     fn copy(value: &LedgerUpgrade) -> Result<LedgerUpgrade, AllocError> {
         Ok(*value)
@@ -212,7 +212,7 @@ impl Encode for MemoFormat {
 }
 
 impl Case for MemoFormat {
-    ghost lawful = { memo_lawful };
+    ghost lawful = { memo_laws.lawful };
 
     fn copy(value: &Memo) -> Result<Memo, AllocError> {
         value.copy()
@@ -241,7 +241,7 @@ impl Encode for PredicateFormat {
 }
 
 impl Case for PredicateFormat {
-    ghost lawful = { claim_predicate_lawful };
+    ghost lawful = { claim_predicate_laws.lawful };
 
     fn copy(value: &ClaimPredicate) -> Result<ClaimPredicate, AllocError> {
         value.copy()
@@ -271,7 +271,7 @@ impl Encode for PriceFormat {
 }
 
 impl Case for PriceFormat {
-    ghost lawful = { price_lawful };
+    ghost lawful = { price_laws.lawful };
 
     fn copy(value: &Price) -> Result<Price, AllocError> {
         Ok(*value)
@@ -301,7 +301,7 @@ impl Encode for SignerKeyFormat {
 }
 
 impl Case for SignerKeyFormat {
-    ghost lawful = { signer_key_lawful };
+    ghost lawful = { signer_key_laws.lawful };
 
     fn copy(value: &SignerKey) -> Result<SignerKey, AllocError> {
         Ok(*value)
@@ -330,7 +330,7 @@ impl Encode for StellarValueFormat {
 }
 
 impl Case for StellarValueFormat {
-    ghost lawful = { stellar_value_lawful };
+    ghost lawful = { stellar_value_laws.lawful };
 
     fn copy(value: &StellarValue) -> Result<StellarValue, AllocError> {
         value.copy()
@@ -359,7 +359,7 @@ impl Encode for TransactionSetFormat {
 }
 
 impl Case for TransactionSetFormat {
-    ghost lawful = { transaction_set_lawful };
+    ghost lawful = { transaction_set_laws.lawful };
 
     fn copy(value: &TransactionSet) -> Result<TransactionSet, AllocError> {
         value.copy()
@@ -389,7 +389,7 @@ impl Encode for TrustLineAssetFormat {
 }
 
 impl Case for TrustLineAssetFormat {
-    ghost lawful = { trust_line_asset_lawful };
+    ghost lawful = { trust_line_asset_laws.lawful };
 
     fn copy(value: &TrustLineAsset) -> Result<TrustLineAsset, AllocError> {
         Ok(*value)
@@ -418,7 +418,7 @@ impl Encode for ResultSetFormat {
 }
 
 impl Case for ResultSetFormat {
-    ghost lawful = { transaction_result_set_lawful };
+    ghost lawful = { transaction_result_set_laws.lawful };
 
     fn copy(value: &TransactionResultSet) -> Result<TransactionResultSet, AllocError> {
         value.copy()
@@ -447,7 +447,7 @@ impl Encode for ImageFormat {
 }
 
 impl Case for ImageFormat {
-    ghost lawful = { start_image_lawful };
+    ghost lawful = { start_image_laws.lawful };
 
     fn copy(value: &StartImage) -> Result<StartImage, AllocError> {
         value.copy()
@@ -476,7 +476,7 @@ impl Encode for BucketEntryFormat {
 }
 
 impl Case for BucketEntryFormat {
-    ghost lawful = { bucket_entry_lawful };
+    ghost lawful = { bucket_entry_laws.lawful };
 
     fn copy(value: &BucketEntry) -> Result<BucketEntry, AllocError> {
         value.copy()
@@ -484,7 +484,7 @@ impl Case for BucketEntryFormat {
 }
 
 impl Case for AssetFormat {
-    ghost lawful = { asset_lawful };
+    ghost lawful = { asset_laws.lawful };
 
     fn copy(value: &Asset) -> Result<Asset, AllocError> {
         Ok(*value)
@@ -492,7 +492,7 @@ impl Case for AssetFormat {
 }
 
 impl Case for ClaimantFormat {
-    ghost lawful = { claimant_lawful };
+    ghost lawful = { claimant_laws.lawful };
 
     fn copy(value: &Claimant) -> Result<Claimant, AllocError> {
         value.copy()
@@ -500,7 +500,7 @@ impl Case for ClaimantFormat {
 }
 
 impl Case for SignerFormat {
-    ghost lawful = { signer_lawful };
+    ghost lawful = { signer_laws.lawful };
 
     fn copy(value: &Signer) -> Result<Signer, AllocError> {
         Ok(*value)
@@ -508,7 +508,7 @@ impl Case for SignerFormat {
 }
 
 impl Case for OperationFormat {
-    ghost lawful = { operation_lawful };
+    ghost lawful = { operation_laws.lawful };
 
     fn copy(value: &Operation) -> Result<Operation, AllocError> {
         value.copy()
@@ -516,7 +516,7 @@ impl Case for OperationFormat {
 }
 
 impl Case for TransactionEnvelopeFormat {
-    ghost lawful = { transaction_envelope_lawful };
+    ghost lawful = { transaction_envelope_laws.lawful };
 
     fn copy(value: &TransactionEnvelope) -> Result<TransactionEnvelope, AllocError> {
         value.copy()

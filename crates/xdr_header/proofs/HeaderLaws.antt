@@ -1,8 +1,23 @@
 -- The laws of the formats of headers, values and records.
 use Rattle.std.proofs.Common.{pos, refl, arith}
 use Rattle.xdr_core.proofs.FormatLaws.{
-  Laws, u32_laws, u64_laws, i64_laws, var_laws, ◌&◌, struct_laws, whole_laws, closed_laws, tag_laws, list_laws,
-  times_laws, arm_laws, found, union_laws, extension_laws,
+  Laws,
+  written,
+  u32_laws,
+  u64_laws,
+  i64_laws,
+  var_laws,
+  ◌&◌,
+  struct_laws,
+  whole_laws,
+  closed_laws,
+  tag_laws,
+  list_laws,
+  times_laws,
+  arm_laws,
+  found,
+  union_laws,
+  extension_laws,
 }
 use Rattle.xdr_core.specs.Leaves.{var}
 use Rattle.xdr_core.proofs.Unions.{IsFound}
@@ -11,9 +26,22 @@ use Rattle.xdr_tx.proofs.TransactionLaws.{transaction_set_laws}
 use Rattle.ledger_types.specs.declared.header.LedgerUpgrade.{LedgerUpgrade}
 use Rattle.ledger_types.specs.declared.header.LedgerUpgrade.TheVariants as upgrade
 use Rattle.xdr_header.specs.Header.{
-  value_signature_fields, ledger_close_value_signature, value_fields, stellar_value, upgrade_version, upgrade_base_fee,
-  upgrade_max_tx_set_size, upgrade_base_reserve, upgrade_flags, upgrade_arms, upgrade_part, ledger_upgrade,
-  header_v1_fields, ledger_header_extension_v1, header_fields, ledger_header,
+  value_signature_fields,
+  ledger_close_value_signature,
+  value_fields,
+  stellar_value,
+  upgrade_version,
+  upgrade_base_fee,
+  upgrade_max_tx_set_size,
+  upgrade_base_reserve,
+  upgrade_flags,
+  upgrade_arms,
+  upgrade_part,
+  ledger_upgrade,
+  header_v1_fields,
+  ledger_header_extension_v1,
+  header_fields,
+  ledger_header,
 }
 use Rattle.xdr_header.specs.Records.{record_fields, close_record}
 
@@ -40,12 +68,19 @@ upgrade_found (upgrade.Flags n) = found upgrade_flags n u32_laws tt refl refl (�
 
 pub ledger_upgrade_laws : Laws ledger_upgrade
 unfolding ledger_upgrade
-ledger_upgrade_laws = union_laws
-    (arm_laws u32_laws (λ x. refl),
-      (arm_laws u32_laws (λ x. refl),
-      (arm_laws u32_laws (λ x. refl),
-      (arm_laws u32_laws (λ x. refl),
-      (arm_laws u32_laws (λ x. refl), tt)))))
+ledger_upgrade_laws = union_laws (
+  arm_laws u32_laws (λ x. refl),
+  (
+    arm_laws u32_laws (λ x. refl),
+    (
+      arm_laws u32_laws (λ x. refl),
+      (
+        arm_laws u32_laws (λ x. refl),
+        (arm_laws u32_laws (λ x. refl), tt),
+      ),
+    ),
+  ),
+)
     upgrade_found
 
 pub ledger_header_extension_v1_laws : Laws ledger_header_extension_v1
@@ -64,3 +99,9 @@ pub close_record_laws : Laws close_record
 unfolding close_record
 close_record_laws =
     struct_laws record_fields (u32_laws & whole_laws transaction_set_laws & whole_laws stellar_value_laws)
+
+-- what its writer goes by
+pub ruleset extension_written = (written, ledger_header_extension_v1_laws)
+
+-- what its writer goes by
+pub ruleset signature_written = (written, ledger_close_value_signature_laws)

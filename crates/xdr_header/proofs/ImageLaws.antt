@@ -1,7 +1,34 @@
 -- The laws of the formats of files and images.
 use Rattle.std.proofs.Common.{
-  ◌≡◌, ℕ, zero, suc, ◌+◌, ◌-◌, ◌^◌, ◌<◌, ◌≤◌, pos, Bool, true, false, cond, ltb, List, [], ◌∷◌, ◌++◌, length, Ok, Err, refl, sym, ap, subst, ◌∙◌,
-  append_assoc, arith,
+  ◌≡◌,
+  ℕ,
+  zero,
+  suc,
+  ◌+◌,
+  ◌-◌,
+  ◌^◌,
+  ◌<◌,
+  ◌≤◌,
+  pos,
+  Bool,
+  true,
+  false,
+  cond,
+  ltb,
+  List,
+  [],
+  ◌∷◌,
+  ◌++◌,
+  length,
+  Ok,
+  Err,
+  refl,
+  sym,
+  ap,
+  subst,
+  ◌∙◌,
+  append_assoc,
+  arith,
 }
 use Rattle.std.proofs.lemmas.Bool.{ltb-false, le-ltb}
 use Rattle.std.proofs.lemmas.List.{append-nil}
@@ -16,11 +43,27 @@ use Rattle.xdr_core.proofs.LeafLaws.{u64_lawful}
 use Rattle.xdr_core.proofs.Opaque.{bytes_again}
 use Rattle.xdr_core.proofs.Marks.{bytes_takes}
 use Rattle.xdr_core.proofs.Placing.{
-  Placed, Places, goes_on, bind_places, map_places, placed_other, err_is, bytes_places, u64_places,
+  Placed,
+  Places,
+  goes_on,
+  bind_places,
+  map_places,
+  placed_other,
+  err_is,
+  bytes_places,
+  u64_places,
 }
 use Rattle.xdr_core.proofs.FormatLaws.{Laws, mark_laws, ◌&◌, struct_laws, marked_laws, tag_laws}
 use Rattle.xdr_header.specs.Image.{
-  file_at, file, no_files, front_and, spell_front, onto_front, files, image_fields, start_image,
+  file_at,
+  file,
+  no_files,
+  front_and,
+  spell_front,
+  onto_front,
+  files,
+  image_fields,
+  start_image,
 }
 
 -- a number of 64 bits has a spelling
@@ -140,7 +183,7 @@ front_laws first others law laws = record {
       bind_places first.read (λ _ x. (others x.0).read x.1 >>= λ xs. Ok (x.0 ∷ xs.0, xs.1)) law.places
       (goes_on law.lawful)
       (λ p m v fault fits e.
-        map_places (others v).read (λ xs. (v ∷ xs.0, xs.1)) (laws v).places m fault fits e);
+      map_places (others v).read (λ xs. (v ∷ xs.0, xs.1)) (laws v).places m fault fits e);
 }
 
 files_laws : (n left : ℕ) → left < 2 ^ 64 → Laws (files n left)
@@ -154,5 +197,5 @@ pub start_image_laws : Laws start_image
 unfolding start_image
 start_image_laws =
     struct_laws image_fields (
-      marked_laws (tag_laws (pos 0x534C4931) tt)
-      (mark_laws 16777216 (omega arith) & files_laws 22 536870912 (omega arith)))
+    marked_laws (tag_laws (pos 0x534C4931) tt)
+    (mark_laws 16777216 (omega arith) & files_laws 22 536870912 (omega arith)))

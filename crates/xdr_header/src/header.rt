@@ -160,7 +160,7 @@ impl Decode for LedgerHeaderExtensionV1Format {
 }
 
 impl Encode for LedgerHeaderExtensionV1Format {
-    #[tactic(auto, using(xdr_core::proofs::FormatLaws::written, crate::proofs::HeaderLaws::ledger_header_extension_v1_laws))]
+    #[tactic(auto, using(crate::proofs::HeaderLaws::extension_written))]
     fn encode(value: &LedgerHeaderExtensionV1, builder: &mut Builder) -> Result<(), AllocError> {
         write_ledger_header_extension_v1(value, builder)
     }

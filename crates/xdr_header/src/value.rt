@@ -181,7 +181,7 @@ impl Decode for LedgerCloseValueSignatureFormat {
 }
 
 impl Encode for LedgerCloseValueSignatureFormat {
-    #[tactic(auto, using(xdr_core::proofs::FormatLaws::written, crate::proofs::HeaderLaws::ledger_close_value_signature_laws))]
+    #[tactic(auto, using(crate::proofs::HeaderLaws::signature_written))]
     fn encode(value: &LedgerCloseValueSignature, builder: &mut Builder) -> Result<(), AllocError> {
         write_ledger_close_value_signature(value, builder)
     }

@@ -9,9 +9,9 @@ use Rattle.op_types.specs.declared.payment_results.CreateAccountResult.TheVarian
 use Rattle.op_types.specs.declared.payment_results.PaymentResult.{PaymentResult}
 use Rattle.op_types.specs.declared.payment_results.PaymentResult.TheVariants as payment
 use Rattle.op_types.specs.declared.payment_results.PathPaymentStrictReceiveResult.{PathPaymentStrictReceiveResult}
-use Rattle.op_types.specs.declared.payment_results.PathPaymentStrictReceiveResult.TheVariants as path_payment_strict_receive
+use Rattle.op_types.specs.declared.payment_results.PathPaymentStrictReceiveResult.TheVariants as strict_receive
 use Rattle.op_types.specs.declared.payment_results.PathPaymentStrictSendResult.{PathPaymentStrictSendResult}
-use Rattle.op_types.specs.declared.payment_results.PathPaymentStrictSendResult.TheVariants as path_payment_strict_send
+use Rattle.op_types.specs.declared.payment_results.PathPaymentStrictSendResult.TheVariants as strict_send
 use Rattle.op_types.specs.declared.offer_results.ManageOfferResult.{ManageOfferResult}
 use Rattle.op_types.specs.declared.offer_results.ManageOfferResult.TheVariants as manage_offer
 use Rattle.op_types.specs.declared.account_results.SetOptionsResult.{SetOptionsResult}
@@ -35,15 +35,15 @@ use Rattle.op_types.specs.declared.balance_results.ClaimClaimableBalanceResult.T
 use Rattle.op_types.specs.declared.sponsor_results.BeginSponsoringFutureReservesResult.{
   BeginSponsoringFutureReservesResult,
 }
-use Rattle.op_types.specs.declared.sponsor_results.BeginSponsoringFutureReservesResult.TheVariants as begin_sponsoring_future_reserves
+use Rattle.op_types.specs.declared.sponsor_results.BeginSponsoringFutureReservesResult.TheVariants as begin_sponsoring
 use Rattle.op_types.specs.declared.sponsor_results.EndSponsoringFutureReservesResult.{EndSponsoringFutureReservesResult}
-use Rattle.op_types.specs.declared.sponsor_results.EndSponsoringFutureReservesResult.TheVariants as end_sponsoring_future_reserves
+use Rattle.op_types.specs.declared.sponsor_results.EndSponsoringFutureReservesResult.TheVariants as end_sponsoring
 use Rattle.op_types.specs.declared.sponsor_results.RevokeSponsorshipResult.{RevokeSponsorshipResult}
 use Rattle.op_types.specs.declared.sponsor_results.RevokeSponsorshipResult.TheVariants as revoke_sponsorship
 use Rattle.op_types.specs.declared.trust_results.ClawbackResult.{ClawbackResult}
 use Rattle.op_types.specs.declared.trust_results.ClawbackResult.TheVariants as clawback
 use Rattle.op_types.specs.declared.balance_results.ClawbackClaimableBalanceResult.{ClawbackClaimableBalanceResult}
-use Rattle.op_types.specs.declared.balance_results.ClawbackClaimableBalanceResult.TheVariants as clawback_claimable_balance
+use Rattle.op_types.specs.declared.balance_results.ClawbackClaimableBalanceResult.TheVariants as clawback_balance
 use Rattle.op_types.specs.declared.trust_results.SetTrustLineFlagsResult.{SetTrustLineFlagsResult}
 use Rattle.op_types.specs.declared.trust_results.SetTrustLineFlagsResult.TheVariants as set_trust_line_flags
 use Rattle.op_types.specs.declared.pool_results.LiquidityPoolDepositResult.{LiquidityPoolDepositResult}
@@ -51,32 +51,95 @@ use Rattle.op_types.specs.declared.pool_results.LiquidityPoolDepositResult.TheVa
 use Rattle.op_types.specs.declared.pool_results.LiquidityPoolWithdrawResult.{LiquidityPoolWithdrawResult}
 use Rattle.op_types.specs.declared.pool_results.LiquidityPoolWithdrawResult.TheVariants as liquidity_pool_withdraw
 use Rattle.op_types.specs.Codes.{
-  create_account_code, payment_code, path_payment_strict_receive_code, path_payment_strict_send_code, manage_offer_code,
-  set_options_code, change_trust_code, allow_trust_code, account_merge_code, inflation_code, manage_data_code,
-  bump_sequence_code, create_claimable_balance_code, claim_claimable_balance_code,
-  begin_sponsoring_future_reserves_code, end_sponsoring_future_reserves_code, revoke_sponsorship_code, clawback_code,
-  clawback_claimable_balance_code, set_trust_line_flags_code, liquidity_pool_deposit_code, liquidity_pool_withdraw_code,
-  create_account_values, payment_values, set_options_values, change_trust_values, allow_trust_values,
-  manage_data_values, bump_sequence_values, claim_claimable_balance_values, begin_sponsoring_future_reserves_values,
-  end_sponsoring_future_reserves_values, revoke_sponsorship_values, clawback_values, clawback_claimable_balance_values,
-  set_trust_line_flags_values, liquidity_pool_deposit_values, liquidity_pool_withdraw_values,
-  path_payment_strict_receive_values, path_payment_strict_send_values, manage_offer_values, account_merge_values,
-  inflation_values, create_claimable_balance_values,
+  create_account_code,
+  payment_code,
+  path_payment_strict_receive_code,
+  path_payment_strict_send_code,
+  manage_offer_code,
+  set_options_code,
+  change_trust_code,
+  allow_trust_code,
+  account_merge_code,
+  inflation_code,
+  manage_data_code,
+  bump_sequence_code,
+  create_claimable_balance_code,
+  claim_claimable_balance_code,
+  begin_sponsoring_future_reserves_code,
+  end_sponsoring_future_reserves_code,
+  revoke_sponsorship_code,
+  clawback_code,
+  clawback_claimable_balance_code,
+  set_trust_line_flags_code,
+  liquidity_pool_deposit_code,
+  liquidity_pool_withdraw_code,
+  create_account_values,
+  payment_values,
+  set_options_values,
+  change_trust_values,
+  allow_trust_values,
+  manage_data_values,
+  bump_sequence_values,
+  claim_claimable_balance_values,
+  begin_sponsoring_future_reserves_values,
+  end_sponsoring_future_reserves_values,
+  revoke_sponsorship_values,
+  clawback_values,
+  clawback_claimable_balance_values,
+  set_trust_line_flags_values,
+  liquidity_pool_deposit_values,
+  liquidity_pool_withdraw_values,
+  path_payment_strict_receive_values,
+  path_payment_strict_send_values,
+  manage_offer_values,
+  account_merge_values,
+  inflation_values,
+  create_claimable_balance_values,
 }
 use Rattle.xdr_results.proofs.PayloadLaws.{path_payment_success_laws, manage_offer_success_laws, inflation_payout_laws}
 use Rattle.xdr_results.specs.Answers.{
-  create_account_result, payment_result, path_payment_strict_receive_success_arm,
-  path_payment_strict_receive_no_issuer_arm, path_payment_strict_receive_result_arms,
-  path_payment_strict_receive_result_part, path_payment_strict_receive_result, path_payment_strict_send_success_arm,
-  path_payment_strict_send_no_issuer_arm, path_payment_strict_send_result_arms, path_payment_strict_send_result_part,
-  path_payment_strict_send_result, manage_offer_success_arm, manage_offer_result_arms, manage_offer_result_part,
-  manage_offer_result, set_options_result, change_trust_result, allow_trust_result, account_merge_success_arm,
-  account_merge_result_arms, account_merge_result_part, account_merge_result, inflation_success_arm,
-  inflation_result_arms, inflation_result_part, inflation_result, manage_data_result, bump_sequence_result,
-  create_claimable_balance_success_arm, create_claimable_balance_result_arms, create_claimable_balance_result_part,
-  create_claimable_balance_result, claim_claimable_balance_result, begin_sponsoring_future_reserves_result,
-  end_sponsoring_future_reserves_result, revoke_sponsorship_result, clawback_result, clawback_claimable_balance_result,
-  set_trust_line_flags_result, liquidity_pool_deposit_result, liquidity_pool_withdraw_result,
+  create_account_result,
+  payment_result,
+  path_payment_strict_receive_success_arm,
+  path_payment_strict_receive_no_issuer_arm,
+  path_payment_strict_receive_result_arms,
+  path_payment_strict_receive_result_part,
+  path_payment_strict_receive_result,
+  path_payment_strict_send_success_arm,
+  path_payment_strict_send_no_issuer_arm,
+  path_payment_strict_send_result_arms,
+  path_payment_strict_send_result_part,
+  path_payment_strict_send_result,
+  manage_offer_success_arm,
+  manage_offer_result_arms,
+  manage_offer_result_part,
+  manage_offer_result,
+  set_options_result,
+  change_trust_result,
+  allow_trust_result,
+  account_merge_success_arm,
+  account_merge_result_arms,
+  account_merge_result_part,
+  account_merge_result,
+  inflation_success_arm,
+  inflation_result_arms,
+  inflation_result_part,
+  inflation_result,
+  manage_data_result,
+  bump_sequence_result,
+  create_claimable_balance_success_arm,
+  create_claimable_balance_result_arms,
+  create_claimable_balance_result_part,
+  create_claimable_balance_result,
+  claim_claimable_balance_result,
+  begin_sponsoring_future_reserves_result,
+  end_sponsoring_future_reserves_result,
+  revoke_sponsorship_result,
+  clawback_result,
+  clawback_claimable_balance_result,
+  set_trust_line_flags_result,
+  liquidity_pool_deposit_result,
+  liquidity_pool_withdraw_result,
 }
 
 create_account_result_found : (v : CreateAccountResult) → IsListed create_account_code create_account_values v
@@ -108,78 +171,84 @@ payment_result_laws = codes_laws payment_code payment_values payment_result_foun
 
 path_payment_strict_receive_result_found : (v : PathPaymentStrictReceiveResult) →
     IsFound path_payment_strict_receive_result_part path_payment_strict_receive_result_arms v
-path_payment_strict_receive_result_found (path_payment_strict_receive.Success x) =
+path_payment_strict_receive_result_found (strict_receive.Success x) =
     found path_payment_strict_receive_success_arm x path_payment_success_laws tt refl refl (λ _ _ _. refl)
-path_payment_strict_receive_result_found (path_payment_strict_receive.NoIssuer x) =
+path_payment_strict_receive_result_found (strict_receive.NoIssuer x) =
     found path_payment_strict_receive_no_issuer_arm x asset_laws tt refl refl (λ _ _ _. refl)
-path_payment_strict_receive_result_found path_payment_strict_receive.Malformed =
+path_payment_strict_receive_result_found strict_receive.Malformed =
     plain_under path_payment_strict_receive_code tt refl (λ _ _ _. refl)
-path_payment_strict_receive_result_found path_payment_strict_receive.Underfunded =
+path_payment_strict_receive_result_found strict_receive.Underfunded =
     plain_under path_payment_strict_receive_code tt refl (λ _ _ _. refl)
-path_payment_strict_receive_result_found path_payment_strict_receive.SrcNoTrust =
+path_payment_strict_receive_result_found strict_receive.SrcNoTrust =
     plain_under path_payment_strict_receive_code tt refl (λ _ _ _. refl)
-path_payment_strict_receive_result_found path_payment_strict_receive.SrcNotAuthorized =
+path_payment_strict_receive_result_found strict_receive.SrcNotAuthorized =
     plain_under path_payment_strict_receive_code tt refl (λ _ _ _. refl)
-path_payment_strict_receive_result_found path_payment_strict_receive.NoDestination =
+path_payment_strict_receive_result_found strict_receive.NoDestination =
     plain_under path_payment_strict_receive_code tt refl (λ _ _ _. refl)
-path_payment_strict_receive_result_found path_payment_strict_receive.NoTrust =
+path_payment_strict_receive_result_found strict_receive.NoTrust =
     plain_under path_payment_strict_receive_code tt refl (λ _ _ _. refl)
-path_payment_strict_receive_result_found path_payment_strict_receive.NotAuthorized =
+path_payment_strict_receive_result_found strict_receive.NotAuthorized =
     plain_under path_payment_strict_receive_code tt refl (λ _ _ _. refl)
-path_payment_strict_receive_result_found path_payment_strict_receive.LineFull =
+path_payment_strict_receive_result_found strict_receive.LineFull =
     plain_under path_payment_strict_receive_code tt refl (λ _ _ _. refl)
-path_payment_strict_receive_result_found path_payment_strict_receive.TooFewOffers =
+path_payment_strict_receive_result_found strict_receive.TooFewOffers =
     plain_under path_payment_strict_receive_code tt refl (λ _ _ _. refl)
-path_payment_strict_receive_result_found path_payment_strict_receive.OfferCrossSelf =
+path_payment_strict_receive_result_found strict_receive.OfferCrossSelf =
     plain_under path_payment_strict_receive_code tt refl (λ _ _ _. refl)
-path_payment_strict_receive_result_found path_payment_strict_receive.OverSendmax =
+path_payment_strict_receive_result_found strict_receive.OverSendmax =
     plain_under path_payment_strict_receive_code tt refl (λ _ _ _. refl)
 
 pub path_payment_strict_receive_result_laws : Laws path_payment_strict_receive_result
 unfolding path_payment_strict_receive_result
-path_payment_strict_receive_result_laws = union_laws
-    (arm_laws path_payment_success_laws (λ x. refl),
-      (arm_laws asset_laws (λ x. refl),
-      plain_are path_payment_strict_receive_code path_payment_strict_receive_values
-        (refl, (refl, (refl, (refl, (refl, (refl, (refl, (refl, (refl, (refl, (refl, tt)))))))))))))
+path_payment_strict_receive_result_laws = union_laws (
+  arm_laws path_payment_success_laws (λ x. refl),
+  (
+    arm_laws asset_laws (λ x. refl),
+    plain_are path_payment_strict_receive_code path_payment_strict_receive_values
+        (refl, (refl, (refl, (refl, (refl, (refl, (refl, (refl, (refl, (refl, (refl, tt))))))))))),
+  ),
+)
     path_payment_strict_receive_result_found
 
 path_payment_strict_send_result_found : (v : PathPaymentStrictSendResult) →
     IsFound path_payment_strict_send_result_part path_payment_strict_send_result_arms v
-path_payment_strict_send_result_found (path_payment_strict_send.Success x) =
+path_payment_strict_send_result_found (strict_send.Success x) =
     found path_payment_strict_send_success_arm x path_payment_success_laws tt refl refl (λ _ _ _. refl)
-path_payment_strict_send_result_found (path_payment_strict_send.NoIssuer x) =
+path_payment_strict_send_result_found (strict_send.NoIssuer x) =
     found path_payment_strict_send_no_issuer_arm x asset_laws tt refl refl (λ _ _ _. refl)
-path_payment_strict_send_result_found path_payment_strict_send.Malformed =
+path_payment_strict_send_result_found strict_send.Malformed =
     plain_under path_payment_strict_send_code tt refl (λ _ _ _. refl)
-path_payment_strict_send_result_found path_payment_strict_send.Underfunded =
+path_payment_strict_send_result_found strict_send.Underfunded =
     plain_under path_payment_strict_send_code tt refl (λ _ _ _. refl)
-path_payment_strict_send_result_found path_payment_strict_send.SrcNoTrust =
+path_payment_strict_send_result_found strict_send.SrcNoTrust =
     plain_under path_payment_strict_send_code tt refl (λ _ _ _. refl)
-path_payment_strict_send_result_found path_payment_strict_send.SrcNotAuthorized =
+path_payment_strict_send_result_found strict_send.SrcNotAuthorized =
     plain_under path_payment_strict_send_code tt refl (λ _ _ _. refl)
-path_payment_strict_send_result_found path_payment_strict_send.NoDestination =
+path_payment_strict_send_result_found strict_send.NoDestination =
     plain_under path_payment_strict_send_code tt refl (λ _ _ _. refl)
-path_payment_strict_send_result_found path_payment_strict_send.NoTrust =
+path_payment_strict_send_result_found strict_send.NoTrust =
     plain_under path_payment_strict_send_code tt refl (λ _ _ _. refl)
-path_payment_strict_send_result_found path_payment_strict_send.NotAuthorized =
+path_payment_strict_send_result_found strict_send.NotAuthorized =
     plain_under path_payment_strict_send_code tt refl (λ _ _ _. refl)
-path_payment_strict_send_result_found path_payment_strict_send.LineFull =
+path_payment_strict_send_result_found strict_send.LineFull =
     plain_under path_payment_strict_send_code tt refl (λ _ _ _. refl)
-path_payment_strict_send_result_found path_payment_strict_send.TooFewOffers =
+path_payment_strict_send_result_found strict_send.TooFewOffers =
     plain_under path_payment_strict_send_code tt refl (λ _ _ _. refl)
-path_payment_strict_send_result_found path_payment_strict_send.OfferCrossSelf =
+path_payment_strict_send_result_found strict_send.OfferCrossSelf =
     plain_under path_payment_strict_send_code tt refl (λ _ _ _. refl)
-path_payment_strict_send_result_found path_payment_strict_send.UnderDestmin =
+path_payment_strict_send_result_found strict_send.UnderDestmin =
     plain_under path_payment_strict_send_code tt refl (λ _ _ _. refl)
 
 pub path_payment_strict_send_result_laws : Laws path_payment_strict_send_result
 unfolding path_payment_strict_send_result
-path_payment_strict_send_result_laws = union_laws
-    (arm_laws path_payment_success_laws (λ x. refl),
-      (arm_laws asset_laws (λ x. refl),
-      plain_are path_payment_strict_send_code path_payment_strict_send_values
-        (refl, (refl, (refl, (refl, (refl, (refl, (refl, (refl, (refl, (refl, (refl, tt)))))))))))))
+path_payment_strict_send_result_laws = union_laws (
+  arm_laws path_payment_success_laws (λ x. refl),
+  (
+    arm_laws asset_laws (λ x. refl),
+    plain_are path_payment_strict_send_code path_payment_strict_send_values
+        (refl, (refl, (refl, (refl, (refl, (refl, (refl, (refl, (refl, (refl, (refl, tt))))))))))),
+  ),
+)
     path_payment_strict_send_result_found
 
 manage_offer_result_found : (v : ManageOfferResult) → IsFound manage_offer_result_part manage_offer_result_arms v
@@ -200,10 +269,11 @@ manage_offer_result_found manage_offer.LowReserve = plain_under manage_offer_cod
 
 pub manage_offer_result_laws : Laws manage_offer_result
 unfolding manage_offer_result
-manage_offer_result_laws = union_laws
-    (arm_laws manage_offer_success_laws (λ x. refl),
-      plain_are manage_offer_code manage_offer_values
-        (refl, (refl, (refl, (refl, (refl, (refl, (refl, (refl, (refl, (refl, (refl, (refl, tt)))))))))))))
+manage_offer_result_laws = union_laws (
+  arm_laws manage_offer_success_laws (λ x. refl),
+  plain_are manage_offer_code manage_offer_values
+      (refl, (refl, (refl, (refl, (refl, (refl, (refl, (refl, (refl, (refl, (refl, (refl, tt)))))))))))),
+)
     manage_offer_result_found
 
 set_options_result_found : (v : SetOptionsResult) → IsListed set_options_code set_options_values v
@@ -265,9 +335,10 @@ account_merge_result_found account_merge.IsSponsor = plain_under account_merge_c
 
 pub account_merge_result_laws : Laws account_merge_result
 unfolding account_merge_result
-account_merge_result_laws = union_laws
-    (arm_laws i64_laws (λ x. refl),
-      plain_are account_merge_code account_merge_values (refl, (refl, (refl, (refl, (refl, (refl, (refl, tt))))))))
+account_merge_result_laws = union_laws (
+  arm_laws i64_laws (λ x. refl),
+  plain_are account_merge_code account_merge_values (refl, (refl, (refl, (refl, (refl, (refl, (refl, tt))))))),
+)
     account_merge_result_found
 
 inflation_result_found : (v : InflationResult) → IsFound inflation_result_part inflation_result_arms v
@@ -278,9 +349,10 @@ inflation_result_found inflation.NotTime = plain_under inflation_code tt refl (�
 
 pub inflation_result_laws : Laws inflation_result
 unfolding inflation_result
-inflation_result_laws = union_laws
-    (arm_laws (list_laws 4294967295 (omega arith) inflation_payout_laws) (λ x. refl),
-      plain_are inflation_code inflation_values (refl, tt))
+inflation_result_laws = union_laws (
+  arm_laws (list_laws 4294967295 (omega arith) inflation_payout_laws) (λ x. refl),
+  plain_are inflation_code inflation_values (refl, tt),
+)
     inflation_result_found
 
 manage_data_result_found : (v : ManageDataResult) → IsListed manage_data_code manage_data_values v
@@ -319,10 +391,11 @@ create_claimable_balance_result_found create_claimable_balance.Underfunded =
 
 pub create_claimable_balance_result_laws : Laws create_claimable_balance_result
 unfolding create_claimable_balance_result
-create_claimable_balance_result_laws = union_laws
-    (arm_laws claimable_balance_id_laws (λ x. refl),
-      plain_are create_claimable_balance_code create_claimable_balance_values
-        (refl, (refl, (refl, (refl, (refl, tt))))))
+create_claimable_balance_result_laws = union_laws (
+  arm_laws claimable_balance_id_laws (λ x. refl),
+  plain_are create_claimable_balance_code create_claimable_balance_values
+      (refl, (refl, (refl, (refl, (refl, tt))))),
+)
     create_claimable_balance_result_found
 
 claim_claimable_balance_result_found : (v : ClaimClaimableBalanceResult) →
@@ -347,31 +420,33 @@ claim_claimable_balance_result_laws =
 
 begin_sponsoring_future_reserves_result_found : (v : BeginSponsoringFutureReservesResult) →
     IsListed begin_sponsoring_future_reserves_code begin_sponsoring_future_reserves_values v
-begin_sponsoring_future_reserves_result_found begin_sponsoring_future_reserves.Success =
+begin_sponsoring_future_reserves_result_found begin_sponsoring.Success =
     plain_under begin_sponsoring_future_reserves_code tt refl (λ _ _ _. refl)
-begin_sponsoring_future_reserves_result_found begin_sponsoring_future_reserves.Malformed =
+begin_sponsoring_future_reserves_result_found begin_sponsoring.Malformed =
     plain_under begin_sponsoring_future_reserves_code tt refl (λ _ _ _. refl)
-begin_sponsoring_future_reserves_result_found begin_sponsoring_future_reserves.AlreadySponsored =
+begin_sponsoring_future_reserves_result_found begin_sponsoring.AlreadySponsored =
     plain_under begin_sponsoring_future_reserves_code tt refl (λ _ _ _. refl)
-begin_sponsoring_future_reserves_result_found begin_sponsoring_future_reserves.Recursive =
+begin_sponsoring_future_reserves_result_found begin_sponsoring.Recursive =
     plain_under begin_sponsoring_future_reserves_code tt refl (λ _ _ _. refl)
 
 pub begin_sponsoring_future_reserves_result_laws : Laws begin_sponsoring_future_reserves_result
 unfolding begin_sponsoring_future_reserves_result
 begin_sponsoring_future_reserves_result_laws =
-    codes_laws begin_sponsoring_future_reserves_code begin_sponsoring_future_reserves_values begin_sponsoring_future_reserves_result_found
+    codes_laws begin_sponsoring_future_reserves_code begin_sponsoring_future_reserves_values
+    begin_sponsoring_future_reserves_result_found
 
 end_sponsoring_future_reserves_result_found : (v : EndSponsoringFutureReservesResult) →
     IsListed end_sponsoring_future_reserves_code end_sponsoring_future_reserves_values v
-end_sponsoring_future_reserves_result_found end_sponsoring_future_reserves.Success =
+end_sponsoring_future_reserves_result_found end_sponsoring.Success =
     plain_under end_sponsoring_future_reserves_code tt refl (λ _ _ _. refl)
-end_sponsoring_future_reserves_result_found end_sponsoring_future_reserves.NotSponsored =
+end_sponsoring_future_reserves_result_found end_sponsoring.NotSponsored =
     plain_under end_sponsoring_future_reserves_code tt refl (λ _ _ _. refl)
 
 pub end_sponsoring_future_reserves_result_laws : Laws end_sponsoring_future_reserves_result
 unfolding end_sponsoring_future_reserves_result
 end_sponsoring_future_reserves_result_laws =
-    codes_laws end_sponsoring_future_reserves_code end_sponsoring_future_reserves_values end_sponsoring_future_reserves_result_found
+    codes_laws end_sponsoring_future_reserves_code end_sponsoring_future_reserves_values
+    end_sponsoring_future_reserves_result_found
 
 revoke_sponsorship_result_found : (v : RevokeSponsorshipResult) →
     IsListed revoke_sponsorship_code revoke_sponsorship_values v
@@ -405,13 +480,13 @@ clawback_result_laws = codes_laws clawback_code clawback_values clawback_result_
 
 clawback_claimable_balance_result_found : (v : ClawbackClaimableBalanceResult) →
     IsListed clawback_claimable_balance_code clawback_claimable_balance_values v
-clawback_claimable_balance_result_found clawback_claimable_balance.Success =
+clawback_claimable_balance_result_found clawback_balance.Success =
     plain_under clawback_claimable_balance_code tt refl (λ _ _ _. refl)
-clawback_claimable_balance_result_found clawback_claimable_balance.DoesNotExist =
+clawback_claimable_balance_result_found clawback_balance.DoesNotExist =
     plain_under clawback_claimable_balance_code tt refl (λ _ _ _. refl)
-clawback_claimable_balance_result_found clawback_claimable_balance.NotIssuer =
+clawback_claimable_balance_result_found clawback_balance.NotIssuer =
     plain_under clawback_claimable_balance_code tt refl (λ _ _ _. refl)
-clawback_claimable_balance_result_found clawback_claimable_balance.NotClawbackEnabled =
+clawback_claimable_balance_result_found clawback_balance.NotClawbackEnabled =
     plain_under clawback_claimable_balance_code tt refl (λ _ _ _. refl)
 
 pub clawback_claimable_balance_result_laws : Laws clawback_claimable_balance_result

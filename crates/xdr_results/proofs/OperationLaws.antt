@@ -9,24 +9,65 @@ use Rattle.op_types.specs.declared.operation_result.OperationResult.{OperationRe
 use Rattle.op_types.specs.declared.operation_result.OperationResult.TheVariants as operation
 use Rattle.op_types.specs.Codes.{operation_code, operation_values}
 use Rattle.xdr_results.proofs.AnswerLaws.{
-  create_account_result_laws, payment_result_laws, path_payment_strict_receive_result_laws,
-  path_payment_strict_send_result_laws, manage_offer_result_laws, set_options_result_laws, change_trust_result_laws,
-  allow_trust_result_laws, account_merge_result_laws, inflation_result_laws, manage_data_result_laws,
-  bump_sequence_result_laws, create_claimable_balance_result_laws, claim_claimable_balance_result_laws,
-  begin_sponsoring_future_reserves_result_laws, end_sponsoring_future_reserves_result_laws,
-  revoke_sponsorship_result_laws, clawback_result_laws, clawback_claimable_balance_result_laws,
-  set_trust_line_flags_result_laws, liquidity_pool_deposit_result_laws, liquidity_pool_withdraw_result_laws,
+  create_account_result_laws,
+  payment_result_laws,
+  path_payment_strict_receive_result_laws,
+  path_payment_strict_send_result_laws,
+  manage_offer_result_laws,
+  set_options_result_laws,
+  change_trust_result_laws,
+  allow_trust_result_laws,
+  account_merge_result_laws,
+  inflation_result_laws,
+  manage_data_result_laws,
+  bump_sequence_result_laws,
+  create_claimable_balance_result_laws,
+  claim_claimable_balance_result_laws,
+  begin_sponsoring_future_reserves_result_laws,
+  end_sponsoring_future_reserves_result_laws,
+  revoke_sponsorship_result_laws,
+  clawback_result_laws,
+  clawback_claimable_balance_result_laws,
+  set_trust_line_flags_result_laws,
+  liquidity_pool_deposit_result_laws,
+  liquidity_pool_withdraw_result_laws,
 }
 use Rattle.xdr_results.specs.Coded.{plain}
 use Rattle.xdr_results.specs.Results.{
-  create_account_answer, payment_answer, path_payment_strict_receive_answer, manage_sell_offer_answer,
-  create_passive_sell_offer_answer, set_options_answer, change_trust_answer, allow_trust_answer, account_merge_answer,
-  inflation_answer, manage_data_answer, bump_sequence_answer, manage_buy_offer_answer, path_payment_strict_send_answer,
-  create_claimable_balance_answer, claim_claimable_balance_answer, begin_sponsoring_future_reserves_answer,
-  end_sponsoring_future_reserves_answer, revoke_sponsorship_answer, clawback_answer, clawback_claimable_balance_answer,
-  set_trust_line_flags_answer, liquidity_pool_deposit_answer, liquidity_pool_withdraw_answer, last_run_arms,
-  third_run_arms, second_run_arms, run_arms, run_part, operation_result_tr, operation_inner, operation_arms,
-  operation_part, operation_result,
+  create_account_answer,
+  payment_answer,
+  path_payment_strict_receive_answer,
+  manage_sell_offer_answer,
+  create_passive_sell_offer_answer,
+  set_options_answer,
+  change_trust_answer,
+  allow_trust_answer,
+  account_merge_answer,
+  inflation_answer,
+  manage_data_answer,
+  bump_sequence_answer,
+  manage_buy_offer_answer,
+  path_payment_strict_send_answer,
+  create_claimable_balance_answer,
+  claim_claimable_balance_answer,
+  begin_sponsoring_future_reserves_answer,
+  end_sponsoring_future_reserves_answer,
+  revoke_sponsorship_answer,
+  clawback_answer,
+  clawback_claimable_balance_answer,
+  set_trust_line_flags_answer,
+  liquidity_pool_deposit_answer,
+  liquidity_pool_withdraw_answer,
+  last_run_arms,
+  third_run_arms,
+  second_run_arms,
+  run_arms,
+  run_part,
+  operation_result_tr,
+  operation_inner,
+  operation_arms,
+  operation_part,
+  operation_result,
 }
 
 operation_result_tr_found : (v : OperationResultTr) → IsFound run_part run_arms v
@@ -85,31 +126,76 @@ operation_result_tr_found (run.LiquidityPoolWithdraw answer) =
 
 pub operation_result_tr_laws : Laws operation_result_tr
 unfolding operation_result_tr second_run_arms third_run_arms last_run_arms
-operation_result_tr_laws = union_laws
-    (arm_laws create_account_result_laws (λ x. refl),
-      (arm_laws payment_result_laws (λ x. refl),
-      (arm_laws path_payment_strict_receive_result_laws (λ x. refl),
-      (arm_laws manage_offer_result_laws (λ x. refl),
-      (arm_laws manage_offer_result_laws (λ x. refl),
-      (arm_laws set_options_result_laws (λ x. refl),
-      (arm_laws change_trust_result_laws (λ x. refl),
-      (arm_laws allow_trust_result_laws (λ x. refl),
-      (arm_laws account_merge_result_laws (λ x. refl),
-      (arm_laws inflation_result_laws (λ x. refl),
-      (arm_laws manage_data_result_laws (λ x. refl),
-      (arm_laws bump_sequence_result_laws (λ x. refl),
-      (arm_laws manage_offer_result_laws (λ x. refl),
-      (arm_laws path_payment_strict_send_result_laws (λ x. refl),
-      (arm_laws create_claimable_balance_result_laws (λ x. refl),
-      (arm_laws claim_claimable_balance_result_laws (λ x. refl),
-      (arm_laws begin_sponsoring_future_reserves_result_laws (λ x. refl),
-      (arm_laws end_sponsoring_future_reserves_result_laws (λ x. refl),
-      (arm_laws revoke_sponsorship_result_laws (λ x. refl),
-      (arm_laws clawback_result_laws (λ x. refl),
-      (arm_laws clawback_claimable_balance_result_laws (λ x. refl),
-      (arm_laws set_trust_line_flags_result_laws (λ x. refl),
-      (arm_laws liquidity_pool_deposit_result_laws (λ x. refl),
-      (arm_laws liquidity_pool_withdraw_result_laws (λ x. refl), tt))))))))))))))))))))))))
+operation_result_tr_laws = union_laws (
+  arm_laws create_account_result_laws (λ x. refl),
+  (
+    arm_laws payment_result_laws (λ x. refl),
+    (
+      arm_laws path_payment_strict_receive_result_laws (λ x. refl),
+      (
+        arm_laws manage_offer_result_laws (λ x. refl),
+        (
+          arm_laws manage_offer_result_laws (λ x. refl),
+          (
+            arm_laws set_options_result_laws (λ x. refl),
+            (
+              arm_laws change_trust_result_laws (λ x. refl),
+              (
+                arm_laws allow_trust_result_laws (λ x. refl),
+                (
+                  arm_laws account_merge_result_laws (λ x. refl),
+                  (
+                    arm_laws inflation_result_laws (λ x. refl),
+                    (
+                      arm_laws manage_data_result_laws (λ x. refl),
+                      (
+                        arm_laws bump_sequence_result_laws (λ x. refl),
+                        (
+                          arm_laws manage_offer_result_laws (λ x. refl),
+                          (
+                            arm_laws path_payment_strict_send_result_laws (λ x. refl),
+                            (
+                              arm_laws create_claimable_balance_result_laws (λ x. refl),
+                              (
+                                arm_laws claim_claimable_balance_result_laws (λ x. refl),
+                                (
+                                  arm_laws begin_sponsoring_future_reserves_result_laws (λ x. refl),
+                                  (
+                                    arm_laws end_sponsoring_future_reserves_result_laws (λ x. refl),
+                                    (
+                                      arm_laws revoke_sponsorship_result_laws (λ x. refl),
+                                      (
+                                        arm_laws clawback_result_laws (λ x. refl),
+                                        (
+                                          arm_laws clawback_claimable_balance_result_laws (λ x. refl),
+                                          (
+                                            arm_laws set_trust_line_flags_result_laws (λ x. refl),
+                                            (
+                                              arm_laws liquidity_pool_deposit_result_laws (λ x. refl),
+                                              (arm_laws liquidity_pool_withdraw_result_laws (λ x. refl), tt),
+                                            ),
+                                          ),
+                                        ),
+                                      ),
+                                    ),
+                                  ),
+                                ),
+                              ),
+                            ),
+                          ),
+                        ),
+                      ),
+                    ),
+                  ),
+                ),
+              ),
+            ),
+          ),
+        ),
+      ),
+    ),
+  ),
+)
     operation_result_tr_found
 
 operation_result_found : (v : OperationResult) → IsFound operation_part operation_arms v
@@ -124,7 +210,8 @@ operation_result_found operation.TooManySponsoring = plain_under operation_code 
 
 pub operation_result_laws : Laws operation_result
 unfolding operation_result
-operation_result_laws = union_laws
-    (arm_laws operation_result_tr_laws (λ x. refl),
-      plain_are operation_code operation_values (refl, (refl, (refl, (refl, (refl, (refl, tt)))))))
+operation_result_laws = union_laws (
+  arm_laws operation_result_tr_laws (λ x. refl),
+  plain_are operation_code operation_values (refl, (refl, (refl, (refl, (refl, (refl, tt)))))),
+)
     operation_result_found

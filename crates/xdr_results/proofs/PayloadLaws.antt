@@ -1,7 +1,16 @@
 -- The laws of the formats of what stands behind codes.
 use Rattle.std.proofs.Common.{pos, refl, arith}
 use Rattle.xdr_core.proofs.FormatLaws.{
-  Laws, i64_laws, fixed_laws, empty_laws, ◌&◌, struct_laws, list_laws, arm_laws, found, union_laws,
+  Laws,
+  i64_laws,
+  fixed_laws,
+  empty_laws,
+  ◌&◌,
+  struct_laws,
+  list_laws,
+  arm_laws,
+  found,
+  union_laws,
 }
 use Rattle.xdr_core.proofs.Unions.{IsFound}
 use Rattle.xdr_entries.proofs.BasicLaws.{hash_laws, account_id_laws, asset_laws}
@@ -11,9 +20,26 @@ use Rattle.ledger_types.specs.declared.claim_atom.ClaimAtom.TheVariants as atoms
 use Rattle.op_types.specs.declared.offer_results.ManageOfferEffect.{ManageOfferEffect}
 use Rattle.op_types.specs.declared.offer_results.ManageOfferEffect.TheVariants as effects
 use Rattle.xdr_results.specs.Answers.{
-  atom_v0, atom_order_book, atom_liquidity_pool, atom_arms, atom_part, claim_atom, simple_fields, simple_payment_result,
-  path_fields, path_payment_success, effect_created, effect_updated, effect_deleted, effect_arms, effect_part,
-  manage_offer_effect, offer_success_fields, manage_offer_success, payout_fields, inflation_payout,
+  atom_v0,
+  atom_order_book,
+  atom_liquidity_pool,
+  atom_arms,
+  atom_part,
+  claim_atom,
+  simple_fields,
+  simple_payment_result,
+  path_fields,
+  path_payment_success,
+  effect_created,
+  effect_updated,
+  effect_deleted,
+  effect_arms,
+  effect_part,
+  manage_offer_effect,
+  offer_success_fields,
+  manage_offer_success,
+  payout_fields,
+  inflation_payout,
 }
 
 claim_atom_found : (v : ClaimAtom) → IsFound atom_part atom_arms v
@@ -29,10 +55,13 @@ claim_atom_found (atoms.LiquidityPool pool sold amount_sold bought amount_bought
 
 pub claim_atom_laws : Laws claim_atom
 unfolding claim_atom
-claim_atom_laws = union_laws
-    (arm_laws (fixed_laws 32 & i64_laws & asset_laws & i64_laws & asset_laws & i64_laws) (λ x. refl),
-      (arm_laws (account_id_laws & i64_laws & asset_laws & i64_laws & asset_laws & i64_laws) (λ x. refl),
-      (arm_laws (hash_laws & asset_laws & i64_laws & asset_laws & i64_laws) (λ x. refl), tt)))
+claim_atom_laws = union_laws (
+  arm_laws (fixed_laws 32 & i64_laws & asset_laws & i64_laws & asset_laws & i64_laws) (λ x. refl),
+  (
+    arm_laws (account_id_laws & i64_laws & asset_laws & i64_laws & asset_laws & i64_laws) (λ x. refl),
+    (arm_laws (hash_laws & asset_laws & i64_laws & asset_laws & i64_laws) (λ x. refl), tt),
+  ),
+)
     claim_atom_found
 
 pub simple_payment_result_laws : Laws simple_payment_result
@@ -53,10 +82,13 @@ manage_offer_effect_found effects.Deleted = found effect_deleted tt empty_laws t
 
 pub manage_offer_effect_laws : Laws manage_offer_effect
 unfolding manage_offer_effect
-manage_offer_effect_laws = union_laws
-    (arm_laws offer_entry_laws (λ x. refl),
-      (arm_laws offer_entry_laws (λ x. refl),
-      (arm_laws empty_laws (λ x. refl), tt)))
+manage_offer_effect_laws = union_laws (
+  arm_laws offer_entry_laws (λ x. refl),
+  (
+    arm_laws offer_entry_laws (λ x. refl),
+    (arm_laws empty_laws (λ x. refl), tt),
+  ),
+)
     manage_offer_effect_found
 
 pub manage_offer_success_laws : Laws manage_offer_success

@@ -1,6 +1,22 @@
 -- Values that have nothing behind their discriminant: which one a discriminant picks, and the laws of their arms.
 use Rattle.std.proofs.Common.{
-  ◌≡◌, ℤ, ◌^◌, T, ltb, true, false, cond, List, [], ◌∷◌, Option, Some, None, Ok, Err, refl,
+  ◌≡◌,
+  ℤ,
+  ◌^◌,
+  T,
+  ltb,
+  true,
+  false,
+  cond,
+  List,
+  [],
+  ◌∷◌,
+  Option,
+  Some,
+  None,
+  Ok,
+  Err,
+  refl,
 }
 use lib.Signed.{mag}
 use Rattle.std.specs.Prelude.{find}
@@ -24,8 +40,8 @@ pub pick_plain : {V : Type 0} (number : V → ℤ) (values : List V) (start p : 
 pick_plain number [] start p d = refl
 pick_plain {V} number (value ∷ others) start p d =
     elim (int_eq d (number value)) as (λ b.
-      cond b (Ok (value, p)) (pick (plain_arms number others) no_arm start (d, p))
-      ≡ found_at (cond b (Some value) (find (λ v. int_eq d (number v)) others)) start p) [
+    cond b (Ok (value, p)) (pick (plain_arms number others) no_arm start (d, p))
+    ≡ found_at (cond b (Some value) (find (λ v. int_eq d (number v)) others)) start p) [
       | true ↦ refl
       | false ↦ pick_plain number others start p d
     ]
@@ -34,7 +50,7 @@ pick_plain {V} number (value ∷ others) start p d =
 pub plain_under : {V : Type 0} {part_of : V → Part XdrFault V} {arms : List (Arm XdrFault V)} {value : V}
     (number : V → ℤ) → T (ltb (mag (number value)) (2 ^ 31)) → part_of value ≡ part (plain number value) tt
     → ((wrong : Place → ℤ → XdrFault) (start p : Place)
-      → pick arms wrong start (number value, p) ≡ arm_at (plain number value) p)
+    → pick arms wrong start (number value, p) ≡ arm_at (plain number value) p)
     → IsFound part_of arms value
 plain_under {value = value} number fits is_part picked =
     found (plain number value) tt empty_laws fits is_part refl picked

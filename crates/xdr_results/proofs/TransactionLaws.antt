@@ -1,7 +1,17 @@
 -- The laws of the formats of what transactions answer.
 use Rattle.std.proofs.Common.{pos, negsuc, refl, arith}
 use Rattle.xdr_core.proofs.FormatLaws.{
-  Laws, i64_laws, ◌&◌, struct_laws, closed_laws, tag_laws, list_laws, arm_laws, found, union_laws,
+  Laws,
+  written,
+  i64_laws,
+  ◌&◌,
+  struct_laws,
+  closed_laws,
+  tag_laws,
+  list_laws,
+  arm_laws,
+  found,
+  union_laws,
 }
 use Rattle.xdr_results.proofs.Plain.{plain_under, plain_are}
 use Rattle.xdr_core.proofs.Unions.{IsFound}
@@ -14,10 +24,28 @@ use Rattle.op_types.specs.Codes.{inner_code, outcome_code, inner_values, outcome
 use Rattle.xdr_results.proofs.OperationLaws.{operation_result_laws}
 use Rattle.xdr_results.specs.Coded.{plain}
 use Rattle.xdr_results.specs.Results.{
-  inner_success, inner_failed, inner_arms, inner_part, inner_transaction_outcome, inner_result_fields,
-  inner_transaction_result, inner_pair_fields, inner_transaction_result_pair, outcome_success, outcome_failed,
-  outcome_inner_success, outcome_inner_failed, outcome_arms, outcome_part, transaction_outcome, result_fields,
-  transaction_result, pair_fields, transaction_result_pair, result_set_fields, transaction_result_set,
+  inner_success,
+  inner_failed,
+  inner_arms,
+  inner_part,
+  inner_transaction_outcome,
+  inner_result_fields,
+  inner_transaction_result,
+  inner_pair_fields,
+  inner_transaction_result_pair,
+  outcome_success,
+  outcome_failed,
+  outcome_inner_success,
+  outcome_inner_failed,
+  outcome_arms,
+  outcome_part,
+  transaction_outcome,
+  result_fields,
+  transaction_result,
+  pair_fields,
+  transaction_result_pair,
+  result_set_fields,
+  transaction_result_set,
 }
 
 inner_transaction_outcome_found : (v : InnerTransactionOutcome) → IsFound inner_part inner_arms v
@@ -44,11 +72,19 @@ inner_transaction_outcome_found inner.FeeBumpInnerSuccess = plain_under inner_co
 
 pub inner_transaction_outcome_laws : Laws inner_transaction_outcome
 unfolding inner_transaction_outcome
-inner_transaction_outcome_laws = union_laws
-    (arm_laws (list_laws 4294967295 (omega arith) operation_result_laws) (λ x. refl),
-      (arm_laws (list_laws 4294967295 (omega arith) operation_result_laws) (λ x. refl),
-      plain_are inner_code inner_values
-        (refl, (refl, (refl, (refl, (refl, (refl, (refl, (refl, (refl, (refl, (refl, (refl, (refl, (refl, tt))))))))))))))))
+inner_transaction_outcome_laws = union_laws (
+  arm_laws (list_laws 4294967295 (omega arith) operation_result_laws) (λ x. refl),
+  (
+    arm_laws (list_laws 4294967295 (omega arith) operation_result_laws) (λ x. refl),
+    plain_are inner_code inner_values (
+      refl,
+      (
+        refl,
+        (refl, (refl, (refl, (refl, (refl, (refl, (refl, (refl, (refl, (refl, (refl, (refl, tt)))))))))))),
+      ),
+    ),
+  ),
+)
     inner_transaction_outcome_found
 
 pub inner_transaction_result_laws : Laws inner_transaction_result
@@ -86,13 +122,20 @@ transaction_outcome_found outcome.BadSponsorship = plain_under outcome_code tt r
 
 pub transaction_outcome_laws : Laws transaction_outcome
 unfolding transaction_outcome
-transaction_outcome_laws = union_laws
-    (arm_laws (list_laws 4294967295 (omega arith) operation_result_laws) (λ x. refl),
-      (arm_laws (list_laws 4294967295 (omega arith) operation_result_laws) (λ x. refl),
-      (arm_laws inner_transaction_result_pair_laws (λ x. refl),
-      (arm_laws inner_transaction_result_pair_laws (λ x. refl),
-      plain_are outcome_code outcome_values
-        (refl, (refl, (refl, (refl, (refl, (refl, (refl, (refl, (refl, (refl, (refl, (refl, tt))))))))))))))))
+transaction_outcome_laws = union_laws (
+  arm_laws (list_laws 4294967295 (omega arith) operation_result_laws) (λ x. refl),
+  (
+    arm_laws (list_laws 4294967295 (omega arith) operation_result_laws) (λ x. refl),
+    (
+      arm_laws inner_transaction_result_pair_laws (λ x. refl),
+      (
+        arm_laws inner_transaction_result_pair_laws (λ x. refl),
+        plain_are outcome_code outcome_values
+            (refl, (refl, (refl, (refl, (refl, (refl, (refl, (refl, (refl, (refl, (refl, (refl, tt)))))))))))),
+      ),
+    ),
+  ),
+)
     transaction_outcome_found
 
 pub transaction_result_laws : Laws transaction_result
@@ -108,3 +151,9 @@ pub transaction_result_set_laws : Laws transaction_result_set
 unfolding transaction_result_set
 transaction_result_set_laws = struct_laws result_set_fields
     (list_laws 4294967295 (omega arith) transaction_result_pair_laws)
+
+-- what its writer goes by
+pub ruleset pair_written = (written, transaction_result_pair_laws)
+
+-- what its writer goes by
+pub ruleset set_written = (written, transaction_result_set_laws)

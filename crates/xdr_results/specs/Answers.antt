@@ -17,9 +17,9 @@ use Rattle.op_types.specs.declared.account_results.InflationPayout.{InflationPay
 use Rattle.op_types.specs.declared.payment_results.CreateAccountResult.{CreateAccountResult}
 use Rattle.op_types.specs.declared.payment_results.PaymentResult.{PaymentResult}
 use Rattle.op_types.specs.declared.payment_results.PathPaymentStrictReceiveResult.{PathPaymentStrictReceiveResult}
-use Rattle.op_types.specs.declared.payment_results.PathPaymentStrictReceiveResult.TheVariants as path_payment_strict_receive
+use Rattle.op_types.specs.declared.payment_results.PathPaymentStrictReceiveResult.TheVariants as strict_receive
 use Rattle.op_types.specs.declared.payment_results.PathPaymentStrictSendResult.{PathPaymentStrictSendResult}
-use Rattle.op_types.specs.declared.payment_results.PathPaymentStrictSendResult.TheVariants as path_payment_strict_send
+use Rattle.op_types.specs.declared.payment_results.PathPaymentStrictSendResult.TheVariants as strict_send
 use Rattle.op_types.specs.declared.offer_results.ManageOfferResult.{ManageOfferResult}
 use Rattle.op_types.specs.declared.offer_results.ManageOfferResult.TheVariants as manage_offer
 use Rattle.op_types.specs.declared.account_results.SetOptionsResult.{SetOptionsResult}
@@ -98,21 +98,33 @@ use Rattle.xdr_results.specs.Coded.{plain, plain_arms, codes}
 -- ---- what trades moved
 
 abbrev pub atom_v0 : Arm XdrFault ClaimAtom
-atom_v0 = arm (pos 0) (fixed 32 ⨾ i64 ⨾ asset ⨾ i64 ⨾ asset ⨾ i64) (λ (seller, (offer, (sold, (amount_sold, (bought, amount_bought))))). atoms.V0 seller offer sold amount_sold bought amount_bought)
+atom_v0 =
+    arm (pos 0) (fixed 32 ⨾ i64 ⨾ asset ⨾ i64 ⨾ asset ⨾ i64) (
+    λ (seller, (offer, (sold, (amount_sold, (bought, amount_bought))))). atoms.V0 seller offer sold amount_sold
+    bought amount_bought)
 
 abbrev pub atom_order_book : Arm XdrFault ClaimAtom
-atom_order_book = arm (pos 1) (account_id ⨾ i64 ⨾ asset ⨾ i64 ⨾ asset ⨾ i64) (λ (seller, (offer, (sold, (amount_sold, (bought, amount_bought))))). atoms.OrderBook seller offer sold amount_sold bought amount_bought)
+atom_order_book =
+    arm (pos 1) (account_id ⨾ i64 ⨾ asset ⨾ i64 ⨾ asset ⨾ i64) (
+    λ (seller, (offer, (sold, (amount_sold, (bought, amount_bought))))). atoms.OrderBook seller offer sold
+    amount_sold bought amount_bought)
 
 abbrev pub atom_liquidity_pool : Arm XdrFault ClaimAtom
-atom_liquidity_pool = arm (pos 2) (hash ⨾ asset ⨾ i64 ⨾ asset ⨾ i64) (λ (pool, (sold, (amount_sold, (bought, amount_bought)))). atoms.LiquidityPool pool sold amount_sold bought amount_bought)
+atom_liquidity_pool =
+    arm (pos 2) (hash ⨾ asset ⨾ i64 ⨾ asset ⨾ i64) (
+    λ (pool, (sold, (amount_sold, (bought, amount_bought)))). atoms.LiquidityPool pool sold amount_sold bought
+    amount_bought)
 
 abbrev pub atom_arms : List (Arm XdrFault ClaimAtom)
 atom_arms = atom_v0 ∷ atom_order_book ∷ atom_liquidity_pool ∷ []
 
 abbrev pub atom_part : ClaimAtom → Part XdrFault ClaimAtom
-atom_part (atoms.V0 seller offer sold amount_sold bought amount_bought) = part atom_v0 (seller, (offer, (sold, (amount_sold, (bought, amount_bought)))))
-atom_part (atoms.OrderBook seller offer sold amount_sold bought amount_bought) = part atom_order_book (seller, (offer, (sold, (amount_sold, (bought, amount_bought)))))
-atom_part (atoms.LiquidityPool pool sold amount_sold bought amount_bought) = part atom_liquidity_pool (pool, (sold, (amount_sold, (bought, amount_bought))))
+atom_part (atoms.V0 seller offer sold amount_sold bought amount_bought) =
+    part atom_v0 (seller, (offer, (sold, (amount_sold, (bought, amount_bought)))))
+atom_part (atoms.OrderBook seller offer sold amount_sold bought amount_bought) =
+    part atom_order_book (seller, (offer, (sold, (amount_sold, (bought, amount_bought)))))
+atom_part (atoms.LiquidityPool pool sold amount_sold bought amount_bought) =
+    part atom_liquidity_pool (pool, (sold, (amount_sold, (bought, amount_bought))))
 
 unfoldable pub claim_atom : Xdr ClaimAtom
 claim_atom = union_of atom_part atom_arms
@@ -131,7 +143,12 @@ unfoldable pub simple_payment_result : Xdr SimplePaymentResult
 simple_payment_result = struct_of simple_fields (account_id ⨾ asset ⨾ i64)
 
 abbrev pub path_fields : Fields (List ClaimAtom × SimplePaymentResult) PathPaymentSuccess
-path_fields = record { to = λ v. record { offers = v.0; last = v.1 }; from = λ r. (r.offers, r.last); there = λ _. refl; back = λ _. refl }
+path_fields = record {
+  to = λ v. record { offers = v.0; last = v.1 };
+  from = λ r. (r.offers, r.last);
+  there = λ _. refl;
+  back = λ _. refl;
+}
 
 unfoldable pub path_payment_success : Xdr PathPaymentSuccess
 path_payment_success = struct_of path_fields (list_of 4294967295 claim_atom ⨾ simple_payment_result)
@@ -157,13 +174,23 @@ unfoldable pub manage_offer_effect : Xdr ManageOfferEffect
 manage_offer_effect = union_of effect_part effect_arms
 
 abbrev pub offer_success_fields : Fields (List ClaimAtom × ManageOfferEffect) ManageOfferSuccess
-offer_success_fields = record { to = λ v. record { offers_claimed = v.0; offer = v.1 }; from = λ r. (r.offers_claimed, r.offer); there = λ _. refl; back = λ _. refl }
+offer_success_fields = record {
+  to = λ v. record { offers_claimed = v.0; offer = v.1 };
+  from = λ r. (r.offers_claimed, r.offer);
+  there = λ _. refl;
+  back = λ _. refl;
+}
 
 unfoldable pub manage_offer_success : Xdr ManageOfferSuccess
 manage_offer_success = struct_of offer_success_fields (list_of 4294967295 claim_atom ⨾ manage_offer_effect)
 
 abbrev pub payout_fields : Fields (AccountId × ℤ) InflationPayout
-payout_fields = record { to = λ v. record { destination = v.0; amount = v.1 }; from = λ p. (p.destination, p.amount); there = λ _. refl; back = λ _. refl }
+payout_fields = record {
+  to = λ v. record { destination = v.0; amount = v.1 };
+  from = λ p. (p.destination, p.amount);
+  there = λ _. refl;
+  back = λ _. refl;
+}
 
 unfoldable pub inflation_payout : Xdr InflationPayout
 inflation_payout = struct_of payout_fields (account_id ⨾ i64)
@@ -177,34 +204,44 @@ unfoldable pub payment_result : Xdr PaymentResult
 payment_result = codes payment_code payment_values
 
 abbrev pub path_payment_strict_receive_success_arm : Arm XdrFault PathPaymentStrictReceiveResult
-path_payment_strict_receive_success_arm = arm (pos 0) path_payment_success path_payment_strict_receive.Success
+path_payment_strict_receive_success_arm = arm (pos 0) path_payment_success strict_receive.Success
 
 abbrev pub path_payment_strict_receive_no_issuer_arm : Arm XdrFault PathPaymentStrictReceiveResult
-path_payment_strict_receive_no_issuer_arm = arm (minus 9) asset path_payment_strict_receive.NoIssuer
+path_payment_strict_receive_no_issuer_arm = arm (minus 9) asset strict_receive.NoIssuer
 
 abbrev pub path_payment_strict_receive_result_arms : List (Arm XdrFault PathPaymentStrictReceiveResult)
-path_payment_strict_receive_result_arms = path_payment_strict_receive_success_arm ∷ path_payment_strict_receive_no_issuer_arm ∷ plain_arms path_payment_strict_receive_code path_payment_strict_receive_values
+path_payment_strict_receive_result_arms =
+    path_payment_strict_receive_success_arm ∷ path_payment_strict_receive_no_issuer_arm
+    ∷ plain_arms path_payment_strict_receive_code path_payment_strict_receive_values
 
-abbrev pub path_payment_strict_receive_result_part : PathPaymentStrictReceiveResult → Part XdrFault PathPaymentStrictReceiveResult
-path_payment_strict_receive_result_part (path_payment_strict_receive.Success x) = part path_payment_strict_receive_success_arm x
-path_payment_strict_receive_result_part (path_payment_strict_receive.NoIssuer x) = part path_payment_strict_receive_no_issuer_arm x
+abbrev pub path_payment_strict_receive_result_part : PathPaymentStrictReceiveResult
+    → Part XdrFault PathPaymentStrictReceiveResult
+path_payment_strict_receive_result_part (strict_receive.Success x) =
+    part path_payment_strict_receive_success_arm x
+path_payment_strict_receive_result_part (strict_receive.NoIssuer x) =
+    part path_payment_strict_receive_no_issuer_arm x
 path_payment_strict_receive_result_part answer = part (plain path_payment_strict_receive_code answer) tt
 
 unfoldable pub path_payment_strict_receive_result : Xdr PathPaymentStrictReceiveResult
-path_payment_strict_receive_result = union_of path_payment_strict_receive_result_part path_payment_strict_receive_result_arms
+path_payment_strict_receive_result =
+    union_of path_payment_strict_receive_result_part path_payment_strict_receive_result_arms
 
 abbrev pub path_payment_strict_send_success_arm : Arm XdrFault PathPaymentStrictSendResult
-path_payment_strict_send_success_arm = arm (pos 0) path_payment_success path_payment_strict_send.Success
+path_payment_strict_send_success_arm = arm (pos 0) path_payment_success strict_send.Success
 
 abbrev pub path_payment_strict_send_no_issuer_arm : Arm XdrFault PathPaymentStrictSendResult
-path_payment_strict_send_no_issuer_arm = arm (minus 9) asset path_payment_strict_send.NoIssuer
+path_payment_strict_send_no_issuer_arm = arm (minus 9) asset strict_send.NoIssuer
 
 abbrev pub path_payment_strict_send_result_arms : List (Arm XdrFault PathPaymentStrictSendResult)
-path_payment_strict_send_result_arms = path_payment_strict_send_success_arm ∷ path_payment_strict_send_no_issuer_arm ∷ plain_arms path_payment_strict_send_code path_payment_strict_send_values
+path_payment_strict_send_result_arms =
+    path_payment_strict_send_success_arm ∷ path_payment_strict_send_no_issuer_arm
+    ∷ plain_arms path_payment_strict_send_code path_payment_strict_send_values
 
-abbrev pub path_payment_strict_send_result_part : PathPaymentStrictSendResult → Part XdrFault PathPaymentStrictSendResult
-path_payment_strict_send_result_part (path_payment_strict_send.Success x) = part path_payment_strict_send_success_arm x
-path_payment_strict_send_result_part (path_payment_strict_send.NoIssuer x) = part path_payment_strict_send_no_issuer_arm x
+abbrev pub path_payment_strict_send_result_part : PathPaymentStrictSendResult
+    → Part XdrFault PathPaymentStrictSendResult
+path_payment_strict_send_result_part (strict_send.Success x) = part path_payment_strict_send_success_arm x
+path_payment_strict_send_result_part (strict_send.NoIssuer x) =
+    part path_payment_strict_send_no_issuer_arm x
 path_payment_strict_send_result_part answer = part (plain path_payment_strict_send_code answer) tt
 
 unfoldable pub path_payment_strict_send_result : Xdr PathPaymentStrictSendResult
@@ -268,9 +305,11 @@ abbrev pub create_claimable_balance_success_arm : Arm XdrFault CreateClaimableBa
 create_claimable_balance_success_arm = arm (pos 0) claimable_balance_id create_claimable_balance.Success
 
 abbrev pub create_claimable_balance_result_arms : List (Arm XdrFault CreateClaimableBalanceResult)
-create_claimable_balance_result_arms = create_claimable_balance_success_arm ∷ plain_arms create_claimable_balance_code create_claimable_balance_values
+create_claimable_balance_result_arms =
+    create_claimable_balance_success_arm ∷ plain_arms create_claimable_balance_code create_claimable_balance_values
 
-abbrev pub create_claimable_balance_result_part : CreateClaimableBalanceResult → Part XdrFault CreateClaimableBalanceResult
+abbrev pub create_claimable_balance_result_part : CreateClaimableBalanceResult
+    → Part XdrFault CreateClaimableBalanceResult
 create_claimable_balance_result_part (create_claimable_balance.Success x) = part create_claimable_balance_success_arm x
 create_claimable_balance_result_part answer = part (plain create_claimable_balance_code answer) tt
 
@@ -281,7 +320,8 @@ unfoldable pub claim_claimable_balance_result : Xdr ClaimClaimableBalanceResult
 claim_claimable_balance_result = codes claim_claimable_balance_code claim_claimable_balance_values
 
 unfoldable pub begin_sponsoring_future_reserves_result : Xdr BeginSponsoringFutureReservesResult
-begin_sponsoring_future_reserves_result = codes begin_sponsoring_future_reserves_code begin_sponsoring_future_reserves_values
+begin_sponsoring_future_reserves_result =
+    codes begin_sponsoring_future_reserves_code begin_sponsoring_future_reserves_values
 
 unfoldable pub end_sponsoring_future_reserves_result : Xdr EndSponsoringFutureReservesResult
 end_sponsoring_future_reserves_result = codes end_sponsoring_future_reserves_code end_sponsoring_future_reserves_values

@@ -1,5 +1,5 @@
--- The formats of what operations and transactions answer, and of the results of a set (Stellar-transaction.x and Stellar-ledger.x of
--- protocol 18, over RFC 4506).
+-- The formats of what operations and transactions answer, and of the results of a set (Stellar-transaction.x and
+-- Stellar-ledger.x of protocol 18, over RFC 4506).
 use Rattle.std.specs.Prelude.{ℤ, pos, List, [], ◌∷◌, refl}
 use Rattle.xdr_core.specs.declared.fault.XdrFault.{XdrFault}
 use Rattle.xdr_core.specs.Leaves.{i64}
@@ -65,7 +65,8 @@ abbrev pub payment_answer : Arm XdrFault OperationResultTr
 payment_answer = arm types.PAYMENT payment_result run.Payment
 
 abbrev pub path_payment_strict_receive_answer : Arm XdrFault OperationResultTr
-path_payment_strict_receive_answer = arm types.PATH_PAYMENT_STRICT_RECEIVE path_payment_strict_receive_result run.PathPaymentStrictReceive
+path_payment_strict_receive_answer =
+    arm types.PATH_PAYMENT_STRICT_RECEIVE path_payment_strict_receive_result run.PathPaymentStrictReceive
 
 abbrev pub manage_sell_offer_answer : Arm XdrFault OperationResultTr
 manage_sell_offer_answer = arm types.MANAGE_SELL_OFFER manage_offer_result run.ManageSellOffer
@@ -98,19 +99,24 @@ abbrev pub manage_buy_offer_answer : Arm XdrFault OperationResultTr
 manage_buy_offer_answer = arm types.MANAGE_BUY_OFFER manage_offer_result run.ManageBuyOffer
 
 abbrev pub path_payment_strict_send_answer : Arm XdrFault OperationResultTr
-path_payment_strict_send_answer = arm types.PATH_PAYMENT_STRICT_SEND path_payment_strict_send_result run.PathPaymentStrictSend
+path_payment_strict_send_answer =
+    arm types.PATH_PAYMENT_STRICT_SEND path_payment_strict_send_result run.PathPaymentStrictSend
 
 abbrev pub create_claimable_balance_answer : Arm XdrFault OperationResultTr
-create_claimable_balance_answer = arm types.CREATE_CLAIMABLE_BALANCE create_claimable_balance_result run.CreateClaimableBalance
+create_claimable_balance_answer =
+    arm types.CREATE_CLAIMABLE_BALANCE create_claimable_balance_result run.CreateClaimableBalance
 
 abbrev pub claim_claimable_balance_answer : Arm XdrFault OperationResultTr
-claim_claimable_balance_answer = arm types.CLAIM_CLAIMABLE_BALANCE claim_claimable_balance_result run.ClaimClaimableBalance
+claim_claimable_balance_answer =
+    arm types.CLAIM_CLAIMABLE_BALANCE claim_claimable_balance_result run.ClaimClaimableBalance
 
 abbrev pub begin_sponsoring_future_reserves_answer : Arm XdrFault OperationResultTr
-begin_sponsoring_future_reserves_answer = arm types.BEGIN_SPONSORING_FUTURE_RESERVES begin_sponsoring_future_reserves_result run.BeginSponsoringFutureReserves
+begin_sponsoring_future_reserves_answer =
+    arm types.BEGIN_SPONSORING_FUTURE_RESERVES begin_sponsoring_future_reserves_result run.BeginSponsoringFutureReserves
 
 abbrev pub end_sponsoring_future_reserves_answer : Arm XdrFault OperationResultTr
-end_sponsoring_future_reserves_answer = arm types.END_SPONSORING_FUTURE_RESERVES end_sponsoring_future_reserves_result run.EndSponsoringFutureReserves
+end_sponsoring_future_reserves_answer =
+    arm types.END_SPONSORING_FUTURE_RESERVES end_sponsoring_future_reserves_result run.EndSponsoringFutureReserves
 
 abbrev pub revoke_sponsorship_answer : Arm XdrFault OperationResultTr
 revoke_sponsorship_answer = arm types.REVOKE_SPONSORSHIP revoke_sponsorship_result run.RevokeSponsorship
@@ -119,7 +125,8 @@ abbrev pub clawback_answer : Arm XdrFault OperationResultTr
 clawback_answer = arm types.CLAWBACK clawback_result run.Clawback
 
 abbrev pub clawback_claimable_balance_answer : Arm XdrFault OperationResultTr
-clawback_claimable_balance_answer = arm types.CLAWBACK_CLAIMABLE_BALANCE clawback_claimable_balance_result run.ClawbackClaimableBalance
+clawback_claimable_balance_answer =
+    arm types.CLAWBACK_CLAIMABLE_BALANCE clawback_claimable_balance_result run.ClawbackClaimableBalance
 
 abbrev pub set_trust_line_flags_answer : Arm XdrFault OperationResultTr
 set_trust_line_flags_answer = arm types.SET_TRUST_LINE_FLAGS set_trust_line_flags_result run.SetTrustLineFlags
@@ -128,22 +135,32 @@ abbrev pub liquidity_pool_deposit_answer : Arm XdrFault OperationResultTr
 liquidity_pool_deposit_answer = arm types.LIQUIDITY_POOL_DEPOSIT liquidity_pool_deposit_result run.LiquidityPoolDeposit
 
 abbrev pub liquidity_pool_withdraw_answer : Arm XdrFault OperationResultTr
-liquidity_pool_withdraw_answer = arm types.LIQUIDITY_POOL_WITHDRAW liquidity_pool_withdraw_result run.LiquidityPoolWithdraw
+liquidity_pool_withdraw_answer =
+    arm types.LIQUIDITY_POOL_WITHDRAW liquidity_pool_withdraw_result run.LiquidityPoolWithdraw
 
 -- the types from 18 on
 unfoldable pub last_run_arms : List (Arm XdrFault OperationResultTr)
-last_run_arms = revoke_sponsorship_answer ∷ clawback_answer ∷ clawback_claimable_balance_answer ∷ set_trust_line_flags_answer ∷ liquidity_pool_deposit_answer ∷ liquidity_pool_withdraw_answer ∷ []
+last_run_arms =
+    revoke_sponsorship_answer ∷ clawback_answer ∷ clawback_claimable_balance_answer ∷ set_trust_line_flags_answer
+    ∷ liquidity_pool_deposit_answer ∷ liquidity_pool_withdraw_answer ∷ []
 
 -- the types from 12 on
 unfoldable pub third_run_arms : List (Arm XdrFault OperationResultTr)
-third_run_arms = manage_buy_offer_answer ∷ path_payment_strict_send_answer ∷ create_claimable_balance_answer ∷ claim_claimable_balance_answer ∷ begin_sponsoring_future_reserves_answer ∷ end_sponsoring_future_reserves_answer ∷ last_run_arms
+third_run_arms =
+    manage_buy_offer_answer ∷ path_payment_strict_send_answer ∷ create_claimable_balance_answer
+    ∷ claim_claimable_balance_answer ∷ begin_sponsoring_future_reserves_answer ∷ end_sponsoring_future_reserves_answer
+    ∷ last_run_arms
 
 -- the types from 6 on
 unfoldable pub second_run_arms : List (Arm XdrFault OperationResultTr)
-second_run_arms = change_trust_answer ∷ allow_trust_answer ∷ account_merge_answer ∷ inflation_answer ∷ manage_data_answer ∷ bump_sequence_answer ∷ third_run_arms
+second_run_arms =
+    change_trust_answer ∷ allow_trust_answer ∷ account_merge_answer ∷ inflation_answer ∷ manage_data_answer
+    ∷ bump_sequence_answer ∷ third_run_arms
 
 abbrev pub run_arms : List (Arm XdrFault OperationResultTr)
-run_arms = create_account_answer ∷ payment_answer ∷ path_payment_strict_receive_answer ∷ manage_sell_offer_answer ∷ create_passive_sell_offer_answer ∷ set_options_answer ∷ second_run_arms
+run_arms =
+    create_account_answer ∷ payment_answer ∷ path_payment_strict_receive_answer ∷ manage_sell_offer_answer
+    ∷ create_passive_sell_offer_answer ∷ set_options_answer ∷ second_run_arms
 
 abbrev pub run_part : OperationResultTr → Part XdrFault OperationResultTr
 run_part (run.CreateAccount answer) = part create_account_answer answer
@@ -207,13 +224,23 @@ unfoldable pub inner_transaction_outcome : Xdr InnerTransactionOutcome
 inner_transaction_outcome = union_of inner_part inner_arms
 
 abbrev pub inner_result_fields : Fields (ℤ × InnerTransactionOutcome) InnerTransactionResult
-inner_result_fields = record { to = λ v. record { fee_charged = v.0; outcome = v.1 }; from = λ r. (r.fee_charged, r.outcome); there = λ _. refl; back = λ _. refl }
+inner_result_fields = record {
+  to = λ v. record { fee_charged = v.0; outcome = v.1 };
+  from = λ r. (r.fee_charged, r.outcome);
+  there = λ _. refl;
+  back = λ _. refl;
+}
 
 unfoldable pub inner_transaction_result : Xdr InnerTransactionResult
 inner_transaction_result = struct_of inner_result_fields (i64 ⨾ closed inner_transaction_outcome (tag (pos 0)))
 
 abbrev pub inner_pair_fields : Fields (Hash × InnerTransactionResult) InnerTransactionResultPair
-inner_pair_fields = record { to = λ v. record { transaction_hash = v.0; result = v.1 }; from = λ p. (p.transaction_hash, p.result); there = λ _. refl; back = λ _. refl }
+inner_pair_fields = record {
+  to = λ v. record { transaction_hash = v.0; result = v.1 };
+  from = λ p. (p.transaction_hash, p.result);
+  there = λ _. refl;
+  back = λ _. refl;
+}
 
 unfoldable pub inner_transaction_result_pair : Xdr InnerTransactionResultPair
 inner_transaction_result_pair = struct_of inner_pair_fields (hash ⨾ inner_transaction_result)
@@ -233,7 +260,9 @@ abbrev pub outcome_inner_failed : Arm XdrFault TransactionOutcome
 outcome_inner_failed = arm (minus 13) inner_transaction_result_pair outcome.FeeBumpInnerFailed
 
 abbrev pub outcome_arms : List (Arm XdrFault TransactionOutcome)
-outcome_arms = outcome_success ∷ outcome_failed ∷ outcome_inner_success ∷ outcome_inner_failed ∷ plain_arms outcome_code outcome_values
+outcome_arms =
+    outcome_success ∷ outcome_failed ∷ outcome_inner_success ∷ outcome_inner_failed
+    ∷ plain_arms outcome_code outcome_values
 
 abbrev pub outcome_part : TransactionOutcome → Part XdrFault TransactionOutcome
 outcome_part (outcome.Success results) = part outcome_success results
@@ -246,19 +275,34 @@ unfoldable pub transaction_outcome : Xdr TransactionOutcome
 transaction_outcome = union_of outcome_part outcome_arms
 
 abbrev pub result_fields : Fields (ℤ × TransactionOutcome) TransactionResult
-result_fields = record { to = λ v. record { fee_charged = v.0; outcome = v.1 }; from = λ r. (r.fee_charged, r.outcome); there = λ _. refl; back = λ _. refl }
+result_fields = record {
+  to = λ v. record { fee_charged = v.0; outcome = v.1 };
+  from = λ r. (r.fee_charged, r.outcome);
+  there = λ _. refl;
+  back = λ _. refl;
+}
 
 unfoldable pub transaction_result : Xdr TransactionResult
 transaction_result = struct_of result_fields (i64 ⨾ closed transaction_outcome (tag (pos 0)))
 
 abbrev pub pair_fields : Fields (Hash × TransactionResult) TransactionResultPair
-pair_fields = record { to = λ v. record { transaction_hash = v.0; result = v.1 }; from = λ p. (p.transaction_hash, p.result); there = λ _. refl; back = λ _. refl }
+pair_fields = record {
+  to = λ v. record { transaction_hash = v.0; result = v.1 };
+  from = λ p. (p.transaction_hash, p.result);
+  there = λ _. refl;
+  back = λ _. refl;
+}
 
 unfoldable pub transaction_result_pair : Xdr TransactionResultPair
 transaction_result_pair = struct_of pair_fields (hash ⨾ transaction_result)
 
 abbrev pub result_set_fields : Fields (List TransactionResultPair) TransactionResultSet
-result_set_fields = record { to = λ results. record { results = results }; from = λ s. s.results; there = λ _. refl; back = λ _. refl }
+result_set_fields = record {
+  to = λ results. record { results = results };
+  from = λ s. s.results;
+  there = λ _. refl;
+  back = λ _. refl;
+}
 
 unfoldable pub transaction_result_set : Xdr TransactionResultSet
 transaction_result_set = struct_of result_set_fields (list_of 4294967295 transaction_result_pair)

@@ -27,8 +27,8 @@ pub fn reading_and_spelling_agree()
     ensures bump_sequence_results { Lawful answer_formats.bump_sequence_result }
     ensures create_claimable_balance_results { Lawful answer_formats.create_claimable_balance_result }
     ensures claim_claimable_balance_results { Lawful answer_formats.claim_claimable_balance_result }
-    ensures begin_sponsoring_future_reserves_results { Lawful answer_formats.begin_sponsoring_future_reserves_result }
-    ensures end_sponsoring_future_reserves_results { Lawful answer_formats.end_sponsoring_future_reserves_result }
+    ensures begun_sponsorships { Lawful answer_formats.begin_sponsoring_future_reserves_result }
+    ensures ended_sponsorships { Lawful answer_formats.end_sponsoring_future_reserves_result }
     ensures revoke_sponsorship_results { Lawful answer_formats.revoke_sponsorship_result }
     ensures clawback_results { Lawful answer_formats.clawback_result }
     ensures clawback_claimable_balance_results { Lawful answer_formats.clawback_claimable_balance_result }
@@ -69,8 +69,8 @@ pub fn no_spelling_begins_another()
     ensures bump_sequence_results { IsPrefixFree answer_formats.bump_sequence_result }
     ensures create_claimable_balance_results { IsPrefixFree answer_formats.create_claimable_balance_result }
     ensures claim_claimable_balance_results { IsPrefixFree answer_formats.claim_claimable_balance_result }
-    ensures begin_sponsoring_future_reserves_results { IsPrefixFree answer_formats.begin_sponsoring_future_reserves_result }
-    ensures end_sponsoring_future_reserves_results { IsPrefixFree answer_formats.end_sponsoring_future_reserves_result }
+    ensures begun_sponsorships { IsPrefixFree answer_formats.begin_sponsoring_future_reserves_result }
+    ensures ended_sponsorships { IsPrefixFree answer_formats.end_sponsoring_future_reserves_result }
     ensures revoke_sponsorship_results { IsPrefixFree answer_formats.revoke_sponsorship_result }
     ensures clawback_results { IsPrefixFree answer_formats.clawback_result }
     ensures clawback_claimable_balance_results { IsPrefixFree answer_formats.clawback_claimable_balance_result }
@@ -111,8 +111,8 @@ pub fn faults_come_only_without_spelling()
     ensures bump_sequence_results { FaultsRightly answer_formats.bump_sequence_result }
     ensures create_claimable_balance_results { FaultsRightly answer_formats.create_claimable_balance_result }
     ensures claim_claimable_balance_results { FaultsRightly answer_formats.claim_claimable_balance_result }
-    ensures begin_sponsoring_future_reserves_results { FaultsRightly answer_formats.begin_sponsoring_future_reserves_result }
-    ensures end_sponsoring_future_reserves_results { FaultsRightly answer_formats.end_sponsoring_future_reserves_result }
+    ensures begun_sponsorships { FaultsRightly answer_formats.begin_sponsoring_future_reserves_result }
+    ensures ended_sponsorships { FaultsRightly answer_formats.end_sponsoring_future_reserves_result }
     ensures revoke_sponsorship_results { FaultsRightly answer_formats.revoke_sponsorship_result }
     ensures clawback_results { FaultsRightly answer_formats.clawback_result }
     ensures clawback_claimable_balance_results { FaultsRightly answer_formats.clawback_claimable_balance_result }
@@ -154,8 +154,8 @@ pub fn faults_are_placed()
     ensures bump_sequence_results { PlacesFaults answer_formats.bump_sequence_result }
     ensures create_claimable_balance_results { PlacesFaults answer_formats.create_claimable_balance_result }
     ensures claim_claimable_balance_results { PlacesFaults answer_formats.claim_claimable_balance_result }
-    ensures begin_sponsoring_future_reserves_results { PlacesFaults answer_formats.begin_sponsoring_future_reserves_result }
-    ensures end_sponsoring_future_reserves_results { PlacesFaults answer_formats.end_sponsoring_future_reserves_result }
+    ensures begun_sponsorships { PlacesFaults answer_formats.begin_sponsoring_future_reserves_result }
+    ensures ended_sponsorships { PlacesFaults answer_formats.end_sponsoring_future_reserves_result }
     ensures revoke_sponsorship_results { PlacesFaults answer_formats.revoke_sponsorship_result }
     ensures clawback_results { PlacesFaults answer_formats.clawback_result }
     ensures clawback_claimable_balance_results { PlacesFaults answer_formats.clawback_claimable_balance_result }

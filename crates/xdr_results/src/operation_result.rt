@@ -91,7 +91,8 @@ fn read_second_run(
     kind: i32,
     cursor: &mut Cursor<'_>,
 ) -> Result<OperationResultTr, ReadFault>
-    ensures { Reads cause_of result cursor.old cursor.new (pick spec.second_run_arms no_arm start.now (kind, cursor.old)) }
+    ensures { Reads cause_of result cursor.old cursor.new
+        (pick spec.second_run_arms no_arm start.now (kind, cursor.old)) }
 {
     let mut ahead = cursor.fork();
     let answer = match kind {
@@ -115,7 +116,8 @@ fn read_third_run(
     kind: i32,
     cursor: &mut Cursor<'_>,
 ) -> Result<OperationResultTr, ReadFault>
-    ensures { Reads cause_of result cursor.old cursor.new (pick spec.third_run_arms no_arm start.now (kind, cursor.old)) }
+    ensures { Reads cause_of result cursor.old cursor.new
+        (pick spec.third_run_arms no_arm start.now (kind, cursor.old)) }
 {
     let mut ahead = cursor.fork();
     let answer = match kind {
@@ -151,7 +153,8 @@ fn read_last_run(
     kind: i32,
     cursor: &mut Cursor<'_>,
 ) -> Result<OperationResultTr, ReadFault>
-    ensures { Reads cause_of result cursor.old cursor.new (pick spec.last_run_arms no_arm start.now (kind, cursor.old)) }
+    ensures { Reads cause_of result cursor.old cursor.new
+        (pick spec.last_run_arms no_arm start.now (kind, cursor.old)) }
 {
     let mut ahead = cursor.fork();
     let answer = match kind {

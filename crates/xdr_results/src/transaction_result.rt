@@ -257,7 +257,7 @@ pub fn read_transaction_result_pair(
 }
 
 /// Writes a transaction's result beside its hash.
-#[tactic(auto, using(xdr_core::proofs::FormatLaws::written, crate::proofs::TransactionLaws::transaction_result_pair_laws))]
+#[tactic(auto, using(crate::proofs::TransactionLaws::pair_written))]
 pub fn write_transaction_result_pair(
     value: &TransactionResultPair,
     builder: &mut Builder,
@@ -314,7 +314,7 @@ pub fn read_transaction_result_set(
 }
 
 /// Writes the results of a set.
-#[tactic(auto, using(xdr_core::proofs::FormatLaws::written, crate::proofs::TransactionLaws::transaction_result_set_laws))]
+#[tactic(auto, using(crate::proofs::TransactionLaws::set_written))]
 pub fn write_transaction_result_set(
     value: &TransactionResultSet,
     builder: &mut Builder,

@@ -84,7 +84,8 @@ fn read_second_body(
     kind: i32,
     cursor: &mut Cursor<'_>,
 ) -> Result<OperationBody, ReadFault>
-    ensures { Reads cause_of result cursor.old cursor.new (pick spec.second_body_arms no_arm start.now (kind, cursor.old)) }
+    ensures { Reads cause_of result cursor.old cursor.new
+        (pick spec.second_body_arms no_arm start.now (kind, cursor.old)) }
 {
     let mut ahead = cursor.fork();
     let body = match kind {
@@ -108,7 +109,8 @@ fn read_third_body(
     kind: i32,
     cursor: &mut Cursor<'_>,
 ) -> Result<OperationBody, ReadFault>
-    ensures { Reads cause_of result cursor.old cursor.new (pick spec.third_body_arms no_arm start.now (kind, cursor.old)) }
+    ensures { Reads cause_of result cursor.old cursor.new
+        (pick spec.third_body_arms no_arm start.now (kind, cursor.old)) }
 {
     let mut ahead = cursor.fork();
     let body = match kind {
@@ -140,7 +142,8 @@ fn read_last_body(
     kind: i32,
     cursor: &mut Cursor<'_>,
 ) -> Result<OperationBody, ReadFault>
-    ensures { Reads cause_of result cursor.old cursor.new (pick spec.last_body_arms no_arm start.now (kind, cursor.old)) }
+    ensures { Reads cause_of result cursor.old cursor.new
+        (pick spec.last_body_arms no_arm start.now (kind, cursor.old)) }
 {
     let mut ahead = cursor.fork();
     let body = match kind {

@@ -87,49 +87,29 @@ header_v1_fields = record {
 unfoldable pub ledger_header_extension_v1 : Xdr LedgerHeaderExtensionV1
 ledger_header_extension_v1 = struct_of header_v1_fields (closed u32 (tag (pos 0)))
 
-abbrev pub HeaderParts : Type 0
-HeaderParts =
-    ℕ × (Hash × (StellarValue × (Hash × (Hash × (ℕ × (ℤ × (ℤ × (ℕ × (ℕ × (ℕ × (ℕ × (ℕ
-    × (List Hash × Option LedgerHeaderExtensionV1)))))))))))))
+-- what a header has of fees and limits, and what stands behind them
+abbrev pub LimitParts : Type 0
+LimitParts = ℕ × (ℕ × (ℕ × (List Hash × Option LedgerHeaderExtensionV1)))
 
-abbrev pub header_fields : Fields HeaderParts LedgerHeader
+abbrev pub limit_parts : LedgerHeader → LimitParts
+limit_parts h = (h.base_fee, (h.base_reserve, (h.max_tx_set_size, (h.skip_list, h.ext))))
+
+-- what a header counts, and what stands behind that
+abbrev pub CountParts : Type 0
+CountParts = ℕ × (ℤ × (ℤ × (ℕ × (ℕ × LimitParts))))
+
+abbrev pub count_parts : LedgerHeader → CountParts
+count_parts h = (h.ledger_seq, (h.total_coins, (h.fee_pool, (h.inflation_seq, (h.id_pool, limit_parts h)))))
+
+-- the hashes of what closed a ledger, and what stands behind them
+abbrev pub closing_parts : LedgerHeader → StellarValue × (Hash × (Hash × CountParts))
+closing_parts h = (h.scp_value, (h.tx_set_result_hash, (h.bucket_list_hash, count_parts h)))
+
+abbrev pub header_fields : Fields (ℕ × (Hash × (StellarValue × (Hash × (Hash × CountParts))))) LedgerHeader
 header_fields = record {
-  to = λ (
-    version,
-    (
-      previous,
-      (
-        value,
-        (
-          results,
-          (
-            buckets,
-            (
-              seq,
-              (
-                coins,
-                (
-                  fees,
-                  (
-                    inflation,
-                    (
-                      ids,
-                      (
-                        base_fee,
-                        (base_reserve, (size, (skips, ext))),
-                      ),
-                    ),
-                  ),
-                ),
-              ),
-            ),
-          ),
-        ),
-      ),
-    ),
-  ). record {
+  to = λ (version, (before, (value, (results, (buckets, (seq, (coins, (fees, (inflation, (id, limits)))))))))). record {
     ledger_version = version;
-    previous_ledger_hash = previous;
+    previous_ledger_hash = before;
     scp_value = value;
     tx_set_result_hash = results;
     bucket_list_hash = buckets;
@@ -137,50 +117,14 @@ header_fields = record {
     total_coins = coins;
     fee_pool = fees;
     inflation_seq = inflation;
-    id_pool = ids;
-    base_fee = base_fee;
-    base_reserve = base_reserve;
-    max_tx_set_size = size;
-    skip_list = skips;
-    ext = ext;
+    id_pool = id;
+    base_fee = limits.0;
+    base_reserve = limits.1.0;
+    max_tx_set_size = limits.1.1.0;
+    skip_list = limits.1.1.1.0;
+    ext = limits.1.1.1.1;
   };
-  from = λ h. (
-    h.ledger_version,
-    (
-      h.previous_ledger_hash,
-      (
-        h.scp_value,
-        (
-          h.tx_set_result_hash,
-          (
-            h.bucket_list_hash,
-            (
-              h.ledger_seq,
-              (
-                h.total_coins,
-                (
-                  h.fee_pool,
-                  (
-                    h.inflation_seq,
-                    (
-                      h.id_pool,
-                      (
-                        h.base_fee,
-                        (
-                          h.base_reserve,
-                          (h.max_tx_set_size, (h.skip_list, h.ext)),
-                        ),
-                      ),
-                    ),
-                  ),
-                ),
-              ),
-            ),
-          ),
-        ),
-      ),
-    ),
-  );
+  from = λ h. (h.ledger_version, (h.previous_ledger_hash, closing_parts h));
   there = λ _. refl;
   back = λ _. refl;
 }

@@ -6,21 +6,62 @@ use Rattle.xdr_entries.proofs.BasicLaws.{muxed_account_laws}
 use Rattle.op_types.specs.declared.operation.OperationBody.{OperationBody}
 use Rattle.op_types.specs.declared.operation.OperationBody.TheVariants as body
 use Rattle.xdr_tx.proofs.OperationLaws.{
-  create_account_op_laws, set_options_op_laws, account_merge_op_laws, manage_data_op_laws, bump_sequence_op_laws,
-  payment_op_laws, path_payment_strict_receive_op_laws, path_payment_strict_send_op_laws, manage_sell_offer_op_laws,
-  create_passive_sell_offer_op_laws, manage_buy_offer_op_laws, change_trust_op_laws, allow_trust_op_laws,
-  set_trust_line_flags_op_laws, clawback_op_laws, create_claimable_balance_op_laws, claim_claimable_balance_op_laws,
-  clawback_claimable_balance_op_laws, begin_sponsoring_future_reserves_op_laws, revoke_sponsorship_op_laws,
-  liquidity_pool_deposit_op_laws, liquidity_pool_withdraw_op_laws,
+  create_account_op_laws,
+  set_options_op_laws,
+  account_merge_op_laws,
+  manage_data_op_laws,
+  bump_sequence_op_laws,
+  payment_op_laws,
+  path_payment_strict_receive_op_laws,
+  path_payment_strict_send_op_laws,
+  manage_sell_offer_op_laws,
+  create_passive_sell_offer_op_laws,
+  manage_buy_offer_op_laws,
+  change_trust_op_laws,
+  allow_trust_op_laws,
+  set_trust_line_flags_op_laws,
+  clawback_op_laws,
+  create_claimable_balance_op_laws,
+  claim_claimable_balance_op_laws,
+  clawback_claimable_balance_op_laws,
+  begin_sponsoring_future_reserves_op_laws,
+  revoke_sponsorship_op_laws,
+  liquidity_pool_deposit_op_laws,
+  liquidity_pool_withdraw_op_laws,
 }
 use Rattle.xdr_tx.specs.Operations.{
-  create_account_arm, payment_arm, path_payment_strict_receive_arm, manage_sell_offer_arm,
-  create_passive_sell_offer_arm, set_options_arm, change_trust_arm, allow_trust_arm, account_merge_arm, inflation_arm,
-  manage_data_arm, bump_sequence_arm, manage_buy_offer_arm, path_payment_strict_send_arm, create_claimable_balance_arm,
-  claim_claimable_balance_arm, begin_sponsoring_future_reserves_arm, end_sponsoring_future_reserves_arm,
-  revoke_sponsorship_arm, clawback_arm, clawback_claimable_balance_arm, set_trust_line_flags_arm,
-  liquidity_pool_deposit_arm, liquidity_pool_withdraw_arm, last_body_arms, third_body_arms, second_body_arms, body_arms,
-  body_part, operation_body, operation_fields, operation,
+  create_account_arm,
+  payment_arm,
+  path_payment_strict_receive_arm,
+  manage_sell_offer_arm,
+  create_passive_sell_offer_arm,
+  set_options_arm,
+  change_trust_arm,
+  allow_trust_arm,
+  account_merge_arm,
+  inflation_arm,
+  manage_data_arm,
+  bump_sequence_arm,
+  manage_buy_offer_arm,
+  path_payment_strict_send_arm,
+  create_claimable_balance_arm,
+  claim_claimable_balance_arm,
+  begin_sponsoring_future_reserves_arm,
+  end_sponsoring_future_reserves_arm,
+  revoke_sponsorship_arm,
+  clawback_arm,
+  clawback_claimable_balance_arm,
+  set_trust_line_flags_arm,
+  liquidity_pool_deposit_arm,
+  liquidity_pool_withdraw_arm,
+  last_body_arms,
+  third_body_arms,
+  second_body_arms,
+  body_arms,
+  body_part,
+  operation_body,
+  operation_fields,
+  operation,
 }
 
 operation_body_found : (v : OperationBody) → IsFound body_part body_arms v
@@ -71,31 +112,76 @@ operation_body_found (body.LiquidityPoolWithdraw op) =
 
 pub operation_body_laws : Laws operation_body
 unfolding operation_body second_body_arms third_body_arms last_body_arms
-operation_body_laws = union_laws
-    (arm_laws create_account_op_laws (λ x. refl),
-      (arm_laws payment_op_laws (λ x. refl),
-      (arm_laws path_payment_strict_receive_op_laws (λ x. refl),
-      (arm_laws manage_sell_offer_op_laws (λ x. refl),
-      (arm_laws create_passive_sell_offer_op_laws (λ x. refl),
-      (arm_laws set_options_op_laws (λ x. refl),
-      (arm_laws change_trust_op_laws (λ x. refl),
-      (arm_laws allow_trust_op_laws (λ x. refl),
-      (arm_laws account_merge_op_laws (λ x. refl),
-      (arm_laws empty_laws (λ x. refl),
-      (arm_laws manage_data_op_laws (λ x. refl),
-      (arm_laws bump_sequence_op_laws (λ x. refl),
-      (arm_laws manage_buy_offer_op_laws (λ x. refl),
-      (arm_laws path_payment_strict_send_op_laws (λ x. refl),
-      (arm_laws create_claimable_balance_op_laws (λ x. refl),
-      (arm_laws claim_claimable_balance_op_laws (λ x. refl),
-      (arm_laws begin_sponsoring_future_reserves_op_laws (λ x. refl),
-      (arm_laws empty_laws (λ x. refl),
-      (arm_laws revoke_sponsorship_op_laws (λ x. refl),
-      (arm_laws clawback_op_laws (λ x. refl),
-      (arm_laws clawback_claimable_balance_op_laws (λ x. refl),
-      (arm_laws set_trust_line_flags_op_laws (λ x. refl),
-      (arm_laws liquidity_pool_deposit_op_laws (λ x. refl),
-      (arm_laws liquidity_pool_withdraw_op_laws (λ x. refl), tt))))))))))))))))))))))))
+operation_body_laws = union_laws (
+  arm_laws create_account_op_laws (λ x. refl),
+  (
+    arm_laws payment_op_laws (λ x. refl),
+    (
+      arm_laws path_payment_strict_receive_op_laws (λ x. refl),
+      (
+        arm_laws manage_sell_offer_op_laws (λ x. refl),
+        (
+          arm_laws create_passive_sell_offer_op_laws (λ x. refl),
+          (
+            arm_laws set_options_op_laws (λ x. refl),
+            (
+              arm_laws change_trust_op_laws (λ x. refl),
+              (
+                arm_laws allow_trust_op_laws (λ x. refl),
+                (
+                  arm_laws account_merge_op_laws (λ x. refl),
+                  (
+                    arm_laws empty_laws (λ x. refl),
+                    (
+                      arm_laws manage_data_op_laws (λ x. refl),
+                      (
+                        arm_laws bump_sequence_op_laws (λ x. refl),
+                        (
+                          arm_laws manage_buy_offer_op_laws (λ x. refl),
+                          (
+                            arm_laws path_payment_strict_send_op_laws (λ x. refl),
+                            (
+                              arm_laws create_claimable_balance_op_laws (λ x. refl),
+                              (
+                                arm_laws claim_claimable_balance_op_laws (λ x. refl),
+                                (
+                                  arm_laws begin_sponsoring_future_reserves_op_laws (λ x. refl),
+                                  (
+                                    arm_laws empty_laws (λ x. refl),
+                                    (
+                                      arm_laws revoke_sponsorship_op_laws (λ x. refl),
+                                      (
+                                        arm_laws clawback_op_laws (λ x. refl),
+                                        (
+                                          arm_laws clawback_claimable_balance_op_laws (λ x. refl),
+                                          (
+                                            arm_laws set_trust_line_flags_op_laws (λ x. refl),
+                                            (
+                                              arm_laws liquidity_pool_deposit_op_laws (λ x. refl),
+                                              (arm_laws liquidity_pool_withdraw_op_laws (λ x. refl), tt),
+                                            ),
+                                          ),
+                                        ),
+                                      ),
+                                    ),
+                                  ),
+                                ),
+                              ),
+                            ),
+                          ),
+                        ),
+                      ),
+                    ),
+                  ),
+                ),
+              ),
+            ),
+          ),
+        ),
+      ),
+    ),
+  ),
+)
     operation_body_found
 
 pub operation_laws : Laws operation

@@ -1,13 +1,31 @@
 -- The laws of the formats of operations.
 use Rattle.std.proofs.Common.{pos, refl, arith}
 use Rattle.xdr_core.proofs.FormatLaws.{
-  Laws, u32_laws, i64_laws, fixed_laws, var_laws, ◌&◌, struct_laws, whole_laws, option_laws, list_laws, arm_laws, found,
+  Laws,
+  u32_laws,
+  i64_laws,
+  fixed_laws,
+  var_laws,
+  ◌&◌,
+  struct_laws,
+  whole_laws,
+  option_laws,
+  list_laws,
+  arm_laws,
+  found,
   union_laws,
 }
 use Rattle.xdr_core.proofs.Unions.{IsFound}
 use Rattle.xdr_entries.proofs.BasicLaws.{
-  hash_laws, account_id_laws, claimable_balance_id_laws, muxed_account_laws, signer_key_laws, signer_laws, asset_laws,
-  change_trust_asset_laws, price_laws,
+  hash_laws,
+  account_id_laws,
+  claimable_balance_id_laws,
+  muxed_account_laws,
+  signer_key_laws,
+  signer_laws,
+  asset_laws,
+  change_trust_asset_laws,
+  price_laws,
 }
 use Rattle.xdr_entries.proofs.EntryLaws.{claimant_laws}
 use Rattle.xdr_entries.proofs.KeyLaws.{ledger_key_laws}
@@ -16,18 +34,58 @@ use Rattle.op_types.specs.declared.trust_ops.AssetCode.TheVariants as asset_code
 use Rattle.op_types.specs.declared.sponsor_ops.RevokeSponsorshipOp.{RevokeSponsorshipOp}
 use Rattle.op_types.specs.declared.sponsor_ops.RevokeSponsorshipOp.TheVariants as revoking
 use Rattle.xdr_tx.specs.Operations.{
-  create_account_op_fields, create_account_op, set_options_op_fields, set_options_op, account_merge_op_fields,
-  account_merge_op, manage_data_op_fields, manage_data_op, bump_sequence_op_fields, bump_sequence_op, payment_op_fields,
-  payment_op, path_payment_strict_receive_op_fields, path_payment_strict_receive_op, path_payment_strict_send_op_fields,
-  path_payment_strict_send_op, manage_sell_offer_op_fields, manage_sell_offer_op, create_passive_sell_offer_op_fields,
-  create_passive_sell_offer_op, manage_buy_offer_op_fields, manage_buy_offer_op, change_trust_op_fields,
-  change_trust_op, code4, code12, asset_code_arms, asset_code_part, asset_code, allow_trust_op_fields, allow_trust_op,
-  set_trust_line_flags_op_fields, set_trust_line_flags_op, clawback_op_fields, clawback_op,
-  create_claimable_balance_op_fields, create_claimable_balance_op, claim_claimable_balance_op_fields,
-  claim_claimable_balance_op, clawback_claimable_balance_op_fields, clawback_claimable_balance_op,
-  begin_sponsoring_future_reserves_op_fields, begin_sponsoring_future_reserves_op, revoke_entry, revoke_signer,
-  revoke_arms, revoke_part, revoke_sponsorship_op, liquidity_pool_deposit_op_fields, liquidity_pool_deposit_op,
-  liquidity_pool_withdraw_op_fields, liquidity_pool_withdraw_op,
+  create_account_op_fields,
+  create_account_op,
+  set_options_op_fields,
+  set_options_op,
+  account_merge_op_fields,
+  account_merge_op,
+  manage_data_op_fields,
+  manage_data_op,
+  bump_sequence_op_fields,
+  bump_sequence_op,
+  payment_op_fields,
+  payment_op,
+  path_payment_strict_receive_op_fields,
+  path_payment_strict_receive_op,
+  path_payment_strict_send_op_fields,
+  path_payment_strict_send_op,
+  manage_sell_offer_op_fields,
+  manage_sell_offer_op,
+  create_passive_sell_offer_op_fields,
+  create_passive_sell_offer_op,
+  manage_buy_offer_op_fields,
+  manage_buy_offer_op,
+  change_trust_op_fields,
+  change_trust_op,
+  code4,
+  code12,
+  asset_code_arms,
+  asset_code_part,
+  asset_code,
+  allow_trust_op_fields,
+  allow_trust_op,
+  set_trust_line_flags_op_fields,
+  set_trust_line_flags_op,
+  clawback_op_fields,
+  clawback_op,
+  create_claimable_balance_op_fields,
+  create_claimable_balance_op,
+  claim_claimable_balance_op_fields,
+  claim_claimable_balance_op,
+  clawback_claimable_balance_op_fields,
+  clawback_claimable_balance_op,
+  begin_sponsoring_future_reserves_op_fields,
+  begin_sponsoring_future_reserves_op,
+  revoke_entry,
+  revoke_signer,
+  revoke_arms,
+  revoke_part,
+  revoke_sponsorship_op,
+  liquidity_pool_deposit_op_fields,
+  liquidity_pool_deposit_op,
+  liquidity_pool_withdraw_op_fields,
+  liquidity_pool_withdraw_op,
 }
 
 pub create_account_op_laws : Laws create_account_op
@@ -38,8 +96,8 @@ pub set_options_op_laws : Laws set_options_op
 unfolding set_options_op
 set_options_op_laws = struct_laws set_options_op_fields
     (option_laws account_id_laws & option_laws u32_laws & option_laws u32_laws & option_laws u32_laws
-      & option_laws u32_laws & option_laws u32_laws & option_laws u32_laws & option_laws (var_laws 32 (omega arith))
-      & option_laws signer_laws)
+    & option_laws u32_laws & option_laws u32_laws & option_laws u32_laws & option_laws (var_laws 32 (omega arith))
+    & option_laws signer_laws)
 
 pub account_merge_op_laws : Laws account_merge_op
 unfolding account_merge_op
@@ -93,9 +151,10 @@ asset_code_found (asset_codes.Alphanum12 code) = found code12 code (fixed_laws 1
 
 pub asset_code_laws : Laws asset_code
 unfolding asset_code
-asset_code_laws = union_laws
-    (arm_laws (fixed_laws 4) (λ x. refl),
-      (arm_laws (fixed_laws 12) (λ x. refl), tt))
+asset_code_laws = union_laws (
+  arm_laws (fixed_laws 4) (λ x. refl),
+  (arm_laws (fixed_laws 12) (λ x. refl), tt),
+)
     asset_code_found
 
 pub allow_trust_op_laws : Laws allow_trust_op
@@ -136,9 +195,10 @@ revoke_sponsorship_op_found (revoking.Signer id key) =
 
 pub revoke_sponsorship_op_laws : Laws revoke_sponsorship_op
 unfolding revoke_sponsorship_op
-revoke_sponsorship_op_laws = union_laws
-    (arm_laws (whole_laws ledger_key_laws) (λ x. refl),
-      (arm_laws (account_id_laws & signer_key_laws) (λ x. refl), tt))
+revoke_sponsorship_op_laws = union_laws (
+  arm_laws (whole_laws ledger_key_laws) (λ x. refl),
+  (arm_laws (account_id_laws & signer_key_laws) (λ x. refl), tt),
+)
     revoke_sponsorship_op_found
 
 pub liquidity_pool_deposit_op_laws : Laws liquidity_pool_deposit_op

@@ -1,8 +1,25 @@
 -- The laws of the formats of transactions, envelopes and sets.
 use Rattle.std.proofs.Common.{pos, refl, arith}
 use Rattle.xdr_core.proofs.FormatLaws.{
-  Laws, u32_laws, u64_laws, i64_laws, fixed_laws, var_laws, empty_laws, ◌&◌, struct_laws, whole_laws, marked_laws,
-  closed_laws, tag_laws, option_laws, list_laws, arm_laws, found, union_laws,
+  Laws,
+  written,
+  u32_laws,
+  u64_laws,
+  i64_laws,
+  fixed_laws,
+  var_laws,
+  empty_laws,
+  ◌&◌,
+  struct_laws,
+  whole_laws,
+  marked_laws,
+  closed_laws,
+  tag_laws,
+  option_laws,
+  list_laws,
+  arm_laws,
+  found,
+  union_laws,
 }
 use Rattle.xdr_core.proofs.Unions.{IsFound}
 use Rattle.xdr_entries.proofs.BasicLaws.{hash_laws, muxed_account_laws}
@@ -12,11 +29,38 @@ use Rattle.op_types.specs.declared.transaction.TransactionEnvelope.{TransactionE
 use Rattle.op_types.specs.declared.transaction.TransactionEnvelope.TheVariants as envelope
 use Rattle.xdr_tx.proofs.BodyLaws.{operation_laws}
 use Rattle.xdr_tx.specs.Transactions.{
-  memo_none, memo_text, memo_id, memo_hash, memo_return, memo_arms, memo_part, memo, time_bounds_fields, time_bounds,
-  signature_fields, decorated_signature, transaction_fields, transaction, transaction_v0_fields, transaction_v0,
-  v1_fields, transaction_v1_envelope, v0_fields, transaction_v0_envelope, fee_bump_fields, fee_bump_transaction,
-  bump_fields, fee_bump_envelope, envelope_v0, envelope_v1, envelope_fee_bump, envelope_arms, envelope_part,
-  transaction_envelope, set_fields, transaction_set,
+  memo_none,
+  memo_text,
+  memo_id,
+  memo_hash,
+  memo_return,
+  memo_arms,
+  memo_part,
+  memo,
+  time_bounds_fields,
+  time_bounds,
+  signature_fields,
+  decorated_signature,
+  transaction_fields,
+  transaction,
+  transaction_v0_fields,
+  transaction_v0,
+  v1_fields,
+  transaction_v1_envelope,
+  v0_fields,
+  transaction_v0_envelope,
+  fee_bump_fields,
+  fee_bump_transaction,
+  bump_fields,
+  fee_bump_envelope,
+  envelope_v0,
+  envelope_v1,
+  envelope_fee_bump,
+  envelope_arms,
+  envelope_part,
+  transaction_envelope,
+  set_fields,
+  transaction_set,
 }
 
 memo_found : (v : Memo) → IsFound memo_part memo_arms v
@@ -28,12 +72,19 @@ memo_found (memos.Return digest) = found memo_return digest hash_laws tt refl re
 
 pub memo_laws : Laws memo
 unfolding memo
-memo_laws = union_laws
-    (arm_laws empty_laws (λ x. refl),
-      (arm_laws (var_laws 28 (omega arith)) (λ x. refl),
-      (arm_laws u64_laws (λ x. refl),
-      (arm_laws hash_laws (λ x. refl),
-      (arm_laws hash_laws (λ x. refl), tt)))))
+memo_laws = union_laws (
+  arm_laws empty_laws (λ x. refl),
+  (
+    arm_laws (var_laws 28 (omega arith)) (λ x. refl),
+    (
+      arm_laws u64_laws (λ x. refl),
+      (
+        arm_laws hash_laws (λ x. refl),
+        (arm_laws hash_laws (λ x. refl), tt),
+      ),
+    ),
+  ),
+)
     memo_found
 
 pub time_bounds_laws : Laws time_bounds
@@ -48,13 +99,13 @@ pub transaction_laws : Laws transaction
 unfolding transaction
 transaction_laws = struct_laws transaction_fields
     (muxed_account_laws & u32_laws & i64_laws & option_laws time_bounds_laws & memo_laws
-      & closed_laws (list_laws 100 (omega arith) operation_laws) (tag_laws (pos 0) tt))
+    & closed_laws (list_laws 100 (omega arith) operation_laws) (tag_laws (pos 0) tt))
 
 pub transaction_v0_laws : Laws transaction_v0
 unfolding transaction_v0
 transaction_v0_laws = struct_laws transaction_v0_fields
     (fixed_laws 32 & u32_laws & i64_laws & option_laws time_bounds_laws & memo_laws
-      & closed_laws (list_laws 100 (omega arith) operation_laws) (tag_laws (pos 0) tt))
+    & closed_laws (list_laws 100 (omega arith) operation_laws) (tag_laws (pos 0) tt))
 
 pub transaction_v1_envelope_laws : Laws transaction_v1_envelope
 unfolding transaction_v1_envelope
@@ -70,7 +121,7 @@ pub fee_bump_transaction_laws : Laws fee_bump_transaction
 unfolding fee_bump_transaction
 fee_bump_transaction_laws = struct_laws fee_bump_fields
     (muxed_account_laws & i64_laws
-      & closed_laws (marked_laws (tag_laws (pos 2) tt) transaction_v1_envelope_laws) (tag_laws (pos 0) tt))
+    & closed_laws (marked_laws (tag_laws (pos 2) tt) transaction_v1_envelope_laws) (tag_laws (pos 0) tt))
 
 pub fee_bump_envelope_laws : Laws fee_bump_envelope
 unfolding fee_bump_envelope
@@ -87,12 +138,18 @@ transaction_envelope_found (envelope.FeeBump inner) =
 
 pub transaction_envelope_laws : Laws transaction_envelope
 unfolding transaction_envelope
-transaction_envelope_laws = union_laws
-    (arm_laws transaction_v0_envelope_laws (λ x. refl),
-      (arm_laws transaction_v1_envelope_laws (λ x. refl),
-      (arm_laws fee_bump_envelope_laws (λ x. refl), tt)))
+transaction_envelope_laws = union_laws (
+  arm_laws transaction_v0_envelope_laws (λ x. refl),
+  (
+    arm_laws transaction_v1_envelope_laws (λ x. refl),
+    (arm_laws fee_bump_envelope_laws (λ x. refl), tt),
+  ),
+)
     transaction_envelope_found
 
 pub transaction_set_laws : Laws transaction_set
 unfolding transaction_set
 transaction_set_laws = struct_laws set_fields (hash_laws & list_laws 4294967295 (omega arith) transaction_envelope_laws)
+
+-- what its writer goes by
+pub ruleset signature_written = (written, decorated_signature_laws)

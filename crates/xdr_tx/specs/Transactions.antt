@@ -1,5 +1,5 @@
--- The formats of transactions, their envelopes and sets of them (Stellar-transaction.x and Stellar-ledger.x of protocol 18, over
--- RFC 4506).
+-- The formats of transactions, their envelopes and sets of them (Stellar-transaction.x and Stellar-ledger.x of protocol
+-- 18, over RFC 4506).
 use Rattle.std.specs.Prelude.{ℕ, ℤ, pos, List, [], ◌∷◌, Option, refl}
 use Rattle.xdr_core.specs.declared.fault.XdrFault.{XdrFault}
 use Rattle.xdr_core.specs.Leaves.{u32, u64, i64, fixed, var}
@@ -56,20 +56,31 @@ unfoldable pub memo : Xdr Memo
 memo = union_of memo_part memo_arms
 
 abbrev pub time_bounds_fields : Fields (ℕ × ℕ) TimeBounds
-time_bounds_fields = record { to = λ v. record { min_time = v.0; max_time = v.1 }; from = λ t. (t.min_time, t.max_time); there = λ _. refl; back = λ _. refl }
+time_bounds_fields = record {
+  to = λ v. record { min_time = v.0; max_time = v.1 };
+  from = λ t. (t.min_time, t.max_time);
+  there = λ _. refl;
+  back = λ _. refl;
+}
 
 unfoldable pub time_bounds : Xdr TimeBounds
 time_bounds = struct_of time_bounds_fields (u64 ⨾ u64)
 
 abbrev pub signature_fields : Fields (List ℕ × List ℕ) DecoratedSignature
-signature_fields = record { to = λ v. record { hint = v.0; signature = v.1 }; from = λ s. (s.hint, s.signature); there = λ _. refl; back = λ _. refl }
+signature_fields = record {
+  to = λ v. record { hint = v.0; signature = v.1 };
+  from = λ s. (s.hint, s.signature);
+  there = λ _. refl;
+  back = λ _. refl;
+}
 
 unfoldable pub decorated_signature : Xdr DecoratedSignature
 decorated_signature = struct_of signature_fields (fixed 4 ⨾ var 64)
 
 -- ---- transactions
 
-abbrev pub transaction_fields : Fields (MuxedAccount × (ℕ × (ℤ × (Option TimeBounds × (Memo × List Operation))))) Transaction
+abbrev pub transaction_fields : Fields (MuxedAccount × (ℕ × (ℤ × (Option TimeBounds × (Memo × List Operation)))))
+    Transaction
 transaction_fields = record {
   to = λ (source, (fee, (seq_num, (bounds, (note, operations))))). record {
     source_account = source;
@@ -85,9 +96,12 @@ transaction_fields = record {
 }
 
 unfoldable pub transaction : Xdr Transaction
-transaction = struct_of transaction_fields (muxed_account ⨾ u32 ⨾ i64 ⨾ optional time_bounds ⨾ memo ⨾ closed (list_of 100 operation) (tag (pos 0)))
+transaction =
+    struct_of transaction_fields
+    (muxed_account ⨾ u32 ⨾ i64 ⨾ optional time_bounds ⨾ memo ⨾ closed (list_of 100 operation) (tag (pos 0)))
 
-abbrev pub transaction_v0_fields : Fields (List ℕ × (ℕ × (ℤ × (Option TimeBounds × (Memo × List Operation))))) TransactionV0
+abbrev pub transaction_v0_fields : Fields (List ℕ × (ℕ × (ℤ × (Option TimeBounds × (Memo × List Operation)))))
+    TransactionV0
 transaction_v0_fields = record {
   to = λ (key, (fee, (seq_num, (bounds, (note, operations))))). record {
     source_account_ed25519 = key;
@@ -104,18 +118,30 @@ transaction_v0_fields = record {
 
 -- its source is a key without a type
 unfoldable pub transaction_v0 : Xdr TransactionV0
-transaction_v0 = struct_of transaction_v0_fields (fixed 32 ⨾ u32 ⨾ i64 ⨾ optional time_bounds ⨾ memo ⨾ closed (list_of 100 operation) (tag (pos 0)))
+transaction_v0 =
+    struct_of transaction_v0_fields
+    (fixed 32 ⨾ u32 ⨾ i64 ⨾ optional time_bounds ⨾ memo ⨾ closed (list_of 100 operation) (tag (pos 0)))
 
 -- ---- envelopes
 
 abbrev pub v1_fields : Fields (Transaction × List DecoratedSignature) TransactionV1Envelope
-v1_fields = record { to = λ v. record { tx = v.0; signatures = v.1 }; from = λ e. (e.tx, e.signatures); there = λ _. refl; back = λ _. refl }
+v1_fields = record {
+  to = λ v. record { tx = v.0; signatures = v.1 };
+  from = λ e. (e.tx, e.signatures);
+  there = λ _. refl;
+  back = λ _. refl;
+}
 
 unfoldable pub transaction_v1_envelope : Xdr TransactionV1Envelope
 transaction_v1_envelope = struct_of v1_fields (whole transaction ⨾ list_of 20 decorated_signature)
 
 abbrev pub v0_fields : Fields (TransactionV0 × List DecoratedSignature) TransactionV0Envelope
-v0_fields = record { to = λ v. record { tx = v.0; signatures = v.1 }; from = λ e. (e.tx, e.signatures); there = λ _. refl; back = λ _. refl }
+v0_fields = record {
+  to = λ v. record { tx = v.0; signatures = v.1 };
+  from = λ e. (e.tx, e.signatures);
+  there = λ _. refl;
+  back = λ _. refl;
+}
 
 unfoldable pub transaction_v0_envelope : Xdr TransactionV0Envelope
 transaction_v0_envelope = struct_of v0_fields (whole transaction_v0 ⨾ list_of 20 decorated_signature)
@@ -130,10 +156,17 @@ fee_bump_fields = record {
 
 -- its inner transaction has one arm, ENVELOPE_TYPE_TX
 unfoldable pub fee_bump_transaction : Xdr FeeBumpTransaction
-fee_bump_transaction = struct_of fee_bump_fields (muxed_account ⨾ i64 ⨾ closed (marked (tag types.ENVELOPE_TYPE_TX) transaction_v1_envelope) (tag (pos 0)))
+fee_bump_transaction =
+    struct_of fee_bump_fields
+    (muxed_account ⨾ i64 ⨾ closed (marked (tag types.ENVELOPE_TYPE_TX) transaction_v1_envelope) (tag (pos 0)))
 
 abbrev pub bump_fields : Fields (FeeBumpTransaction × List DecoratedSignature) FeeBumpTransactionEnvelope
-bump_fields = record { to = λ v. record { tx = v.0; signatures = v.1 }; from = λ e. (e.tx, e.signatures); there = λ _. refl; back = λ _. refl }
+bump_fields = record {
+  to = λ v. record { tx = v.0; signatures = v.1 };
+  from = λ e. (e.tx, e.signatures);
+  there = λ _. refl;
+  back = λ _. refl;
+}
 
 unfoldable pub fee_bump_envelope : Xdr FeeBumpTransactionEnvelope
 fee_bump_envelope = struct_of bump_fields (whole fee_bump_transaction ⨾ list_of 20 decorated_signature)
@@ -161,7 +194,12 @@ transaction_envelope = union_of envelope_part envelope_arms
 -- ---- sets
 
 abbrev pub set_fields : Fields (Hash × List TransactionEnvelope) TransactionSet
-set_fields = record { to = λ v. record { previous_ledger_hash = v.0; txs = v.1 }; from = λ s. (s.previous_ledger_hash, s.txs); there = λ _. refl; back = λ _. refl }
+set_fields = record {
+  to = λ v. record { previous_ledger_hash = v.0; txs = v.1 };
+  from = λ s. (s.previous_ledger_hash, s.txs);
+  there = λ _. refl;
+  back = λ _. refl;
+}
 
 -- the number of envelopes has no bound but that of its field
 unfoldable pub transaction_set : Xdr TransactionSet

@@ -60,7 +60,7 @@ impl Decode for DecoratedSignatureFormat {
 }
 
 impl Encode for DecoratedSignatureFormat {
-    #[tactic(auto, using(xdr_core::proofs::FormatLaws::written, crate::proofs::TransactionLaws::decorated_signature_laws))]
+    #[tactic(auto, using(crate::proofs::TransactionLaws::signature_written))]
     fn encode(value: &DecoratedSignature, builder: &mut Builder) -> Result<(), AllocError> {
         write_decorated_signature(value, builder)
     }

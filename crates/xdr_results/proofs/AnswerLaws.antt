@@ -204,7 +204,7 @@ path_payment_strict_receive_result_laws = union_laws (
   arm_laws path_payment_success_laws (λ x. refl),
   (
     arm_laws asset_laws (λ x. refl),
-    plain_are path_payment_strict_receive_code path_payment_strict_receive_values
+    plain_are _ path_payment_strict_receive_code path_payment_strict_receive_values
         (refl, (refl, (refl, (refl, (refl, (refl, (refl, (refl, (refl, (refl, (refl, tt))))))))))),
   ),
 )
@@ -245,7 +245,7 @@ path_payment_strict_send_result_laws = union_laws (
   arm_laws path_payment_success_laws (λ x. refl),
   (
     arm_laws asset_laws (λ x. refl),
-    plain_are path_payment_strict_send_code path_payment_strict_send_values
+    plain_are _ path_payment_strict_send_code path_payment_strict_send_values
         (refl, (refl, (refl, (refl, (refl, (refl, (refl, (refl, (refl, (refl, (refl, tt))))))))))),
   ),
 )
@@ -271,7 +271,7 @@ pub manage_offer_result_laws : Laws manage_offer_result
 unfolding manage_offer_result
 manage_offer_result_laws = union_laws (
   arm_laws manage_offer_success_laws (λ x. refl),
-  plain_are manage_offer_code manage_offer_values
+  plain_are _ manage_offer_code manage_offer_values
       (refl, (refl, (refl, (refl, (refl, (refl, (refl, (refl, (refl, (refl, (refl, (refl, tt)))))))))))),
 )
     manage_offer_result_found
@@ -337,7 +337,7 @@ pub account_merge_result_laws : Laws account_merge_result
 unfolding account_merge_result
 account_merge_result_laws = union_laws (
   arm_laws i64_laws (λ x. refl),
-  plain_are account_merge_code account_merge_values (refl, (refl, (refl, (refl, (refl, (refl, (refl, tt))))))),
+  plain_are _ account_merge_code account_merge_values (refl, (refl, (refl, (refl, (refl, (refl, (refl, tt))))))),
 )
     account_merge_result_found
 
@@ -351,7 +351,7 @@ pub inflation_result_laws : Laws inflation_result
 unfolding inflation_result
 inflation_result_laws = union_laws (
   arm_laws (list_laws 4294967295 (omega arith) inflation_payout_laws) (λ x. refl),
-  plain_are inflation_code inflation_values (refl, tt),
+  plain_are _ inflation_code inflation_values (refl, tt),
 )
     inflation_result_found
 
@@ -393,7 +393,7 @@ pub create_claimable_balance_result_laws : Laws create_claimable_balance_result
 unfolding create_claimable_balance_result
 create_claimable_balance_result_laws = union_laws (
   arm_laws claimable_balance_id_laws (λ x. refl),
-  plain_are create_claimable_balance_code create_claimable_balance_values
+  plain_are _ create_claimable_balance_code create_claimable_balance_values
       (refl, (refl, (refl, (refl, (refl, tt))))),
 )
     create_claimable_balance_result_found

@@ -212,6 +212,6 @@ pub operation_result_laws : Laws operation_result
 unfolding operation_result
 operation_result_laws = union_laws (
   arm_laws operation_result_tr_laws (λ x. refl),
-  plain_are operation_code operation_values (refl, (refl, (refl, (refl, (refl, (refl, tt)))))),
+  plain_are _ operation_code operation_values (refl, (refl, (refl, (refl, (refl, (refl, tt)))))),
 )
     operation_result_found

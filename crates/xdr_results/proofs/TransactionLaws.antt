@@ -76,7 +76,7 @@ inner_transaction_outcome_laws = union_laws (
   arm_laws (list_laws 4294967295 (omega arith) operation_result_laws) (λ x. refl),
   (
     arm_laws (list_laws 4294967295 (omega arith) operation_result_laws) (λ x. refl),
-    plain_are inner_code inner_values (
+    plain_are _ inner_code inner_values (
       refl,
       (
         refl,
@@ -130,7 +130,7 @@ transaction_outcome_laws = union_laws (
       arm_laws inner_transaction_result_pair_laws (λ x. refl),
       (
         arm_laws inner_transaction_result_pair_laws (λ x. refl),
-        plain_are outcome_code outcome_values
+        plain_are _ outcome_code outcome_values
             (refl, (refl, (refl, (refl, (refl, (refl, (refl, (refl, (refl, (refl, (refl, (refl, tt)))))))))))),
       ),
     ),

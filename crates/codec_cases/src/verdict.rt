@@ -16,8 +16,8 @@ pub trait Case: Encode {
         ensures { IfOk result (λ copy. copy ≡ value.now) };
 }
 
-/// What a codec makes of an input, in the words of the vectors: the number of bytes that it takes for a value, a copy of which written
-/// again gives them, or its fault and the fault's place.
+/// What a codec makes of an input, in the words of the vectors: the number of bytes that it takes for a value, a copy
+/// of which written again gives them, or its fault and the fault's place.
 pub fn verdict_of<C: Case + Decode<Failure = ReadFault>>(
     alloc: Global,
     input: &[u8],

@@ -1,6 +1,7 @@
-//! Writes values that are built by the names of their fields and variants, and prints the bytes of each: which of two fields of one
-//! type comes first, and which of two arms of one body has which discriminant, is the choice of a format, which its reader and its writer
-//! only follow. The lines that are wanted (`stdout`) were laid out by hand from the protocol's XDR.
+//! Writes values that are built by the names of their fields and variants, and prints the bytes of each: which of two
+//! fields of one type comes first, and which of two arms of one body has which discriminant, is the choice of a format,
+//! which its reader and its writer only follow. The lines that are wanted (`stdout`) were laid out by hand from the
+//! protocol's XDR.
 #![tactic(auto)]
 
 mod entries;

@@ -12,8 +12,8 @@ use std::alloc::{AllocError, Global};
 use xdr_core::Builder;
 use xdr_tx::write_transaction_envelope;
 
-/// The hash that the signatures of an envelope are made over, on the network with this id: of its transaction, or of its
-/// fee bump. The envelope has a spelling: its lists and texts keep their bounds.
+/// The hash that the signatures of an envelope are made over, on the network with this id: of its transaction, or of
+/// its fee bump. The envelope has a spelling: its lists and texts keep their bounds.
 #[tactic(auto, unfolding(xdr_tx::specs::Transactions::transaction_envelope))]
 pub fn signed_hash(
     alloc: Global,

@@ -20,6 +20,7 @@ use Rattle.ledger_types.specs.declared.claim_atom.ClaimAtom.TheVariants as atoms
 use Rattle.op_types.specs.declared.offer_results.ManageOfferEffect.{ManageOfferEffect}
 use Rattle.op_types.specs.declared.offer_results.ManageOfferEffect.TheVariants as effects
 use Rattle.xdr_results.specs.Answers.{
+  asset_amount,
   atom_v0,
   atom_order_book,
   atom_liquidity_pool,
@@ -42,24 +43,27 @@ use Rattle.xdr_results.specs.Answers.{
   inflation_payout,
 }
 
+asset_amount_laws : Laws asset_amount
+asset_amount_laws = asset_laws & i64_laws
+
 claim_atom_found : (v : ClaimAtom) → IsFound atom_part atom_arms v
 claim_atom_found (atoms.V0 seller offer sold amount_sold bought amount_bought) =
-    found atom_v0 (seller, (offer, (sold, (amount_sold, (bought, amount_bought)))))
-    (fixed_laws 32 & i64_laws & asset_laws & i64_laws & asset_laws & i64_laws) tt refl refl (λ _ _ _. refl)
+    found atom_v0 (seller, (offer, ((sold, amount_sold), (bought, amount_bought))))
+    (fixed_laws 32 & i64_laws & asset_amount_laws & asset_amount_laws) tt refl refl (λ _ _ _. refl)
 claim_atom_found (atoms.OrderBook seller offer sold amount_sold bought amount_bought) =
-    found atom_order_book (seller, (offer, (sold, (amount_sold, (bought, amount_bought)))))
-    (account_id_laws & i64_laws & asset_laws & i64_laws & asset_laws & i64_laws) tt refl refl (λ _ _ _. refl)
+    found atom_order_book (seller, (offer, ((sold, amount_sold), (bought, amount_bought))))
+    (account_id_laws & i64_laws & asset_amount_laws & asset_amount_laws) tt refl refl (λ _ _ _. refl)
 claim_atom_found (atoms.LiquidityPool pool sold amount_sold bought amount_bought) =
-    found atom_liquidity_pool (pool, (sold, (amount_sold, (bought, amount_bought))))
-    (hash_laws & asset_laws & i64_laws & asset_laws & i64_laws) tt refl refl (λ _ _ _. refl)
+    found atom_liquidity_pool (pool, ((sold, amount_sold), (bought, amount_bought)))
+    (hash_laws & asset_amount_laws & asset_amount_laws) tt refl refl (λ _ _ _. refl)
 
 pub claim_atom_laws : Laws claim_atom
 unfolding claim_atom
 claim_atom_laws = union_laws (
-  arm_laws (fixed_laws 32 & i64_laws & asset_laws & i64_laws & asset_laws & i64_laws) (λ x. refl),
+  arm_laws (fixed_laws 32 & i64_laws & asset_amount_laws & asset_amount_laws) (λ x. refl),
   (
-    arm_laws (account_id_laws & i64_laws & asset_laws & i64_laws & asset_laws & i64_laws) (λ x. refl),
-    (arm_laws (hash_laws & asset_laws & i64_laws & asset_laws & i64_laws) (λ x. refl), tt),
+    arm_laws (account_id_laws & i64_laws & asset_amount_laws & asset_amount_laws) (λ x. refl),
+    (arm_laws (hash_laws & asset_amount_laws & asset_amount_laws) (λ x. refl), tt),
   ),
 )
     claim_atom_found

@@ -97,34 +97,35 @@ use Rattle.xdr_results.specs.Coded.{plain, plain_arms, codes}
 
 -- ---- what trades moved
 
+-- so much of an asset
+abbrev pub asset_amount : Xdr (Asset × ℤ)
+asset_amount = asset ⨾ i64
+
 abbrev pub atom_v0 : Arm XdrFault ClaimAtom
 atom_v0 =
-    arm (pos 0) (fixed 32 ⨾ i64 ⨾ asset ⨾ i64 ⨾ asset ⨾ i64) (
-    λ (seller, (offer, (sold, (amount_sold, (bought, amount_bought))))). atoms.V0 seller offer sold amount_sold
-    bought amount_bought)
+    arm (pos 0) (fixed 32 ⨾ i64 ⨾ asset_amount ⨾ asset_amount)
+    (λ (seller, (offer, (sold, bought))). atoms.V0 seller offer sold.0 sold.1 bought.0 bought.1)
 
 abbrev pub atom_order_book : Arm XdrFault ClaimAtom
 atom_order_book =
-    arm (pos 1) (account_id ⨾ i64 ⨾ asset ⨾ i64 ⨾ asset ⨾ i64) (
-    λ (seller, (offer, (sold, (amount_sold, (bought, amount_bought))))). atoms.OrderBook seller offer sold
-    amount_sold bought amount_bought)
+    arm (pos 1) (account_id ⨾ i64 ⨾ asset_amount ⨾ asset_amount)
+    (λ (seller, (offer, (sold, bought))). atoms.OrderBook seller offer sold.0 sold.1 bought.0 bought.1)
 
 abbrev pub atom_liquidity_pool : Arm XdrFault ClaimAtom
 atom_liquidity_pool =
-    arm (pos 2) (hash ⨾ asset ⨾ i64 ⨾ asset ⨾ i64) (
-    λ (pool, (sold, (amount_sold, (bought, amount_bought)))). atoms.LiquidityPool pool sold amount_sold bought
-    amount_bought)
+    arm (pos 2) (hash ⨾ asset_amount ⨾ asset_amount)
+    (λ (pool, (sold, bought)). atoms.LiquidityPool pool sold.0 sold.1 bought.0 bought.1)
 
 abbrev pub atom_arms : List (Arm XdrFault ClaimAtom)
 atom_arms = atom_v0 ∷ atom_order_book ∷ atom_liquidity_pool ∷ []
 
 abbrev pub atom_part : ClaimAtom → Part XdrFault ClaimAtom
 atom_part (atoms.V0 seller offer sold amount_sold bought amount_bought) =
-    part atom_v0 (seller, (offer, (sold, (amount_sold, (bought, amount_bought)))))
+    part atom_v0 (seller, (offer, ((sold, amount_sold), (bought, amount_bought))))
 atom_part (atoms.OrderBook seller offer sold amount_sold bought amount_bought) =
-    part atom_order_book (seller, (offer, (sold, (amount_sold, (bought, amount_bought)))))
+    part atom_order_book (seller, (offer, ((sold, amount_sold), (bought, amount_bought))))
 atom_part (atoms.LiquidityPool pool sold amount_sold bought amount_bought) =
-    part atom_liquidity_pool (pool, (sold, (amount_sold, (bought, amount_bought))))
+    part atom_liquidity_pool (pool, ((sold, amount_sold), (bought, amount_bought)))
 
 unfoldable pub claim_atom : Xdr ClaimAtom
 claim_atom = union_of atom_part atom_arms

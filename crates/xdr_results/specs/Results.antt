@@ -188,6 +188,33 @@ run_part (run.SetTrustLineFlags answer) = part set_trust_line_flags_answer answe
 run_part (run.LiquidityPoolDeposit answer) = part liquidity_pool_deposit_answer answer
 run_part (run.LiquidityPoolWithdraw answer) = part liquidity_pool_withdraw_answer answer
 
+-- the type of the operation that answers
+abbrev pub type_of : OperationResultTr → ℤ
+type_of (run.CreateAccount answer) = types.CREATE_ACCOUNT
+type_of (run.Payment answer) = types.PAYMENT
+type_of (run.PathPaymentStrictReceive answer) = types.PATH_PAYMENT_STRICT_RECEIVE
+type_of (run.ManageSellOffer answer) = types.MANAGE_SELL_OFFER
+type_of (run.CreatePassiveSellOffer answer) = types.CREATE_PASSIVE_SELL_OFFER
+type_of (run.SetOptions answer) = types.SET_OPTIONS
+type_of (run.ChangeTrust answer) = types.CHANGE_TRUST
+type_of (run.AllowTrust answer) = types.ALLOW_TRUST
+type_of (run.AccountMerge answer) = types.ACCOUNT_MERGE
+type_of (run.Inflation answer) = types.INFLATION
+type_of (run.ManageData answer) = types.MANAGE_DATA
+type_of (run.BumpSequence answer) = types.BUMP_SEQUENCE
+type_of (run.ManageBuyOffer answer) = types.MANAGE_BUY_OFFER
+type_of (run.PathPaymentStrictSend answer) = types.PATH_PAYMENT_STRICT_SEND
+type_of (run.CreateClaimableBalance answer) = types.CREATE_CLAIMABLE_BALANCE
+type_of (run.ClaimClaimableBalance answer) = types.CLAIM_CLAIMABLE_BALANCE
+type_of (run.BeginSponsoringFutureReserves answer) = types.BEGIN_SPONSORING_FUTURE_RESERVES
+type_of (run.EndSponsoringFutureReserves answer) = types.END_SPONSORING_FUTURE_RESERVES
+type_of (run.RevokeSponsorship answer) = types.REVOKE_SPONSORSHIP
+type_of (run.Clawback answer) = types.CLAWBACK
+type_of (run.ClawbackClaimableBalance answer) = types.CLAWBACK_CLAIMABLE_BALANCE
+type_of (run.SetTrustLineFlags answer) = types.SET_TRUST_LINE_FLAGS
+type_of (run.LiquidityPoolDeposit answer) = types.LIQUIDITY_POOL_DEPOSIT
+type_of (run.LiquidityPoolWithdraw answer) = types.LIQUIDITY_POOL_WITHDRAW
+
 unfoldable pub operation_result_tr : Xdr OperationResultTr
 operation_result_tr = union_of run_part run_arms
 

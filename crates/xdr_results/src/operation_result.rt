@@ -180,6 +180,38 @@ fn read_last_run(
     Ok(answer)
 }
 
+/// The type of the operation that answers.
+fn type_of(value: &OperationResultTr) -> i32
+    ensures { result ≡ spec.type_of value.now }
+{
+    match value {
+        OperationResultTr::CreateAccount(_) => CREATE_ACCOUNT,
+        OperationResultTr::Payment(_) => PAYMENT,
+        OperationResultTr::PathPaymentStrictReceive(_) => PATH_PAYMENT_STRICT_RECEIVE,
+        OperationResultTr::ManageSellOffer(_) => MANAGE_SELL_OFFER,
+        OperationResultTr::CreatePassiveSellOffer(_) => CREATE_PASSIVE_SELL_OFFER,
+        OperationResultTr::SetOptions(_) => SET_OPTIONS,
+        OperationResultTr::ChangeTrust(_) => CHANGE_TRUST,
+        OperationResultTr::AllowTrust(_) => ALLOW_TRUST,
+        OperationResultTr::AccountMerge(_) => ACCOUNT_MERGE,
+        OperationResultTr::Inflation(_) => INFLATION,
+        OperationResultTr::ManageData(_) => MANAGE_DATA,
+        OperationResultTr::BumpSequence(_) => BUMP_SEQUENCE,
+        OperationResultTr::ManageBuyOffer(_) => MANAGE_BUY_OFFER,
+        OperationResultTr::PathPaymentStrictSend(_) => PATH_PAYMENT_STRICT_SEND,
+        OperationResultTr::CreateClaimableBalance(_) => CREATE_CLAIMABLE_BALANCE,
+        OperationResultTr::ClaimClaimableBalance(_) => CLAIM_CLAIMABLE_BALANCE,
+        OperationResultTr::BeginSponsoringFutureReserves(_) => BEGIN_SPONSORING_FUTURE_RESERVES,
+        OperationResultTr::EndSponsoringFutureReserves(_) => END_SPONSORING_FUTURE_RESERVES,
+        OperationResultTr::RevokeSponsorship(_) => REVOKE_SPONSORSHIP,
+        OperationResultTr::Clawback(_) => CLAWBACK,
+        OperationResultTr::ClawbackClaimableBalance(_) => CLAWBACK_CLAIMABLE_BALANCE,
+        OperationResultTr::SetTrustLineFlags(_) => SET_TRUST_LINE_FLAGS,
+        OperationResultTr::LiquidityPoolDeposit(_) => LIQUIDITY_POOL_DEPOSIT,
+        OperationResultTr::LiquidityPoolWithdraw(_) => LIQUIDITY_POOL_WITHDRAW,
+    }
+}
+
 /// Writes what an operation answers that was run.
 #[tactic(auto, unfolding(crate::specs::Results::operation_result_tr))]
 pub fn write_operation_result_tr(
@@ -189,103 +221,52 @@ pub fn write_operation_result_tr(
     requires { spec.operation_result_tr.within value.now }
     ensures { OnOk result (builder.new ≡ spec.operation_result_tr.onto builder.old value.now) }
 {
+    builder.i32(type_of(value))?;
     match value {
-        OperationResultTr::CreateAccount(answer) => {
-            builder.i32(CREATE_ACCOUNT)?;
-            write_create_account_result(answer, builder)
-        }
-        OperationResultTr::Payment(answer) => {
-            builder.i32(PAYMENT)?;
-            write_payment_result(answer, builder)
-        }
-        OperationResultTr::PathPaymentStrictReceive(answer) => {
-            builder.i32(PATH_PAYMENT_STRICT_RECEIVE)?;
-            write_path_payment_strict_receive_result(answer, builder)
-        }
-        OperationResultTr::ManageSellOffer(answer) => {
-            builder.i32(MANAGE_SELL_OFFER)?;
-            write_manage_offer_result(answer, builder)
-        }
-        OperationResultTr::CreatePassiveSellOffer(answer) => {
-            builder.i32(CREATE_PASSIVE_SELL_OFFER)?;
-            write_manage_offer_result(answer, builder)
-        }
-        OperationResultTr::SetOptions(answer) => {
-            builder.i32(SET_OPTIONS)?;
-            write_set_options_result(answer, builder)
-        }
-        OperationResultTr::ChangeTrust(answer) => {
-            builder.i32(CHANGE_TRUST)?;
-            write_change_trust_result(answer, builder)
-        }
-        OperationResultTr::AllowTrust(answer) => {
-            builder.i32(ALLOW_TRUST)?;
-            write_allow_trust_result(answer, builder)
-        }
-        OperationResultTr::AccountMerge(answer) => {
-            builder.i32(ACCOUNT_MERGE)?;
-            write_account_merge_result(answer, builder)
-        }
-        OperationResultTr::Inflation(answer) => {
-            builder.i32(INFLATION)?;
-            write_inflation_result(answer, builder)
-        }
-        OperationResultTr::ManageData(answer) => {
-            builder.i32(MANAGE_DATA)?;
-            write_manage_data_result(answer, builder)
-        }
-        OperationResultTr::BumpSequence(answer) => {
-            builder.i32(BUMP_SEQUENCE)?;
-            write_bump_sequence_result(answer, builder)
-        }
-        OperationResultTr::ManageBuyOffer(answer) => {
-            builder.i32(MANAGE_BUY_OFFER)?;
-            write_manage_offer_result(answer, builder)
-        }
-        OperationResultTr::PathPaymentStrictSend(answer) => {
-            builder.i32(PATH_PAYMENT_STRICT_SEND)?;
-            write_path_payment_strict_send_result(answer, builder)
-        }
-        OperationResultTr::CreateClaimableBalance(answer) => {
-            builder.i32(CREATE_CLAIMABLE_BALANCE)?;
-            write_create_claimable_balance_result(answer, builder)
-        }
-        OperationResultTr::ClaimClaimableBalance(answer) => {
-            builder.i32(CLAIM_CLAIMABLE_BALANCE)?;
-            write_claim_claimable_balance_result(answer, builder)
-        }
-        OperationResultTr::BeginSponsoringFutureReserves(answer) => {
-            builder.i32(BEGIN_SPONSORING_FUTURE_RESERVES)?;
-            write_begin_sponsoring_future_reserves_result(answer, builder)
-        }
-        OperationResultTr::EndSponsoringFutureReserves(answer) => {
-            builder.i32(END_SPONSORING_FUTURE_RESERVES)?;
-            write_end_sponsoring_future_reserves_result(answer, builder)
-        }
-        OperationResultTr::RevokeSponsorship(answer) => {
-            builder.i32(REVOKE_SPONSORSHIP)?;
-            write_revoke_sponsorship_result(answer, builder)
-        }
-        OperationResultTr::Clawback(answer) => {
-            builder.i32(CLAWBACK)?;
-            write_clawback_result(answer, builder)
-        }
-        OperationResultTr::ClawbackClaimableBalance(answer) => {
-            builder.i32(CLAWBACK_CLAIMABLE_BALANCE)?;
-            write_clawback_claimable_balance_result(answer, builder)
-        }
-        OperationResultTr::SetTrustLineFlags(answer) => {
-            builder.i32(SET_TRUST_LINE_FLAGS)?;
-            write_set_trust_line_flags_result(answer, builder)
-        }
-        OperationResultTr::LiquidityPoolDeposit(answer) => {
-            builder.i32(LIQUIDITY_POOL_DEPOSIT)?;
-            write_liquidity_pool_deposit_result(answer, builder)
-        }
-        OperationResultTr::LiquidityPoolWithdraw(answer) => {
-            builder.i32(LIQUIDITY_POOL_WITHDRAW)?;
-            write_liquidity_pool_withdraw_result(answer, builder)
-        }
+        OperationResultTr::CreateAccount(answer) => write_create_account_result(answer, builder),
+        OperationResultTr::Payment(answer) => write_payment_result(answer, builder),
+        OperationResultTr::PathPaymentStrictReceive(answer) =>
+            write_path_payment_strict_receive_result(answer, builder),
+        OperationResultTr::ManageSellOffer(answer) => write_manage_offer_result(answer, builder),
+        OperationResultTr::CreatePassiveSellOffer(answer) => write_manage_offer_result(
+            answer, builder,
+        ),
+        OperationResultTr::SetOptions(answer) => write_set_options_result(answer, builder),
+        OperationResultTr::ChangeTrust(answer) => write_change_trust_result(answer, builder),
+        OperationResultTr::AllowTrust(answer) => write_allow_trust_result(answer, builder),
+        OperationResultTr::AccountMerge(answer) => write_account_merge_result(answer, builder),
+        OperationResultTr::Inflation(answer) => write_inflation_result(answer, builder),
+        OperationResultTr::ManageData(answer) => write_manage_data_result(answer, builder),
+        OperationResultTr::BumpSequence(answer) => write_bump_sequence_result(answer, builder),
+        OperationResultTr::ManageBuyOffer(answer) => write_manage_offer_result(answer, builder),
+        OperationResultTr::PathPaymentStrictSend(answer) => write_path_payment_strict_send_result(
+            answer, builder,
+        ),
+        OperationResultTr::CreateClaimableBalance(answer) => write_create_claimable_balance_result(
+            answer, builder,
+        ),
+        OperationResultTr::ClaimClaimableBalance(answer) => write_claim_claimable_balance_result(
+            answer, builder,
+        ),
+        OperationResultTr::BeginSponsoringFutureReserves(answer) =>
+            write_begin_sponsoring_future_reserves_result(answer, builder),
+        OperationResultTr::EndSponsoringFutureReserves(answer) =>
+            write_end_sponsoring_future_reserves_result(answer, builder),
+        OperationResultTr::RevokeSponsorship(answer) => write_revoke_sponsorship_result(
+            answer, builder,
+        ),
+        OperationResultTr::Clawback(answer) => write_clawback_result(answer, builder),
+        OperationResultTr::ClawbackClaimableBalance(answer) =>
+            write_clawback_claimable_balance_result(answer, builder),
+        OperationResultTr::SetTrustLineFlags(answer) => write_set_trust_line_flags_result(
+            answer, builder,
+        ),
+        OperationResultTr::LiquidityPoolDeposit(answer) => write_liquidity_pool_deposit_result(
+            answer, builder,
+        ),
+        OperationResultTr::LiquidityPoolWithdraw(answer) => write_liquidity_pool_withdraw_result(
+            answer, builder,
+        ),
     }
 }
 

@@ -41,6 +41,8 @@ use Rattle.xdr_tx.specs.Transactions.{
   time_bounds,
   signature_fields,
   decorated_signature,
+  behind_source_fields,
+  behind_source,
   transaction_fields,
   transaction,
   transaction_v0_fields,
@@ -95,17 +97,19 @@ pub decorated_signature_laws : Laws decorated_signature
 unfolding decorated_signature
 decorated_signature_laws = struct_laws signature_fields (fixed_laws 4 & var_laws 64 (omega arith))
 
+pub behind_source_laws : Laws behind_source
+unfolding behind_source
+behind_source_laws = struct_laws behind_source_fields
+    (u32_laws & i64_laws & option_laws time_bounds_laws & memo_laws
+    & closed_laws (list_laws 100 (omega arith) operation_laws) (tag_laws (pos 0) tt))
+
 pub transaction_laws : Laws transaction
 unfolding transaction
-transaction_laws = struct_laws transaction_fields
-    (muxed_account_laws & u32_laws & i64_laws & option_laws time_bounds_laws & memo_laws
-    & closed_laws (list_laws 100 (omega arith) operation_laws) (tag_laws (pos 0) tt))
+transaction_laws = struct_laws transaction_fields (muxed_account_laws & behind_source_laws)
 
 pub transaction_v0_laws : Laws transaction_v0
 unfolding transaction_v0
-transaction_v0_laws = struct_laws transaction_v0_fields
-    (fixed_laws 32 & u32_laws & i64_laws & option_laws time_bounds_laws & memo_laws
-    & closed_laws (list_laws 100 (omega arith) operation_laws) (tag_laws (pos 0) tt))
+transaction_v0_laws = struct_laws transaction_v0_fields (fixed_laws 32 & behind_source_laws)
 
 pub transaction_v1_envelope_laws : Laws transaction_v1_envelope
 unfolding transaction_v1_envelope

@@ -562,6 +562,33 @@ body_part (body.SetTrustLineFlags op) = part set_trust_line_flags_arm op
 body_part (body.LiquidityPoolDeposit op) = part liquidity_pool_deposit_arm op
 body_part (body.LiquidityPoolWithdraw op) = part liquidity_pool_withdraw_arm op
 
+-- the type of an operation
+abbrev pub type_of : OperationBody → ℤ
+type_of (body.CreateAccount op) = types.CREATE_ACCOUNT
+type_of (body.Payment op) = types.PAYMENT
+type_of (body.PathPaymentStrictReceive op) = types.PATH_PAYMENT_STRICT_RECEIVE
+type_of (body.ManageSellOffer op) = types.MANAGE_SELL_OFFER
+type_of (body.CreatePassiveSellOffer op) = types.CREATE_PASSIVE_SELL_OFFER
+type_of (body.SetOptions op) = types.SET_OPTIONS
+type_of (body.ChangeTrust op) = types.CHANGE_TRUST
+type_of (body.AllowTrust op) = types.ALLOW_TRUST
+type_of (body.AccountMerge op) = types.ACCOUNT_MERGE
+type_of body.Inflation = types.INFLATION
+type_of (body.ManageData op) = types.MANAGE_DATA
+type_of (body.BumpSequence op) = types.BUMP_SEQUENCE
+type_of (body.ManageBuyOffer op) = types.MANAGE_BUY_OFFER
+type_of (body.PathPaymentStrictSend op) = types.PATH_PAYMENT_STRICT_SEND
+type_of (body.CreateClaimableBalance op) = types.CREATE_CLAIMABLE_BALANCE
+type_of (body.ClaimClaimableBalance op) = types.CLAIM_CLAIMABLE_BALANCE
+type_of (body.BeginSponsoringFutureReserves op) = types.BEGIN_SPONSORING_FUTURE_RESERVES
+type_of body.EndSponsoringFutureReserves = types.END_SPONSORING_FUTURE_RESERVES
+type_of (body.RevokeSponsorship op) = types.REVOKE_SPONSORSHIP
+type_of (body.Clawback op) = types.CLAWBACK
+type_of (body.ClawbackClaimableBalance op) = types.CLAWBACK_CLAIMABLE_BALANCE
+type_of (body.SetTrustLineFlags op) = types.SET_TRUST_LINE_FLAGS
+type_of (body.LiquidityPoolDeposit op) = types.LIQUIDITY_POOL_DEPOSIT
+type_of (body.LiquidityPoolWithdraw op) = types.LIQUIDITY_POOL_WITHDRAW
+
 unfoldable pub operation_body : Xdr OperationBody
 operation_body = union_of body_part body_arms
 

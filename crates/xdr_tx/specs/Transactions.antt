@@ -23,6 +23,7 @@ use Rattle.op_types.specs.declared.transaction.TransactionEnvelope.{TransactionE
 use Rattle.op_types.specs.declared.transaction.TransactionSet.{TransactionSet}
 use Rattle.op_types.specs.declared.transaction.TransactionEnvelope.TheVariants as envelope
 use Rattle.xdr_entries.specs.Basic.{arm, hash, muxed_account}
+use Rattle.xdr_tx.specs.declared.transaction.BehindSource.{BehindSource}
 use Rattle.xdr_tx.specs.Operations.{operation}
 
 -- ---- parts of transactions
@@ -79,48 +80,71 @@ decorated_signature = struct_of signature_fields (fixed 4 ⨾ var 64)
 
 -- ---- transactions
 
-abbrev pub transaction_fields : Fields (MuxedAccount × (ℕ × (ℤ × (Option TimeBounds × (Memo × List Operation)))))
-    Transaction
-transaction_fields = record {
-  to = λ (source, (fee, (seq_num, (bounds, (note, operations))))). record {
-    source_account = source;
+-- what both versions of a transaction have behind their source
+abbrev pub behind_source_fields : Fields (ℕ × (ℤ × (Option TimeBounds × (Memo × List Operation)))) BehindSource
+behind_source_fields = record {
+  to = λ (fee, (seq_num, (bounds, (note, operations)))). record {
     fee = fee;
     seq_num = seq_num;
     time_bounds = bounds;
     memo = note;
     operations = operations;
   };
-  from = λ t. (t.source_account, (t.fee, (t.seq_num, (t.time_bounds, (t.memo, t.operations)))));
+  from = λ b. (b.fee, (b.seq_num, (b.time_bounds, (b.memo, b.operations))));
+  there = λ _. refl;
+  back = λ _. refl;
+}
+
+abbrev pub behind : ℕ → ℤ → Option TimeBounds → Memo → List Operation → BehindSource
+behind fee seq_num bounds note operations = record {
+  fee = fee;
+  seq_num = seq_num;
+  time_bounds = bounds;
+  memo = note;
+  operations = operations;
+}
+
+unfoldable pub behind_source : Xdr BehindSource
+behind_source =
+    struct_of behind_source_fields
+    (u32 ⨾ i64 ⨾ optional time_bounds ⨾ memo ⨾ closed (list_of 100 operation) (tag (pos 0)))
+
+abbrev pub transaction_fields : Fields (MuxedAccount × BehindSource) Transaction
+transaction_fields = record {
+  to = λ (source, behind). record {
+    source_account = source;
+    fee = behind.fee;
+    seq_num = behind.seq_num;
+    time_bounds = behind.time_bounds;
+    memo = behind.memo;
+    operations = behind.operations;
+  };
+  from = λ t. (t.source_account, behind t.fee t.seq_num t.time_bounds t.memo t.operations);
   there = λ _. refl;
   back = λ _. refl;
 }
 
 unfoldable pub transaction : Xdr Transaction
-transaction =
-    struct_of transaction_fields
-    (muxed_account ⨾ u32 ⨾ i64 ⨾ optional time_bounds ⨾ memo ⨾ closed (list_of 100 operation) (tag (pos 0)))
+transaction = struct_of transaction_fields (muxed_account ⨾ behind_source)
 
-abbrev pub transaction_v0_fields : Fields (List ℕ × (ℕ × (ℤ × (Option TimeBounds × (Memo × List Operation)))))
-    TransactionV0
+abbrev pub transaction_v0_fields : Fields (List ℕ × BehindSource) TransactionV0
 transaction_v0_fields = record {
-  to = λ (key, (fee, (seq_num, (bounds, (note, operations))))). record {
+  to = λ (key, behind). record {
     source_account_ed25519 = key;
-    fee = fee;
-    seq_num = seq_num;
-    time_bounds = bounds;
-    memo = note;
-    operations = operations;
+    fee = behind.fee;
+    seq_num = behind.seq_num;
+    time_bounds = behind.time_bounds;
+    memo = behind.memo;
+    operations = behind.operations;
   };
-  from = λ t. (t.source_account_ed25519, (t.fee, (t.seq_num, (t.time_bounds, (t.memo, t.operations)))));
+  from = λ t. (t.source_account_ed25519, behind t.fee t.seq_num t.time_bounds t.memo t.operations);
   there = λ _. refl;
   back = λ _. refl;
 }
 
 -- its source is a key without a type
 unfoldable pub transaction_v0 : Xdr TransactionV0
-transaction_v0 =
-    struct_of transaction_v0_fields
-    (fixed 32 ⨾ u32 ⨾ i64 ⨾ optional time_bounds ⨾ memo ⨾ closed (list_of 100 operation) (tag (pos 0)))
+transaction_v0 = struct_of transaction_v0_fields (fixed 32 ⨾ behind_source)
 
 -- ---- envelopes
 
@@ -154,11 +178,12 @@ fee_bump_fields = record {
   back = λ _. refl;
 }
 
--- its inner transaction has one arm, ENVELOPE_TYPE_TX
+-- the one arm of the inner transaction, ENVELOPE_TYPE_TX, and the end of a fee bump
+abbrev pub inner_tx : Xdr TransactionV1Envelope
+inner_tx = closed (marked (tag types.ENVELOPE_TYPE_TX) transaction_v1_envelope) (tag (pos 0))
+
 unfoldable pub fee_bump_transaction : Xdr FeeBumpTransaction
-fee_bump_transaction =
-    struct_of fee_bump_fields
-    (muxed_account ⨾ i64 ⨾ closed (marked (tag types.ENVELOPE_TYPE_TX) transaction_v1_envelope) (tag (pos 0)))
+fee_bump_transaction = struct_of fee_bump_fields (muxed_account ⨾ i64 ⨾ inner_tx)
 
 abbrev pub bump_fields : Fields (FeeBumpTransaction × List DecoratedSignature) FeeBumpTransactionEnvelope
 bump_fields = record {

@@ -74,6 +74,18 @@ pub fn write_transaction_v1_envelope(
     write_list::<DecoratedSignatureFormat>(value.signatures.as_slice(), MAX_SIGNATURES, builder)
 }
 
+/// Reads the inner transaction of a fee bump, and the end of the fee bump.
+fn read_inner_tx(alloc: Global, cursor: &mut Cursor<'_>) -> Result<TransactionV1Envelope, ReadFault>
+    ensures { Reads cause_of result cursor.old cursor.new (spec.inner_tx.read cursor.old) }
+{
+    let mut ahead = cursor.fork();
+    ahead.tag(ENVELOPE_TYPE_TX)?;
+    let inner_tx = read_transaction_v1_envelope(alloc, &mut ahead)?;
+    ahead.tag(0)?;
+    *cursor = ahead;
+    Ok(inner_tx)
+}
+
 /// Reads a fee bump.
 #[tactic(auto, unfolding(crate::specs::Transactions::fee_bump_transaction))]
 pub fn read_fee_bump_transaction(
@@ -85,9 +97,7 @@ pub fn read_fee_bump_transaction(
     let mut ahead = cursor.fork();
     let fee_source = read_muxed_account(&mut ahead)?;
     let fee = ahead.i64()?;
-    ahead.tag(ENVELOPE_TYPE_TX)?;
-    let inner_tx = read_transaction_v1_envelope(alloc, &mut ahead)?;
-    ahead.tag(0)?;
+    let inner_tx = read_inner_tx(alloc, &mut ahead)?;
     *cursor = ahead;
     Ok(FeeBumpTransaction {
         fee_source,

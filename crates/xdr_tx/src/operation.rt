@@ -169,103 +169,77 @@ fn read_last_body(
     Ok(body)
 }
 
+/// The type of an operation.
+fn type_of(value: &OperationBody) -> i32
+    ensures { result ≡ spec.type_of value.now }
+{
+    match value {
+        OperationBody::CreateAccount(_) => CREATE_ACCOUNT,
+        OperationBody::Payment(_) => PAYMENT,
+        OperationBody::PathPaymentStrictReceive(_) => PATH_PAYMENT_STRICT_RECEIVE,
+        OperationBody::ManageSellOffer(_) => MANAGE_SELL_OFFER,
+        OperationBody::CreatePassiveSellOffer(_) => CREATE_PASSIVE_SELL_OFFER,
+        OperationBody::SetOptions(_) => SET_OPTIONS,
+        OperationBody::ChangeTrust(_) => CHANGE_TRUST,
+        OperationBody::AllowTrust(_) => ALLOW_TRUST,
+        OperationBody::AccountMerge(_) => ACCOUNT_MERGE,
+        OperationBody::Inflation => INFLATION,
+        OperationBody::ManageData(_) => MANAGE_DATA,
+        OperationBody::BumpSequence(_) => BUMP_SEQUENCE,
+        OperationBody::ManageBuyOffer(_) => MANAGE_BUY_OFFER,
+        OperationBody::PathPaymentStrictSend(_) => PATH_PAYMENT_STRICT_SEND,
+        OperationBody::CreateClaimableBalance(_) => CREATE_CLAIMABLE_BALANCE,
+        OperationBody::ClaimClaimableBalance(_) => CLAIM_CLAIMABLE_BALANCE,
+        OperationBody::BeginSponsoringFutureReserves(_) => BEGIN_SPONSORING_FUTURE_RESERVES,
+        OperationBody::EndSponsoringFutureReserves => END_SPONSORING_FUTURE_RESERVES,
+        OperationBody::RevokeSponsorship(_) => REVOKE_SPONSORSHIP,
+        OperationBody::Clawback(_) => CLAWBACK,
+        OperationBody::ClawbackClaimableBalance(_) => CLAWBACK_CLAIMABLE_BALANCE,
+        OperationBody::SetTrustLineFlags(_) => SET_TRUST_LINE_FLAGS,
+        OperationBody::LiquidityPoolDeposit(_) => LIQUIDITY_POOL_DEPOSIT,
+        OperationBody::LiquidityPoolWithdraw(_) => LIQUIDITY_POOL_WITHDRAW,
+    }
+}
+
 /// Writes what an operation does.
 #[tactic(auto, unfolding(crate::specs::Operations::operation_body))]
 pub fn write_operation_body(value: &OperationBody, builder: &mut Builder) -> Result<(), AllocError>
     requires { spec.operation_body.within value.now }
     ensures { OnOk result (builder.new ≡ spec.operation_body.onto builder.old value.now) }
 {
+    builder.i32(type_of(value))?;
     match value {
-        OperationBody::CreateAccount(op) => {
-            builder.i32(CREATE_ACCOUNT)?;
-            write_create_account_op(op, builder)
-        }
-        OperationBody::Payment(op) => {
-            builder.i32(PAYMENT)?;
-            write_payment_op(op, builder)
-        }
-        OperationBody::PathPaymentStrictReceive(op) => {
-            builder.i32(PATH_PAYMENT_STRICT_RECEIVE)?;
-            write_path_payment_strict_receive_op(op, builder)
-        }
-        OperationBody::ManageSellOffer(op) => {
-            builder.i32(MANAGE_SELL_OFFER)?;
-            write_manage_sell_offer_op(op, builder)
-        }
-        OperationBody::CreatePassiveSellOffer(op) => {
-            builder.i32(CREATE_PASSIVE_SELL_OFFER)?;
-            write_create_passive_sell_offer_op(op, builder)
-        }
-        OperationBody::SetOptions(op) => {
-            builder.i32(SET_OPTIONS)?;
-            write_set_options_op(op, builder)
-        }
-        OperationBody::ChangeTrust(op) => {
-            builder.i32(CHANGE_TRUST)?;
-            write_change_trust_op(op, builder)
-        }
-        OperationBody::AllowTrust(op) => {
-            builder.i32(ALLOW_TRUST)?;
-            write_allow_trust_op(op, builder)
-        }
-        OperationBody::AccountMerge(op) => {
-            builder.i32(ACCOUNT_MERGE)?;
-            write_account_merge_op(op, builder)
-        }
-        OperationBody::Inflation => builder.i32(INFLATION),
-        OperationBody::ManageData(op) => {
-            builder.i32(MANAGE_DATA)?;
-            write_manage_data_op(op, builder)
-        }
-        OperationBody::BumpSequence(op) => {
-            builder.i32(BUMP_SEQUENCE)?;
-            write_bump_sequence_op(op, builder)
-        }
-        OperationBody::ManageBuyOffer(op) => {
-            builder.i32(MANAGE_BUY_OFFER)?;
-            write_manage_buy_offer_op(op, builder)
-        }
-        OperationBody::PathPaymentStrictSend(op) => {
-            builder.i32(PATH_PAYMENT_STRICT_SEND)?;
-            write_path_payment_strict_send_op(op, builder)
-        }
-        OperationBody::CreateClaimableBalance(op) => {
-            builder.i32(CREATE_CLAIMABLE_BALANCE)?;
-            write_create_claimable_balance_op(op, builder)
-        }
-        OperationBody::ClaimClaimableBalance(op) => {
-            builder.i32(CLAIM_CLAIMABLE_BALANCE)?;
-            write_claim_claimable_balance_op(op, builder)
-        }
-        OperationBody::BeginSponsoringFutureReserves(op) => {
-            builder.i32(BEGIN_SPONSORING_FUTURE_RESERVES)?;
-            write_begin_sponsoring_future_reserves_op(op, builder)
-        }
-        OperationBody::EndSponsoringFutureReserves => builder.i32(END_SPONSORING_FUTURE_RESERVES),
-        OperationBody::RevokeSponsorship(op) => {
-            builder.i32(REVOKE_SPONSORSHIP)?;
-            write_revoke_sponsorship_op(op, builder)
-        }
-        OperationBody::Clawback(op) => {
-            builder.i32(CLAWBACK)?;
-            write_clawback_op(op, builder)
-        }
-        OperationBody::ClawbackClaimableBalance(op) => {
-            builder.i32(CLAWBACK_CLAIMABLE_BALANCE)?;
-            write_clawback_claimable_balance_op(op, builder)
-        }
-        OperationBody::SetTrustLineFlags(op) => {
-            builder.i32(SET_TRUST_LINE_FLAGS)?;
-            write_set_trust_line_flags_op(op, builder)
-        }
-        OperationBody::LiquidityPoolDeposit(op) => {
-            builder.i32(LIQUIDITY_POOL_DEPOSIT)?;
-            write_liquidity_pool_deposit_op(op, builder)
-        }
-        OperationBody::LiquidityPoolWithdraw(op) => {
-            builder.i32(LIQUIDITY_POOL_WITHDRAW)?;
-            write_liquidity_pool_withdraw_op(op, builder)
-        }
+        OperationBody::CreateAccount(op) => write_create_account_op(op, builder),
+        OperationBody::Payment(op) => write_payment_op(op, builder),
+        OperationBody::PathPaymentStrictReceive(op) => write_path_payment_strict_receive_op(
+            op, builder,
+        ),
+        OperationBody::ManageSellOffer(op) => write_manage_sell_offer_op(op, builder),
+        OperationBody::CreatePassiveSellOffer(op) => write_create_passive_sell_offer_op(
+            op, builder,
+        ),
+        OperationBody::SetOptions(op) => write_set_options_op(op, builder),
+        OperationBody::ChangeTrust(op) => write_change_trust_op(op, builder),
+        OperationBody::AllowTrust(op) => write_allow_trust_op(op, builder),
+        OperationBody::AccountMerge(op) => write_account_merge_op(op, builder),
+        OperationBody::Inflation => Ok(()),
+        OperationBody::ManageData(op) => write_manage_data_op(op, builder),
+        OperationBody::BumpSequence(op) => write_bump_sequence_op(op, builder),
+        OperationBody::ManageBuyOffer(op) => write_manage_buy_offer_op(op, builder),
+        OperationBody::PathPaymentStrictSend(op) => write_path_payment_strict_send_op(op, builder),
+        OperationBody::CreateClaimableBalance(op) => write_create_claimable_balance_op(op, builder),
+        OperationBody::ClaimClaimableBalance(op) => write_claim_claimable_balance_op(op, builder),
+        OperationBody::BeginSponsoringFutureReserves(op) =>
+            write_begin_sponsoring_future_reserves_op(op, builder),
+        OperationBody::EndSponsoringFutureReserves => Ok(()),
+        OperationBody::RevokeSponsorship(op) => write_revoke_sponsorship_op(op, builder),
+        OperationBody::Clawback(op) => write_clawback_op(op, builder),
+        OperationBody::ClawbackClaimableBalance(op) => write_clawback_claimable_balance_op(
+            op, builder,
+        ),
+        OperationBody::SetTrustLineFlags(op) => write_set_trust_line_flags_op(op, builder),
+        OperationBody::LiquidityPoolDeposit(op) => write_liquidity_pool_deposit_op(op, builder),
+        OperationBody::LiquidityPoolWithdraw(op) => write_liquidity_pool_withdraw_op(op, builder),
     }
 }
 

@@ -8,13 +8,68 @@ ghost use Rattle.xdr_tx.specs.Transactions as spec;
 use crate::memo::{read_memo, write_memo};
 use crate::operation::OperationFormat;
 use crate::time_bounds::TimeBoundsFormat;
-use op_types::{Transaction, TransactionV0};
+use item_list::ItemList;
+use op_types::{Memo, Operation, TimeBounds, Transaction, TransactionV0};
 use std::alloc::{AllocError, Global};
 use xdr_core::{Builder, Cursor, ReadFault, read_list, read_option, write_list, write_option};
 use xdr_entries::{read_muxed_account, write_muxed_account};
 
 /// The most operations of a transaction (MAX_OPS_PER_TX in Stellar-transaction.x).
 const MAX_OPERATIONS: u32 = 100;
+
+/// What both versions of a transaction have behind their source.
+#[derive(Drop)]
+struct BehindSource {
+    fee: u32,
+    seq_num: i64,
+    time_bounds: Option<TimeBounds>,
+    memo: Memo,
+    operations: ItemList<Operation>,
+}
+
+/// Reads what both versions have behind their source.
+#[tactic(auto, unfolding(crate::specs::Transactions::behind_source))]
+fn read_behind_source(alloc: Global, cursor: &mut Cursor<'_>) -> Result<BehindSource, ReadFault>
+    ensures { Reads cause_of result cursor.old cursor.new (spec.behind_source.read cursor.old) }
+{
+    let mut ahead = cursor.fork();
+    let fee = ahead.u32()?;
+    let seq_num = ahead.i64()?;
+    let time_bounds = read_option::<TimeBoundsFormat>(alloc, &mut ahead)?;
+    let memo = read_memo(alloc, &mut ahead)?;
+    let operations = read_list::<OperationFormat>(alloc, MAX_OPERATIONS, &mut ahead)?;
+    ahead.tag(0)?;
+    *cursor = ahead;
+    Ok(BehindSource {
+        fee,
+        seq_num,
+        time_bounds,
+        memo,
+        operations,
+    })
+}
+
+/// Writes what both versions have behind their source.
+#[tactic(auto, unfolding(crate::specs::Transactions::behind_source, xdr_core::specs::Combinators::constant))]
+fn write_behind_source(
+    fee: u32,
+    seq_num: i64,
+    time_bounds: &Option<TimeBounds>,
+    memo: &Memo,
+    operations: &[Operation],
+    builder: &mut Builder,
+) -> Result<(), AllocError>
+    requires { spec.behind_source.within (spec.behind fee seq_num time_bounds.now memo.now operations.now) }
+    ensures { OnOk result (builder.new
+        ≡ spec.behind_source.onto builder.old (spec.behind fee seq_num time_bounds.now memo.now operations.now)) }
+{
+    builder.u32(fee)?;
+    builder.i64(seq_num)?;
+    write_option::<TimeBoundsFormat>(time_bounds, builder)?;
+    write_memo(memo, builder)?;
+    write_list::<OperationFormat>(operations, MAX_OPERATIONS, builder)?;
+    builder.i32(0)
+}
 
 /// Reads a transaction.
 #[tactic(auto, unfolding(crate::specs::Transactions::transaction))]
@@ -23,20 +78,15 @@ pub fn read_transaction(alloc: Global, cursor: &mut Cursor<'_>) -> Result<Transa
 {
     let mut ahead = cursor.fork();
     let source_account = read_muxed_account(&mut ahead)?;
-    let fee = ahead.u32()?;
-    let seq_num = ahead.i64()?;
-    let time_bounds = read_option::<TimeBoundsFormat>(alloc, &mut ahead)?;
-    let memo = read_memo(alloc, &mut ahead)?;
-    let operations = read_list::<OperationFormat>(alloc, MAX_OPERATIONS, &mut ahead)?;
-    ahead.tag(0)?;
+    let behind = read_behind_source(alloc, &mut ahead)?;
     *cursor = ahead;
     Ok(Transaction {
         source_account,
-        fee,
-        seq_num,
-        time_bounds,
-        memo,
-        operations,
+        fee: behind.fee,
+        seq_num: behind.seq_num,
+        time_bounds: behind.time_bounds,
+        memo: behind.memo,
+        operations: behind.operations,
     })
 }
 
@@ -50,18 +100,20 @@ pub fn write_transaction(value: &Transaction, builder: &mut Builder) -> Result<(
 }
 
 /// Writes the fields of a transaction.
-#[tactic(auto, unfolding(crate::specs::Transactions::transaction, xdr_core::specs::Combinators::constant))]
+#[tactic(auto, unfolding(crate::specs::Transactions::transaction))]
 fn write_transaction_fields(value: &Transaction, builder: &mut Builder) -> Result<(), AllocError>
     requires { spec.transaction.within value.now }
     ensures { OnOk result (builder.new ≡ spec.transaction.onto builder.old value.now) }
 {
     write_muxed_account(&value.source_account, builder)?;
-    builder.u32(value.fee)?;
-    builder.i64(value.seq_num)?;
-    write_option::<TimeBoundsFormat>(&value.time_bounds, builder)?;
-    write_memo(&value.memo, builder)?;
-    write_list::<OperationFormat>(value.operations.as_slice(), MAX_OPERATIONS, builder)?;
-    builder.i32(0)
+    write_behind_source(
+        value.fee,
+        value.seq_num,
+        &value.time_bounds,
+        &value.memo,
+        value.operations.as_slice(),
+        builder,
+    )
 }
 
 /// Reads a transaction of the first version.
@@ -74,20 +126,15 @@ pub fn read_transaction_v0(
 {
     let mut ahead = cursor.fork();
     let source_account_ed25519 = ahead.array::<32>()?;
-    let fee = ahead.u32()?;
-    let seq_num = ahead.i64()?;
-    let time_bounds = read_option::<TimeBoundsFormat>(alloc, &mut ahead)?;
-    let memo = read_memo(alloc, &mut ahead)?;
-    let operations = read_list::<OperationFormat>(alloc, MAX_OPERATIONS, &mut ahead)?;
-    ahead.tag(0)?;
+    let behind = read_behind_source(alloc, &mut ahead)?;
     *cursor = ahead;
     Ok(TransactionV0 {
         source_account_ed25519,
-        fee,
-        seq_num,
-        time_bounds,
-        memo,
-        operations,
+        fee: behind.fee,
+        seq_num: behind.seq_num,
+        time_bounds: behind.time_bounds,
+        memo: behind.memo,
+        operations: behind.operations,
     })
 }
 
@@ -101,7 +148,7 @@ pub fn write_transaction_v0(value: &TransactionV0, builder: &mut Builder) -> Res
 }
 
 /// Writes the fields of a transaction of the first version.
-#[tactic(auto, unfolding(crate::specs::Transactions::transaction_v0, xdr_core::specs::Combinators::constant))]
+#[tactic(auto, unfolding(crate::specs::Transactions::transaction_v0))]
 fn write_transaction_v0_fields(
     value: &TransactionV0,
     builder: &mut Builder,
@@ -110,10 +157,12 @@ fn write_transaction_v0_fields(
     ensures { OnOk result (builder.new ≡ spec.transaction_v0.onto builder.old value.now) }
 {
     builder.fixed(&value.source_account_ed25519)?;
-    builder.u32(value.fee)?;
-    builder.i64(value.seq_num)?;
-    write_option::<TimeBoundsFormat>(&value.time_bounds, builder)?;
-    write_memo(&value.memo, builder)?;
-    write_list::<OperationFormat>(value.operations.as_slice(), MAX_OPERATIONS, builder)?;
-    builder.i32(0)
+    write_behind_source(
+        value.fee,
+        value.seq_num,
+        &value.time_bounds,
+        &value.memo,
+        value.operations.as_slice(),
+        builder,
+    )
 }

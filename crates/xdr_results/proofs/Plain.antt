@@ -64,7 +64,8 @@ ArePlain part_of number (value ∷ others) =
 pub plain_are : {V : Type 0} (part_of : V → Part XdrFault V) (number : V → ℤ) (values : List V)
     → ArePlain part_of number values → EachArm part_of (plain_arms number values)
 plain_are part_of number [] are = tt
-plain_are part_of number (value ∷ others) are = (arm_laws empty_laws (λ x. are.0), plain_are part_of number others are.1)
+plain_are part_of number (value ∷ others) are =
+    (arm_laws empty_laws (λ x. are.0), plain_are part_of number others are.1)
 
 -- ---- unions all of whose values have nothing behind their discriminant
 

@@ -101,19 +101,23 @@ use Rattle.xdr_results.specs.Coded.{plain, plain_arms, codes}
 abbrev pub asset_amount : Xdr (Asset × ℤ)
 asset_amount = asset ⨾ i64
 
+-- what was given, and what was got
+abbrev pub trade : Xdr ((Asset × ℤ) × (Asset × ℤ))
+trade = asset_amount ⨾ asset_amount
+
 abbrev pub atom_v0 : Arm XdrFault ClaimAtom
 atom_v0 =
-    arm (pos 0) (fixed 32 ⨾ i64 ⨾ asset_amount ⨾ asset_amount)
+    arm (pos 0) (fixed 32 ⨾ i64 ⨾ trade)
     (λ (seller, (offer, (sold, bought))). atoms.V0 seller offer sold.0 sold.1 bought.0 bought.1)
 
 abbrev pub atom_order_book : Arm XdrFault ClaimAtom
 atom_order_book =
-    arm (pos 1) (account_id ⨾ i64 ⨾ asset_amount ⨾ asset_amount)
+    arm (pos 1) (account_id ⨾ i64 ⨾ trade)
     (λ (seller, (offer, (sold, bought))). atoms.OrderBook seller offer sold.0 sold.1 bought.0 bought.1)
 
 abbrev pub atom_liquidity_pool : Arm XdrFault ClaimAtom
 atom_liquidity_pool =
-    arm (pos 2) (hash ⨾ asset_amount ⨾ asset_amount)
+    arm (pos 2) (hash ⨾ trade)
     (λ (pool, (sold, bought)). atoms.LiquidityPool pool sold.0 sold.1 bought.0 bought.1)
 
 abbrev pub atom_arms : List (Arm XdrFault ClaimAtom)

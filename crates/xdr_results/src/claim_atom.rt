@@ -40,6 +40,21 @@ fn write_asset_amount(asset: &Asset, amount: i64, builder: &mut Builder) -> Resu
     builder.i64(amount)
 }
 
+/// Writes what was given, and what was got.
+fn write_trade(
+    asset_sold: &Asset,
+    amount_sold: i64,
+    asset_bought: &Asset,
+    amount_bought: i64,
+    builder: &mut Builder,
+) -> Result<(), AllocError>
+    ensures { OnOk result (builder.new
+        ≡ spec.trade.onto builder.old ((asset_sold.now, amount_sold), (asset_bought.now, amount_bought))) }
+{
+    write_asset_amount(asset_sold, amount_sold, builder)?;
+    write_asset_amount(asset_bought, amount_bought, builder)
+}
+
 /// Reads what a trade with an offer moved, as before protocol 18.
 fn read_v0_atom(cursor: &mut Cursor<'_>) -> Result<ClaimAtom, XdrFault>
     ensures { Reads itself result cursor.old cursor.new (arm_at spec.atom_v0 cursor.old) }
@@ -131,8 +146,13 @@ pub fn write_claim_atom(value: &ClaimAtom, builder: &mut Builder) -> Result<(), 
             builder.i32(CLAIM_ATOM_TYPE_V0)?;
             builder.fixed(seller_ed25519)?;
             builder.i64(*offer_id)?;
-            write_asset_amount(asset_sold, *amount_sold, builder)?;
-            write_asset_amount(asset_bought, *amount_bought, builder)
+            write_trade(
+                asset_sold,
+                *amount_sold,
+                asset_bought,
+                *amount_bought,
+                builder,
+            )
         }
         ClaimAtom::OrderBook {
             seller_id,
@@ -145,8 +165,13 @@ pub fn write_claim_atom(value: &ClaimAtom, builder: &mut Builder) -> Result<(), 
             builder.i32(CLAIM_ATOM_TYPE_ORDER_BOOK)?;
             write_account_id(seller_id, builder)?;
             builder.i64(*offer_id)?;
-            write_asset_amount(asset_sold, *amount_sold, builder)?;
-            write_asset_amount(asset_bought, *amount_bought, builder)
+            write_trade(
+                asset_sold,
+                *amount_sold,
+                asset_bought,
+                *amount_bought,
+                builder,
+            )
         }
         ClaimAtom::LiquidityPool {
             pool_id,
@@ -157,8 +182,13 @@ pub fn write_claim_atom(value: &ClaimAtom, builder: &mut Builder) -> Result<(), 
         } => {
             builder.i32(CLAIM_ATOM_TYPE_LIQUIDITY_POOL)?;
             write_hash(pool_id, builder)?;
-            write_asset_amount(asset_sold, *amount_sold, builder)?;
-            write_asset_amount(asset_bought, *amount_bought, builder)
+            write_trade(
+                asset_sold,
+                *amount_sold,
+                asset_bought,
+                *amount_bought,
+                builder,
+            )
         }
     }
 }

@@ -1,5 +1,8 @@
 //! Parts of ledger entries.
 
+ghost use Rattle.xdr_entries.specs.Entries.{ledger_entry};
+ghost use Rattle.xdr_entries.specs.Predicates.{claim_predicate};
+
 use crate::parts::{account, hash, offer, usd};
 use item_list::ItemList;
 use ledger_types::{
@@ -46,6 +49,14 @@ fn write_arm(alloc: Global, name: &str, builder: &mut Builder) -> Result<(), All
         b"ClaimPredicate.BeforeRelativeTime" => {
             write_predicate(ClaimPredicate::BeforeRelativeTime(1), builder)
         }
+        _ => write_item(name, builder),
+    }
+}
+
+/// Writes the item of a bucket with this name, where it is one of these.
+#[tactic(auto, unfolding(xdr_entries::specs::Keys::bucket_entry))]
+fn write_item(name: &str, builder: &mut Builder) -> Result<(), AllocError> {
+    match name.as_bytes() {
         b"BucketEntry.Live" => write_bucket_entry(&BucketEntry::Live(offer_entry()), builder),
         b"BucketEntry.Init" => write_bucket_entry(&BucketEntry::Init(offer_entry()), builder),
         _ => Ok(()),
@@ -71,6 +82,7 @@ fn params() -> PoolParams {
 }
 
 /// What sponsorship adds to an account.
+#[tactic(auto, unfolding(xdr_entries::specs::Entries::account_extension_v2, xdr_core::specs::Combinators::list, xdr_core::specs::Combinators::constant, xdr_core::specs::Leaves::u32))]
 fn write_sponsorships(alloc: Global, builder: &mut Builder) -> Result<(), AllocError> {
     let sponsorships = AccountEntryExtensionV2 {
         num_sponsored: 1,
@@ -81,6 +93,7 @@ fn write_sponsorships(alloc: Global, builder: &mut Builder) -> Result<(), AllocE
 }
 
 /// An account without signers.
+#[tactic(auto, unfolding(xdr_entries::specs::Entries::account_entry, xdr_core::specs::Combinators::option, xdr_core::specs::Combinators::list, xdr_core::specs::Combinators::extension, xdr_core::specs::Leaves::u32, xdr_core::specs::Leaves::i64, xdr_core::specs::Leaves::var, xdr_core::specs::Leaves::fixed))]
 fn write_account(alloc: Global, builder: &mut Builder) -> Result<(), AllocError> {
     let entry = AccountEntry {
         account_id: account(0x01),
@@ -111,6 +124,7 @@ fn write_line(builder: &mut Builder) -> Result<(), AllocError> {
 }
 
 /// Data with a name and a value.
+#[tactic(auto, unfolding(xdr_entries::specs::Entries::data_entry, xdr_core::specs::Combinators::constant, xdr_core::specs::Leaves::var))]
 fn write_data(alloc: Global, builder: &mut Builder) -> Result<(), AllocError> {
     let data_name = ItemList::from_slice(alloc, b"name")?;
     let entry = DataEntry {
@@ -134,13 +148,18 @@ fn write_pool(builder: &mut Builder) -> Result<(), AllocError> {
     write_liquidity_pool_entry(&pool, builder)
 }
 
-/// A predicate of one level.
-fn write_predicate(predicate: ClaimPredicate, builder: &mut Builder) -> Result<(), AllocError> {
+/// Writes a predicate.
+fn write_predicate(predicate: ClaimPredicate, builder: &mut Builder) -> Result<(), AllocError>
+    requires { claim_predicate.within predicate }
+{
     write_claim_predicate(&predicate, builder)
 }
 
 /// The entry of an offer.
-fn offer_entry() -> LedgerEntry {
+#[tactic(auto, unfolding(xdr_entries::specs::Entries::ledger_entry, xdr_entries::specs::Entries::ledger_entry_body, xdr_core::specs::Combinators::extension, xdr_core::specs::Leaves::u32))]
+fn offer_entry() -> LedgerEntry
+    ensures { ledger_entry.within result }
+{
     LedgerEntry {
         last_modified_ledger_seq: 7,
         body: LedgerEntryBody::Offer(offer()),

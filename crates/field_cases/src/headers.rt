@@ -1,5 +1,7 @@
 //! Headers, and changes of what they hold.
 
+ghost use Rattle.xdr_header.specs.Header.{stellar_value};
+
 use crate::parts::hash;
 use item_list::ItemList;
 use ledger_types::{LedgerHeader, LedgerUpgrade, StellarValue};
@@ -25,6 +27,7 @@ pub fn write_case(alloc: Global, name: &str, builder: &mut Builder) -> Result<()
 }
 
 /// A header whose numbers and hashes all differ.
+#[tactic(auto, unfolding(xdr_header::specs::Header::ledger_header, xdr_core::specs::Combinators::times, xdr_core::specs::Combinators::extension, xdr_core::specs::Leaves::u32, xdr_core::specs::Leaves::u64, xdr_core::specs::Leaves::i64))]
 fn write_header(alloc: Global, builder: &mut Builder) -> Result<(), AllocError> {
     let header = LedgerHeader {
         ledger_version: 1,
@@ -47,7 +50,10 @@ fn write_header(alloc: Global, builder: &mut Builder) -> Result<(), AllocError> 
 }
 
 /// A value without upgrades and without a signature.
-fn value(alloc: Global) -> StellarValue {
+#[tactic(auto, unfolding(xdr_header::specs::Header::stellar_value, xdr_core::specs::Combinators::list, xdr_core::specs::Combinators::extension, xdr_core::specs::Leaves::u64))]
+fn value(alloc: Global) -> StellarValue
+    ensures { stellar_value.within result }
+{
     StellarValue {
         tx_set_hash: hash(3),
         close_time: 4,

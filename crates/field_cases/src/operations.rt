@@ -1,5 +1,7 @@
 //! Operations, and parts of transactions.
 
+ghost use Rattle.xdr_tx.specs.Transactions.{memo};
+
 use crate::parts::{account, destination, hash, usd};
 use item_list::ItemList;
 use ledger_types::{Asset, Price};
@@ -18,11 +20,12 @@ use xdr_tx::{
 };
 
 /// Writes the value with this name, where it is one of these.
+#[tactic(auto, unfolding(xdr_tx::specs::Transactions::memo))]
 pub fn write_case(alloc: Global, name: &str, builder: &mut Builder) -> Result<(), AllocError> {
     match name.as_bytes() {
         b"TimeBounds" => write_bounds(builder),
-        b"Memo.Hash" => write_memo(&Memo::Hash(hash(1)), builder),
-        b"Memo.Return" => write_memo(&Memo::Return(hash(1)), builder),
+        b"Memo.Hash" => write_note(Memo::Hash(hash(1)), builder),
+        b"Memo.Return" => write_note(Memo::Return(hash(1)), builder),
         b"SetOptionsOp" => write_options(builder),
         b"PathPaymentStrictReceiveOp" => write_strict_receive(alloc, builder),
         b"PathPaymentStrictSendOp" => write_strict_send(alloc, builder),
@@ -36,6 +39,13 @@ pub fn write_case(alloc: Global, name: &str, builder: &mut Builder) -> Result<()
     }
 }
 
+/// Writes a memo.
+fn write_note(note: Memo, builder: &mut Builder) -> Result<(), AllocError>
+    requires { memo.within note }
+{
+    write_memo(&note, builder)
+}
+
 /// Time bounds.
 fn write_bounds(builder: &mut Builder) -> Result<(), AllocError> {
     let bounds = TimeBounds {
@@ -46,6 +56,7 @@ fn write_bounds(builder: &mut Builder) -> Result<(), AllocError> {
 }
 
 /// SET_OPTIONS with each number.
+#[tactic(auto, unfolding(xdr_tx::specs::Operations::set_options_op, xdr_core::specs::Combinators::option, xdr_core::specs::Leaves::u32))]
 fn write_options(builder: &mut Builder) -> Result<(), AllocError> {
     let op = SetOptionsOp {
         inflation_dest: None,
@@ -62,6 +73,7 @@ fn write_options(builder: &mut Builder) -> Result<(), AllocError> {
 }
 
 /// PATH_PAYMENT_STRICT_RECEIVE with an empty path.
+#[tactic(auto, unfolding(xdr_tx::specs::Operations::path_payment_strict_receive_op, xdr_entries::specs::Basic::asset, xdr_core::specs::Combinators::list, xdr_core::specs::Leaves::i64))]
 fn write_strict_receive(alloc: Global, builder: &mut Builder) -> Result<(), AllocError> {
     let op = PathPaymentStrictReceiveOp {
         send_asset: Asset::Native,
@@ -75,6 +87,7 @@ fn write_strict_receive(alloc: Global, builder: &mut Builder) -> Result<(), Allo
 }
 
 /// PATH_PAYMENT_STRICT_SEND with an empty path.
+#[tactic(auto, unfolding(xdr_tx::specs::Operations::path_payment_strict_send_op, xdr_entries::specs::Basic::asset, xdr_core::specs::Combinators::list, xdr_core::specs::Leaves::i64))]
 fn write_strict_send(alloc: Global, builder: &mut Builder) -> Result<(), AllocError> {
     let op = PathPaymentStrictSendOp {
         send_asset: Asset::Native,

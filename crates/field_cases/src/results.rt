@@ -1,5 +1,7 @@
 //! What operations and transactions answer.
 
+ghost use Rattle.xdr_results.specs.Results as spec;
+
 use crate::parts::{account, hash, offer, usd};
 use item_list::ItemList;
 use ledger_types::{Asset, ClaimAtom};
@@ -15,6 +17,7 @@ use xdr_results::{
 };
 
 /// Writes the value with this name, where it is one of these.
+#[tactic(auto, unfolding(xdr_results::specs::Results::operation_result_tr, xdr_results::specs::Answers::manage_offer_result))]
 pub fn write_case(alloc: Global, name: &str, builder: &mut Builder) -> Result<(), AllocError> {
     match name.as_bytes() {
         b"ClaimAtom.V0" => write_first_atom(builder),
@@ -43,6 +46,7 @@ pub fn write_case(alloc: Global, name: &str, builder: &mut Builder) -> Result<()
 }
 
 /// Writes the outcome with this name, where it is one of these.
+#[tactic(auto, unfolding(xdr_results::specs::Results::inner_transaction_outcome, xdr_results::specs::Results::transaction_outcome, xdr_core::specs::Combinators::list))]
 fn write_outcome(alloc: Global, name: &str, builder: &mut Builder) -> Result<(), AllocError> {
     match name.as_bytes() {
         b"InnerTransactionOutcome.Success" => write_inner(
@@ -108,22 +112,31 @@ fn write_pool_atom(builder: &mut Builder) -> Result<(), AllocError> {
 }
 
 /// What an operation answers that was run.
-fn write_answer(answer: OperationResultTr, builder: &mut Builder) -> Result<(), AllocError> {
+fn write_answer(answer: OperationResultTr, builder: &mut Builder) -> Result<(), AllocError>
+    requires { spec.operation_result_tr.within answer }
+{
     write_operation_result_tr(&answer, builder)
 }
 
 /// How an inner transaction ended.
-fn write_inner(outcome: InnerTransactionOutcome, builder: &mut Builder) -> Result<(), AllocError> {
+fn write_inner(outcome: InnerTransactionOutcome, builder: &mut Builder) -> Result<(), AllocError>
+    requires { spec.inner_transaction_outcome.within outcome }
+{
     write_inner_transaction_outcome(&outcome, builder)
 }
 
 /// How a transaction ended.
-fn write_outer(outcome: TransactionOutcome, builder: &mut Builder) -> Result<(), AllocError> {
+fn write_outer(outcome: TransactionOutcome, builder: &mut Builder) -> Result<(), AllocError>
+    requires { spec.transaction_outcome.within outcome }
+{
     write_transaction_outcome(&outcome, builder)
 }
 
 /// The result of an inner transaction that came too early.
-fn pair() -> InnerTransactionResultPair {
+#[tactic(auto, unfolding(xdr_results::specs::Results::inner_transaction_result_pair, xdr_results::specs::Results::inner_transaction_result, xdr_results::specs::Results::inner_transaction_outcome, xdr_core::specs::Combinators::constant, xdr_core::specs::Leaves::i64))]
+fn pair() -> InnerTransactionResultPair
+    ensures { spec.inner_transaction_result_pair.within result }
+{
     InnerTransactionResultPair {
         transaction_hash: hash(0x21),
         result: InnerTransactionResult {

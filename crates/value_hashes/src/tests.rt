@@ -116,7 +116,10 @@ fn envelope_of(alloc: Global, text: &[u8]) -> Option<TransactionEnvelope>
 {
     xdr_tx::laws::reading_and_spelling_agree();
     let mut cursor = Cursor::new(text);
-    read_transaction_envelope(alloc, &mut cursor).ok()
+    match read_transaction_envelope(alloc, &mut cursor) {
+        Ok(envelope) => Some(envelope),
+        Err(_) => None,
+    }
 }
 
 /// The hash that the signatures of the envelope with this spelling are made over, on the test network.
@@ -146,7 +149,7 @@ fn results_hash_of_text(alloc: Global, text: &[u8]) -> Option<Hash> {
     xdr_results::laws::reading_and_spelling_agree();
     let mut cursor = Cursor::new(text);
     match read_transaction_result_set(alloc, &mut cursor) {
-        Ok(results) => results_hash(alloc, &results).ok(),
+        Ok(set) => results_hash(alloc, &set).ok(),
         Err(_) => None,
     }
 }

@@ -9,11 +9,22 @@ ghost use Rattle.xdr_header.specs.Image.{start_image};
 ghost use Rattle.xdr_header.specs.Records.{close_record};
 ghost use Rattle.xdr_results.specs.Results.{transaction_result_set};
 ghost use Rattle.xdr_tx.specs.Transactions.{memo, transaction_set};
-ghost use Rattle.xdr_entries.proofs.BasicLaws.{price_laws, signer_key_laws, trust_line_asset_laws, asset_laws, signer_laws};
+ghost use Rattle.xdr_entries.proofs.BasicLaws.{
+  price_laws,
+  signer_key_laws,
+  trust_line_asset_laws,
+  asset_laws,
+  signer_laws,
+};
 ghost use Rattle.xdr_entries.proofs.EntryLaws.{ledger_entry_laws, claimant_laws};
 ghost use Rattle.xdr_entries.proofs.KeyLaws.{ledger_key_laws, bucket_entry_laws};
 ghost use Rattle.xdr_entries.proofs.PredicateLaws.{claim_predicate_laws};
-ghost use Rattle.xdr_header.proofs.HeaderLaws.{close_record_laws, ledger_header_laws, ledger_upgrade_laws, stellar_value_laws};
+ghost use Rattle.xdr_header.proofs.HeaderLaws.{
+  close_record_laws,
+  ledger_header_laws,
+  ledger_upgrade_laws,
+  stellar_value_laws,
+};
 ghost use Rattle.xdr_header.proofs.ImageLaws.{start_image_laws};
 ghost use Rattle.xdr_results.proofs.TransactionLaws.{transaction_result_set_laws};
 ghost use Rattle.xdr_tx.proofs.TransactionLaws.{memo_laws, transaction_set_laws, transaction_envelope_laws};

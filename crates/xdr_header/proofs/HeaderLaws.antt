@@ -40,6 +40,10 @@ use Rattle.xdr_header.specs.Header.{
   ledger_upgrade,
   header_v1_fields,
   ledger_header_extension_v1,
+  limits_fields,
+  limits,
+  counts_fields,
+  counts,
   header_fields,
   ledger_header,
 }
@@ -87,13 +91,20 @@ pub ledger_header_extension_v1_laws : Laws ledger_header_extension_v1
 unfolding ledger_header_extension_v1
 ledger_header_extension_v1_laws = struct_laws header_v1_fields (closed_laws u32_laws (tag_laws (pos 0) tt))
 
+limits_laws : Laws limits
+unfolding limits
+limits_laws = struct_laws limits_fields
+    (u32_laws & u32_laws & u32_laws & times_laws 4 hash_laws
+    & extension_laws (pos 1) refl tt ledger_header_extension_v1_laws)
+
+counts_laws : Laws counts
+unfolding counts
+counts_laws = struct_laws counts_fields (u32_laws & i64_laws & i64_laws & u32_laws & u64_laws & limits_laws)
+
 pub ledger_header_laws : Laws ledger_header
 unfolding ledger_header
-ledger_header_laws = struct_laws header_fields (
-    u32_laws & hash_laws & whole_laws stellar_value_laws & hash_laws & hash_laws & u32_laws & i64_laws
-    & i64_laws & u32_laws & u64_laws & u32_laws & u32_laws & u32_laws
-    & times_laws 4 hash_laws
-    & extension_laws (pos 1) refl tt ledger_header_extension_v1_laws)
+ledger_header_laws = struct_laws header_fields
+    (u32_laws & hash_laws & whole_laws stellar_value_laws & hash_laws & hash_laws & counts_laws)
 
 pub close_record_laws : Laws close_record
 unfolding close_record

@@ -68,6 +68,71 @@ fn write_skip_list(skip_list: &[Hash; 4], builder: &mut Builder) -> Result<(), A
     Ok(())
 }
 
+/// What bounds the next ledgers, and what stands behind it in a header.
+#[derive(Drop)]
+struct Limits {
+    base_fee: u32,
+    base_reserve: u32,
+    max_tx_set_size: u32,
+    skip_list: [Hash; 4],
+    ext: Option<LedgerHeaderExtensionV1>,
+}
+
+/// What a header counts, and what stands behind that.
+#[derive(Drop)]
+struct Counts {
+    ledger_seq: u32,
+    total_coins: i64,
+    fee_pool: i64,
+    inflation_seq: u32,
+    id_pool: u64,
+    limits: Limits,
+}
+
+/// Reads what bounds the next ledgers, and what stands behind it.
+#[tactic(auto, unfolding(crate::specs::Header::limits))]
+fn read_limits(alloc: Global, cursor: &mut Cursor<'_>) -> Result<Limits, ReadFault>
+    ensures { Reads cause_of result cursor.old cursor.new (spec.limits.read cursor.old) }
+{
+    let mut ahead = cursor.fork();
+    let base_fee = ahead.u32()?;
+    let base_reserve = ahead.u32()?;
+    let max_tx_set_size = ahead.u32()?;
+    let skip_list = read_skip_list(&mut ahead)?;
+    let ext = read_extension::<LedgerHeaderExtensionV1Format>(alloc, 1, &mut ahead)?;
+    *cursor = ahead;
+    Ok(Limits {
+        base_fee,
+        base_reserve,
+        max_tx_set_size,
+        skip_list,
+        ext,
+    })
+}
+
+/// Reads what a header counts, and what stands behind that.
+#[tactic(auto, unfolding(crate::specs::Header::counts))]
+fn read_counts(alloc: Global, cursor: &mut Cursor<'_>) -> Result<Counts, ReadFault>
+    ensures { Reads cause_of result cursor.old cursor.new (spec.counts.read cursor.old) }
+{
+    let mut ahead = cursor.fork();
+    let ledger_seq = ahead.u32()?;
+    let total_coins = ahead.i64()?;
+    let fee_pool = ahead.i64()?;
+    let inflation_seq = ahead.u32()?;
+    let id_pool = ahead.u64()?;
+    let limits = read_limits(alloc, &mut ahead)?;
+    *cursor = ahead;
+    Ok(Counts {
+        ledger_seq,
+        total_coins,
+        fee_pool,
+        inflation_seq,
+        id_pool,
+        limits,
+    })
+}
+
 /// Reads a header.
 #[tactic(auto, unfolding(crate::specs::Header::ledger_header))]
 pub fn read_ledger_header(alloc: Global, cursor: &mut Cursor<'_>) -> Result<LedgerHeader, ReadFault>
@@ -79,16 +144,7 @@ pub fn read_ledger_header(alloc: Global, cursor: &mut Cursor<'_>) -> Result<Ledg
     let scp_value = read_stellar_value(alloc, &mut ahead)?;
     let tx_set_result_hash = read_hash(&mut ahead)?;
     let bucket_list_hash = read_hash(&mut ahead)?;
-    let ledger_seq = ahead.u32()?;
-    let total_coins = ahead.i64()?;
-    let fee_pool = ahead.i64()?;
-    let inflation_seq = ahead.u32()?;
-    let id_pool = ahead.u64()?;
-    let base_fee = ahead.u32()?;
-    let base_reserve = ahead.u32()?;
-    let max_tx_set_size = ahead.u32()?;
-    let skip_list = read_skip_list(&mut ahead)?;
-    let ext = read_extension::<LedgerHeaderExtensionV1Format>(alloc, 1, &mut ahead)?;
+    let counts = read_counts(alloc, &mut ahead)?;
     *cursor = ahead;
     Ok(LedgerHeader {
         ledger_version,
@@ -96,16 +152,16 @@ pub fn read_ledger_header(alloc: Global, cursor: &mut Cursor<'_>) -> Result<Ledg
         scp_value,
         tx_set_result_hash,
         bucket_list_hash,
-        ledger_seq,
-        total_coins,
-        fee_pool,
-        inflation_seq,
-        id_pool,
-        base_fee,
-        base_reserve,
-        max_tx_set_size,
-        skip_list,
-        ext,
+        ledger_seq: counts.ledger_seq,
+        total_coins: counts.total_coins,
+        fee_pool: counts.fee_pool,
+        inflation_seq: counts.inflation_seq,
+        id_pool: counts.id_pool,
+        base_fee: counts.limits.base_fee,
+        base_reserve: counts.limits.base_reserve,
+        max_tx_set_size: counts.limits.max_tx_set_size,
+        skip_list: counts.limits.skip_list,
+        ext: counts.limits.ext,
     })
 }
 
@@ -129,11 +185,29 @@ fn write_header_fields(value: &LedgerHeader, builder: &mut Builder) -> Result<()
     write_stellar_value(&value.scp_value, builder)?;
     write_hash(&value.tx_set_result_hash, builder)?;
     write_hash(&value.bucket_list_hash, builder)?;
+    write_counts(value, builder)
+}
+
+/// Writes what a header counts, and what stands behind that.
+#[tactic(auto, unfolding(crate::specs::Header::counts))]
+fn write_counts(value: &LedgerHeader, builder: &mut Builder) -> Result<(), AllocError>
+    requires { spec.counts.within (spec.counts_of value.now) }
+    ensures { OnOk result (builder.new ≡ spec.counts.onto builder.old (spec.counts_of value.now)) }
+{
     builder.u32(value.ledger_seq)?;
     builder.i64(value.total_coins)?;
     builder.i64(value.fee_pool)?;
     builder.u32(value.inflation_seq)?;
     builder.u64(value.id_pool)?;
+    write_limits(value, builder)
+}
+
+/// Writes what bounds the next ledgers, and what stands behind it.
+#[tactic(auto, unfolding(crate::specs::Header::limits))]
+fn write_limits(value: &LedgerHeader, builder: &mut Builder) -> Result<(), AllocError>
+    requires { spec.limits.within (spec.limits_of value.now) }
+    ensures { OnOk result (builder.new ≡ spec.limits.onto builder.old (spec.limits_of value.now)) }
+{
     builder.u32(value.base_fee)?;
     builder.u32(value.base_reserve)?;
     builder.u32(value.max_tx_set_size)?;

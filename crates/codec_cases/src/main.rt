@@ -26,60 +26,77 @@ use xdr_entries::{AssetFormat, ClaimantFormat, SignerFormat};
 use xdr_tx::{OperationFormat, TransactionEnvelopeFormat};
 
 /// The types that the vectors are of.
-const KINDS: [&str; 20] = [
-    "Asset",
-    "BucketEntry",
-    "Claimant",
-    "CloseRecord",
-    "Envelope",
-    "LedgerEntry",
-    "LedgerHeader",
-    "LedgerKey",
-    "LedgerUpgrade",
-    "Memo",
-    "Operation",
-    "Predicate",
-    "Price",
-    "Signer",
-    "SignerKey",
-    "StartImage",
-    "StellarValue",
-    "TransactionResultSet",
-    "TransactionSet",
-    "TrustLineAsset",
+#[derive(Clone, Copy)]
+enum Kind {
+    Asset,
+    BucketEntry,
+    Claimant,
+    CloseRecord,
+    Envelope,
+    LedgerEntry,
+    LedgerHeader,
+    LedgerKey,
+    LedgerUpgrade,
+    Memo,
+    Operation,
+    Predicate,
+    Price,
+    Signer,
+    SignerKey,
+    StartImage,
+    StellarValue,
+    TransactionResultSet,
+    TransactionSet,
+    TrustLineAsset,
+}
+
+/// Each of them under its name.
+const KINDS: [(&str, Kind); 20] = [
+    ("Asset", Kind::Asset),
+    ("BucketEntry", Kind::BucketEntry),
+    ("Claimant", Kind::Claimant),
+    ("CloseRecord", Kind::CloseRecord),
+    ("Envelope", Kind::Envelope),
+    ("LedgerEntry", Kind::LedgerEntry),
+    ("LedgerHeader", Kind::LedgerHeader),
+    ("LedgerKey", Kind::LedgerKey),
+    ("LedgerUpgrade", Kind::LedgerUpgrade),
+    ("Memo", Kind::Memo),
+    ("Operation", Kind::Operation),
+    ("Predicate", Kind::Predicate),
+    ("Price", Kind::Price),
+    ("Signer", Kind::Signer),
+    ("SignerKey", Kind::SignerKey),
+    ("StartImage", Kind::StartImage),
+    ("StellarValue", Kind::StellarValue),
+    ("TransactionResultSet", Kind::TransactionResultSet),
+    ("TransactionSet", Kind::TransactionSet),
+    ("TrustLineAsset", Kind::TrustLineAsset),
 ];
 
 /// What the codec of a type makes of an input.
-fn any_verdict(alloc: Global, kind: &str, input: &[u8]) -> Result<String, AllocError> {
-    match kind.as_bytes() {
-        b"Asset" => verdict_of::<AssetFormat>(alloc, input),
-        b"BucketEntry" => verdict_of::<BucketEntryFormat>(alloc, input),
-        b"Claimant" => verdict_of::<ClaimantFormat>(alloc, input),
-        b"LedgerEntry" => verdict_of::<LedgerEntryFormat>(alloc, input),
-        b"LedgerKey" => verdict_of::<LedgerKeyFormat>(alloc, input),
-        b"Predicate" => verdict_of::<PredicateFormat>(alloc, input),
-        b"Price" => verdict_of::<PriceFormat>(alloc, input),
-        b"Signer" => verdict_of::<SignerFormat>(alloc, input),
-        b"SignerKey" => verdict_of::<SignerKeyFormat>(alloc, input),
-        b"TrustLineAsset" => verdict_of::<TrustLineAssetFormat>(alloc, input),
-        _ => transaction_verdict(alloc, kind, input),
-    }
-}
-
-/// What the codec of a type of transactions, of results or of headers makes of an input.
-fn transaction_verdict(alloc: Global, kind: &str, input: &[u8]) -> Result<String, AllocError> {
-    match kind.as_bytes() {
-        b"Envelope" => verdict_of::<TransactionEnvelopeFormat>(alloc, input),
-        b"Memo" => verdict_of::<MemoFormat>(alloc, input),
-        b"Operation" => verdict_of::<OperationFormat>(alloc, input),
-        b"TransactionSet" => verdict_of::<TransactionSetFormat>(alloc, input),
-        b"TransactionResultSet" => verdict_of::<ResultSetFormat>(alloc, input),
-        b"CloseRecord" => verdict_of::<CloseRecordFormat>(alloc, input),
-        b"LedgerHeader" => verdict_of::<LedgerHeaderFormat>(alloc, input),
-        b"LedgerUpgrade" => verdict_of::<LedgerUpgradeFormat>(alloc, input),
-        b"StartImage" => verdict_of::<ImageFormat>(alloc, input),
-        b"StellarValue" => verdict_of::<StellarValueFormat>(alloc, input),
-        _ => String::from_str(alloc, "no such type"),
+fn any_verdict(alloc: Global, kind: Kind, input: &[u8]) -> Result<String, AllocError> {
+    match kind {
+        Kind::Asset => verdict_of::<AssetFormat>(alloc, input),
+        Kind::BucketEntry => verdict_of::<BucketEntryFormat>(alloc, input),
+        Kind::Claimant => verdict_of::<ClaimantFormat>(alloc, input),
+        Kind::CloseRecord => verdict_of::<CloseRecordFormat>(alloc, input),
+        Kind::Envelope => verdict_of::<TransactionEnvelopeFormat>(alloc, input),
+        Kind::LedgerEntry => verdict_of::<LedgerEntryFormat>(alloc, input),
+        Kind::LedgerHeader => verdict_of::<LedgerHeaderFormat>(alloc, input),
+        Kind::LedgerKey => verdict_of::<LedgerKeyFormat>(alloc, input),
+        Kind::LedgerUpgrade => verdict_of::<LedgerUpgradeFormat>(alloc, input),
+        Kind::Memo => verdict_of::<MemoFormat>(alloc, input),
+        Kind::Operation => verdict_of::<OperationFormat>(alloc, input),
+        Kind::Predicate => verdict_of::<PredicateFormat>(alloc, input),
+        Kind::Price => verdict_of::<PriceFormat>(alloc, input),
+        Kind::Signer => verdict_of::<SignerFormat>(alloc, input),
+        Kind::SignerKey => verdict_of::<SignerKeyFormat>(alloc, input),
+        Kind::StartImage => verdict_of::<ImageFormat>(alloc, input),
+        Kind::StellarValue => verdict_of::<StellarValueFormat>(alloc, input),
+        Kind::TransactionResultSet => verdict_of::<ResultSetFormat>(alloc, input),
+        Kind::TransactionSet => verdict_of::<TransactionSetFormat>(alloc, input),
+        Kind::TrustLineAsset => verdict_of::<TrustLineAssetFormat>(alloc, input),
     }
 }
 
@@ -95,29 +112,30 @@ fn bytes_of(alloc: Global, digits: &str) -> Result<Option<Vec<u8>>, AllocError> 
 /// Runs a vector of a type, and prints it where it goes otherwise.
 fn run_input<R: Print + AllocGlobal>(
     rt: &R,
-    kind: &str,
+    kind: (&str, Kind),
     digits: &str,
     wanted: &str,
 ) -> io::Result<()> {
+    let (name, kind) = kind;
     let Some(input) = bytes_of(rt.alloc(), digits)? else {
-        return println!(rt; "{kind}: no hexadecimal: {digits}");
+        return println!(rt; "{name}: no hexadecimal: {digits}");
     };
     let given = any_verdict(rt.alloc(), kind, input.as_slice())?;
     if given.as_str() == wanted {
         return Ok(());
     }
-    println!(rt; "{kind}: {given}, and not {wanted}: {digits}")
+    println!(rt; "{name}: {given}, and not {wanted}: {digits}")
 }
 
 /// Runs one vector. Answers whether it is of the type, and prints what goes otherwise.
-fn run_vector<R: Print + AllocGlobal>(rt: &R, kind: &str, line: &str) -> io::Result<bool> {
+fn run_vector<R: Print + AllocGlobal>(rt: &R, kind: (&str, Kind), line: &str) -> io::Result<bool> {
     let Some((named, rest)) = line.split_once('\t') else {
         return Ok(false);
     };
     let Some((digits, wanted)) = rest.split_once('\t') else {
         return Ok(false);
     };
-    if named != kind {
+    if named != kind.0 {
         return Ok(false);
     }
     run_input(rt, kind, digits, wanted)?;
@@ -127,7 +145,7 @@ fn run_vector<R: Print + AllocGlobal>(rt: &R, kind: &str, line: &str) -> io::Res
 /// Runs the vectors of a type, and prints how many there were.
 fn run_kind<R: Print + AllocGlobal>(
     rt: &R,
-    kind: &str,
+    kind: (&str, Kind),
     vectors: &str,
     by_hand: &str,
 ) -> io::Result<()> {
@@ -142,7 +160,8 @@ fn run_kind<R: Print + AllocGlobal>(
             count = count.saturating_add(1);
         }
     }
-    println!(rt; "{kind}: {count}")
+    let (name, _) = kind;
+    println!(rt; "{name}: {count}")
 }
 
 /// The text of a file in the folder.

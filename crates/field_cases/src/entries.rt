@@ -1,65 +1,83 @@
 //! Parts of ledger entries.
 
 ghost use Rattle.xdr_entries.specs.Entries.{ledger_entry};
-ghost use Rattle.xdr_entries.specs.Predicates.{claim_predicate};
 
 use crate::parts::{account, hash, offer, usd};
 use item_list::ItemList;
 use ledger_types::{
-    AccountEntry, AccountEntryExtensionV2, Asset, BucketEntry, ClaimPredicate, DataEntry,
-    LedgerEntry, LedgerEntryBody, Liabilities, LiquidityPoolEntry, PoolParams, Price, SignerKey,
-    TrustLineAsset, TrustLineEntry,
+    AccountEntry, AccountEntryExtensionV2, Asset, BucketEntry, DataEntry, LedgerEntry,
+    LedgerEntryBody, Liabilities, LiquidityPoolEntry, PoolParams, Price, SignerKey, TrustLineAsset,
+    TrustLineEntry,
 };
 use std::alloc::{AllocError, Global};
 use xdr_core::Builder;
 use xdr_entries::{
-    write_account_entry, write_account_extension_v2, write_bucket_entry, write_claim_predicate,
-    write_data_entry, write_liabilities, write_liquidity_pool_entry, write_offer_entry,
-    write_pool_params, write_price, write_signer_key, write_trust_line_entry,
+    write_account_entry, write_account_extension_v2, write_bucket_entry, write_data_entry,
+    write_liabilities, write_liquidity_pool_entry, write_offer_entry, write_pool_params,
+    write_price, write_signer_key, write_trust_line_entry,
 };
 
-/// Writes the value with this name, where it is one of these.
-pub fn write_case(alloc: Global, name: &str, builder: &mut Builder) -> Result<(), AllocError> {
-    match name.as_bytes() {
-        b"Price" => write_price(&Price { n: 1, d: 2 }, builder),
-        b"Liabilities" => write_two_liabilities(builder),
-        b"PoolParams" => write_pool_params(&params(), builder),
-        b"AccountEntryExtensionV2" => write_sponsorships(alloc, builder),
-        b"AccountEntry" => write_account(alloc, builder),
-        b"TrustLineEntry" => write_line(builder),
-        b"OfferEntry" => write_offer_entry(&offer(), builder),
-        b"DataEntry" => write_data(alloc, builder),
-        b"LiquidityPoolEntry" => write_pool(builder),
-        _ => write_arm(alloc, name, builder),
-    }
+/// Parts of ledger entries, and items of buckets.
+#[derive(Clone, Copy)]
+pub enum EntryCase {
+    Price,
+    Liabilities,
+    PoolParams,
+    AccountEntryExtensionV2,
+    AccountEntry,
+    TrustLineEntry,
+    OfferEntry,
+    DataEntry,
+    LiquidityPoolEntry,
+    SignerKeyPreAuthTx,
+    SignerKeyHashX,
+    BucketEntryLive,
+    BucketEntryInit,
 }
 
-/// Writes the variant with this name, where it is one of these.
-fn write_arm(alloc: Global, name: &str, builder: &mut Builder) -> Result<(), AllocError> {
-    match name.as_bytes() {
-        b"SignerKey.PreAuthTx" => write_signer_key(&SignerKey::PreAuthTx(hash(1)), builder),
-        b"SignerKey.HashX" => write_signer_key(&SignerKey::HashX(hash(1)), builder),
-        b"ClaimPredicate.And" => {
-            write_predicate(ClaimPredicate::And(ItemList::new(alloc)), builder)
-        }
-        b"ClaimPredicate.Or" => write_predicate(ClaimPredicate::Or(ItemList::new(alloc)), builder),
-        b"ClaimPredicate.BeforeAbsoluteTime" => {
-            write_predicate(ClaimPredicate::BeforeAbsoluteTime(1), builder)
-        }
-        b"ClaimPredicate.BeforeRelativeTime" => {
-            write_predicate(ClaimPredicate::BeforeRelativeTime(1), builder)
-        }
-        _ => write_item(name, builder),
-    }
-}
+/// Each of them under its name: a struct, or a variant of an enum.
+pub const CASES: [(&str, EntryCase); 13] = [
+    ("Price", EntryCase::Price),
+    ("Liabilities", EntryCase::Liabilities),
+    ("PoolParams", EntryCase::PoolParams),
+    (
+        "AccountEntryExtensionV2",
+        EntryCase::AccountEntryExtensionV2,
+    ),
+    ("AccountEntry", EntryCase::AccountEntry),
+    ("TrustLineEntry", EntryCase::TrustLineEntry),
+    ("OfferEntry", EntryCase::OfferEntry),
+    ("DataEntry", EntryCase::DataEntry),
+    ("LiquidityPoolEntry", EntryCase::LiquidityPoolEntry),
+    ("SignerKey.PreAuthTx", EntryCase::SignerKeyPreAuthTx),
+    ("SignerKey.HashX", EntryCase::SignerKeyHashX),
+    ("BucketEntry.Live", EntryCase::BucketEntryLive),
+    ("BucketEntry.Init", EntryCase::BucketEntryInit),
+];
 
-/// Writes the item of a bucket with this name, where it is one of these.
+/// Writes one of them.
 #[tactic(auto, unfolding(xdr_entries::specs::Keys::bucket_entry))]
-fn write_item(name: &str, builder: &mut Builder) -> Result<(), AllocError> {
-    match name.as_bytes() {
-        b"BucketEntry.Live" => write_bucket_entry(&BucketEntry::Live(offer_entry()), builder),
-        b"BucketEntry.Init" => write_bucket_entry(&BucketEntry::Init(offer_entry()), builder),
-        _ => Ok(()),
+pub fn write(alloc: Global, case: EntryCase, builder: &mut Builder) -> Result<(), AllocError> {
+    match case {
+        EntryCase::Price => write_price(&Price { n: 1, d: 2 }, builder),
+        EntryCase::Liabilities => write_two_liabilities(builder),
+        EntryCase::PoolParams => write_pool_params(&params(), builder),
+        EntryCase::AccountEntryExtensionV2 => write_sponsorships(alloc, builder),
+        EntryCase::AccountEntry => write_account(alloc, builder),
+        EntryCase::TrustLineEntry => write_line(builder),
+        EntryCase::OfferEntry => write_offer_entry(&offer(), builder),
+        EntryCase::DataEntry => write_data(alloc, builder),
+        EntryCase::LiquidityPoolEntry => write_pool(builder),
+        EntryCase::SignerKeyPreAuthTx => write_signer_key(&SignerKey::PreAuthTx(hash(1)), builder),
+        EntryCase::SignerKeyHashX => write_signer_key(&SignerKey::HashX(hash(1)), builder),
+        EntryCase::BucketEntryLive => write_bucket_entry(
+            &BucketEntry::Live(offer_entry()),
+            builder,
+        ),
+        EntryCase::BucketEntryInit => write_bucket_entry(
+            &BucketEntry::Init(offer_entry()),
+            builder,
+        ),
     }
 }
 
@@ -93,7 +111,7 @@ fn write_sponsorships(alloc: Global, builder: &mut Builder) -> Result<(), AllocE
 }
 
 /// An account without signers.
-#[tactic(auto, unfolding(xdr_entries::specs::Entries::account_entry, xdr_core::specs::Combinators::option, xdr_core::specs::Combinators::list, xdr_core::specs::Combinators::extension, xdr_core::specs::Leaves::u32, xdr_core::specs::Leaves::i64, xdr_core::specs::Leaves::var, xdr_core::specs::Leaves::fixed))]
+#[tactic(auto, unfolding(xdr_entries::specs::Entries::account_entry, xdr_entries::specs::Entries::account_head, xdr_entries::specs::Entries::account_tail, xdr_core::specs::Combinators::option, xdr_core::specs::Combinators::list, xdr_core::specs::Combinators::extension, xdr_core::specs::Leaves::u32, xdr_core::specs::Leaves::i64, xdr_core::specs::Leaves::var, xdr_core::specs::Leaves::fixed))]
 fn write_account(alloc: Global, builder: &mut Builder) -> Result<(), AllocError> {
     let entry = AccountEntry {
         account_id: account(0x01),
@@ -110,7 +128,8 @@ fn write_account(alloc: Global, builder: &mut Builder) -> Result<(), AllocError>
     write_account_entry(&entry, builder)
 }
 
-/// A trust line in USD.
+/// A trust line in the shares of a pool.
+#[tactic(auto, unfolding(xdr_entries::specs::Entries::trust_line_entry, xdr_entries::specs::Basic::trust_line_asset, xdr_core::specs::Combinators::extension, xdr_core::specs::Leaves::i64, xdr_core::specs::Leaves::u32))]
 fn write_line(builder: &mut Builder) -> Result<(), AllocError> {
     let line = TrustLineEntry {
         account_id: account(0x01),
@@ -146,13 +165,6 @@ fn write_pool(builder: &mut Builder) -> Result<(), AllocError> {
         pool_shares_trust_line_count: 4,
     };
     write_liquidity_pool_entry(&pool, builder)
-}
-
-/// Writes a predicate.
-fn write_predicate(predicate: ClaimPredicate, builder: &mut Builder) -> Result<(), AllocError>
-    requires { claim_predicate.within predicate }
-{
-    write_claim_predicate(&predicate, builder)
 }
 
 /// The entry of an offer.

@@ -9,20 +9,52 @@ use std::alloc::{AllocError, Global};
 use xdr_core::Builder;
 use xdr_header::{write_ledger_header, write_ledger_upgrade};
 
-/// Writes the value with this name, where it is one of these.
-pub fn write_case(alloc: Global, name: &str, builder: &mut Builder) -> Result<(), AllocError> {
-    match name.as_bytes() {
-        b"LedgerHeader" => write_header(alloc, builder),
-        b"LedgerUpgrade.Version" => write_ledger_upgrade(&LedgerUpgrade::Version(7), builder),
-        b"LedgerUpgrade.BaseFee" => write_ledger_upgrade(&LedgerUpgrade::BaseFee(7), builder),
-        b"LedgerUpgrade.MaxTxSetSize" => {
+/// Headers and upgrades.
+#[derive(Clone, Copy)]
+pub enum HeaderCase {
+    LedgerUpgradeVersion,
+    LedgerUpgradeBaseFee,
+    LedgerUpgradeMaxTxSetSize,
+    LedgerUpgradeBaseReserve,
+    LedgerUpgradeFlags,
+    LedgerHeader,
+}
+
+/// Each of them under its name: a struct, or a variant of an enum.
+pub const CASES: [(&str, HeaderCase); 6] = [
+    ("LedgerUpgrade.Version", HeaderCase::LedgerUpgradeVersion),
+    ("LedgerUpgrade.BaseFee", HeaderCase::LedgerUpgradeBaseFee),
+    (
+        "LedgerUpgrade.MaxTxSetSize",
+        HeaderCase::LedgerUpgradeMaxTxSetSize,
+    ),
+    (
+        "LedgerUpgrade.BaseReserve",
+        HeaderCase::LedgerUpgradeBaseReserve,
+    ),
+    ("LedgerUpgrade.Flags", HeaderCase::LedgerUpgradeFlags),
+    ("LedgerHeader", HeaderCase::LedgerHeader),
+];
+
+/// Writes one of them.
+pub fn write(alloc: Global, case: HeaderCase, builder: &mut Builder) -> Result<(), AllocError> {
+    match case {
+        HeaderCase::LedgerUpgradeVersion => write_ledger_upgrade(
+            &LedgerUpgrade::Version(7),
+            builder,
+        ),
+        HeaderCase::LedgerUpgradeBaseFee => write_ledger_upgrade(
+            &LedgerUpgrade::BaseFee(7),
+            builder,
+        ),
+        HeaderCase::LedgerUpgradeMaxTxSetSize => {
             write_ledger_upgrade(&LedgerUpgrade::MaxTxSetSize(7), builder)
-        }
-        b"LedgerUpgrade.BaseReserve" => {
+        },
+        HeaderCase::LedgerUpgradeBaseReserve => {
             write_ledger_upgrade(&LedgerUpgrade::BaseReserve(7), builder)
-        }
-        b"LedgerUpgrade.Flags" => write_ledger_upgrade(&LedgerUpgrade::Flags(7), builder),
-        _ => Ok(()),
+        },
+        HeaderCase::LedgerUpgradeFlags => write_ledger_upgrade(&LedgerUpgrade::Flags(7), builder),
+        HeaderCase::LedgerHeader => write_header(alloc, builder),
     }
 }
 

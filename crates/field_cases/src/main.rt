@@ -8,78 +8,75 @@ mod entries;
 mod headers;
 mod operations;
 mod parts;
+mod predicates;
 mod results;
 
+use entries::EntryCase;
+use headers::HeaderCase;
+use operations::OperationCase;
+use results::ResultCase;
 use std::io;
 use xdr_core::Builder;
 
-/// What is built: a struct, or a variant of an enum.
-const CASES: [&str; 49] = [
-    "Price",
-    "Liabilities",
-    "PoolParams",
-    "AccountEntryExtensionV2",
-    "AccountEntry",
-    "TrustLineEntry",
-    "OfferEntry",
-    "DataEntry",
-    "LiquidityPoolEntry",
-    "SignerKey.PreAuthTx",
-    "SignerKey.HashX",
-    "ClaimPredicate.And",
-    "ClaimPredicate.Or",
-    "ClaimPredicate.BeforeAbsoluteTime",
-    "ClaimPredicate.BeforeRelativeTime",
-    "BucketEntry.Live",
-    "BucketEntry.Init",
-    "LedgerUpgrade.Version",
-    "LedgerUpgrade.BaseFee",
-    "LedgerUpgrade.MaxTxSetSize",
-    "LedgerUpgrade.BaseReserve",
-    "LedgerUpgrade.Flags",
-    "LedgerHeader",
-    "TimeBounds",
-    "Memo.Hash",
-    "Memo.Return",
-    "SetOptionsOp",
-    "PathPaymentStrictReceiveOp",
-    "PathPaymentStrictSendOp",
-    "ManageSellOfferOp",
-    "ManageBuyOfferOp",
-    "CreatePassiveSellOfferOp",
-    "SetTrustLineFlagsOp",
-    "LiquidityPoolDepositOp",
-    "LiquidityPoolWithdrawOp",
-    "ClaimAtom.V0",
-    "ClaimAtom.OrderBook",
-    "ClaimAtom.LiquidityPool",
-    "ManageOfferEffect.Created",
-    "ManageOfferEffect.Updated",
-    "OperationResultTr.ManageSellOffer",
-    "OperationResultTr.CreatePassiveSellOffer",
-    "OperationResultTr.ManageBuyOffer",
-    "InnerTransactionOutcome.Success",
-    "InnerTransactionOutcome.Failed",
-    "TransactionOutcome.Success",
-    "TransactionOutcome.Failed",
-    "TransactionOutcome.FeeBumpInnerSuccess",
-    "TransactionOutcome.FeeBumpInnerFailed",
-];
+/// Prints a name and bytes.
+fn print_line<R: Print + AllocGlobal>(rt: &R, name: &str, bytes: &[u8]) -> io::Result<()> {
+    let digits = hex::encode(rt.alloc(), bytes)?;
+    println!(rt; "{name} {digits}")
+}
 
-/// Prints the bytes of a value.
-fn print_case<R: Print + AllocGlobal>(rt: &R, name: &str) -> io::Result<()> {
+/// Prints the bytes of a case.
+fn print_entry<R: Print + AllocGlobal>(rt: &R, name: &str, case: EntryCase) -> io::Result<()> {
     let mut builder = Builder::new(rt.alloc());
-    entries::write_case(rt.alloc(), name, &mut builder)?;
-    headers::write_case(rt.alloc(), name, &mut builder)?;
-    operations::write_case(rt.alloc(), name, &mut builder)?;
-    results::write_case(rt.alloc(), name, &mut builder)?;
-    let bytes = hex::encode(rt.alloc(), builder.as_slice())?;
-    println!(rt; "{name} {bytes}")
+    entries::write(rt.alloc(), case, &mut builder)?;
+    print_line(rt, name, builder.as_slice())
+}
+
+/// Prints the bytes of a case.
+fn print_header<R: Print + AllocGlobal>(rt: &R, name: &str, case: HeaderCase) -> io::Result<()> {
+    let mut builder = Builder::new(rt.alloc());
+    headers::write(rt.alloc(), case, &mut builder)?;
+    print_line(rt, name, builder.as_slice())
+}
+
+/// Prints the bytes of a case.
+fn print_operation<R: Print + AllocGlobal>(
+    rt: &R,
+    name: &str,
+    case: OperationCase,
+) -> io::Result<()> {
+    let mut builder = Builder::new(rt.alloc());
+    operations::write(rt.alloc(), case, &mut builder)?;
+    print_line(rt, name, builder.as_slice())
+}
+
+/// Prints the bytes of a case.
+fn print_result<R: Print + AllocGlobal>(rt: &R, name: &str, case: ResultCase) -> io::Result<()> {
+    let mut builder = Builder::new(rt.alloc());
+    results::write(rt.alloc(), case, &mut builder)?;
+    print_line(rt, name, builder.as_slice())
+}
+
+/// Prints the name of a predicate, and its bytes.
+fn print_predicate<R: Print + AllocGlobal>(rt: &R, bytes: &[u8]) -> io::Result<()> {
+    let name = predicates::name_of_spelling(rt.alloc(), bytes);
+    print_line(rt, name, bytes)
 }
 
 fn main(rt: HostRuntime) -> io::Result<()> {
-    for name in CASES {
-        print_case(&rt, name)?;
+    for (name, case) in entries::CASES {
+        print_entry(&rt, name, case)?;
+    }
+    for (name, case) in headers::CASES {
+        print_header(&rt, name, case)?;
+    }
+    for (name, case) in operations::CASES {
+        print_operation(&rt, name, case)?;
+    }
+    for (name, case) in results::CASES {
+        print_result(&rt, name, case)?;
+    }
+    for bytes in predicates::SPELLINGS {
+        print_predicate(&rt, &bytes)?;
     }
     Ok(())
 }

@@ -19,23 +19,70 @@ use xdr_tx::{
     write_set_options_op, write_set_trust_line_flags_op, write_time_bounds,
 };
 
-/// Writes the value with this name, where it is one of these.
+/// Operations, and parts of transactions.
+#[derive(Clone, Copy)]
+pub enum OperationCase {
+    TimeBounds,
+    MemoHash,
+    MemoReturn,
+    SetOptionsOp,
+    PathPaymentStrictReceiveOp,
+    PathPaymentStrictSendOp,
+    ManageSellOfferOp,
+    ManageBuyOfferOp,
+    CreatePassiveSellOfferOp,
+    SetTrustLineFlagsOp,
+    LiquidityPoolDepositOp,
+    LiquidityPoolWithdrawOp,
+}
+
+/// Each of them under its name: a struct, or a variant of an enum.
+pub const CASES: [(&str, OperationCase); 12] = [
+    ("TimeBounds", OperationCase::TimeBounds),
+    ("Memo.Hash", OperationCase::MemoHash),
+    ("Memo.Return", OperationCase::MemoReturn),
+    ("SetOptionsOp", OperationCase::SetOptionsOp),
+    (
+        "PathPaymentStrictReceiveOp",
+        OperationCase::PathPaymentStrictReceiveOp,
+    ),
+    (
+        "PathPaymentStrictSendOp",
+        OperationCase::PathPaymentStrictSendOp,
+    ),
+    ("ManageSellOfferOp", OperationCase::ManageSellOfferOp),
+    ("ManageBuyOfferOp", OperationCase::ManageBuyOfferOp),
+    (
+        "CreatePassiveSellOfferOp",
+        OperationCase::CreatePassiveSellOfferOp,
+    ),
+    ("SetTrustLineFlagsOp", OperationCase::SetTrustLineFlagsOp),
+    (
+        "LiquidityPoolDepositOp",
+        OperationCase::LiquidityPoolDepositOp,
+    ),
+    (
+        "LiquidityPoolWithdrawOp",
+        OperationCase::LiquidityPoolWithdrawOp,
+    ),
+];
+
+/// Writes one of them.
 #[tactic(auto, unfolding(xdr_tx::specs::Transactions::memo))]
-pub fn write_case(alloc: Global, name: &str, builder: &mut Builder) -> Result<(), AllocError> {
-    match name.as_bytes() {
-        b"TimeBounds" => write_bounds(builder),
-        b"Memo.Hash" => write_note(Memo::Hash(hash(1)), builder),
-        b"Memo.Return" => write_note(Memo::Return(hash(1)), builder),
-        b"SetOptionsOp" => write_options(builder),
-        b"PathPaymentStrictReceiveOp" => write_strict_receive(alloc, builder),
-        b"PathPaymentStrictSendOp" => write_strict_send(alloc, builder),
-        b"ManageSellOfferOp" => write_sell_offer(builder),
-        b"ManageBuyOfferOp" => write_buy_offer(builder),
-        b"CreatePassiveSellOfferOp" => write_passive_offer(builder),
-        b"SetTrustLineFlagsOp" => write_line_flags(builder),
-        b"LiquidityPoolDepositOp" => write_deposit(builder),
-        b"LiquidityPoolWithdrawOp" => write_withdrawal(builder),
-        _ => Ok(()),
+pub fn write(alloc: Global, case: OperationCase, builder: &mut Builder) -> Result<(), AllocError> {
+    match case {
+        OperationCase::TimeBounds => write_bounds(builder),
+        OperationCase::MemoHash => write_note(Memo::Hash(hash(1)), builder),
+        OperationCase::MemoReturn => write_note(Memo::Return(hash(1)), builder),
+        OperationCase::SetOptionsOp => write_options(builder),
+        OperationCase::PathPaymentStrictReceiveOp => write_strict_receive(alloc, builder),
+        OperationCase::PathPaymentStrictSendOp => write_strict_send(alloc, builder),
+        OperationCase::ManageSellOfferOp => write_sell_offer(builder),
+        OperationCase::ManageBuyOfferOp => write_buy_offer(builder),
+        OperationCase::CreatePassiveSellOfferOp => write_passive_offer(builder),
+        OperationCase::SetTrustLineFlagsOp => write_line_flags(builder),
+        OperationCase::LiquidityPoolDepositOp => write_deposit(builder),
+        OperationCase::LiquidityPoolWithdrawOp => write_withdrawal(builder),
     }
 }
 

@@ -16,60 +16,124 @@ use xdr_results::{
     write_operation_result_tr, write_transaction_outcome,
 };
 
-/// Writes the value with this name, where it is one of these.
-#[tactic(auto, unfolding(xdr_results::specs::Results::operation_result_tr, xdr_results::specs::Answers::manage_offer_result))]
-pub fn write_case(alloc: Global, name: &str, builder: &mut Builder) -> Result<(), AllocError> {
-    match name.as_bytes() {
-        b"ClaimAtom.V0" => write_first_atom(builder),
-        b"ClaimAtom.OrderBook" => write_offer_atom(builder),
-        b"ClaimAtom.LiquidityPool" => write_pool_atom(builder),
-        b"ManageOfferEffect.Created" => {
+/// What operations and transactions answer.
+#[derive(Clone, Copy)]
+pub enum ResultCase {
+    ClaimAtomV0,
+    ClaimAtomOrderBook,
+    ClaimAtomLiquidityPool,
+    ManageOfferEffectCreated,
+    ManageOfferEffectUpdated,
+    OperationResultTrManageSellOffer,
+    OperationResultTrCreatePassiveSellOffer,
+    OperationResultTrManageBuyOffer,
+    InnerTransactionOutcomeSuccess,
+    InnerTransactionOutcomeFailed,
+    TransactionOutcomeSuccess,
+    TransactionOutcomeFailed,
+    TransactionOutcomeFeeBumpInnerSuccess,
+    TransactionOutcomeFeeBumpInnerFailed,
+}
+
+/// Each of them under its name: a struct, or a variant of an enum.
+pub const CASES: [(&str, ResultCase); 14] = [
+    ("ClaimAtom.V0", ResultCase::ClaimAtomV0),
+    ("ClaimAtom.OrderBook", ResultCase::ClaimAtomOrderBook),
+    (
+        "ClaimAtom.LiquidityPool",
+        ResultCase::ClaimAtomLiquidityPool,
+    ),
+    (
+        "ManageOfferEffect.Created",
+        ResultCase::ManageOfferEffectCreated,
+    ),
+    (
+        "ManageOfferEffect.Updated",
+        ResultCase::ManageOfferEffectUpdated,
+    ),
+    (
+        "OperationResultTr.ManageSellOffer",
+        ResultCase::OperationResultTrManageSellOffer,
+    ),
+    (
+        "OperationResultTr.CreatePassiveSellOffer",
+        ResultCase::OperationResultTrCreatePassiveSellOffer,
+    ),
+    (
+        "OperationResultTr.ManageBuyOffer",
+        ResultCase::OperationResultTrManageBuyOffer,
+    ),
+    (
+        "InnerTransactionOutcome.Success",
+        ResultCase::InnerTransactionOutcomeSuccess,
+    ),
+    (
+        "InnerTransactionOutcome.Failed",
+        ResultCase::InnerTransactionOutcomeFailed,
+    ),
+    (
+        "TransactionOutcome.Success",
+        ResultCase::TransactionOutcomeSuccess,
+    ),
+    (
+        "TransactionOutcome.Failed",
+        ResultCase::TransactionOutcomeFailed,
+    ),
+    (
+        "TransactionOutcome.FeeBumpInnerSuccess",
+        ResultCase::TransactionOutcomeFeeBumpInnerSuccess,
+    ),
+    (
+        "TransactionOutcome.FeeBumpInnerFailed",
+        ResultCase::TransactionOutcomeFeeBumpInnerFailed,
+    ),
+];
+
+/// Writes one of them.
+#[tactic(auto, unfolding(xdr_results::specs::Results::operation_result_tr, xdr_results::specs::Answers::manage_offer_result, xdr_results::specs::Results::inner_transaction_outcome, xdr_results::specs::Results::transaction_outcome, xdr_core::specs::Combinators::list))]
+pub fn write(alloc: Global, case: ResultCase, builder: &mut Builder) -> Result<(), AllocError> {
+    match case {
+        ResultCase::ClaimAtomV0 => write_first_atom(builder),
+        ResultCase::ClaimAtomOrderBook => write_offer_atom(builder),
+        ResultCase::ClaimAtomLiquidityPool => write_pool_atom(builder),
+        ResultCase::ManageOfferEffectCreated => {
             write_manage_offer_effect(&ManageOfferEffect::Created(offer()), builder)
-        }
-        b"ManageOfferEffect.Updated" => {
+        },
+        ResultCase::ManageOfferEffectUpdated => {
             write_manage_offer_effect(&ManageOfferEffect::Updated(offer()), builder)
-        }
-        b"OperationResultTr.ManageSellOffer" => write_answer(
+        },
+        ResultCase::OperationResultTrManageSellOffer => write_answer(
             OperationResultTr::ManageSellOffer(ManageOfferResult::Malformed),
             builder,
         ),
-        b"OperationResultTr.CreatePassiveSellOffer" => write_answer(
+        ResultCase::OperationResultTrCreatePassiveSellOffer => write_answer(
             OperationResultTr::CreatePassiveSellOffer(ManageOfferResult::Malformed),
             builder,
         ),
-        b"OperationResultTr.ManageBuyOffer" => write_answer(
+        ResultCase::OperationResultTrManageBuyOffer => write_answer(
             OperationResultTr::ManageBuyOffer(ManageOfferResult::Malformed),
             builder,
         ),
-        _ => write_outcome(alloc, name, builder),
-    }
-}
-
-/// Writes the outcome with this name, where it is one of these.
-#[tactic(auto, unfolding(xdr_results::specs::Results::inner_transaction_outcome, xdr_results::specs::Results::transaction_outcome, xdr_core::specs::Combinators::list))]
-fn write_outcome(alloc: Global, name: &str, builder: &mut Builder) -> Result<(), AllocError> {
-    match name.as_bytes() {
-        b"InnerTransactionOutcome.Success" => write_inner(
+        ResultCase::InnerTransactionOutcomeSuccess => write_inner(
             InnerTransactionOutcome::Success(ItemList::new(alloc)),
             builder,
         ),
-        b"InnerTransactionOutcome.Failed" => write_inner(
+        ResultCase::InnerTransactionOutcomeFailed => write_inner(
             InnerTransactionOutcome::Failed(ItemList::new(alloc)),
             builder,
         ),
-        b"TransactionOutcome.Success" => {
+        ResultCase::TransactionOutcomeSuccess => {
             write_outer(TransactionOutcome::Success(ItemList::new(alloc)), builder)
-        }
-        b"TransactionOutcome.Failed" => {
+        },
+        ResultCase::TransactionOutcomeFailed => {
             write_outer(TransactionOutcome::Failed(ItemList::new(alloc)), builder)
-        }
-        b"TransactionOutcome.FeeBumpInnerSuccess" => {
+        },
+        ResultCase::TransactionOutcomeFeeBumpInnerSuccess => {
             write_outer(TransactionOutcome::FeeBumpInnerSuccess(pair()), builder)
-        }
-        b"TransactionOutcome.FeeBumpInnerFailed" => {
+        },
+        ResultCase::TransactionOutcomeFeeBumpInnerFailed => {
             write_outer(TransactionOutcome::FeeBumpInnerFailed(pair()), builder)
-        }
-        _ => Ok(()),
+        },
     }
 }
 

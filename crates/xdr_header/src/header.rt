@@ -145,6 +145,7 @@ pub fn read_ledger_header(alloc: Global, cursor: &mut Cursor<'_>) -> Result<Ledg
     let tx_set_result_hash = read_hash(&mut ahead)?;
     let bucket_list_hash = read_hash(&mut ahead)?;
     let counts = read_counts(alloc, &mut ahead)?;
+    let skip_list = counts.limits.skip_list;
     *cursor = ahead;
     Ok(LedgerHeader {
         ledger_version,
@@ -160,7 +161,7 @@ pub fn read_ledger_header(alloc: Global, cursor: &mut Cursor<'_>) -> Result<Ledg
         base_fee: counts.limits.base_fee,
         base_reserve: counts.limits.base_reserve,
         max_tx_set_size: counts.limits.max_tx_set_size,
-        skip_list: counts.limits.skip_list,
+        skip_list,
         ext: counts.limits.ext,
     })
 }

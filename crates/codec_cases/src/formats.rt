@@ -77,11 +77,11 @@ impl Encode for CloseRecordFormat {
 }
 
 impl Case for CloseRecordFormat {
-    ghost lawful = { close_record_laws.lawful };
-
     fn copy(value: &CloseRecord) -> Result<CloseRecord, AllocError> {
         value.copy()
     }
+
+    ghost lawful = { close_record_laws.lawful };
 }
 
 /// LedgerEntry, as a format.
@@ -106,11 +106,11 @@ impl Encode for LedgerEntryFormat {
 }
 
 impl Case for LedgerEntryFormat {
-    ghost lawful = { ledger_entry_laws.lawful };
-
     fn copy(value: &LedgerEntry) -> Result<LedgerEntry, AllocError> {
         value.copy()
     }
+
+    ghost lawful = { ledger_entry_laws.lawful };
 }
 
 /// LedgerHeader, as a format.
@@ -135,11 +135,11 @@ impl Encode for LedgerHeaderFormat {
 }
 
 impl Case for LedgerHeaderFormat {
-    ghost lawful = { ledger_header_laws.lawful };
-
     fn copy(value: &LedgerHeader) -> Result<LedgerHeader, AllocError> {
         value.copy()
     }
+
+    ghost lawful = { ledger_header_laws.lawful };
 }
 
 /// LedgerKey, as a format.
@@ -164,11 +164,11 @@ impl Encode for LedgerKeyFormat {
 }
 
 impl Case for LedgerKeyFormat {
-    ghost lawful = { ledger_key_laws.lawful };
-
     fn copy(value: &LedgerKey) -> Result<LedgerKey, AllocError> {
         value.copy()
     }
+
+    ghost lawful = { ledger_key_laws.lawful };
 }
 
 /// LedgerUpgrade, as a format.
@@ -193,11 +193,11 @@ impl Encode for LedgerUpgradeFormat {
 }
 
 impl Case for LedgerUpgradeFormat {
-    ghost lawful = { ledger_upgrade_laws.lawful };
-
     fn copy(value: &LedgerUpgrade) -> Result<LedgerUpgrade, AllocError> {
         Ok(*value)
     }
+
+    ghost lawful = { ledger_upgrade_laws.lawful };
 }
 
 /// Memo, as a format.
@@ -223,11 +223,11 @@ impl Encode for MemoFormat {
 }
 
 impl Case for MemoFormat {
-    ghost lawful = { memo_laws.lawful };
-
     fn copy(value: &Memo) -> Result<Memo, AllocError> {
         value.copy()
     }
+
+    ghost lawful = { memo_laws.lawful };
 }
 
 /// ClaimPredicate, as a format.
@@ -252,11 +252,11 @@ impl Encode for PredicateFormat {
 }
 
 impl Case for PredicateFormat {
-    ghost lawful = { claim_predicate_laws.lawful };
-
     fn copy(value: &ClaimPredicate) -> Result<ClaimPredicate, AllocError> {
         value.copy()
     }
+
+    ghost lawful = { claim_predicate_laws.lawful };
 }
 
 /// Price, as a format.
@@ -282,11 +282,11 @@ impl Encode for PriceFormat {
 }
 
 impl Case for PriceFormat {
-    ghost lawful = { price_laws.lawful };
-
     fn copy(value: &Price) -> Result<Price, AllocError> {
         Ok(*value)
     }
+
+    ghost lawful = { price_laws.lawful };
 }
 
 /// SignerKey, as a format.
@@ -312,11 +312,11 @@ impl Encode for SignerKeyFormat {
 }
 
 impl Case for SignerKeyFormat {
-    ghost lawful = { signer_key_laws.lawful };
-
     fn copy(value: &SignerKey) -> Result<SignerKey, AllocError> {
         Ok(*value)
     }
+
+    ghost lawful = { signer_key_laws.lawful };
 }
 
 /// StellarValue, as a format.
@@ -341,11 +341,11 @@ impl Encode for StellarValueFormat {
 }
 
 impl Case for StellarValueFormat {
-    ghost lawful = { stellar_value_laws.lawful };
-
     fn copy(value: &StellarValue) -> Result<StellarValue, AllocError> {
         value.copy()
     }
+
+    ghost lawful = { stellar_value_laws.lawful };
 }
 
 /// TransactionSet, as a format.
@@ -370,11 +370,11 @@ impl Encode for TransactionSetFormat {
 }
 
 impl Case for TransactionSetFormat {
-    ghost lawful = { transaction_set_laws.lawful };
-
     fn copy(value: &TransactionSet) -> Result<TransactionSet, AllocError> {
         value.copy()
     }
+
+    ghost lawful = { transaction_set_laws.lawful };
 }
 
 /// TrustLineAsset, as a format.
@@ -400,11 +400,11 @@ impl Encode for TrustLineAssetFormat {
 }
 
 impl Case for TrustLineAssetFormat {
-    ghost lawful = { trust_line_asset_laws.lawful };
-
     fn copy(value: &TrustLineAsset) -> Result<TrustLineAsset, AllocError> {
         Ok(*value)
     }
+
+    ghost lawful = { trust_line_asset_laws.lawful };
 }
 
 /// TransactionResultSet, as a format.
@@ -429,11 +429,11 @@ impl Encode for ResultSetFormat {
 }
 
 impl Case for ResultSetFormat {
-    ghost lawful = { transaction_result_set_laws.lawful };
-
     fn copy(value: &TransactionResultSet) -> Result<TransactionResultSet, AllocError> {
         value.copy()
     }
+
+    ghost lawful = { transaction_result_set_laws.lawful };
 }
 
 /// StartImage, as a format.
@@ -458,11 +458,11 @@ impl Encode for ImageFormat {
 }
 
 impl Case for ImageFormat {
-    ghost lawful = { start_image_laws.lawful };
-
     fn copy(value: &StartImage) -> Result<StartImage, AllocError> {
         value.copy()
     }
+
+    ghost lawful = { start_image_laws.lawful };
 }
 
 /// BucketEntry, as a format.
@@ -487,49 +487,49 @@ impl Encode for BucketEntryFormat {
 }
 
 impl Case for BucketEntryFormat {
-    ghost lawful = { bucket_entry_laws.lawful };
-
     fn copy(value: &BucketEntry) -> Result<BucketEntry, AllocError> {
         value.copy()
     }
+
+    ghost lawful = { bucket_entry_laws.lawful };
 }
 
 impl Case for AssetFormat {
-    ghost lawful = { asset_laws.lawful };
-
     fn copy(value: &Asset) -> Result<Asset, AllocError> {
         Ok(*value)
     }
+
+    ghost lawful = { asset_laws.lawful };
 }
 
 impl Case for ClaimantFormat {
-    ghost lawful = { claimant_laws.lawful };
-
     fn copy(value: &Claimant) -> Result<Claimant, AllocError> {
         value.copy()
     }
+
+    ghost lawful = { claimant_laws.lawful };
 }
 
 impl Case for SignerFormat {
-    ghost lawful = { signer_laws.lawful };
-
     fn copy(value: &Signer) -> Result<Signer, AllocError> {
         Ok(*value)
     }
+
+    ghost lawful = { signer_laws.lawful };
 }
 
 impl Case for OperationFormat {
-    ghost lawful = { operation_laws.lawful };
-
     fn copy(value: &Operation) -> Result<Operation, AllocError> {
         value.copy()
     }
+
+    ghost lawful = { operation_laws.lawful };
 }
 
 impl Case for TransactionEnvelopeFormat {
-    ghost lawful = { transaction_envelope_laws.lawful };
-
     fn copy(value: &TransactionEnvelope) -> Result<TransactionEnvelope, AllocError> {
         value.copy()
     }
+
+    ghost lawful = { transaction_envelope_laws.lawful };
 }

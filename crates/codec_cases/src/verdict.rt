@@ -8,12 +8,12 @@ use xdr_core::{Builder, Cursor, Decode, Encode, ReadFault, XdrKind};
 
 /// A type that vectors are of: its codec, and how a value is copied.
 pub trait Case: Encode {
-    // What is read is spelled so, and what is spelled so is read.
-    ghost lawful: { Lawful Self.format };
-
     /// The same value once more.
     fn copy(value: &Self::Value) -> Result<Self::Value, AllocError>
         ensures { IfOk result (λ copy. copy ≡ value.now) };
+
+    // What is read is spelled so, and what is spelled so is read.
+    ghost lawful: { Lawful Self.format };
 }
 
 /// What a codec makes of an input, in the words of the vectors: the number of bytes that it takes for a value, a copy

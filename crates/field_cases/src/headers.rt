@@ -59,7 +59,7 @@ pub fn write(alloc: Global, case: HeaderCase, builder: &mut Builder) -> Result<(
 }
 
 /// A header whose numbers and hashes all differ.
-#[tactic(auto, unfolding(xdr_header::specs::Header::ledger_header, xdr_core::specs::Combinators::times, xdr_core::specs::Combinators::extension, xdr_core::specs::Leaves::u32, xdr_core::specs::Leaves::u64, xdr_core::specs::Leaves::i64))]
+#[tactic(auto, unfolding(xdr_header::specs::Header::ledger_header, xdr_header::specs::Header::counts, xdr_header::specs::Header::limits, xdr_core::specs::Combinators::times, xdr_core::specs::Combinators::extension, xdr_core::specs::Leaves::u32, xdr_core::specs::Leaves::u64, xdr_core::specs::Leaves::i64))]
 fn write_header(alloc: Global, builder: &mut Builder) -> Result<(), AllocError> {
     let header = LedgerHeader {
         ledger_version: 1,

@@ -62,21 +62,50 @@ fn print_predicate<R: Print + AllocGlobal>(rt: &R, bytes: &[u8]) -> io::Result<(
     print_line(rt, name, bytes)
 }
 
-fn main(rt: HostRuntime) -> io::Result<()> {
+/// Prints each of them.
+fn print_entries<R: Print + AllocGlobal>(rt: &R) -> io::Result<()> {
     for (name, case) in entries::CASES {
-        print_entry(&rt, name, case)?;
-    }
-    for (name, case) in headers::CASES {
-        print_header(&rt, name, case)?;
-    }
-    for (name, case) in operations::CASES {
-        print_operation(&rt, name, case)?;
-    }
-    for (name, case) in results::CASES {
-        print_result(&rt, name, case)?;
-    }
-    for bytes in predicates::SPELLINGS {
-        print_predicate(&rt, &bytes)?;
+        print_entry(rt, name, case)?;
     }
     Ok(())
+}
+
+/// Prints each of them.
+fn print_headers<R: Print + AllocGlobal>(rt: &R) -> io::Result<()> {
+    for (name, case) in headers::CASES {
+        print_header(rt, name, case)?;
+    }
+    Ok(())
+}
+
+/// Prints each of them.
+fn print_operations<R: Print + AllocGlobal>(rt: &R) -> io::Result<()> {
+    for (name, case) in operations::CASES {
+        print_operation(rt, name, case)?;
+    }
+    Ok(())
+}
+
+/// Prints each of them.
+fn print_results<R: Print + AllocGlobal>(rt: &R) -> io::Result<()> {
+    for (name, case) in results::CASES {
+        print_result(rt, name, case)?;
+    }
+    Ok(())
+}
+
+/// Prints each of them.
+fn print_predicates<R: Print + AllocGlobal>(rt: &R) -> io::Result<()> {
+    for bytes in predicates::SPELLINGS {
+        print_predicate(rt, &bytes)?;
+    }
+    Ok(())
+}
+
+fn main(rt: HostRuntime) -> io::Result<()> {
+    print_entries(&rt)?;
+    print_headers(&rt)?;
+    print_operations(&rt)?;
+    print_results(&rt)?;
+    print_predicates(&rt)
 }

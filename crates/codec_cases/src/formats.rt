@@ -1,4 +1,4 @@
-//! The codecs of whole types, as formats. Where a type has copies, a copy of what was read is answered.
+//! The codecs of whole types, as formats with copies.
 
 ghost use Rattle.xdr_entries.specs.Basic.{price, signer_key, trust_line_asset};
 ghost use Rattle.xdr_entries.specs.Entries.{ledger_entry};
@@ -9,18 +9,40 @@ ghost use Rattle.xdr_header.specs.Image.{start_image};
 ghost use Rattle.xdr_header.specs.Records.{close_record};
 ghost use Rattle.xdr_results.specs.Results.{transaction_result_set};
 ghost use Rattle.xdr_tx.specs.Transactions.{memo, transaction_set};
-
-use ledger_types::{
-    BucketEntry, ClaimPredicate, LedgerEntry, LedgerHeader, LedgerKey, LedgerUpgrade, Price,
-    SignerKey, StellarValue, TrustLineAsset,
+ghost use Rattle.xdr_entries.proofs.BasicLaws.{
+  price_laws,
+  signer_key_laws,
+  trust_line_asset_laws,
+  asset_laws,
+  signer_laws,
 };
-use op_types::{Memo, TransactionResultSet, TransactionSet};
+ghost use Rattle.xdr_entries.proofs.EntryLaws.{ledger_entry_laws, claimant_laws};
+ghost use Rattle.xdr_entries.proofs.KeyLaws.{ledger_key_laws, bucket_entry_laws};
+ghost use Rattle.xdr_entries.proofs.PredicateLaws.{claim_predicate_laws};
+ghost use Rattle.xdr_header.proofs.HeaderLaws.{
+  close_record_laws,
+  ledger_header_laws,
+  ledger_upgrade_laws,
+  stellar_value_laws,
+};
+ghost use Rattle.xdr_header.proofs.ImageLaws.{start_image_laws};
+ghost use Rattle.xdr_results.proofs.TransactionLaws.{transaction_result_set_laws};
+ghost use Rattle.xdr_tx.proofs.TransactionLaws.{memo_laws, transaction_set_laws, transaction_envelope_laws};
+ghost use Rattle.xdr_tx.proofs.BodyLaws.{operation_laws};
+
+use crate::verdict::Case;
+use ledger_types::{
+    Asset, BucketEntry, ClaimPredicate, Claimant, LedgerEntry, LedgerHeader, LedgerKey,
+    LedgerUpgrade, Price, Signer, SignerKey, StellarValue, TrustLineAsset,
+};
+use op_types::{Memo, Operation, TransactionEnvelope, TransactionResultSet, TransactionSet};
 use std::alloc::{AllocError, Global};
 use xdr_core::{Builder, Cursor, Decode, Encode, ReadFault};
 use xdr_entries::{
-    read_bucket_entry, read_claim_predicate, read_ledger_entry, read_ledger_key, read_price,
-    read_signer_key, read_trust_line_asset, write_bucket_entry, write_claim_predicate,
-    write_ledger_entry, write_ledger_key, write_price, write_signer_key, write_trust_line_asset,
+    AssetFormat, ClaimantFormat, SignerFormat, read_bucket_entry, read_claim_predicate,
+    read_ledger_entry, read_ledger_key, read_price, read_signer_key, read_trust_line_asset,
+    write_bucket_entry, write_claim_predicate, write_ledger_entry, write_ledger_key, write_price,
+    write_signer_key, write_trust_line_asset,
 };
 use xdr_header::{
     CloseRecord, StartImage, read_close_record, read_ledger_header, read_ledger_upgrade,
@@ -28,7 +50,10 @@ use xdr_header::{
     write_ledger_upgrade, write_start_image, write_stellar_value,
 };
 use xdr_results::{read_transaction_result_set, write_transaction_result_set};
-use xdr_tx::{read_memo, read_transaction_set, write_memo, write_transaction_set};
+use xdr_tx::{
+    OperationFormat, TransactionEnvelopeFormat, read_memo, read_transaction_set, write_memo,
+    write_transaction_set,
+};
 
 /// CloseRecord, as a format.
 pub enum CloseRecordFormat {}
@@ -41,10 +66,7 @@ impl Decode for CloseRecordFormat {
     ghost format = { close_record };
 
     fn decode(alloc: Global, cursor: &mut Cursor<'_>) -> Result<CloseRecord, ReadFault> {
-        let mut ahead = cursor.fork();
-        let value = read_close_record(alloc, &mut ahead)?.copy()?;
-        *cursor = ahead;
-        Ok(value)
+        read_close_record(alloc, cursor)
     }
 }
 
@@ -52,6 +74,14 @@ impl Encode for CloseRecordFormat {
     fn encode(value: &CloseRecord, builder: &mut Builder) -> Result<(), AllocError> {
         write_close_record(value, builder)
     }
+}
+
+impl Case for CloseRecordFormat {
+    fn copy(value: &CloseRecord) -> Result<CloseRecord, AllocError> {
+        value.copy()
+    }
+
+    ghost lawful = { close_record_laws.lawful };
 }
 
 /// LedgerEntry, as a format.
@@ -65,10 +95,7 @@ impl Decode for LedgerEntryFormat {
     ghost format = { ledger_entry };
 
     fn decode(alloc: Global, cursor: &mut Cursor<'_>) -> Result<LedgerEntry, ReadFault> {
-        let mut ahead = cursor.fork();
-        let value = read_ledger_entry(alloc, &mut ahead)?.copy()?;
-        *cursor = ahead;
-        Ok(value)
+        read_ledger_entry(alloc, cursor)
     }
 }
 
@@ -76,6 +103,14 @@ impl Encode for LedgerEntryFormat {
     fn encode(value: &LedgerEntry, builder: &mut Builder) -> Result<(), AllocError> {
         write_ledger_entry(value, builder)
     }
+}
+
+impl Case for LedgerEntryFormat {
+    fn copy(value: &LedgerEntry) -> Result<LedgerEntry, AllocError> {
+        value.copy()
+    }
+
+    ghost lawful = { ledger_entry_laws.lawful };
 }
 
 /// LedgerHeader, as a format.
@@ -89,10 +124,7 @@ impl Decode for LedgerHeaderFormat {
     ghost format = { ledger_header };
 
     fn decode(alloc: Global, cursor: &mut Cursor<'_>) -> Result<LedgerHeader, ReadFault> {
-        let mut ahead = cursor.fork();
-        let value = read_ledger_header(alloc, &mut ahead)?.copy()?;
-        *cursor = ahead;
-        Ok(value)
+        read_ledger_header(alloc, cursor)
     }
 }
 
@@ -100,6 +132,14 @@ impl Encode for LedgerHeaderFormat {
     fn encode(value: &LedgerHeader, builder: &mut Builder) -> Result<(), AllocError> {
         write_ledger_header(value, builder)
     }
+}
+
+impl Case for LedgerHeaderFormat {
+    fn copy(value: &LedgerHeader) -> Result<LedgerHeader, AllocError> {
+        value.copy()
+    }
+
+    ghost lawful = { ledger_header_laws.lawful };
 }
 
 /// LedgerKey, as a format.
@@ -113,10 +153,7 @@ impl Decode for LedgerKeyFormat {
     ghost format = { ledger_key };
 
     fn decode(alloc: Global, cursor: &mut Cursor<'_>) -> Result<LedgerKey, ReadFault> {
-        let mut ahead = cursor.fork();
-        let value = read_ledger_key(alloc, &mut ahead)?.copy()?;
-        *cursor = ahead;
-        Ok(value)
+        read_ledger_key(alloc, cursor)
     }
 }
 
@@ -124,6 +161,14 @@ impl Encode for LedgerKeyFormat {
     fn encode(value: &LedgerKey, builder: &mut Builder) -> Result<(), AllocError> {
         write_ledger_key(value, builder)
     }
+}
+
+impl Case for LedgerKeyFormat {
+    fn copy(value: &LedgerKey) -> Result<LedgerKey, AllocError> {
+        value.copy()
+    }
+
+    ghost lawful = { ledger_key_laws.lawful };
 }
 
 /// LedgerUpgrade, as a format.
@@ -147,6 +192,14 @@ impl Encode for LedgerUpgradeFormat {
     }
 }
 
+impl Case for LedgerUpgradeFormat {
+    fn copy(value: &LedgerUpgrade) -> Result<LedgerUpgrade, AllocError> {
+        Ok(*value)
+    }
+
+    ghost lawful = { ledger_upgrade_laws.lawful };
+}
+
 /// Memo, as a format.
 pub enum MemoFormat {}
 
@@ -158,17 +211,23 @@ impl Decode for MemoFormat {
     ghost format = { memo };
 
     fn decode(alloc: Global, cursor: &mut Cursor<'_>) -> Result<Memo, ReadFault> {
-        let mut ahead = cursor.fork();
-        let value = read_memo(alloc, &mut ahead)?.copy()?;
-        *cursor = ahead;
-        Ok(value)
+        read_memo(alloc, cursor)
     }
 }
 
 impl Encode for MemoFormat {
+    #[tactic(auto, using(xdr_core::proofs::FormatLaws::written, xdr_tx::proofs::TransactionLaws::memo_laws))]
     fn encode(value: &Memo, builder: &mut Builder) -> Result<(), AllocError> {
         write_memo(value, builder)
     }
+}
+
+impl Case for MemoFormat {
+    fn copy(value: &Memo) -> Result<Memo, AllocError> {
+        value.copy()
+    }
+
+    ghost lawful = { memo_laws.lawful };
 }
 
 /// ClaimPredicate, as a format.
@@ -182,10 +241,7 @@ impl Decode for PredicateFormat {
     ghost format = { claim_predicate };
 
     fn decode(alloc: Global, cursor: &mut Cursor<'_>) -> Result<ClaimPredicate, ReadFault> {
-        let mut ahead = cursor.fork();
-        let value = read_claim_predicate(alloc, &mut ahead)?.copy()?;
-        *cursor = ahead;
-        Ok(value)
+        read_claim_predicate(alloc, cursor)
     }
 }
 
@@ -193,6 +249,14 @@ impl Encode for PredicateFormat {
     fn encode(value: &ClaimPredicate, builder: &mut Builder) -> Result<(), AllocError> {
         write_claim_predicate(value, builder)
     }
+}
+
+impl Case for PredicateFormat {
+    fn copy(value: &ClaimPredicate) -> Result<ClaimPredicate, AllocError> {
+        value.copy()
+    }
+
+    ghost lawful = { claim_predicate_laws.lawful };
 }
 
 /// Price, as a format.
@@ -211,9 +275,18 @@ impl Decode for PriceFormat {
 }
 
 impl Encode for PriceFormat {
+    #[tactic(auto, using(xdr_core::proofs::FormatLaws::written, xdr_entries::proofs::BasicLaws::price_laws))]
     fn encode(value: &Price, builder: &mut Builder) -> Result<(), AllocError> {
         write_price(value, builder)
     }
+}
+
+impl Case for PriceFormat {
+    fn copy(value: &Price) -> Result<Price, AllocError> {
+        Ok(*value)
+    }
+
+    ghost lawful = { price_laws.lawful };
 }
 
 /// SignerKey, as a format.
@@ -232,9 +305,18 @@ impl Decode for SignerKeyFormat {
 }
 
 impl Encode for SignerKeyFormat {
+    #[tactic(auto, using(xdr_core::proofs::FormatLaws::written, xdr_entries::proofs::BasicLaws::signer_key_laws))]
     fn encode(value: &SignerKey, builder: &mut Builder) -> Result<(), AllocError> {
         write_signer_key(value, builder)
     }
+}
+
+impl Case for SignerKeyFormat {
+    fn copy(value: &SignerKey) -> Result<SignerKey, AllocError> {
+        Ok(*value)
+    }
+
+    ghost lawful = { signer_key_laws.lawful };
 }
 
 /// StellarValue, as a format.
@@ -248,10 +330,7 @@ impl Decode for StellarValueFormat {
     ghost format = { stellar_value };
 
     fn decode(alloc: Global, cursor: &mut Cursor<'_>) -> Result<StellarValue, ReadFault> {
-        let mut ahead = cursor.fork();
-        let value = read_stellar_value(alloc, &mut ahead)?.copy()?;
-        *cursor = ahead;
-        Ok(value)
+        read_stellar_value(alloc, cursor)
     }
 }
 
@@ -259,6 +338,14 @@ impl Encode for StellarValueFormat {
     fn encode(value: &StellarValue, builder: &mut Builder) -> Result<(), AllocError> {
         write_stellar_value(value, builder)
     }
+}
+
+impl Case for StellarValueFormat {
+    fn copy(value: &StellarValue) -> Result<StellarValue, AllocError> {
+        value.copy()
+    }
+
+    ghost lawful = { stellar_value_laws.lawful };
 }
 
 /// TransactionSet, as a format.
@@ -272,10 +359,7 @@ impl Decode for TransactionSetFormat {
     ghost format = { transaction_set };
 
     fn decode(alloc: Global, cursor: &mut Cursor<'_>) -> Result<TransactionSet, ReadFault> {
-        let mut ahead = cursor.fork();
-        let value = read_transaction_set(alloc, &mut ahead)?.copy()?;
-        *cursor = ahead;
-        Ok(value)
+        read_transaction_set(alloc, cursor)
     }
 }
 
@@ -283,6 +367,14 @@ impl Encode for TransactionSetFormat {
     fn encode(value: &TransactionSet, builder: &mut Builder) -> Result<(), AllocError> {
         write_transaction_set(value, builder)
     }
+}
+
+impl Case for TransactionSetFormat {
+    fn copy(value: &TransactionSet) -> Result<TransactionSet, AllocError> {
+        value.copy()
+    }
+
+    ghost lawful = { transaction_set_laws.lawful };
 }
 
 /// TrustLineAsset, as a format.
@@ -301,9 +393,18 @@ impl Decode for TrustLineAssetFormat {
 }
 
 impl Encode for TrustLineAssetFormat {
+    #[tactic(auto, using(xdr_core::proofs::FormatLaws::written, xdr_entries::proofs::BasicLaws::trust_line_asset_laws))]
     fn encode(value: &TrustLineAsset, builder: &mut Builder) -> Result<(), AllocError> {
         write_trust_line_asset(value, builder)
     }
+}
+
+impl Case for TrustLineAssetFormat {
+    fn copy(value: &TrustLineAsset) -> Result<TrustLineAsset, AllocError> {
+        Ok(*value)
+    }
+
+    ghost lawful = { trust_line_asset_laws.lawful };
 }
 
 /// TransactionResultSet, as a format.
@@ -317,10 +418,7 @@ impl Decode for ResultSetFormat {
     ghost format = { transaction_result_set };
 
     fn decode(alloc: Global, cursor: &mut Cursor<'_>) -> Result<TransactionResultSet, ReadFault> {
-        let mut ahead = cursor.fork();
-        let value = read_transaction_result_set(alloc, &mut ahead)?.copy()?;
-        *cursor = ahead;
-        Ok(value)
+        read_transaction_result_set(alloc, cursor)
     }
 }
 
@@ -328,6 +426,14 @@ impl Encode for ResultSetFormat {
     fn encode(value: &TransactionResultSet, builder: &mut Builder) -> Result<(), AllocError> {
         write_transaction_result_set(value, builder)
     }
+}
+
+impl Case for ResultSetFormat {
+    fn copy(value: &TransactionResultSet) -> Result<TransactionResultSet, AllocError> {
+        value.copy()
+    }
+
+    ghost lawful = { transaction_result_set_laws.lawful };
 }
 
 /// StartImage, as a format.
@@ -341,10 +447,7 @@ impl Decode for ImageFormat {
     ghost format = { start_image };
 
     fn decode(alloc: Global, cursor: &mut Cursor<'_>) -> Result<StartImage, ReadFault> {
-        let mut ahead = cursor.fork();
-        let value = read_start_image(alloc, &mut ahead)?.copy()?;
-        *cursor = ahead;
-        Ok(value)
+        read_start_image(alloc, cursor)
     }
 }
 
@@ -352,6 +455,14 @@ impl Encode for ImageFormat {
     fn encode(value: &StartImage, builder: &mut Builder) -> Result<(), AllocError> {
         write_start_image(value, builder)
     }
+}
+
+impl Case for ImageFormat {
+    fn copy(value: &StartImage) -> Result<StartImage, AllocError> {
+        value.copy()
+    }
+
+    ghost lawful = { start_image_laws.lawful };
 }
 
 /// BucketEntry, as a format.
@@ -365,10 +476,7 @@ impl Decode for BucketEntryFormat {
     ghost format = { bucket_entry };
 
     fn decode(alloc: Global, cursor: &mut Cursor<'_>) -> Result<BucketEntry, ReadFault> {
-        let mut ahead = cursor.fork();
-        let value = read_bucket_entry(alloc, &mut ahead)?.copy()?;
-        *cursor = ahead;
-        Ok(value)
+        read_bucket_entry(alloc, cursor)
     }
 }
 
@@ -376,4 +484,52 @@ impl Encode for BucketEntryFormat {
     fn encode(value: &BucketEntry, builder: &mut Builder) -> Result<(), AllocError> {
         write_bucket_entry(value, builder)
     }
+}
+
+impl Case for BucketEntryFormat {
+    fn copy(value: &BucketEntry) -> Result<BucketEntry, AllocError> {
+        value.copy()
+    }
+
+    ghost lawful = { bucket_entry_laws.lawful };
+}
+
+impl Case for AssetFormat {
+    fn copy(value: &Asset) -> Result<Asset, AllocError> {
+        Ok(*value)
+    }
+
+    ghost lawful = { asset_laws.lawful };
+}
+
+impl Case for ClaimantFormat {
+    fn copy(value: &Claimant) -> Result<Claimant, AllocError> {
+        value.copy()
+    }
+
+    ghost lawful = { claimant_laws.lawful };
+}
+
+impl Case for SignerFormat {
+    fn copy(value: &Signer) -> Result<Signer, AllocError> {
+        Ok(*value)
+    }
+
+    ghost lawful = { signer_laws.lawful };
+}
+
+impl Case for OperationFormat {
+    fn copy(value: &Operation) -> Result<Operation, AllocError> {
+        value.copy()
+    }
+
+    ghost lawful = { operation_laws.lawful };
+}
+
+impl Case for TransactionEnvelopeFormat {
+    fn copy(value: &TransactionEnvelope) -> Result<TransactionEnvelope, AllocError> {
+        value.copy()
+    }
+
+    ghost lawful = { transaction_envelope_laws.lawful };
 }

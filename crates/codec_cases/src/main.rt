@@ -1,8 +1,9 @@
-//! Runs the vectors in a folder: those of an independent program (`vectors.tsv`), and those laid out by hand (`by_hand.tsv`).
+//! Runs the vectors in a folder: those of an independent program (`vectors.tsv`), and those laid out by hand
+//! (`by_hand.tsv`).
 //!
-//! A line has a type, an input in hexadecimal, and what the codec has to make of it: `value N`, where a spelling of N bytes is a front
-//! of the input, and the value written again gives these bytes; or a fault and its place. Prints the number of vectors of each type,
-//! and before it each vector that goes otherwise.
+//! A line has a type, an input in hexadecimal, and what the codec has to make of it: `value N`, where a spelling of N
+//! bytes is a front of the input, and a copy of the value written again gives these bytes; or a fault and its place.
+//! Prints the number of vectors of each type, and before it each vector that goes otherwise.
 //!
 //! The folder is the program's one argument, or `data` where there is none.
 #![tactic(auto)]
@@ -16,6 +17,7 @@ use formats::{
     ResultSetFormat, SignerKeyFormat, StellarValueFormat, TransactionSetFormat,
     TrustLineAssetFormat,
 };
+use hex::FromHexError;
 use std::alloc::{AllocError, Global};
 use std::rt::Files;
 use std::{env, fs, io};
@@ -24,128 +26,126 @@ use xdr_entries::{AssetFormat, ClaimantFormat, SignerFormat};
 use xdr_tx::{OperationFormat, TransactionEnvelopeFormat};
 
 /// The types that the vectors are of.
-const KINDS: [&str; 20] = [
-    "Asset",
-    "BucketEntry",
-    "Claimant",
-    "CloseRecord",
-    "Envelope",
-    "LedgerEntry",
-    "LedgerHeader",
-    "LedgerKey",
-    "LedgerUpgrade",
-    "Memo",
-    "Operation",
-    "Predicate",
-    "Price",
-    "Signer",
-    "SignerKey",
-    "StartImage",
-    "StellarValue",
-    "TransactionResultSet",
-    "TransactionSet",
-    "TrustLineAsset",
+#[derive(Clone, Copy)]
+enum Kind {
+    Asset,
+    BucketEntry,
+    Claimant,
+    CloseRecord,
+    Envelope,
+    LedgerEntry,
+    LedgerHeader,
+    LedgerKey,
+    LedgerUpgrade,
+    Memo,
+    Operation,
+    Predicate,
+    Price,
+    Signer,
+    SignerKey,
+    StartImage,
+    StellarValue,
+    TransactionResultSet,
+    TransactionSet,
+    TrustLineAsset,
+}
+
+/// Each of them under its name.
+const KINDS: [(&str, Kind); 20] = [
+    ("Asset", Kind::Asset),
+    ("BucketEntry", Kind::BucketEntry),
+    ("Claimant", Kind::Claimant),
+    ("CloseRecord", Kind::CloseRecord),
+    ("Envelope", Kind::Envelope),
+    ("LedgerEntry", Kind::LedgerEntry),
+    ("LedgerHeader", Kind::LedgerHeader),
+    ("LedgerKey", Kind::LedgerKey),
+    ("LedgerUpgrade", Kind::LedgerUpgrade),
+    ("Memo", Kind::Memo),
+    ("Operation", Kind::Operation),
+    ("Predicate", Kind::Predicate),
+    ("Price", Kind::Price),
+    ("Signer", Kind::Signer),
+    ("SignerKey", Kind::SignerKey),
+    ("StartImage", Kind::StartImage),
+    ("StellarValue", Kind::StellarValue),
+    ("TransactionResultSet", Kind::TransactionResultSet),
+    ("TransactionSet", Kind::TransactionSet),
+    ("TrustLineAsset", Kind::TrustLineAsset),
 ];
 
-/// What the codec of a type of ledger entries makes of an input, where it has one.
-fn entry_verdict(alloc: Global, kind: &str, input: &[u8]) -> Result<Option<String>, AllocError> {
-    xdr_entries::laws::reading_and_spelling_agree();
-    match kind.as_bytes() {
-        b"Asset" => Ok(Some(verdict_of::<AssetFormat>(alloc, input)?)),
-        b"BucketEntry" => Ok(Some(verdict_of::<BucketEntryFormat>(alloc, input)?)),
-        b"Claimant" => Ok(Some(verdict_of::<ClaimantFormat>(alloc, input)?)),
-        b"LedgerEntry" => Ok(Some(verdict_of::<LedgerEntryFormat>(alloc, input)?)),
-        b"LedgerKey" => Ok(Some(verdict_of::<LedgerKeyFormat>(alloc, input)?)),
-        b"Predicate" => Ok(Some(verdict_of::<PredicateFormat>(alloc, input)?)),
-        b"Price" => Ok(Some(verdict_of::<PriceFormat>(alloc, input)?)),
-        b"Signer" => Ok(Some(verdict_of::<SignerFormat>(alloc, input)?)),
-        b"SignerKey" => Ok(Some(verdict_of::<SignerKeyFormat>(alloc, input)?)),
-        b"TrustLineAsset" => Ok(Some(verdict_of::<TrustLineAssetFormat>(alloc, input)?)),
-        _ => Ok(None),
-    }
-}
-
-/// What the codec of a type of transactions makes of an input, where it has one.
-fn transaction_verdict(
-    alloc: Global,
-    kind: &str,
-    input: &[u8],
-) -> Result<Option<String>, AllocError> {
-    xdr_tx::laws::reading_and_spelling_agree();
-    match kind.as_bytes() {
-        b"Envelope" => Ok(Some(verdict_of::<TransactionEnvelopeFormat>(alloc, input)?)),
-        b"Memo" => Ok(Some(verdict_of::<MemoFormat>(alloc, input)?)),
-        b"Operation" => Ok(Some(verdict_of::<OperationFormat>(alloc, input)?)),
-        b"TransactionSet" => Ok(Some(verdict_of::<TransactionSetFormat>(alloc, input)?)),
-        _ => Ok(None),
-    }
-}
-
-/// What the codec of a type of headers, records or images makes of an input, where it has one.
-fn header_verdict(alloc: Global, kind: &str, input: &[u8]) -> Result<Option<String>, AllocError> {
-    xdr_header::laws::reading_and_spelling_agree();
-    match kind.as_bytes() {
-        b"CloseRecord" => Ok(Some(verdict_of::<CloseRecordFormat>(alloc, input)?)),
-        b"LedgerHeader" => Ok(Some(verdict_of::<LedgerHeaderFormat>(alloc, input)?)),
-        b"LedgerUpgrade" => Ok(Some(verdict_of::<LedgerUpgradeFormat>(alloc, input)?)),
-        b"StartImage" => Ok(Some(verdict_of::<ImageFormat>(alloc, input)?)),
-        b"StellarValue" => Ok(Some(verdict_of::<StellarValueFormat>(alloc, input)?)),
-        _ => Ok(None),
-    }
-}
-
-/// What the codec of a type of results makes of an input, where it has one.
-fn result_verdict(alloc: Global, kind: &str, input: &[u8]) -> Result<Option<String>, AllocError> {
-    xdr_results::laws::reading_and_spelling_agree();
-    match kind.as_bytes() {
-        b"TransactionResultSet" => Ok(Some(verdict_of::<ResultSetFormat>(alloc, input)?)),
-        _ => Ok(None),
-    }
-}
-
 /// What the codec of a type makes of an input.
-fn any_verdict(alloc: Global, kind: &str, input: &[u8]) -> Result<String, AllocError> {
-    if let Some(verdict) = entry_verdict(alloc, kind, input)? {
-        return Ok(verdict);
+fn any_verdict(alloc: Global, kind: Kind, input: &[u8]) -> Result<String, AllocError> {
+    match kind {
+        Kind::Asset => verdict_of::<AssetFormat>(alloc, input),
+        Kind::BucketEntry => verdict_of::<BucketEntryFormat>(alloc, input),
+        Kind::Claimant => verdict_of::<ClaimantFormat>(alloc, input),
+        Kind::CloseRecord => verdict_of::<CloseRecordFormat>(alloc, input),
+        Kind::Envelope => verdict_of::<TransactionEnvelopeFormat>(alloc, input),
+        Kind::LedgerEntry => verdict_of::<LedgerEntryFormat>(alloc, input),
+        Kind::LedgerHeader => verdict_of::<LedgerHeaderFormat>(alloc, input),
+        Kind::LedgerKey => verdict_of::<LedgerKeyFormat>(alloc, input),
+        Kind::LedgerUpgrade => verdict_of::<LedgerUpgradeFormat>(alloc, input),
+        Kind::Memo => verdict_of::<MemoFormat>(alloc, input),
+        Kind::Operation => verdict_of::<OperationFormat>(alloc, input),
+        Kind::Predicate => verdict_of::<PredicateFormat>(alloc, input),
+        Kind::Price => verdict_of::<PriceFormat>(alloc, input),
+        Kind::Signer => verdict_of::<SignerFormat>(alloc, input),
+        Kind::SignerKey => verdict_of::<SignerKeyFormat>(alloc, input),
+        Kind::StartImage => verdict_of::<ImageFormat>(alloc, input),
+        Kind::StellarValue => verdict_of::<StellarValueFormat>(alloc, input),
+        Kind::TransactionResultSet => verdict_of::<ResultSetFormat>(alloc, input),
+        Kind::TransactionSet => verdict_of::<TransactionSetFormat>(alloc, input),
+        Kind::TrustLineAsset => verdict_of::<TrustLineAssetFormat>(alloc, input),
     }
-    if let Some(verdict) = transaction_verdict(alloc, kind, input)? {
-        return Ok(verdict);
+}
+
+/// The bytes that a text says in hexadecimal, or none where it is none.
+fn bytes_of(alloc: Global, digits: &str) -> Result<Option<Vec<u8>>, AllocError> {
+    match hex::decode(alloc, digits) {
+        Ok(bytes) => Ok(Some(bytes)),
+        Err(FromHexError::OutOfMemory) => Err(AllocError),
+        Err(_) => Ok(None),
     }
-    if let Some(verdict) = header_verdict(alloc, kind, input)? {
-        return Ok(verdict);
+}
+
+/// Runs a vector of a type, and prints it where it goes otherwise.
+fn run_input<R: Print + AllocGlobal>(
+    rt: &R,
+    kind: (&str, Kind),
+    digits: &str,
+    wanted: &str,
+) -> io::Result<()> {
+    let (name, kind) = kind;
+    let Some(input) = bytes_of(rt.alloc(), digits)? else {
+        return println!(rt; "{name}: no hexadecimal: {digits}");
+    };
+    let given = any_verdict(rt.alloc(), kind, input.as_slice())?;
+    if given.as_str() == wanted {
+        return Ok(());
     }
-    if let Some(verdict) = result_verdict(alloc, kind, input)? {
-        return Ok(verdict);
-    }
-    String::from_str(alloc, "no such type")
+    println!(rt; "{name}: {given}, and not {wanted}: {digits}")
 }
 
 /// Runs one vector. Answers whether it is of the type, and prints what goes otherwise.
-fn run_vector<R: Print + AllocGlobal>(rt: &R, kind: &str, line: &str) -> io::Result<bool> {
+fn run_vector<R: Print + AllocGlobal>(rt: &R, kind: (&str, Kind), line: &str) -> io::Result<bool> {
     let Some((named, rest)) = line.split_once('\t') else {
         return Ok(false);
     };
     let Some((digits, wanted)) = rest.split_once('\t') else {
         return Ok(false);
     };
-    if named != kind {
+    if named != kind.0 {
         return Ok(false);
     }
-    let Ok(input) = hex::decode(rt.alloc(), digits) else {
-        println!(rt; "{kind}: no hexadecimal: {digits}")?;
-        return Ok(true);
-    };
-    let given = any_verdict(rt.alloc(), kind, input.as_slice())?;
-    if given.as_str() != wanted {
-        println!(rt; "{kind}: {given}, and not {wanted}: {digits}")?;
-    }
+    run_input(rt, kind, digits, wanted)?;
     Ok(true)
 }
 
 /// Runs the vectors of a type, and prints how many there were.
 fn run_kind<R: Print + AllocGlobal>(
     rt: &R,
-    kind: &str,
+    kind: (&str, Kind),
     vectors: &str,
     by_hand: &str,
 ) -> io::Result<()> {
@@ -160,7 +160,8 @@ fn run_kind<R: Print + AllocGlobal>(
             count = count.saturating_add(1);
         }
     }
-    println!(rt; "{kind}: {count}")
+    let (name, _) = kind;
+    println!(rt; "{name}: {count}")
 }
 
 /// The text of a file in the folder.

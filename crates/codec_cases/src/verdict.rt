@@ -1,33 +1,55 @@
 //! What a codec makes of an input.
 
+ghost use Rattle.std.specs.Prelude.{◌≡◌, IfOk};
 ghost use Rattle.xdr_core.specs.Format.{Lawful};
 
 use std::alloc::{AllocError, Global};
 use xdr_core::{Builder, Cursor, Decode, Encode, ReadFault, XdrKind};
 
-/// What a codec makes of an input, in the words of the vectors: the number of bytes that it takes for a value, which written again gives
-/// them, or its fault and the fault's place.
-#[tactic(auto, using(crate::proofs::Within::read_within))]
-pub fn verdict_of<E: Encode + Decode<Failure = ReadFault>>(
+/// A type that vectors are of: its codec, and how a value is copied.
+pub trait Case: Encode {
+    /// The same value once more.
+    fn copy(value: &Self::Value) -> Result<Self::Value, AllocError>
+        ensures { IfOk result (λ copy. copy ≡ value.now) };
+
+    // What is read is spelled so, and what is spelled so is read.
+    ghost lawful: { Lawful Self.format };
+}
+
+/// What a codec makes of an input, in the words of the vectors: the number of bytes that it takes for a value, a copy
+/// of which written again gives them, or its fault and the fault's place.
+pub fn verdict_of<C: Case + Decode<Failure = ReadFault>>(
     alloc: Global,
     input: &[u8],
-) -> Result<String, AllocError>
-    requires { Lawful E.format }
-{
+) -> Result<String, AllocError> {
     let mut cursor = Cursor::new(input);
-    let value = match E::decode(alloc, &mut cursor) {
-        Ok(value) => value,
+    match C::decode(alloc, &mut cursor) {
+        Ok(value) => {
+            let behind = cursor.fault(XdrKind::Trailing).at;
+            verdict_of_value::<C>(alloc, &value, input, behind)
+        }
         Err(ReadFault::Xdr(fault)) => {
             let kind = fault.kind;
             let at = fault.at;
-            return format!(in alloc; "{kind:?} {at}");
+            format!(in alloc; "{kind:?} {at}")
         }
-        Err(ReadFault::NoMemory) => return Err(AllocError),
-    };
+        Err(ReadFault::NoMemory) => Err(AllocError),
+    }
+}
+
+/// Whether a value that was read from a front of `behind` bytes gives them again.
+fn verdict_of_value<C: Case>(
+    alloc: Global,
+    value: &C::Value,
+    input: &[u8],
+    behind: usize,
+) -> Result<String, AllocError>
+    requires { C.format.within value.now }
+{
+    let copy = C::copy(value)?;
     let mut builder = Builder::new(alloc);
-    E::encode(&value, &mut builder)?;
+    C::encode(&copy, &mut builder)?;
     let written = builder.as_slice();
-    let behind = cursor.fault(XdrKind::Trailing).at;
     if behind != written.len() || !input.starts_with(written) {
         return format!(in alloc; "other bytes, up to {behind}");
     }

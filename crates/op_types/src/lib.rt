@@ -11,6 +11,7 @@ mod offer_ops;
 mod offer_results;
 mod operation;
 mod operation_result;
+pub mod operation_type;
 mod payment_ops;
 mod payment_results;
 mod pool_ops;

@@ -1,9 +1,5 @@
 //! Values read from a text, and written again.
 
-ghost use Rattle.xdr_core.specs.Format.{Lawful};
-ghost use Rattle.xdr_entries.specs.Entries.{ledger_entry};
-ghost use Rattle.xdr_tx.specs.Transactions.{transaction_set};
-
 use std::alloc::Global;
 use xdr_core::{Builder, Cursor};
 use xdr_entries::{read_ledger_entry, write_ledger_entry};
@@ -18,11 +14,10 @@ pub struct Done {
     pub written: usize,
 }
 
-/// Reads the ledger entries of a text, one behind another, and writes them again where `again` says so. Answers none where the text is
-/// none, or memory is refused.
-pub fn pass_entries(alloc: Global, text: &[u8], again: bool) -> Option<Done>
-    requires { Lawful ledger_entry }
-{
+/// Reads the ledger entries of a text, one behind another, and writes them again where `again` says so. Answers none
+/// where the text is none, or memory is refused.
+pub fn pass_entries(alloc: Global, text: &[u8], again: bool) -> Option<Done> {
+    xdr_entries::laws::reading_and_spelling_agree();
     let mut cursor = Cursor::new(text);
     let mut builder = Builder::new(alloc);
     let mut values = 0u64;
@@ -43,11 +38,10 @@ pub fn pass_entries(alloc: Global, text: &[u8], again: bool) -> Option<Done>
     Some(Done { values, written })
 }
 
-/// Reads the transaction set of a text, and writes it again where `again` says so. Answers none where the text is none, or memory is
-/// refused.
-pub fn pass_set(alloc: Global, text: &[u8], again: bool) -> Option<Done>
-    requires { Lawful transaction_set }
-{
+/// Reads the transaction set of a text, and writes it again where `again` says so. Answers none where the text is none,
+/// or memory is refused.
+pub fn pass_set(alloc: Global, text: &[u8], again: bool) -> Option<Done> {
+    xdr_tx::laws::reading_and_spelling_agree();
     let mut cursor = Cursor::new(text);
     let mut builder = Builder::new(alloc);
     let set = match read_transaction_set(alloc, &mut cursor) {

@@ -27,10 +27,11 @@ pub struct Tally {
     pub amounts: i64,
 }
 
-/// Makes a base of `count` offers, numbered from 0 on. Where `over` says so, `count` offers of the even numbers are put over it, and
-/// the offers of the base's numbers are got. So half the puts replace an offer of the base and half add one, and half the gets find
-/// their offer in the layer of changes and half in the base under it. Puts and gets go in large steps, each in an order of its own,
-/// since neighbours are near in memory. All offers have one seller, so that two keys differ in their last field alone.
+/// Makes a base of `count` offers, numbered from 0 on. Where `over` says so, `count` offers of the even numbers are put
+/// over it, and the offers of the base's numbers are got. So half the puts replace an offer of the base and half add
+/// one, and half the gets find their offer in the layer of changes and half in the base under it. Puts and gets go in
+/// large steps, each in an order of its own, since neighbours are near in memory. All offers have one seller, so that
+/// two keys differ in their last field alone.
 pub fn pass_offers(alloc: Global, count: u32, over: bool) -> Result<Tally, AllocError> {
     let seller_id = AccountId([7; 32]);
     let base = MapBase::from_entries(first_offers(alloc, seller_id, count)?)?;

@@ -23,8 +23,6 @@ use std::{env, fs, io};
 
 /// Runs a command on a text, where there is such a command.
 fn run<R: AllocGlobal>(rt: &R, command: &str, text: &[u8]) -> Option<Done> {
-    xdr_entries::laws::reading_and_spelling_agree();
-    xdr_tx::laws::reading_and_spelling_agree();
     match command.as_bytes() {
         b"entries" => pass_entries(rt.alloc(), text, false),
         b"entries-again" => pass_entries(rt.alloc(), text, true),

@@ -1,5 +1,5 @@
--- The hashes of values: SHA-256 of the one spelling, and of what the protocol puts in front of it (CAP-0015, Stellar-transaction.x,
--- Stellar-ledger.x).
+-- The hashes of values: SHA-256 of the one spelling, and of what the protocol puts in front of it (CAP-0015,
+-- Stellar-transaction.x, Stellar-ledger.x).
 use Rattle.std.specs.Prelude.{pos, ◌++◌}
 use Rattle.xdr_core.specs.Leaves.{i32}
 use Rattle.ledger_types.specs.declared.ids.Hash.{Hash}
@@ -19,7 +19,8 @@ use Rattle.hash_ids.specs.Ids.{hash_of, tx_hash_of}
 abbrev pub transaction_hash_of : Hash → Transaction → Hash
 transaction_hash_of network tx = tx_hash_of network 2 (transaction.spell tx)
 
--- the hash of a transaction of the first version: as that of a transaction, whose source begins with the type 0 of its key
+-- the hash of a transaction of the first version: as that of a transaction, whose source begins with the type 0 of its
+-- key
 abbrev pub transaction_v0_hash_of : Hash → TransactionV0 → Hash
 transaction_v0_hash_of network tx = tx_hash_of network 2 (i32.spell (pos 0) ++ transaction_v0.spell tx)
 

@@ -1,8 +1,7 @@
 //! The hashes of envelopes: the one that signatures are made over, and that of the envelope with its signatures.
 
 ghost use Rattle.std.specs.Prelude.{◌≡◌, IfOk};
-ghost use Rattle.xdr_core.specs.Format.{Lawful};
-ghost use Rattle.xdr_tx.specs.Transactions.{transaction, transaction_v0, fee_bump_transaction, transaction_envelope};
+ghost use Rattle.xdr_tx.specs.Transactions.{transaction_envelope};
 ghost use Rattle.value_hashes.specs.Hashes.{signed_hash_of, envelope_hash_of};
 
 use crate::transaction::{fee_bump_hash, transaction_hash, transaction_v0_hash};
@@ -13,31 +12,15 @@ use std::alloc::{AllocError, Global};
 use xdr_core::Builder;
 use xdr_tx::write_transaction_envelope;
 
-/// The hash that the signatures of an envelope are made over, on the network with this id: of its transaction, or of its fee bump. The
-/// envelope has a spelling: its lists and texts keep their bounds.
+/// The hash that the signatures of an envelope are made over, on the network with this id: of its transaction, or of
+/// its fee bump. The envelope has a spelling: its lists and texts keep their bounds.
+#[tactic(auto, unfolding(xdr_tx::specs::Transactions::transaction_envelope))]
 pub fn signed_hash(
     alloc: Global,
     network: &Hash,
     envelope: &TransactionEnvelope,
 ) -> Result<Hash, AllocError>
     requires { transaction_envelope.within envelope.now }
-    ensures { IfOk result (λ hash. hash ≡ signed_hash_of network.now envelope.now) }
-{
-    xdr_tx::laws::reading_and_spelling_agree();
-    signed_hash_by_law(alloc, network, envelope)
-}
-
-/// The hash that signatures are made over, where the laws of the formats are given.
-#[tactic(auto, unfolding(xdr_tx::specs::Transactions::transaction_envelope))]
-fn signed_hash_by_law(
-    alloc: Global,
-    network: &Hash,
-    envelope: &TransactionEnvelope,
-) -> Result<Hash, AllocError>
-    requires within { transaction_envelope.within envelope.now }
-    requires transactions { Lawful transaction }
-    requires first_versions { Lawful transaction_v0 }
-    requires fee_bumps { Lawful fee_bump_transaction }
     ensures { IfOk result (λ hash. hash ≡ signed_hash_of network.now envelope.now) }
 {
     match envelope {
@@ -50,16 +33,6 @@ fn signed_hash_by_law(
 /// The hash of an envelope with its signatures, which has a spelling: its lists and texts keep their bounds.
 pub fn envelope_hash(alloc: Global, envelope: &TransactionEnvelope) -> Result<Hash, AllocError>
     requires { transaction_envelope.within envelope.now }
-    ensures { IfOk result (λ hash. hash ≡ envelope_hash_of envelope.now) }
-{
-    xdr_tx::laws::reading_and_spelling_agree();
-    envelope_hash_by_law(alloc, envelope)
-}
-
-/// The hash of an envelope with its signatures, where the law of its format is given.
-fn envelope_hash_by_law(alloc: Global, envelope: &TransactionEnvelope) -> Result<Hash, AllocError>
-    requires within { transaction_envelope.within envelope.now }
-    requires law { Lawful transaction_envelope }
     ensures { IfOk result (λ hash. hash ≡ envelope_hash_of envelope.now) }
 {
     let mut builder = Builder::new(alloc);

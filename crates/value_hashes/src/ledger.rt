@@ -1,7 +1,6 @@
 //! The hashes of a ledger: of its header, and of the results of its transactions.
 
 ghost use Rattle.std.specs.Prelude.{◌≡◌, IfOk};
-ghost use Rattle.xdr_core.specs.Format.{Lawful};
 ghost use Rattle.xdr_header.specs.Header.{ledger_header};
 ghost use Rattle.xdr_results.specs.Results.{transaction_result_set};
 ghost use Rattle.value_hashes.specs.Hashes.{ledger_hash_of, results_hash_of};
@@ -19,16 +18,6 @@ pub fn ledger_hash(alloc: Global, header: &LedgerHeader) -> Result<Hash, AllocEr
     requires { ledger_header.within header.now }
     ensures { IfOk result (λ hash. hash ≡ ledger_hash_of header.now) }
 {
-    xdr_header::laws::reading_and_spelling_agree();
-    ledger_hash_by_law(alloc, header)
-}
-
-/// The hash of a ledger, where the law of the header's format is given.
-fn ledger_hash_by_law(alloc: Global, header: &LedgerHeader) -> Result<Hash, AllocError>
-    requires within { ledger_header.within header.now }
-    requires law { Lawful ledger_header }
-    ensures { IfOk result (λ hash. hash ≡ ledger_hash_of header.now) }
-{
     let mut builder = Builder::new(alloc);
     write_ledger_header(header, &mut builder)?;
     header_hash(builder.as_slice())
@@ -37,16 +26,6 @@ fn ledger_hash_by_law(alloc: Global, header: &LedgerHeader) -> Result<Hash, Allo
 /// The hash of a ledger's results, which have a spelling: their lists keep their bounds.
 pub fn results_hash(alloc: Global, results: &TransactionResultSet) -> Result<Hash, AllocError>
     requires { transaction_result_set.within results.now }
-    ensures { IfOk result (λ hash. hash ≡ results_hash_of results.now) }
-{
-    xdr_results::laws::reading_and_spelling_agree();
-    results_hash_by_law(alloc, results)
-}
-
-/// The hash of a ledger's results, where the law of their format is given.
-fn results_hash_by_law(alloc: Global, results: &TransactionResultSet) -> Result<Hash, AllocError>
-    requires within { transaction_result_set.within results.now }
-    requires law { Lawful transaction_result_set }
     ensures { IfOk result (λ hash. hash ≡ results_hash_of results.now) }
 {
     let mut builder = Builder::new(alloc);

@@ -1,17 +1,13 @@
-//! Hashes of envelopes laid out by hand, which another SHA-256 makes of their preimages, and the published hash of the public network's
-//! first ledger.
+//! Hashes of envelopes laid out by hand, which another SHA-256 makes of their preimages, and the published hash of the
+//! public network's first ledger.
 
 ghost use Rattle.std.specs.Prelude.{IfSome};
-ghost use Rattle.xdr_core.specs.Format.{Lawful};
-ghost use Rattle.xdr_header.specs.Header.{ledger_header};
-ghost use Rattle.xdr_results.specs.Results.{transaction_result_set};
 ghost use Rattle.xdr_tx.specs.Transactions.{transaction_envelope};
 
 use super::*;
 use ledger_types::Hash;
 use op_types::TransactionEnvelope;
 use std::alloc::Global;
-use std::test::Fail;
 use xdr_core::Cursor;
 use xdr_header::read_ledger_header;
 use xdr_results::read_transaction_result_set;
@@ -116,9 +112,9 @@ const NO_RESULTS: Hash = Hash([
 
 /// The envelope with this spelling.
 fn envelope_of(alloc: Global, text: &[u8]) -> Option<TransactionEnvelope>
-    requires { Lawful transaction_envelope }
     ensures { IfSome result (λ envelope. transaction_envelope.within envelope) }
 {
+    xdr_tx::laws::reading_and_spelling_agree();
     let mut cursor = Cursor::new(text);
     match read_transaction_envelope(alloc, &mut cursor) {
         Ok(envelope) => Some(envelope),
@@ -127,95 +123,55 @@ fn envelope_of(alloc: Global, text: &[u8]) -> Option<TransactionEnvelope>
 }
 
 /// The hash that the signatures of the envelope with this spelling are made over, on the test network.
-fn signed_hash_of_text(alloc: Global, text: &[u8]) -> Option<Hash>
-    requires { Lawful transaction_envelope }
-{
+fn signed_hash_of_text(alloc: Global, text: &[u8]) -> Option<Hash> {
     let envelope = envelope_of(alloc, text)?;
     signed_hash(alloc, &TEST_NETWORK, &envelope).ok()
 }
 
 /// The hash of the envelope with this spelling.
-fn envelope_hash_of_text(alloc: Global, text: &[u8]) -> Option<Hash>
-    requires { Lawful transaction_envelope }
-{
+fn envelope_hash_of_text(alloc: Global, text: &[u8]) -> Option<Hash> {
     let envelope = envelope_of(alloc, text)?;
     envelope_hash(alloc, &envelope).ok()
 }
 
 /// The hash of the ledger whose header has this spelling.
-fn ledger_hash_of_text(alloc: Global, text: &[u8]) -> Option<Hash>
-    requires { Lawful ledger_header }
-{
+fn ledger_hash_of_text(alloc: Global, text: &[u8]) -> Option<Hash> {
+    xdr_header::laws::reading_and_spelling_agree();
     let mut cursor = Cursor::new(text);
-    let header = match read_ledger_header(alloc, &mut cursor) {
-        Ok(header) => header,
-        Err(_) => return None,
-    };
-    ledger_hash(alloc, &header).ok()
+    match read_ledger_header(alloc, &mut cursor) {
+        Ok(header) => ledger_hash(alloc, &header).ok(),
+        Err(_) => None,
+    }
 }
 
 /// The hash of the results with this spelling.
-fn results_hash_of_text(alloc: Global, text: &[u8]) -> Option<Hash>
-    requires { Lawful transaction_result_set }
-{
-    let mut cursor = Cursor::new(text);
-    let results = match read_transaction_result_set(alloc, &mut cursor) {
-        Ok(results) => results,
-        Err(_) => return None,
-    };
-    results_hash(alloc, &results).ok()
-}
-
-#[test]
-fn a_transaction_of_either_version_has_the_same_hash(rt: HostRuntime) -> Result<(), Fail> {
-    xdr_tx::laws::reading_and_spelling_agree();
-    assert_eq!(rt;
-        signed_hash_of_text(rt.alloc(), &BUMP_SEQUENCE),
-        Some(HASH_OF_BUMP_SEQUENCE)
-    );
-    assert_eq!(rt;
-        signed_hash_of_text(rt.alloc(), &BUMP_SEQUENCE_V0),
-        Some(HASH_OF_BUMP_SEQUENCE)
-    );
-    Ok(())
-}
-
-#[test]
-fn a_fee_bump_has_its_own_hash(rt: HostRuntime) -> Result<(), Fail> {
-    xdr_tx::laws::reading_and_spelling_agree();
-    assert_eq!(rt;
-        signed_hash_of_text(rt.alloc(), &FEE_BUMP),
-        Some(HASH_OF_FEE_BUMP)
-    );
-    Ok(())
-}
-
-#[test]
-fn the_hash_of_an_envelope_covers_its_signatures(rt: HostRuntime) -> Result<(), Fail> {
-    xdr_tx::laws::reading_and_spelling_agree();
-    assert_eq!(rt;
-        envelope_hash_of_text(rt.alloc(), &BUMP_SEQUENCE),
-        Some(HASH_OF_ENVELOPE)
-    );
-    Ok(())
-}
-
-#[test]
-fn the_first_ledger_has_its_published_hash(rt: HostRuntime) -> Result<(), Fail> {
-    xdr_header::laws::reading_and_spelling_agree();
-    assert_eq!(rt;
-        ledger_hash_of_text(rt.alloc(), &FIRST_HEADER),
-        Some(FIRST_LEDGER)
-    );
-    Ok(())
-}
-
-#[test]
-fn no_results_have_the_hash_of_four_zero_bytes(rt: HostRuntime) -> Result<(), Fail> {
+fn results_hash_of_text(alloc: Global, text: &[u8]) -> Option<Hash> {
     xdr_results::laws::reading_and_spelling_agree();
-    assert_eq!(rt;
-        results_hash_of_text(rt.alloc(), &[0u8; 4]),
-        Some(NO_RESULTS)
-    );
-    Ok(())
+    let mut cursor = Cursor::new(text);
+    match read_transaction_result_set(alloc, &mut cursor) {
+        Ok(set) => results_hash(alloc, &set).ok(),
+        Err(_) => None,
+    }
+}
+
+#[test]
+fn texts_have_the_hashes_that_another_sha256_makes_or_the_network_published(rt: HostRuntime) {
+    let alloc = rt.alloc();
+    let given = [
+        signed_hash_of_text(alloc, &BUMP_SEQUENCE),
+        signed_hash_of_text(alloc, &BUMP_SEQUENCE_V0),
+        signed_hash_of_text(alloc, &FEE_BUMP),
+        envelope_hash_of_text(alloc, &BUMP_SEQUENCE),
+        ledger_hash_of_text(alloc, &FIRST_HEADER),
+        results_hash_of_text(alloc, &[0u8; 4]),
+    ];
+    let wanted = [
+        Some(HASH_OF_BUMP_SEQUENCE),
+        Some(HASH_OF_BUMP_SEQUENCE),
+        Some(HASH_OF_FEE_BUMP),
+        Some(HASH_OF_ENVELOPE),
+        Some(FIRST_LEDGER),
+        Some(NO_RESULTS),
+    ];
+    assert!(rt; given == wanted);
 }

@@ -1,23 +1,15 @@
-//! The hash that signatures are made over, for each of the three kinds of envelopes. The laws of the formats are given, as one call
-//! states them all.
+//! The hash that signatures are made over, for each of the three kinds of envelopes.
 
 ghost use Rattle.std.specs.Prelude.{◌≡◌, IfOk};
-ghost use Rattle.xdr_core.specs.Format.{Lawful};
-ghost use Rattle.xdr_tx.specs.Transactions.{transaction, transaction_v0, fee_bump_transaction, transaction_v1_envelope, transaction_v0_envelope, fee_bump_envelope};
+ghost use Rattle.xdr_tx.specs.Transactions as spec;
 ghost use Rattle.value_hashes.specs.Hashes.{transaction_hash_of, transaction_v0_hash_of, fee_bump_hash_of};
 
 use hash_ids::tx_hash;
-use ledger_types::Hash;
+use ledger_types::{ENVELOPE_TYPE_TX, ENVELOPE_TYPE_TX_FEE_BUMP, Hash};
 use op_types::{FeeBumpTransactionEnvelope, TransactionV0Envelope, TransactionV1Envelope};
 use std::alloc::{AllocError, Global};
 use xdr_core::Builder;
 use xdr_tx::{write_fee_bump_transaction, write_transaction, write_transaction_v0};
-
-/// ENVELOPE_TYPE_TX (Stellar-ledger-entries.x), the type in front of transactions of both versions.
-const ENVELOPE_TYPE_TX: u32 = 2;
-
-/// ENVELOPE_TYPE_TX_FEE_BUMP (Stellar-ledger-entries.x).
-const ENVELOPE_TYPE_TX_FEE_BUMP: u32 = 5;
 
 /// KEY_TYPE_ED25519 (Stellar-types.x).
 const KEY_TYPE_ED25519: i32 = 0;
@@ -29,13 +21,12 @@ pub fn transaction_hash(
     network: &Hash,
     envelope: &TransactionV1Envelope,
 ) -> Result<Hash, AllocError>
-    requires within { transaction_v1_envelope.within envelope.now }
-    requires law { Lawful transaction }
+    requires { spec.transaction_v1_envelope.within envelope.now }
     ensures { IfOk result (λ hash. hash ≡ transaction_hash_of network.now envelope.now.tx) }
 {
     let mut builder = Builder::new(alloc);
     write_transaction(&envelope.tx, &mut builder)?;
-    tx_hash(network, ENVELOPE_TYPE_TX, builder.as_slice())
+    tx_hash(network, ENVELOPE_TYPE_TX as u32, builder.as_slice())
 }
 
 /// The hash of a transaction of the first version.
@@ -45,14 +36,13 @@ pub fn transaction_v0_hash(
     network: &Hash,
     envelope: &TransactionV0Envelope,
 ) -> Result<Hash, AllocError>
-    requires within { transaction_v0_envelope.within envelope.now }
-    requires law { Lawful transaction_v0 }
+    requires { spec.transaction_v0_envelope.within envelope.now }
     ensures { IfOk result (λ hash. hash ≡ transaction_v0_hash_of network.now envelope.now.tx) }
 {
     let mut builder = Builder::new(alloc);
     builder.i32(KEY_TYPE_ED25519)?;
     write_transaction_v0(&envelope.tx, &mut builder)?;
-    tx_hash(network, ENVELOPE_TYPE_TX, builder.as_slice())
+    tx_hash(network, ENVELOPE_TYPE_TX as u32, builder.as_slice())
 }
 
 /// The hash of a fee bump.
@@ -62,11 +52,14 @@ pub fn fee_bump_hash(
     network: &Hash,
     envelope: &FeeBumpTransactionEnvelope,
 ) -> Result<Hash, AllocError>
-    requires within { fee_bump_envelope.within envelope.now }
-    requires law { Lawful fee_bump_transaction }
+    requires { spec.fee_bump_envelope.within envelope.now }
     ensures { IfOk result (λ hash. hash ≡ fee_bump_hash_of network.now envelope.now.tx) }
 {
     let mut builder = Builder::new(alloc);
     write_fee_bump_transaction(&envelope.tx, &mut builder)?;
-    tx_hash(network, ENVELOPE_TYPE_TX_FEE_BUMP, builder.as_slice())
+    tx_hash(
+        network,
+        ENVELOPE_TYPE_TX_FEE_BUMP as u32,
+        builder.as_slice(),
+    )
 }

@@ -1,54 +1,118 @@
--- The laws of the formats of headers, values and records: what is read is spelled so, what is spelled so is read, and writing puts
--- the spelling at the end.
+-- The laws of the formats of headers, values and records.
 use Rattle.std.proofs.Common.{pos, refl, arith}
-use Rattle.xdr_core.specs.Format.{Lawful}
-use Rattle.xdr_core.specs.Xdr.{as_it_is, no_arm}
-use Rattle.xdr_core.proofs.LeafLaws.{u32_lawful, u64_lawful, i64_lawful}
-use Rattle.xdr_core.proofs.Opaque.{var_lawful}
-use Rattle.xdr_core.proofs.Combining.{◌&◌, struct_law, closed_law, list_law, times_law}
-use Rattle.xdr_core.proofs.Unions.{IsFound, union_law}
-use Rattle.xdr_core.proofs.Extensions.{extension_law}
-use Rattle.xdr_core.proofs.Discriminants.{discriminant_fits, tag_law}
-use Rattle.xdr_entries.proofs.BasicLaws.{hash_lawful, account_id_lawful}
-use Rattle.xdr_tx.proofs.TransactionLaws.{transaction_set_lawful}
+use Rattle.xdr_core.proofs.FormatLaws.{
+  Laws,
+  written,
+  u32_laws,
+  u64_laws,
+  i64_laws,
+  var_laws,
+  ◌&◌,
+  struct_laws,
+  whole_laws,
+  closed_laws,
+  tag_laws,
+  list_laws,
+  times_laws,
+  arm_laws,
+  found,
+  union_laws,
+  extension_laws,
+}
+use Rattle.xdr_core.specs.Leaves.{var}
+use Rattle.xdr_core.proofs.Unions.{IsFound}
+use Rattle.xdr_entries.proofs.BasicLaws.{hash_laws, account_id_laws}
+use Rattle.xdr_tx.proofs.TransactionLaws.{transaction_set_laws}
 use Rattle.ledger_types.specs.declared.header.LedgerUpgrade.{LedgerUpgrade}
 use Rattle.ledger_types.specs.declared.header.LedgerUpgrade.TheVariants as upgrade
-use Rattle.xdr_header.specs.Header.{value_signature_fields, ledger_close_value_signature, value_fields, stellar_value, upgrade_version, upgrade_base_fee, upgrade_max_tx_set_size, upgrade_base_reserve, upgrade_flags, upgrade_arms, upgrade_part, ledger_upgrade, header_v1_fields, ledger_header_extension_v1, header_fields, ledger_header}
+use Rattle.xdr_header.specs.Header.{
+  value_signature_fields,
+  ledger_close_value_signature,
+  value_fields,
+  stellar_value,
+  upgrade_version,
+  upgrade_base_fee,
+  upgrade_max_tx_set_size,
+  upgrade_base_reserve,
+  upgrade_flags,
+  upgrade_arms,
+  upgrade_part,
+  ledger_upgrade,
+  header_v1_fields,
+  ledger_header_extension_v1,
+  limits_fields,
+  limits,
+  counts_fields,
+  counts,
+  header_fields,
+  ledger_header,
+}
 use Rattle.xdr_header.specs.Records.{record_fields, close_record}
 
-pub ledger_close_value_signature_lawful : Lawful ledger_close_value_signature
+pub ledger_close_value_signature_laws : Laws ledger_close_value_signature
 unfolding ledger_close_value_signature
-ledger_close_value_signature_lawful = struct_law value_signature_fields (account_id_lawful & var_lawful 64 (omega arith))
+ledger_close_value_signature_laws =
+    struct_laws value_signature_fields (account_id_laws & var_laws 64 (omega arith))
 
-pub stellar_value_lawful : Lawful stellar_value
+pub upgrade_bytes_laws : Laws (var 128)
+upgrade_bytes_laws = var_laws 128 (omega arith)
+
+pub stellar_value_laws : Laws stellar_value
 unfolding stellar_value
-stellar_value_lawful = struct_law value_fields (
-    hash_lawful & u64_lawful & list_law as_it_is 6 (omega arith) (var_lawful 128 (omega arith))
-    & extension_law as_it_is (pos 1) refl (discriminant_fits (pos 1) tt) ledger_close_value_signature_lawful)
+stellar_value_laws = struct_laws value_fields (
+    hash_laws & u64_laws & list_laws 6 (omega arith) upgrade_bytes_laws
+    & extension_laws (pos 1) refl tt ledger_close_value_signature_laws)
 
 upgrade_found : (v : LedgerUpgrade) → IsFound upgrade_part upgrade_arms v
-upgrade_found (upgrade.Version n) = record { arm = upgrade_version; body = n; law = u32_lawful; fits = discriminant_fits (pos 1) tt; is_part = refl; makes = refl; picked = λ wrong start p. refl }
-upgrade_found (upgrade.BaseFee n) = record { arm = upgrade_base_fee; body = n; law = u32_lawful; fits = discriminant_fits (pos 2) tt; is_part = refl; makes = refl; picked = λ wrong start p. refl }
-upgrade_found (upgrade.MaxTxSetSize n) = record { arm = upgrade_max_tx_set_size; body = n; law = u32_lawful; fits = discriminant_fits (pos 3) tt; is_part = refl; makes = refl; picked = λ wrong start p. refl }
-upgrade_found (upgrade.BaseReserve n) = record { arm = upgrade_base_reserve; body = n; law = u32_lawful; fits = discriminant_fits (pos 4) tt; is_part = refl; makes = refl; picked = λ wrong start p. refl }
-upgrade_found (upgrade.Flags n) = record { arm = upgrade_flags; body = n; law = u32_lawful; fits = discriminant_fits (pos 5) tt; is_part = refl; makes = refl; picked = λ wrong start p. refl }
+upgrade_found (upgrade.Version n) = found upgrade_version n u32_laws tt refl refl (λ _ _ _. refl)
+upgrade_found (upgrade.BaseFee n) = found upgrade_base_fee n u32_laws tt refl refl (λ _ _ _. refl)
+upgrade_found (upgrade.MaxTxSetSize n) = found upgrade_max_tx_set_size n u32_laws tt refl refl (λ _ _ _. refl)
+upgrade_found (upgrade.BaseReserve n) = found upgrade_base_reserve n u32_laws tt refl refl (λ _ _ _. refl)
+upgrade_found (upgrade.Flags n) = found upgrade_flags n u32_laws tt refl refl (λ _ _ _. refl)
 
-pub ledger_upgrade_lawful : Lawful ledger_upgrade
+pub ledger_upgrade_laws : Laws ledger_upgrade
 unfolding ledger_upgrade
-ledger_upgrade_lawful = union_law as_it_is upgrade_part upgrade_arms no_arm
-    (record { law = u32_lawful; is_part = λ x. refl }, (record { law = u32_lawful; is_part = λ x. refl }, (record { law = u32_lawful; is_part = λ x. refl }, (record { law = u32_lawful; is_part = λ x. refl }, (record { law = u32_lawful; is_part = λ x. refl }, tt)))))
+ledger_upgrade_laws = union_laws (
+  arm_laws u32_laws (λ x. refl),
+  (
+    arm_laws u32_laws (λ x. refl),
+    (
+      arm_laws u32_laws (λ x. refl),
+      (
+        arm_laws u32_laws (λ x. refl),
+        (arm_laws u32_laws (λ x. refl), tt),
+      ),
+    ),
+  ),
+)
     upgrade_found
 
-pub ledger_header_extension_v1_lawful : Lawful ledger_header_extension_v1
+pub ledger_header_extension_v1_laws : Laws ledger_header_extension_v1
 unfolding ledger_header_extension_v1
-ledger_header_extension_v1_lawful = struct_law header_v1_fields (closed_law u32_lawful (tag_law (pos 0) tt))
+ledger_header_extension_v1_laws = struct_laws header_v1_fields (closed_laws u32_laws (tag_laws (pos 0) tt))
 
-pub ledger_header_lawful : Lawful ledger_header
+limits_laws : Laws limits
+unfolding limits
+limits_laws = struct_laws limits_fields
+    (u32_laws & u32_laws & u32_laws & times_laws 4 hash_laws
+    & extension_laws (pos 1) refl tt ledger_header_extension_v1_laws)
+
+counts_laws : Laws counts
+unfolding counts
+counts_laws = struct_laws counts_fields (u32_laws & i64_laws & i64_laws & u32_laws & u64_laws & limits_laws)
+
+pub ledger_header_laws : Laws ledger_header
 unfolding ledger_header
-ledger_header_lawful = struct_law header_fields (
-    u32_lawful & hash_lawful & stellar_value_lawful & hash_lawful & hash_lawful & u32_lawful & i64_lawful & i64_lawful & u32_lawful & u64_lawful & u32_lawful & u32_lawful & u32_lawful
-    & times_law 4 hash_lawful & extension_law as_it_is (pos 1) refl (discriminant_fits (pos 1) tt) ledger_header_extension_v1_lawful)
+ledger_header_laws = struct_laws header_fields
+    (u32_laws & hash_laws & whole_laws stellar_value_laws & hash_laws & hash_laws & counts_laws)
 
-pub close_record_lawful : Lawful close_record
+pub close_record_laws : Laws close_record
 unfolding close_record
-close_record_lawful = struct_law record_fields (u32_lawful & transaction_set_lawful & stellar_value_lawful)
+close_record_laws =
+    struct_laws record_fields (u32_laws & whole_laws transaction_set_laws & whole_laws stellar_value_laws)
+
+-- what its writer goes by
+pub ruleset extension_written = (written, ledger_header_extension_v1_laws)
+
+-- what its writer goes by
+pub ruleset signature_written = (written, ledger_close_value_signature_laws)

@@ -1,5 +1,23 @@
 -- The format of what a ledger starts from: a header behind its record mark, and the files of eleven levels.
-use Rattle.std.specs.Prelude.{◌≡◌, ℕ, zero, suc, ◌-◌, ◌≤◌, pos, List, [], ◌∷◌, ◌++◌, length, nat_lt, if◌then◌else◌, Ok, Err, refl}
+use Rattle.std.specs.Prelude.{
+  ◌≡◌,
+  ℕ,
+  zero,
+  suc,
+  ◌-◌,
+  ◌≤◌,
+  pos,
+  List,
+  [],
+  ◌∷◌,
+  ◌++◌,
+  length,
+  nat_lt,
+  if◌then◌else◌,
+  Ok,
+  Err,
+  refl,
+}
 use Rattle.xdr_core.specs.declared.fault.XdrFault.{XdrFault}
 use Rattle.xdr_core.specs.declared.fault.XdrKind.TheVariants.{TooLong}
 use Rattle.xdr_core.specs.Place.{Place, Reading, fault_at, ◌>>=◌}
@@ -66,7 +84,12 @@ files zero left = no_files
 files (suc n) left = front_and (file left) (λ v. files n (left - length v))
 
 abbrev pub image_fields : Fields (List ℕ × List (List ℕ)) StartImage
-image_fields = record { to = λ v. record { header = v.0; files = v.1 }; from = λ i. (i.header, i.files); there = λ _. refl; back = λ _. refl }
+image_fields = record {
+  to = λ v. record { header = v.0; files = v.1 };
+  from = λ i. (i.header, i.files);
+  there = λ _. refl;
+  back = λ _. refl;
+}
 
 -- the bytes `SLI1`, the header, and the files of level 0 to 10, curr before snap
 unfoldable pub start_image : Xdr StartImage

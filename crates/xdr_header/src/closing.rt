@@ -1,9 +1,9 @@
 //! Records of closes.
 
-ghost use Rattle.std.specs.Prelude.{◌≡◌, OnOk};
+ghost use Rattle.std.specs.Prelude.{◌≡◌, ◌++◌, OnOk};
 ghost use Rattle.xdr_core.specs.Place.{Reads};
 ghost use Rattle.xdr_core.specs.ReadFault.{cause_of};
-ghost use Rattle.xdr_header.specs.Records.{close_record as record_format};
+ghost use Rattle.xdr_header.specs.Records as spec;
 
 use crate::record::CloseRecord;
 use crate::value::{read_stellar_value, write_stellar_value};
@@ -14,7 +14,7 @@ use xdr_tx::{read_transaction_set, write_transaction_set};
 /// Reads a record of a close.
 #[tactic(auto, unfolding(crate::specs::Records::close_record))]
 pub fn read_close_record(alloc: Global, cursor: &mut Cursor<'_>) -> Result<CloseRecord, ReadFault>
-    ensures { Reads cause_of result cursor.old cursor.new (record_format.read cursor.old) }
+    ensures { Reads cause_of result cursor.old cursor.new (spec.close_record.read cursor.old) }
 {
     let mut ahead = cursor.fork();
     let ledger_seq = ahead.u32()?;
@@ -29,10 +29,19 @@ pub fn read_close_record(alloc: Global, cursor: &mut Cursor<'_>) -> Result<Close
 }
 
 /// Writes a record of a close.
-#[tactic(auto, unfolding(crate::specs::Records::close_record))]
+#[tactic(auto, using(xdr_core::proofs::FormatLaws::written, crate::proofs::HeaderLaws::close_record_laws))]
 pub fn write_close_record(value: &CloseRecord, builder: &mut Builder) -> Result<(), AllocError>
-    requires { record_format.within value.now }
-    ensures { OnOk result (builder.new ≡ record_format.onto builder.old value.now) }
+    requires { spec.close_record.within value.now }
+    ensures { OnOk result (builder.new ≡ builder.old ++ spec.close_record.spell value.now) }
+{
+    write_record_fields(value, builder)
+}
+
+/// Writes the fields of a record.
+#[tactic(auto, unfolding(crate::specs::Records::close_record))]
+fn write_record_fields(value: &CloseRecord, builder: &mut Builder) -> Result<(), AllocError>
+    requires { spec.close_record.within value.now }
+    ensures { OnOk result (builder.new ≡ spec.close_record.onto builder.old value.now) }
 {
     builder.u32(value.ledger_seq)?;
     write_transaction_set(&value.tx_set, builder)?;

@@ -1,42 +1,55 @@
 //! The laws of the formats, as contracts.
 
-ghost use Rattle.xdr_core.specs.Format.{Lawful, IsPrefixFree, FaultsRightly};
-ghost use Rattle.xdr_header.specs.Header.{ledger_close_value_signature, stellar_value, ledger_upgrade, ledger_header_extension_v1, ledger_header};
-ghost use Rattle.xdr_header.specs.Records.{close_record};
-ghost use Rattle.xdr_header.specs.Image.{start_image};
+ghost use Rattle.xdr_core.specs.Format.{Lawful, IsPrefixFree, FaultsRightly, PlacesFaults};
+ghost use Rattle.xdr_header.specs.Header as header_formats;
+ghost use Rattle.xdr_header.specs.Records as record_formats;
+ghost use Rattle.xdr_header.specs.Image as image_formats;
 
 /// What is read is spelled so, what is spelled so is read whatever follows, and writing puts the spelling at the end.
 #[tactic(auto, using(crate::proofs::AllLaws::all_laws))]
 pub fn reading_and_spelling_agree()
-    ensures value_signatures { Lawful ledger_close_value_signature }
-    ensures stellar_values { Lawful stellar_value }
-    ensures ledger_upgrades { Lawful ledger_upgrade }
-    ensures header_extensions_v1 { Lawful ledger_header_extension_v1 }
-    ensures ledger_headers { Lawful ledger_header }
-    ensures close_records { Lawful close_record }
-    ensures start_images { Lawful start_image }
+    ensures value_signatures { Lawful header_formats.ledger_close_value_signature }
+    ensures stellar_values { Lawful header_formats.stellar_value }
+    ensures ledger_upgrades { Lawful header_formats.ledger_upgrade }
+    ensures header_extensions_v1 { Lawful header_formats.ledger_header_extension_v1 }
+    ensures ledger_headers { Lawful header_formats.ledger_header }
+    ensures close_records { Lawful record_formats.close_record }
+    ensures start_images { Lawful image_formats.start_image }
 {}
 
 /// No spelling of a type begins another of that type.
 #[tactic(auto, using(crate::proofs::AllLaws::all_laws))]
 pub fn no_spelling_begins_another()
-    ensures value_signatures { IsPrefixFree ledger_close_value_signature }
-    ensures stellar_values { IsPrefixFree stellar_value }
-    ensures ledger_upgrades { IsPrefixFree ledger_upgrade }
-    ensures header_extensions_v1 { IsPrefixFree ledger_header_extension_v1 }
-    ensures ledger_headers { IsPrefixFree ledger_header }
-    ensures close_records { IsPrefixFree close_record }
-    ensures start_images { IsPrefixFree start_image }
+    ensures value_signatures { IsPrefixFree header_formats.ledger_close_value_signature }
+    ensures stellar_values { IsPrefixFree header_formats.stellar_value }
+    ensures ledger_upgrades { IsPrefixFree header_formats.ledger_upgrade }
+    ensures header_extensions_v1 { IsPrefixFree header_formats.ledger_header_extension_v1 }
+    ensures ledger_headers { IsPrefixFree header_formats.ledger_header }
+    ensures close_records { IsPrefixFree record_formats.close_record }
+    ensures start_images { IsPrefixFree image_formats.start_image }
 {}
 
 /// A fault comes only where no front of the text is a spelling.
 #[tactic(auto, using(crate::proofs::AllLaws::all_laws))]
 pub fn faults_come_only_without_spelling()
-    ensures value_signatures { FaultsRightly ledger_close_value_signature }
-    ensures stellar_values { FaultsRightly stellar_value }
-    ensures ledger_upgrades { FaultsRightly ledger_upgrade }
-    ensures header_extensions_v1 { FaultsRightly ledger_header_extension_v1 }
-    ensures ledger_headers { FaultsRightly ledger_header }
-    ensures close_records { FaultsRightly close_record }
-    ensures start_images { FaultsRightly start_image }
+    ensures value_signatures { FaultsRightly header_formats.ledger_close_value_signature }
+    ensures stellar_values { FaultsRightly header_formats.stellar_value }
+    ensures ledger_upgrades { FaultsRightly header_formats.ledger_upgrade }
+    ensures header_extensions_v1 { FaultsRightly header_formats.ledger_header_extension_v1 }
+    ensures ledger_headers { FaultsRightly header_formats.ledger_header }
+    ensures close_records { FaultsRightly record_formats.close_record }
+    ensures start_images { FaultsRightly image_formats.start_image }
+{}
+
+/// Where a text ends too early the fault's place is the text's end, and any other fault stays the same whatever bytes
+/// follow.
+#[tactic(auto, using(crate::proofs::AllLaws::all_laws))]
+pub fn faults_are_placed()
+    ensures value_signatures { PlacesFaults header_formats.ledger_close_value_signature }
+    ensures stellar_values { PlacesFaults header_formats.stellar_value }
+    ensures ledger_upgrades { PlacesFaults header_formats.ledger_upgrade }
+    ensures header_extensions_v1 { PlacesFaults header_formats.ledger_header_extension_v1 }
+    ensures ledger_headers { PlacesFaults header_formats.ledger_header }
+    ensures close_records { PlacesFaults record_formats.close_record }
+    ensures start_images { PlacesFaults image_formats.start_image }
 {}

@@ -7,7 +7,7 @@ use op_types::TransactionSet;
 use std::alloc::AllocError;
 
 /// The transactions that close one ledger, and what the network agreed upon for it.
-#[derive(Debug, PartialEq, Eq, Drop)]
+#[derive(Drop)]
 pub struct CloseRecord {
     pub ledger_seq: u32,
     pub tx_set: TransactionSet,

@@ -1,9 +1,9 @@
 //! Start images.
 
-ghost use Rattle.std.specs.Prelude.{◌≡◌, ◌≤◌, length, IfOk, OnOk};
+ghost use Rattle.std.specs.Prelude.{◌≡◌, ◌++◌, ◌≤◌, length, IfOk, OnOk};
 ghost use Rattle.xdr_core.specs.Place.{Reads, ReadsBy, itself};
 ghost use Rattle.xdr_core.specs.ReadFault.{cause_of};
-ghost use Rattle.xdr_header.specs.Image.{file as file_format, files as files_format, start_image as image_format};
+ghost use Rattle.xdr_header.specs.Image as spec;
 
 use crate::image::StartImage;
 use item_list::ItemList;
@@ -25,7 +25,7 @@ const MAX_FILES_LEN: u64 = 536870912;
 /// Reads at most `max` bytes behind their number, with no padding. A number above `max` is `TooLong`.
 #[tactic(auto, unfolding(crate::specs::Image::file))]
 fn read_file<'a>(max: u64, cursor: &mut Cursor<'a>) -> Result<&'a [u8], XdrFault>
-    ensures reads { ReadsBy (λ bytes. bytes.now) itself result cursor.old cursor.new ((file_format max).read cursor.old) }
+    ensures reads { ReadsBy (λ bytes. bytes.now) itself result cursor.old cursor.new ((spec.file max).read cursor.old) }
     ensures fits { IfOk result (λ bytes. length bytes.now ≤ max) }
 {
     let mut ahead = cursor.fork();
@@ -45,7 +45,7 @@ fn read_files(
     left: u64,
     cursor: &mut Cursor<'_>,
 ) -> Result<ItemList<ItemList<u8>>, ReadFault>
-    ensures { Reads cause_of result cursor.old cursor.new ((files_format count left).read cursor.old) }
+    ensures { Reads cause_of result cursor.old cursor.new ((spec.files count left).read cursor.old) }
 {
     let mut ahead = cursor.fork();
     let mut files = ItemList::new(alloc);
@@ -61,8 +61,8 @@ fn read_files(
 
 /// Writes files one behind another, each behind its length.
 fn write_files(files: &[ItemList<u8>], left: u64, builder: &mut Builder) -> Result<(), AllocError>
-    requires { (files_format FILES left).within files.now }
-    ensures { OnOk result (builder.new ≡ (files_format FILES left).onto builder.old files.now) }
+    requires { (spec.files FILES left).within files.now }
+    ensures { OnOk result (builder.new ≡ (spec.files FILES left).onto builder.old files.now) }
 {
     for file in files {
         builder.u64(file.len() as u64)?;
@@ -74,7 +74,7 @@ fn write_files(files: &[ItemList<u8>], left: u64, builder: &mut Builder) -> Resu
 /// Reads a start image.
 #[tactic(auto, unfolding(crate::specs::Image::start_image))]
 pub fn read_start_image(alloc: Global, cursor: &mut Cursor<'_>) -> Result<StartImage, ReadFault>
-    ensures { Reads cause_of result cursor.old cursor.new (image_format.read cursor.old) }
+    ensures { Reads cause_of result cursor.old cursor.new (spec.start_image.read cursor.old) }
 {
     let mut ahead = cursor.fork();
     ahead.tag(MAGIC)?;
@@ -85,10 +85,19 @@ pub fn read_start_image(alloc: Global, cursor: &mut Cursor<'_>) -> Result<StartI
 }
 
 /// Writes a start image.
-#[tactic(auto, unfolding(crate::specs::Image::start_image, xdr_core::specs::Combinators::constant))]
+#[tactic(auto, using(xdr_core::proofs::FormatLaws::written, crate::proofs::ImageLaws::start_image_laws))]
 pub fn write_start_image(value: &StartImage, builder: &mut Builder) -> Result<(), AllocError>
-    requires { image_format.within value.now }
-    ensures { OnOk result (builder.new ≡ image_format.onto builder.old value.now) }
+    requires { spec.start_image.within value.now }
+    ensures { OnOk result (builder.new ≡ builder.old ++ spec.start_image.spell value.now) }
+{
+    write_image_fields(value, builder)
+}
+
+/// Writes the mark of an image, its header and its files.
+#[tactic(auto, unfolding(crate::specs::Image::start_image, xdr_core::specs::Combinators::constant))]
+fn write_image_fields(value: &StartImage, builder: &mut Builder) -> Result<(), AllocError>
+    requires { spec.start_image.within value.now }
+    ensures { OnOk result (builder.new ≡ spec.start_image.onto builder.old value.now) }
 {
     builder.i32(MAGIC)?;
     builder.mark(value.header.as_slice(), MAX_HEADER_LEN)?;

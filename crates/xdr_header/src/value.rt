@@ -1,10 +1,10 @@
 //! What the network agrees upon, and upgrades.
 
-ghost use Rattle.std.specs.Prelude.{◌≡◌, OnOk};
+ghost use Rattle.std.specs.Prelude.{◌≡◌, ◌++◌, OnOk};
 ghost use Rattle.xdr_core.specs.Place.{Reads, itself};
 ghost use Rattle.xdr_core.specs.ReadFault.{cause_of};
 ghost use Rattle.xdr_core.specs.Leaves.{var};
-ghost use Rattle.xdr_header.specs.Header.{ledger_close_value_signature as signature_format, stellar_value as value_format, ledger_upgrade as upgrade_format};
+ghost use Rattle.xdr_header.specs.Header as spec;
 
 use item_list::ItemList;
 use ledger_types::{LedgerCloseValueSignature, LedgerUpgrade, StellarValue};
@@ -45,7 +45,7 @@ pub fn read_ledger_close_value_signature(
     alloc: Global,
     cursor: &mut Cursor<'_>,
 ) -> Result<LedgerCloseValueSignature, ReadFault>
-    ensures { Reads cause_of result cursor.old cursor.new (signature_format.read cursor.old) }
+    ensures { Reads cause_of result cursor.old cursor.new (spec.ledger_close_value_signature.read cursor.old) }
 {
     let mut ahead = cursor.fork();
     let node_id = read_account_id(&mut ahead)?;
@@ -60,8 +60,8 @@ pub fn write_ledger_close_value_signature(
     value: &LedgerCloseValueSignature,
     builder: &mut Builder,
 ) -> Result<(), AllocError>
-    requires { signature_format.within value.now }
-    ensures { OnOk result (builder.new ≡ signature_format.onto builder.old value.now) }
+    requires { spec.ledger_close_value_signature.within value.now }
+    ensures { OnOk result (builder.new ≡ spec.ledger_close_value_signature.onto builder.old value.now) }
 {
     write_account_id(&value.node_id, builder)?;
     builder.var(value.signature.as_slice(), MAX_SIGNATURE_LEN)
@@ -70,7 +70,7 @@ pub fn write_ledger_close_value_signature(
 /// Reads what the network agreed upon.
 #[tactic(auto, unfolding(crate::specs::Header::stellar_value))]
 pub fn read_stellar_value(alloc: Global, cursor: &mut Cursor<'_>) -> Result<StellarValue, ReadFault>
-    ensures { Reads cause_of result cursor.old cursor.new (value_format.read cursor.old) }
+    ensures { Reads cause_of result cursor.old cursor.new (spec.stellar_value.read cursor.old) }
 {
     let mut ahead = cursor.fork();
     let tx_set_hash = read_hash(&mut ahead)?;
@@ -87,10 +87,19 @@ pub fn read_stellar_value(alloc: Global, cursor: &mut Cursor<'_>) -> Result<Stel
 }
 
 /// Writes what the network agreed upon.
-#[tactic(auto, unfolding(crate::specs::Header::stellar_value))]
+#[tactic(auto, using(xdr_core::proofs::FormatLaws::written, crate::proofs::HeaderLaws::stellar_value_laws))]
 pub fn write_stellar_value(value: &StellarValue, builder: &mut Builder) -> Result<(), AllocError>
-    requires { value_format.within value.now }
-    ensures { OnOk result (builder.new ≡ value_format.onto builder.old value.now) }
+    requires { spec.stellar_value.within value.now }
+    ensures { OnOk result (builder.new ≡ builder.old ++ spec.stellar_value.spell value.now) }
+{
+    write_value_fields(value, builder)
+}
+
+/// Writes the fields of what the network agreed upon.
+#[tactic(auto, unfolding(crate::specs::Header::stellar_value))]
+fn write_value_fields(value: &StellarValue, builder: &mut Builder) -> Result<(), AllocError>
+    requires { spec.stellar_value.within value.now }
+    ensures { OnOk result (builder.new ≡ spec.stellar_value.onto builder.old value.now) }
 {
     write_hash(&value.tx_set_hash, builder)?;
     builder.u64(value.close_time)?;
@@ -101,7 +110,7 @@ pub fn write_stellar_value(value: &StellarValue, builder: &mut Builder) -> Resul
 /// Reads an upgrade.
 #[tactic(auto, unfolding(crate::specs::Header::ledger_upgrade))]
 pub fn read_ledger_upgrade(cursor: &mut Cursor<'_>) -> Result<LedgerUpgrade, XdrFault>
-    ensures { Reads itself result cursor.old cursor.new (upgrade_format.read cursor.old) }
+    ensures { Reads itself result cursor.old cursor.new (spec.ledger_upgrade.read cursor.old) }
 {
     let mut ahead = cursor.fork();
     let upgrade = match ahead.i32()? {
@@ -117,9 +126,17 @@ pub fn read_ledger_upgrade(cursor: &mut Cursor<'_>) -> Result<LedgerUpgrade, Xdr
 }
 
 /// Writes an upgrade.
-#[tactic(auto, unfolding(crate::specs::Header::ledger_upgrade))]
+#[tactic(auto, using(xdr_core::proofs::FormatLaws::written, crate::proofs::HeaderLaws::ledger_upgrade_laws))]
 pub fn write_ledger_upgrade(value: &LedgerUpgrade, builder: &mut Builder) -> Result<(), AllocError>
-    ensures { OnOk result (builder.new ≡ upgrade_format.onto builder.old value.now) }
+    ensures { OnOk result (builder.new ≡ builder.old ++ spec.ledger_upgrade.spell value.now) }
+{
+    write_upgrade_arm(value, builder)
+}
+
+/// Writes the type of an upgrade and what stands behind it.
+#[tactic(auto, unfolding(crate::specs::Header::ledger_upgrade))]
+fn write_upgrade_arm(value: &LedgerUpgrade, builder: &mut Builder) -> Result<(), AllocError>
+    ensures { OnOk result (builder.new ≡ spec.ledger_upgrade.onto builder.old value.now) }
 {
     match value {
         LedgerUpgrade::Version(version) => {
@@ -153,7 +170,7 @@ impl Decode for LedgerCloseValueSignatureFormat {
 
     type Failure = ReadFault;
 
-    ghost format = { signature_format };
+    ghost format = { spec.ledger_close_value_signature };
 
     fn decode(
         alloc: Global,
@@ -164,6 +181,7 @@ impl Decode for LedgerCloseValueSignatureFormat {
 }
 
 impl Encode for LedgerCloseValueSignatureFormat {
+    #[tactic(auto, using(crate::proofs::HeaderLaws::signature_written))]
     fn encode(value: &LedgerCloseValueSignature, builder: &mut Builder) -> Result<(), AllocError> {
         write_ledger_close_value_signature(value, builder)
     }
@@ -188,6 +206,7 @@ impl Decode for UpgradeBytesFormat {
 }
 
 impl Encode for UpgradeBytesFormat {
+    #[tactic(auto, using(xdr_core::proofs::FormatLaws::written, crate::proofs::HeaderLaws::upgrade_bytes_laws))]
     fn encode(value: &ItemList<u8>, builder: &mut Builder) -> Result<(), AllocError> {
         builder.var(value.as_slice(), MAX_UPGRADE_LEN)
     }

@@ -1,55 +1,105 @@
--- The laws of the formats of what stands behind codes: what is read is spelled so, what is spelled so is read, and writing puts the spelling at the end.
+-- The laws of the formats of what stands behind codes.
 use Rattle.std.proofs.Common.{pos, refl, arith}
-use Rattle.xdr_core.specs.Format.{Lawful}
-use Rattle.xdr_core.specs.Xdr.{as_it_is, no_arm}
-use Rattle.xdr_core.proofs.LeafLaws.{i64_lawful}
-use Rattle.xdr_core.proofs.Opaque.{fixed_lawful}
-use Rattle.xdr_core.proofs.Combining.{◌&◌, struct_law, list_law}
-use Rattle.xdr_core.proofs.Unions.{IsFound, union_law}
-use Rattle.xdr_core.proofs.Extensions.{empty_law}
-use Rattle.xdr_core.proofs.Discriminants.{discriminant_fits}
-use Rattle.xdr_entries.proofs.BasicLaws.{hash_lawful, account_id_lawful, asset_lawful}
-use Rattle.xdr_entries.proofs.EntryLaws.{offer_entry_lawful}
+use Rattle.xdr_core.proofs.FormatLaws.{
+  Laws,
+  i64_laws,
+  fixed_laws,
+  empty_laws,
+  ◌&◌,
+  struct_laws,
+  list_laws,
+  arm_laws,
+  found,
+  union_laws,
+}
+use Rattle.xdr_core.proofs.Unions.{IsFound}
+use Rattle.xdr_entries.proofs.BasicLaws.{hash_laws, account_id_laws, asset_laws}
+use Rattle.xdr_entries.proofs.EntryLaws.{offer_entry_laws}
 use Rattle.ledger_types.specs.declared.claim_atom.ClaimAtom.{ClaimAtom}
 use Rattle.ledger_types.specs.declared.claim_atom.ClaimAtom.TheVariants as atoms
 use Rattle.op_types.specs.declared.offer_results.ManageOfferEffect.{ManageOfferEffect}
 use Rattle.op_types.specs.declared.offer_results.ManageOfferEffect.TheVariants as effects
-use Rattle.xdr_results.specs.Answers.{atom_v0, atom_order_book, atom_liquidity_pool, atom_arms, atom_part, claim_atom, simple_fields, simple_payment_result, path_fields, path_payment_success, effect_created, effect_updated, effect_deleted, effect_arms, effect_part, manage_offer_effect, offer_success_fields, manage_offer_success, payout_fields, inflation_payout}
+use Rattle.xdr_results.specs.Answers.{
+  asset_amount,
+  atom_v0,
+  atom_order_book,
+  atom_liquidity_pool,
+  atom_arms,
+  atom_part,
+  claim_atom,
+  simple_fields,
+  simple_payment_result,
+  path_fields,
+  path_payment_success,
+  effect_created,
+  effect_updated,
+  effect_deleted,
+  effect_arms,
+  effect_part,
+  manage_offer_effect,
+  offer_success_fields,
+  manage_offer_success,
+  payout_fields,
+  inflation_payout,
+}
+
+asset_amount_laws : Laws asset_amount
+asset_amount_laws = asset_laws & i64_laws
 
 claim_atom_found : (v : ClaimAtom) → IsFound atom_part atom_arms v
-claim_atom_found (atoms.V0 seller offer sold amount_sold bought amount_bought) = record { arm = atom_v0; body = (seller, (offer, (sold, (amount_sold, (bought, amount_bought))))); law = fixed_lawful 32 & i64_lawful & asset_lawful & i64_lawful & asset_lawful & i64_lawful; fits = discriminant_fits (pos 0) tt; is_part = refl; makes = refl; picked = λ wrong start p. refl }
-claim_atom_found (atoms.OrderBook seller offer sold amount_sold bought amount_bought) = record { arm = atom_order_book; body = (seller, (offer, (sold, (amount_sold, (bought, amount_bought))))); law = account_id_lawful & i64_lawful & asset_lawful & i64_lawful & asset_lawful & i64_lawful; fits = discriminant_fits (pos 1) tt; is_part = refl; makes = refl; picked = λ wrong start p. refl }
-claim_atom_found (atoms.LiquidityPool pool sold amount_sold bought amount_bought) = record { arm = atom_liquidity_pool; body = (pool, (sold, (amount_sold, (bought, amount_bought)))); law = hash_lawful & asset_lawful & i64_lawful & asset_lawful & i64_lawful; fits = discriminant_fits (pos 2) tt; is_part = refl; makes = refl; picked = λ wrong start p. refl }
+claim_atom_found (atoms.V0 seller offer sold amount_sold bought amount_bought) =
+    found atom_v0 (seller, (offer, ((sold, amount_sold), (bought, amount_bought))))
+    (fixed_laws 32 & i64_laws & asset_amount_laws & asset_amount_laws) tt refl refl (λ _ _ _. refl)
+claim_atom_found (atoms.OrderBook seller offer sold amount_sold bought amount_bought) =
+    found atom_order_book (seller, (offer, ((sold, amount_sold), (bought, amount_bought))))
+    (account_id_laws & i64_laws & asset_amount_laws & asset_amount_laws) tt refl refl (λ _ _ _. refl)
+claim_atom_found (atoms.LiquidityPool pool sold amount_sold bought amount_bought) =
+    found atom_liquidity_pool (pool, ((sold, amount_sold), (bought, amount_bought)))
+    (hash_laws & asset_amount_laws & asset_amount_laws) tt refl refl (λ _ _ _. refl)
 
-pub claim_atom_lawful : Lawful claim_atom
+pub claim_atom_laws : Laws claim_atom
 unfolding claim_atom
-claim_atom_lawful = union_law as_it_is atom_part atom_arms no_arm
-    (record { law = fixed_lawful 32 & i64_lawful & asset_lawful & i64_lawful & asset_lawful & i64_lawful; is_part = λ x. refl }, (record { law = account_id_lawful & i64_lawful & asset_lawful & i64_lawful & asset_lawful & i64_lawful; is_part = λ x. refl }, (record { law = hash_lawful & asset_lawful & i64_lawful & asset_lawful & i64_lawful; is_part = λ x. refl }, tt)))
+claim_atom_laws = union_laws (
+  arm_laws (fixed_laws 32 & i64_laws & asset_amount_laws & asset_amount_laws) (λ x. refl),
+  (
+    arm_laws (account_id_laws & i64_laws & asset_amount_laws & asset_amount_laws) (λ x. refl),
+    (arm_laws (hash_laws & asset_amount_laws & asset_amount_laws) (λ x. refl), tt),
+  ),
+)
     claim_atom_found
 
-pub simple_payment_result_lawful : Lawful simple_payment_result
+pub simple_payment_result_laws : Laws simple_payment_result
 unfolding simple_payment_result
-simple_payment_result_lawful = struct_law simple_fields (account_id_lawful & asset_lawful & i64_lawful)
+simple_payment_result_laws = struct_laws simple_fields (account_id_laws & asset_laws & i64_laws)
 
-pub path_payment_success_lawful : Lawful path_payment_success
+pub path_payment_success_laws : Laws path_payment_success
 unfolding path_payment_success
-path_payment_success_lawful = struct_law path_fields (list_law as_it_is 4294967295 (omega arith) claim_atom_lawful & simple_payment_result_lawful)
+path_payment_success_laws = struct_laws path_fields
+    (list_laws 4294967295 (omega arith) claim_atom_laws & simple_payment_result_laws)
 
 manage_offer_effect_found : (v : ManageOfferEffect) → IsFound effect_part effect_arms v
-manage_offer_effect_found (effects.Created offer) = record { arm = effect_created; body = offer; law = offer_entry_lawful; fits = discriminant_fits (pos 0) tt; is_part = refl; makes = refl; picked = λ wrong start p. refl }
-manage_offer_effect_found (effects.Updated offer) = record { arm = effect_updated; body = offer; law = offer_entry_lawful; fits = discriminant_fits (pos 1) tt; is_part = refl; makes = refl; picked = λ wrong start p. refl }
-manage_offer_effect_found effects.Deleted = record { arm = effect_deleted; body = tt; law = empty_law; fits = discriminant_fits (pos 2) tt; is_part = refl; makes = refl; picked = λ wrong start p. refl }
+manage_offer_effect_found (effects.Created offer) =
+    found effect_created offer offer_entry_laws tt refl refl (λ _ _ _. refl)
+manage_offer_effect_found (effects.Updated offer) =
+    found effect_updated offer offer_entry_laws tt refl refl (λ _ _ _. refl)
+manage_offer_effect_found effects.Deleted = found effect_deleted tt empty_laws tt refl refl (λ _ _ _. refl)
 
-pub manage_offer_effect_lawful : Lawful manage_offer_effect
+pub manage_offer_effect_laws : Laws manage_offer_effect
 unfolding manage_offer_effect
-manage_offer_effect_lawful = union_law as_it_is effect_part effect_arms no_arm
-    (record { law = offer_entry_lawful; is_part = λ x. refl }, (record { law = offer_entry_lawful; is_part = λ x. refl }, (record { law = empty_law; is_part = λ x. refl }, tt)))
+manage_offer_effect_laws = union_laws (
+  arm_laws offer_entry_laws (λ x. refl),
+  (
+    arm_laws offer_entry_laws (λ x. refl),
+    (arm_laws empty_laws (λ x. refl), tt),
+  ),
+)
     manage_offer_effect_found
 
-pub manage_offer_success_lawful : Lawful manage_offer_success
+pub manage_offer_success_laws : Laws manage_offer_success
 unfolding manage_offer_success
-manage_offer_success_lawful = struct_law offer_success_fields (list_law as_it_is 4294967295 (omega arith) claim_atom_lawful & manage_offer_effect_lawful)
+manage_offer_success_laws = struct_laws offer_success_fields
+    (list_laws 4294967295 (omega arith) claim_atom_laws & manage_offer_effect_laws)
 
-pub inflation_payout_lawful : Lawful inflation_payout
+pub inflation_payout_laws : Laws inflation_payout
 unfolding inflation_payout
-inflation_payout_lawful = struct_law payout_fields (account_id_lawful & i64_lawful)
+inflation_payout_laws = struct_laws payout_fields (account_id_laws & i64_laws)

@@ -1,5 +1,5 @@
 -- The formats of what operations answer (Stellar-transaction.x of protocol 18, over RFC 4506).
-use Rattle.std.specs.Prelude.{ℤ, pos, negsuc, List, [], ◌∷◌, refl}
+use Rattle.std.specs.Prelude.{ℤ, pos, List, [], ◌∷◌, refl}
 use Rattle.xdr_core.specs.declared.fault.XdrFault.{XdrFault}
 use Rattle.xdr_core.specs.Leaves.{i64, fixed}
 use Rattle.xdr_core.specs.Combinators.{◌⨾◌, Fields, struct_of, empty, Arm, Part, part}
@@ -17,9 +17,9 @@ use Rattle.op_types.specs.declared.account_results.InflationPayout.{InflationPay
 use Rattle.op_types.specs.declared.payment_results.CreateAccountResult.{CreateAccountResult}
 use Rattle.op_types.specs.declared.payment_results.PaymentResult.{PaymentResult}
 use Rattle.op_types.specs.declared.payment_results.PathPaymentStrictReceiveResult.{PathPaymentStrictReceiveResult}
-use Rattle.op_types.specs.declared.payment_results.PathPaymentStrictReceiveResult.TheVariants as path_payment_strict_receive
+use Rattle.op_types.specs.declared.payment_results.PathPaymentStrictReceiveResult.TheVariants as strict_receive
 use Rattle.op_types.specs.declared.payment_results.PathPaymentStrictSendResult.{PathPaymentStrictSendResult}
-use Rattle.op_types.specs.declared.payment_results.PathPaymentStrictSendResult.TheVariants as path_payment_strict_send
+use Rattle.op_types.specs.declared.payment_results.PathPaymentStrictSendResult.TheVariants as strict_send
 use Rattle.op_types.specs.declared.offer_results.ManageOfferResult.{ManageOfferResult}
 use Rattle.op_types.specs.declared.offer_results.ManageOfferResult.TheVariants as manage_offer
 use Rattle.op_types.specs.declared.account_results.SetOptionsResult.{SetOptionsResult}
@@ -34,7 +34,9 @@ use Rattle.op_types.specs.declared.account_results.BumpSequenceResult.{BumpSeque
 use Rattle.op_types.specs.declared.balance_results.CreateClaimableBalanceResult.{CreateClaimableBalanceResult}
 use Rattle.op_types.specs.declared.balance_results.CreateClaimableBalanceResult.TheVariants as create_claimable_balance
 use Rattle.op_types.specs.declared.balance_results.ClaimClaimableBalanceResult.{ClaimClaimableBalanceResult}
-use Rattle.op_types.specs.declared.sponsor_results.BeginSponsoringFutureReservesResult.{BeginSponsoringFutureReservesResult}
+use Rattle.op_types.specs.declared.sponsor_results.BeginSponsoringFutureReservesResult.{
+  BeginSponsoringFutureReservesResult,
+}
 use Rattle.op_types.specs.declared.sponsor_results.EndSponsoringFutureReservesResult.{EndSponsoringFutureReservesResult}
 use Rattle.op_types.specs.declared.sponsor_results.RevokeSponsorshipResult.{RevokeSponsorshipResult}
 use Rattle.op_types.specs.declared.trust_results.ClawbackResult.{ClawbackResult}
@@ -42,29 +44,92 @@ use Rattle.op_types.specs.declared.balance_results.ClawbackClaimableBalanceResul
 use Rattle.op_types.specs.declared.trust_results.SetTrustLineFlagsResult.{SetTrustLineFlagsResult}
 use Rattle.op_types.specs.declared.pool_results.LiquidityPoolDepositResult.{LiquidityPoolDepositResult}
 use Rattle.op_types.specs.declared.pool_results.LiquidityPoolWithdrawResult.{LiquidityPoolWithdrawResult}
-use Rattle.op_types.specs.Codes.{create_account_code, create_account_values, payment_code, payment_values, path_payment_strict_receive_code, path_payment_strict_receive_values, path_payment_strict_send_code, path_payment_strict_send_values, manage_offer_code, manage_offer_values, set_options_code, set_options_values, change_trust_code, change_trust_values, allow_trust_code, allow_trust_values, account_merge_code, account_merge_values, inflation_code, inflation_values, manage_data_code, manage_data_values, bump_sequence_code, bump_sequence_values, create_claimable_balance_code, create_claimable_balance_values, claim_claimable_balance_code, claim_claimable_balance_values, begin_sponsoring_future_reserves_code, begin_sponsoring_future_reserves_values, end_sponsoring_future_reserves_code, end_sponsoring_future_reserves_values, revoke_sponsorship_code, revoke_sponsorship_values, clawback_code, clawback_values, clawback_claimable_balance_code, clawback_claimable_balance_values, set_trust_line_flags_code, set_trust_line_flags_values, liquidity_pool_deposit_code, liquidity_pool_deposit_values, liquidity_pool_withdraw_code, liquidity_pool_withdraw_values}
+use Rattle.op_types.specs.Numbers.{minus}
+use Rattle.op_types.specs.Codes.{
+  create_account_code,
+  create_account_values,
+  payment_code,
+  payment_values,
+  path_payment_strict_receive_code,
+  path_payment_strict_receive_values,
+  path_payment_strict_send_code,
+  path_payment_strict_send_values,
+  manage_offer_code,
+  manage_offer_values,
+  set_options_code,
+  set_options_values,
+  change_trust_code,
+  change_trust_values,
+  allow_trust_code,
+  allow_trust_values,
+  account_merge_code,
+  account_merge_values,
+  inflation_code,
+  inflation_values,
+  manage_data_code,
+  manage_data_values,
+  bump_sequence_code,
+  bump_sequence_values,
+  create_claimable_balance_code,
+  create_claimable_balance_values,
+  claim_claimable_balance_code,
+  claim_claimable_balance_values,
+  begin_sponsoring_future_reserves_code,
+  begin_sponsoring_future_reserves_values,
+  end_sponsoring_future_reserves_code,
+  end_sponsoring_future_reserves_values,
+  revoke_sponsorship_code,
+  revoke_sponsorship_values,
+  clawback_code,
+  clawback_values,
+  clawback_claimable_balance_code,
+  clawback_claimable_balance_values,
+  set_trust_line_flags_code,
+  set_trust_line_flags_values,
+  liquidity_pool_deposit_code,
+  liquidity_pool_deposit_values,
+  liquidity_pool_withdraw_code,
+  liquidity_pool_withdraw_values,
+}
 use Rattle.xdr_entries.specs.Basic.{arm, hash, account_id, claimable_balance_id, asset}
 use Rattle.xdr_entries.specs.Entries.{offer_entry}
 use Rattle.xdr_results.specs.Coded.{plain, plain_arms, codes}
 
 -- ---- what trades moved
 
+-- so much of an asset
+abbrev pub asset_amount : Xdr (Asset × ℤ)
+asset_amount = asset ⨾ i64
+
+-- what was given, and what was got
+abbrev pub trade : Xdr ((Asset × ℤ) × (Asset × ℤ))
+trade = asset_amount ⨾ asset_amount
+
 abbrev pub atom_v0 : Arm XdrFault ClaimAtom
-atom_v0 = arm (pos 0) (fixed 32 ⨾ i64 ⨾ asset ⨾ i64 ⨾ asset ⨾ i64) (λ (seller, (offer, (sold, (amount_sold, (bought, amount_bought))))). atoms.V0 seller offer sold amount_sold bought amount_bought)
+atom_v0 =
+    arm (pos 0) (fixed 32 ⨾ i64 ⨾ trade)
+    (λ (seller, (offer, (sold, bought))). atoms.V0 seller offer sold.0 sold.1 bought.0 bought.1)
 
 abbrev pub atom_order_book : Arm XdrFault ClaimAtom
-atom_order_book = arm (pos 1) (account_id ⨾ i64 ⨾ asset ⨾ i64 ⨾ asset ⨾ i64) (λ (seller, (offer, (sold, (amount_sold, (bought, amount_bought))))). atoms.OrderBook seller offer sold amount_sold bought amount_bought)
+atom_order_book =
+    arm (pos 1) (account_id ⨾ i64 ⨾ trade)
+    (λ (seller, (offer, (sold, bought))). atoms.OrderBook seller offer sold.0 sold.1 bought.0 bought.1)
 
 abbrev pub atom_liquidity_pool : Arm XdrFault ClaimAtom
-atom_liquidity_pool = arm (pos 2) (hash ⨾ asset ⨾ i64 ⨾ asset ⨾ i64) (λ (pool, (sold, (amount_sold, (bought, amount_bought)))). atoms.LiquidityPool pool sold amount_sold bought amount_bought)
+atom_liquidity_pool =
+    arm (pos 2) (hash ⨾ trade)
+    (λ (pool, (sold, bought)). atoms.LiquidityPool pool sold.0 sold.1 bought.0 bought.1)
 
 abbrev pub atom_arms : List (Arm XdrFault ClaimAtom)
 atom_arms = atom_v0 ∷ atom_order_book ∷ atom_liquidity_pool ∷ []
 
 abbrev pub atom_part : ClaimAtom → Part XdrFault ClaimAtom
-atom_part (atoms.V0 seller offer sold amount_sold bought amount_bought) = part atom_v0 (seller, (offer, (sold, (amount_sold, (bought, amount_bought)))))
-atom_part (atoms.OrderBook seller offer sold amount_sold bought amount_bought) = part atom_order_book (seller, (offer, (sold, (amount_sold, (bought, amount_bought)))))
-atom_part (atoms.LiquidityPool pool sold amount_sold bought amount_bought) = part atom_liquidity_pool (pool, (sold, (amount_sold, (bought, amount_bought))))
+atom_part (atoms.V0 seller offer sold amount_sold bought amount_bought) =
+    part atom_v0 (seller, (offer, ((sold, amount_sold), (bought, amount_bought))))
+atom_part (atoms.OrderBook seller offer sold amount_sold bought amount_bought) =
+    part atom_order_book (seller, (offer, ((sold, amount_sold), (bought, amount_bought))))
+atom_part (atoms.LiquidityPool pool sold amount_sold bought amount_bought) =
+    part atom_liquidity_pool (pool, ((sold, amount_sold), (bought, amount_bought)))
 
 unfoldable pub claim_atom : Xdr ClaimAtom
 claim_atom = union_of atom_part atom_arms
@@ -83,7 +148,12 @@ unfoldable pub simple_payment_result : Xdr SimplePaymentResult
 simple_payment_result = struct_of simple_fields (account_id ⨾ asset ⨾ i64)
 
 abbrev pub path_fields : Fields (List ClaimAtom × SimplePaymentResult) PathPaymentSuccess
-path_fields = record { to = λ v. record { offers = v.0; last = v.1 }; from = λ r. (r.offers, r.last); there = λ _. refl; back = λ _. refl }
+path_fields = record {
+  to = λ v. record { offers = v.0; last = v.1 };
+  from = λ r. (r.offers, r.last);
+  there = λ _. refl;
+  back = λ _. refl;
+}
 
 unfoldable pub path_payment_success : Xdr PathPaymentSuccess
 path_payment_success = struct_of path_fields (list_of 4294967295 claim_atom ⨾ simple_payment_result)
@@ -109,13 +179,23 @@ unfoldable pub manage_offer_effect : Xdr ManageOfferEffect
 manage_offer_effect = union_of effect_part effect_arms
 
 abbrev pub offer_success_fields : Fields (List ClaimAtom × ManageOfferEffect) ManageOfferSuccess
-offer_success_fields = record { to = λ v. record { offers_claimed = v.0; offer = v.1 }; from = λ r. (r.offers_claimed, r.offer); there = λ _. refl; back = λ _. refl }
+offer_success_fields = record {
+  to = λ v. record { offers_claimed = v.0; offer = v.1 };
+  from = λ r. (r.offers_claimed, r.offer);
+  there = λ _. refl;
+  back = λ _. refl;
+}
 
 unfoldable pub manage_offer_success : Xdr ManageOfferSuccess
 manage_offer_success = struct_of offer_success_fields (list_of 4294967295 claim_atom ⨾ manage_offer_effect)
 
 abbrev pub payout_fields : Fields (AccountId × ℤ) InflationPayout
-payout_fields = record { to = λ v. record { destination = v.0; amount = v.1 }; from = λ p. (p.destination, p.amount); there = λ _. refl; back = λ _. refl }
+payout_fields = record {
+  to = λ v. record { destination = v.0; amount = v.1 };
+  from = λ p. (p.destination, p.amount);
+  there = λ _. refl;
+  back = λ _. refl;
+}
 
 unfoldable pub inflation_payout : Xdr InflationPayout
 inflation_payout = struct_of payout_fields (account_id ⨾ i64)
@@ -129,34 +209,44 @@ unfoldable pub payment_result : Xdr PaymentResult
 payment_result = codes payment_code payment_values
 
 abbrev pub path_payment_strict_receive_success_arm : Arm XdrFault PathPaymentStrictReceiveResult
-path_payment_strict_receive_success_arm = arm (pos 0) path_payment_success path_payment_strict_receive.Success
+path_payment_strict_receive_success_arm = arm (pos 0) path_payment_success strict_receive.Success
 
 abbrev pub path_payment_strict_receive_no_issuer_arm : Arm XdrFault PathPaymentStrictReceiveResult
-path_payment_strict_receive_no_issuer_arm = arm (negsuc 8) asset path_payment_strict_receive.NoIssuer
+path_payment_strict_receive_no_issuer_arm = arm (minus 9) asset strict_receive.NoIssuer
 
 abbrev pub path_payment_strict_receive_result_arms : List (Arm XdrFault PathPaymentStrictReceiveResult)
-path_payment_strict_receive_result_arms = path_payment_strict_receive_success_arm ∷ path_payment_strict_receive_no_issuer_arm ∷ plain_arms path_payment_strict_receive_code path_payment_strict_receive_values
+path_payment_strict_receive_result_arms =
+    path_payment_strict_receive_success_arm ∷ path_payment_strict_receive_no_issuer_arm
+    ∷ plain_arms path_payment_strict_receive_code path_payment_strict_receive_values
 
-abbrev pub path_payment_strict_receive_result_part : PathPaymentStrictReceiveResult → Part XdrFault PathPaymentStrictReceiveResult
-path_payment_strict_receive_result_part (path_payment_strict_receive.Success x) = part path_payment_strict_receive_success_arm x
-path_payment_strict_receive_result_part (path_payment_strict_receive.NoIssuer x) = part path_payment_strict_receive_no_issuer_arm x
+abbrev pub path_payment_strict_receive_result_part : PathPaymentStrictReceiveResult
+    → Part XdrFault PathPaymentStrictReceiveResult
+path_payment_strict_receive_result_part (strict_receive.Success x) =
+    part path_payment_strict_receive_success_arm x
+path_payment_strict_receive_result_part (strict_receive.NoIssuer x) =
+    part path_payment_strict_receive_no_issuer_arm x
 path_payment_strict_receive_result_part answer = part (plain path_payment_strict_receive_code answer) tt
 
 unfoldable pub path_payment_strict_receive_result : Xdr PathPaymentStrictReceiveResult
-path_payment_strict_receive_result = union_of path_payment_strict_receive_result_part path_payment_strict_receive_result_arms
+path_payment_strict_receive_result =
+    union_of path_payment_strict_receive_result_part path_payment_strict_receive_result_arms
 
 abbrev pub path_payment_strict_send_success_arm : Arm XdrFault PathPaymentStrictSendResult
-path_payment_strict_send_success_arm = arm (pos 0) path_payment_success path_payment_strict_send.Success
+path_payment_strict_send_success_arm = arm (pos 0) path_payment_success strict_send.Success
 
 abbrev pub path_payment_strict_send_no_issuer_arm : Arm XdrFault PathPaymentStrictSendResult
-path_payment_strict_send_no_issuer_arm = arm (negsuc 8) asset path_payment_strict_send.NoIssuer
+path_payment_strict_send_no_issuer_arm = arm (minus 9) asset strict_send.NoIssuer
 
 abbrev pub path_payment_strict_send_result_arms : List (Arm XdrFault PathPaymentStrictSendResult)
-path_payment_strict_send_result_arms = path_payment_strict_send_success_arm ∷ path_payment_strict_send_no_issuer_arm ∷ plain_arms path_payment_strict_send_code path_payment_strict_send_values
+path_payment_strict_send_result_arms =
+    path_payment_strict_send_success_arm ∷ path_payment_strict_send_no_issuer_arm
+    ∷ plain_arms path_payment_strict_send_code path_payment_strict_send_values
 
-abbrev pub path_payment_strict_send_result_part : PathPaymentStrictSendResult → Part XdrFault PathPaymentStrictSendResult
-path_payment_strict_send_result_part (path_payment_strict_send.Success x) = part path_payment_strict_send_success_arm x
-path_payment_strict_send_result_part (path_payment_strict_send.NoIssuer x) = part path_payment_strict_send_no_issuer_arm x
+abbrev pub path_payment_strict_send_result_part : PathPaymentStrictSendResult
+    → Part XdrFault PathPaymentStrictSendResult
+path_payment_strict_send_result_part (strict_send.Success x) = part path_payment_strict_send_success_arm x
+path_payment_strict_send_result_part (strict_send.NoIssuer x) =
+    part path_payment_strict_send_no_issuer_arm x
 path_payment_strict_send_result_part answer = part (plain path_payment_strict_send_code answer) tt
 
 unfoldable pub path_payment_strict_send_result : Xdr PathPaymentStrictSendResult
@@ -220,9 +310,11 @@ abbrev pub create_claimable_balance_success_arm : Arm XdrFault CreateClaimableBa
 create_claimable_balance_success_arm = arm (pos 0) claimable_balance_id create_claimable_balance.Success
 
 abbrev pub create_claimable_balance_result_arms : List (Arm XdrFault CreateClaimableBalanceResult)
-create_claimable_balance_result_arms = create_claimable_balance_success_arm ∷ plain_arms create_claimable_balance_code create_claimable_balance_values
+create_claimable_balance_result_arms =
+    create_claimable_balance_success_arm ∷ plain_arms create_claimable_balance_code create_claimable_balance_values
 
-abbrev pub create_claimable_balance_result_part : CreateClaimableBalanceResult → Part XdrFault CreateClaimableBalanceResult
+abbrev pub create_claimable_balance_result_part : CreateClaimableBalanceResult
+    → Part XdrFault CreateClaimableBalanceResult
 create_claimable_balance_result_part (create_claimable_balance.Success x) = part create_claimable_balance_success_arm x
 create_claimable_balance_result_part answer = part (plain create_claimable_balance_code answer) tt
 
@@ -233,7 +325,8 @@ unfoldable pub claim_claimable_balance_result : Xdr ClaimClaimableBalanceResult
 claim_claimable_balance_result = codes claim_claimable_balance_code claim_claimable_balance_values
 
 unfoldable pub begin_sponsoring_future_reserves_result : Xdr BeginSponsoringFutureReservesResult
-begin_sponsoring_future_reserves_result = codes begin_sponsoring_future_reserves_code begin_sponsoring_future_reserves_values
+begin_sponsoring_future_reserves_result =
+    codes begin_sponsoring_future_reserves_code begin_sponsoring_future_reserves_values
 
 unfoldable pub end_sponsoring_future_reserves_result : Xdr EndSponsoringFutureReservesResult
 end_sponsoring_future_reserves_result = codes end_sponsoring_future_reserves_code end_sponsoring_future_reserves_values

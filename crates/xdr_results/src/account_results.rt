@@ -3,7 +3,7 @@
 ghost use Rattle.std.specs.Prelude.{◌≡◌, OnOk};
 ghost use Rattle.xdr_core.specs.Place.{Reads, itself};
 ghost use Rattle.xdr_core.specs.ReadFault.{cause_of};
-ghost use Rattle.xdr_results.specs.Answers.{inflation_payout as inflation_payout_format, set_options_result as set_options_result_format, account_merge_result as account_merge_result_format, inflation_result as inflation_result_format, manage_data_result as manage_data_result_format, bump_sequence_result as bump_sequence_result_format};
+ghost use Rattle.xdr_results.specs.Answers as spec;
 
 use crate::coded::{plain_value, read_code, write_code};
 use op_types::{
@@ -23,7 +23,7 @@ const INFLATION_SUCCESS: i32 = 0;
 /// Reads what an account got of inflation.
 #[tactic(auto, unfolding(crate::specs::Answers::inflation_payout))]
 pub fn read_inflation_payout(cursor: &mut Cursor<'_>) -> Result<InflationPayout, XdrFault>
-    ensures { Reads itself result cursor.old cursor.new (inflation_payout_format.read cursor.old) }
+    ensures { Reads itself result cursor.old cursor.new (spec.inflation_payout.read cursor.old) }
 {
     let mut ahead = cursor.fork();
     let destination = read_account_id(&mut ahead)?;
@@ -41,7 +41,7 @@ pub fn write_inflation_payout(
     value: &InflationPayout,
     builder: &mut Builder,
 ) -> Result<(), AllocError>
-    ensures { OnOk result (builder.new ≡ inflation_payout_format.onto builder.old value.now) }
+    ensures { OnOk result (builder.new ≡ spec.inflation_payout.onto builder.old value.now) }
 {
     write_account_id(&value.destination, builder)?;
     builder.i64(value.amount)
@@ -55,7 +55,7 @@ impl Decode for InflationPayoutFormat {
 
     type Failure = ReadFault;
 
-    ghost format = { inflation_payout_format };
+    ghost format = { spec.inflation_payout };
 
     fn decode(_alloc: Global, cursor: &mut Cursor<'_>) -> Result<InflationPayout, ReadFault> {
         Ok(read_inflation_payout(cursor)?)
@@ -63,6 +63,7 @@ impl Decode for InflationPayoutFormat {
 }
 
 impl Encode for InflationPayoutFormat {
+    #[tactic(auto, using(xdr_core::proofs::FormatLaws::written, crate::proofs::PayloadLaws::inflation_payout_laws))]
     fn encode(value: &InflationPayout, builder: &mut Builder) -> Result<(), AllocError> {
         write_inflation_payout(value, builder)
     }
@@ -71,7 +72,7 @@ impl Encode for InflationPayoutFormat {
 /// Reads what SET_OPTIONS answers.
 #[tactic(auto, unfolding(crate::specs::Answers::set_options_result))]
 pub fn read_set_options_result(cursor: &mut Cursor<'_>) -> Result<SetOptionsResult, XdrFault>
-    ensures { Reads itself result cursor.old cursor.new (set_options_result_format.read cursor.old) }
+    ensures { Reads itself result cursor.old cursor.new (spec.set_options_result.read cursor.old) }
 {
     read_code(cursor)
 }
@@ -82,7 +83,7 @@ pub fn write_set_options_result(
     value: &SetOptionsResult,
     builder: &mut Builder,
 ) -> Result<(), AllocError>
-    ensures { OnOk result (builder.new ≡ set_options_result_format.onto builder.old value.now) }
+    ensures { OnOk result (builder.new ≡ spec.set_options_result.onto builder.old value.now) }
 {
     write_code(value, builder)
 }
@@ -90,7 +91,7 @@ pub fn write_set_options_result(
 /// Reads what ACCOUNT_MERGE answers.
 #[tactic(auto, unfolding(crate::specs::Answers::account_merge_result))]
 pub fn read_account_merge_result(cursor: &mut Cursor<'_>) -> Result<AccountMergeResult, XdrFault>
-    ensures { Reads itself result cursor.old cursor.new (account_merge_result_format.read cursor.old) }
+    ensures { Reads itself result cursor.old cursor.new (spec.account_merge_result.read cursor.old) }
 {
     let mut ahead = cursor.fork();
     let answer = match ahead.i32()? {
@@ -107,7 +108,7 @@ pub fn write_account_merge_result(
     value: &AccountMergeResult,
     builder: &mut Builder,
 ) -> Result<(), AllocError>
-    ensures { OnOk result (builder.new ≡ account_merge_result_format.onto builder.old value.now) }
+    ensures { OnOk result (builder.new ≡ spec.account_merge_result.onto builder.old value.now) }
 {
     builder.i32(value.code())?;
     match value {
@@ -122,7 +123,7 @@ pub fn read_inflation_result(
     alloc: Global,
     cursor: &mut Cursor<'_>,
 ) -> Result<InflationResult, ReadFault>
-    ensures { Reads cause_of result cursor.old cursor.new (inflation_result_format.read cursor.old) }
+    ensures { Reads cause_of result cursor.old cursor.new (spec.inflation_result.read cursor.old) }
 {
     let mut ahead = cursor.fork();
     let answer = match ahead.i32()? {
@@ -143,8 +144,8 @@ pub fn write_inflation_result(
     value: &InflationResult,
     builder: &mut Builder,
 ) -> Result<(), AllocError>
-    requires { inflation_result_format.within value.now }
-    ensures { OnOk result (builder.new ≡ inflation_result_format.onto builder.old value.now) }
+    requires { spec.inflation_result.within value.now }
+    ensures { OnOk result (builder.new ≡ spec.inflation_result.onto builder.old value.now) }
 {
     builder.i32(value.code())?;
     match value {
@@ -160,7 +161,7 @@ pub fn write_inflation_result(
 /// Reads what MANAGE_DATA answers.
 #[tactic(auto, unfolding(crate::specs::Answers::manage_data_result))]
 pub fn read_manage_data_result(cursor: &mut Cursor<'_>) -> Result<ManageDataResult, XdrFault>
-    ensures { Reads itself result cursor.old cursor.new (manage_data_result_format.read cursor.old) }
+    ensures { Reads itself result cursor.old cursor.new (spec.manage_data_result.read cursor.old) }
 {
     read_code(cursor)
 }
@@ -171,7 +172,7 @@ pub fn write_manage_data_result(
     value: &ManageDataResult,
     builder: &mut Builder,
 ) -> Result<(), AllocError>
-    ensures { OnOk result (builder.new ≡ manage_data_result_format.onto builder.old value.now) }
+    ensures { OnOk result (builder.new ≡ spec.manage_data_result.onto builder.old value.now) }
 {
     write_code(value, builder)
 }
@@ -179,7 +180,7 @@ pub fn write_manage_data_result(
 /// Reads what BUMP_SEQUENCE answers.
 #[tactic(auto, unfolding(crate::specs::Answers::bump_sequence_result))]
 pub fn read_bump_sequence_result(cursor: &mut Cursor<'_>) -> Result<BumpSequenceResult, XdrFault>
-    ensures { Reads itself result cursor.old cursor.new (bump_sequence_result_format.read cursor.old) }
+    ensures { Reads itself result cursor.old cursor.new (spec.bump_sequence_result.read cursor.old) }
 {
     read_code(cursor)
 }
@@ -190,7 +191,7 @@ pub fn write_bump_sequence_result(
     value: &BumpSequenceResult,
     builder: &mut Builder,
 ) -> Result<(), AllocError>
-    ensures { OnOk result (builder.new ≡ bump_sequence_result_format.onto builder.old value.now) }
+    ensures { OnOk result (builder.new ≡ spec.bump_sequence_result.onto builder.old value.now) }
 {
     write_code(value, builder)
 }

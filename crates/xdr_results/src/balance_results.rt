@@ -2,7 +2,7 @@
 
 ghost use Rattle.std.specs.Prelude.{◌≡◌, OnOk};
 ghost use Rattle.xdr_core.specs.Place.{Reads, itself};
-ghost use Rattle.xdr_results.specs.Answers.{create_claimable_balance_result as create_claimable_balance_result_format, claim_claimable_balance_result as claim_claimable_balance_result_format, clawback_claimable_balance_result as clawback_claimable_balance_result_format};
+ghost use Rattle.xdr_results.specs.Answers as spec;
 
 use crate::coded::{plain_value, read_code, write_code};
 use op_types::{
@@ -21,7 +21,7 @@ const CREATE_CLAIMABLE_BALANCE_SUCCESS: i32 = 0;
 pub fn read_create_claimable_balance_result(
     cursor: &mut Cursor<'_>,
 ) -> Result<CreateClaimableBalanceResult, XdrFault>
-    ensures { Reads itself result cursor.old cursor.new (create_claimable_balance_result_format.read cursor.old) }
+    ensures { Reads itself result cursor.old cursor.new (spec.create_claimable_balance_result.read cursor.old) }
 {
     let mut ahead = cursor.fork();
     let answer = match ahead.i32()? {
@@ -40,7 +40,7 @@ pub fn write_create_claimable_balance_result(
     value: &CreateClaimableBalanceResult,
     builder: &mut Builder,
 ) -> Result<(), AllocError>
-    ensures { OnOk result (builder.new ≡ create_claimable_balance_result_format.onto builder.old value.now) }
+    ensures { OnOk result (builder.new ≡ spec.create_claimable_balance_result.onto builder.old value.now) }
 {
     builder.i32(value.code())?;
     match value {
@@ -54,7 +54,7 @@ pub fn write_create_claimable_balance_result(
 pub fn read_claim_claimable_balance_result(
     cursor: &mut Cursor<'_>,
 ) -> Result<ClaimClaimableBalanceResult, XdrFault>
-    ensures { Reads itself result cursor.old cursor.new (claim_claimable_balance_result_format.read cursor.old) }
+    ensures { Reads itself result cursor.old cursor.new (spec.claim_claimable_balance_result.read cursor.old) }
 {
     read_code(cursor)
 }
@@ -65,7 +65,7 @@ pub fn write_claim_claimable_balance_result(
     value: &ClaimClaimableBalanceResult,
     builder: &mut Builder,
 ) -> Result<(), AllocError>
-    ensures { OnOk result (builder.new ≡ claim_claimable_balance_result_format.onto builder.old value.now) }
+    ensures { OnOk result (builder.new ≡ spec.claim_claimable_balance_result.onto builder.old value.now) }
 {
     write_code(value, builder)
 }
@@ -75,7 +75,7 @@ pub fn write_claim_claimable_balance_result(
 pub fn read_clawback_claimable_balance_result(
     cursor: &mut Cursor<'_>,
 ) -> Result<ClawbackClaimableBalanceResult, XdrFault>
-    ensures { Reads itself result cursor.old cursor.new (clawback_claimable_balance_result_format.read cursor.old) }
+    ensures { Reads itself result cursor.old cursor.new (spec.clawback_claimable_balance_result.read cursor.old) }
 {
     read_code(cursor)
 }
@@ -86,7 +86,7 @@ pub fn write_clawback_claimable_balance_result(
     value: &ClawbackClaimableBalanceResult,
     builder: &mut Builder,
 ) -> Result<(), AllocError>
-    ensures { OnOk result (builder.new ≡ clawback_claimable_balance_result_format.onto builder.old value.now) }
+    ensures { OnOk result (builder.new ≡ spec.clawback_claimable_balance_result.onto builder.old value.now) }
 {
     write_code(value, builder)
 }

@@ -13,7 +13,9 @@ use xdr_core::{Builder, Cursor, XdrFault, XdrKind};
 /// The value whose discriminant is `code`, and that has nothing behind it. `start` stands at the discriminant.
 #[tactic(auto, using(crate::proofs::Plain::pick_plain))]
 pub fn plain_value<C: Coded>(code: i32, start: &Cursor<'_>) -> Result<C, XdrFault>
-    ensures { MatchResult result (λ value. (p : Place) → pick (plain_arms C.number C.values) no_arm start.now (code, p) ≡ Ok (value, p)) (λ fault. (p : Place) → pick (plain_arms C.number C.values) no_arm start.now (code, p) ≡ Err fault) }
+    ensures { MatchResult result
+        (λ value. (p : Place) → pick (plain_arms C.number C.values) no_arm start.now (code, p) ≡ Ok (value, p))
+        (λ fault. (p : Place) → pick (plain_arms C.number C.values) no_arm start.now (code, p) ≡ Err fault) }
 {
     match C::from_code(code) {
         Some(value) => Ok(value),

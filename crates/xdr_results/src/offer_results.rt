@@ -3,7 +3,7 @@
 ghost use Rattle.std.specs.Prelude.{◌≡◌, OnOk};
 ghost use Rattle.xdr_core.specs.Place.{Reads, itself};
 ghost use Rattle.xdr_core.specs.ReadFault.{cause_of};
-ghost use Rattle.xdr_results.specs.Answers.{manage_offer_effect as manage_offer_effect_format, manage_offer_success as manage_offer_success_format, manage_offer_result as manage_offer_result_format};
+ghost use Rattle.xdr_results.specs.Answers as spec;
 
 use crate::claim_atom::ClaimAtomFormat;
 use crate::coded::plain_value;
@@ -27,7 +27,7 @@ const MANAGE_OFFER_DELETED: i32 = 2;
 /// Reads what became of an offer.
 #[tactic(auto, unfolding(crate::specs::Answers::manage_offer_effect))]
 pub fn read_manage_offer_effect(cursor: &mut Cursor<'_>) -> Result<ManageOfferEffect, XdrFault>
-    ensures { Reads itself result cursor.old cursor.new (manage_offer_effect_format.read cursor.old) }
+    ensures { Reads itself result cursor.old cursor.new (spec.manage_offer_effect.read cursor.old) }
 {
     let mut ahead = cursor.fork();
     let effect = match ahead.i32()? {
@@ -46,7 +46,7 @@ pub fn write_manage_offer_effect(
     value: &ManageOfferEffect,
     builder: &mut Builder,
 ) -> Result<(), AllocError>
-    ensures { OnOk result (builder.new ≡ manage_offer_effect_format.onto builder.old value.now) }
+    ensures { OnOk result (builder.new ≡ spec.manage_offer_effect.onto builder.old value.now) }
 {
     match value {
         ManageOfferEffect::Created(offer) => {
@@ -67,7 +67,7 @@ pub fn read_manage_offer_success(
     alloc: Global,
     cursor: &mut Cursor<'_>,
 ) -> Result<ManageOfferSuccess, ReadFault>
-    ensures { Reads cause_of result cursor.old cursor.new (manage_offer_success_format.read cursor.old) }
+    ensures { Reads cause_of result cursor.old cursor.new (spec.manage_offer_success.read cursor.old) }
 {
     let mut ahead = cursor.fork();
     let offers_claimed = read_list::<ClaimAtomFormat>(alloc, u32::MAX, &mut ahead)?;
@@ -85,8 +85,8 @@ pub fn write_manage_offer_success(
     value: &ManageOfferSuccess,
     builder: &mut Builder,
 ) -> Result<(), AllocError>
-    requires { manage_offer_success_format.within value.now }
-    ensures { OnOk result (builder.new ≡ manage_offer_success_format.onto builder.old value.now) }
+    requires { spec.manage_offer_success.within value.now }
+    ensures { OnOk result (builder.new ≡ spec.manage_offer_success.onto builder.old value.now) }
 {
     write_list::<ClaimAtomFormat>(value.offers_claimed.as_slice(), u32::MAX, builder)?;
     write_manage_offer_effect(&value.offer, builder)
@@ -98,7 +98,7 @@ pub fn read_manage_offer_result(
     alloc: Global,
     cursor: &mut Cursor<'_>,
 ) -> Result<ManageOfferResult, ReadFault>
-    ensures { Reads cause_of result cursor.old cursor.new (manage_offer_result_format.read cursor.old) }
+    ensures { Reads cause_of result cursor.old cursor.new (spec.manage_offer_result.read cursor.old) }
 {
     let mut ahead = cursor.fork();
     let answer = match ahead.i32()? {
@@ -117,8 +117,8 @@ pub fn write_manage_offer_result(
     value: &ManageOfferResult,
     builder: &mut Builder,
 ) -> Result<(), AllocError>
-    requires { manage_offer_result_format.within value.now }
-    ensures { OnOk result (builder.new ≡ manage_offer_result_format.onto builder.old value.now) }
+    requires { spec.manage_offer_result.within value.now }
+    ensures { OnOk result (builder.new ≡ spec.manage_offer_result.onto builder.old value.now) }
 {
     builder.i32(value.code())?;
     match value {

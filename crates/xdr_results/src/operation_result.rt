@@ -5,7 +5,7 @@ ghost use Rattle.xdr_core.specs.Place.{Reads};
 ghost use Rattle.xdr_core.specs.ReadFault.{cause_of};
 ghost use Rattle.xdr_core.specs.Combinators.{pick};
 ghost use Rattle.xdr_core.specs.Xdr.{no_arm};
-ghost use Rattle.xdr_results.specs.Results.{second_run_arms, third_run_arms, last_run_arms, operation_result_tr as operation_result_tr_format, operation_result as operation_result_format};
+ghost use Rattle.xdr_results.specs.Results as spec;
 
 use crate::account_results::{
     read_account_merge_result, read_bump_sequence_result, read_inflation_result,
@@ -40,6 +40,14 @@ use crate::trust_results::{
     read_set_trust_line_flags_result, write_allow_trust_result, write_change_trust_result,
     write_clawback_result, write_set_trust_line_flags_result,
 };
+use op_types::operation_type::{
+    ACCOUNT_MERGE, ALLOW_TRUST, BEGIN_SPONSORING_FUTURE_RESERVES, BUMP_SEQUENCE, CHANGE_TRUST,
+    CLAIM_CLAIMABLE_BALANCE, CLAWBACK, CLAWBACK_CLAIMABLE_BALANCE, CREATE_ACCOUNT,
+    CREATE_CLAIMABLE_BALANCE, CREATE_PASSIVE_SELL_OFFER, END_SPONSORING_FUTURE_RESERVES, INFLATION,
+    LIQUIDITY_POOL_DEPOSIT, LIQUIDITY_POOL_WITHDRAW, MANAGE_BUY_OFFER, MANAGE_DATA,
+    MANAGE_SELL_OFFER, PATH_PAYMENT_STRICT_RECEIVE, PATH_PAYMENT_STRICT_SEND, PAYMENT,
+    REVOKE_SPONSORSHIP, SET_OPTIONS, SET_TRUST_LINE_FLAGS,
+};
 use op_types::{Coded, OperationResult, OperationResultTr};
 use std::alloc::{AllocError, Global};
 use xdr_core::{Builder, Cursor, Decode, Encode, ReadFault, XdrKind};
@@ -47,85 +55,13 @@ use xdr_core::{Builder, Cursor, Decode, Encode, ReadFault, XdrKind};
 /// opINNER (Stellar-transaction.x).
 const OP_INNER: i32 = 0;
 
-/// CREATE_ACCOUNT (OperationType in Stellar-transaction.x).
-const CREATE_ACCOUNT: i32 = 0;
-
-/// PAYMENT (OperationType in Stellar-transaction.x).
-const PAYMENT: i32 = 1;
-
-/// PATH_PAYMENT_STRICT_RECEIVE (OperationType in Stellar-transaction.x).
-const PATH_PAYMENT_STRICT_RECEIVE: i32 = 2;
-
-/// MANAGE_SELL_OFFER (OperationType in Stellar-transaction.x).
-const MANAGE_SELL_OFFER: i32 = 3;
-
-/// CREATE_PASSIVE_SELL_OFFER (OperationType in Stellar-transaction.x).
-const CREATE_PASSIVE_SELL_OFFER: i32 = 4;
-
-/// SET_OPTIONS (OperationType in Stellar-transaction.x).
-const SET_OPTIONS: i32 = 5;
-
-/// CHANGE_TRUST (OperationType in Stellar-transaction.x).
-const CHANGE_TRUST: i32 = 6;
-
-/// ALLOW_TRUST (OperationType in Stellar-transaction.x).
-const ALLOW_TRUST: i32 = 7;
-
-/// ACCOUNT_MERGE (OperationType in Stellar-transaction.x).
-const ACCOUNT_MERGE: i32 = 8;
-
-/// INFLATION (OperationType in Stellar-transaction.x).
-const INFLATION: i32 = 9;
-
-/// MANAGE_DATA (OperationType in Stellar-transaction.x).
-const MANAGE_DATA: i32 = 10;
-
-/// BUMP_SEQUENCE (OperationType in Stellar-transaction.x).
-const BUMP_SEQUENCE: i32 = 11;
-
-/// MANAGE_BUY_OFFER (OperationType in Stellar-transaction.x).
-const MANAGE_BUY_OFFER: i32 = 12;
-
-/// PATH_PAYMENT_STRICT_SEND (OperationType in Stellar-transaction.x).
-const PATH_PAYMENT_STRICT_SEND: i32 = 13;
-
-/// CREATE_CLAIMABLE_BALANCE (OperationType in Stellar-transaction.x).
-const CREATE_CLAIMABLE_BALANCE: i32 = 14;
-
-/// CLAIM_CLAIMABLE_BALANCE (OperationType in Stellar-transaction.x).
-const CLAIM_CLAIMABLE_BALANCE: i32 = 15;
-
-/// BEGIN_SPONSORING_FUTURE_RESERVES (OperationType in Stellar-transaction.x).
-const BEGIN_SPONSORING_FUTURE_RESERVES: i32 = 16;
-
-/// END_SPONSORING_FUTURE_RESERVES (OperationType in Stellar-transaction.x).
-const END_SPONSORING_FUTURE_RESERVES: i32 = 17;
-
-/// REVOKE_SPONSORSHIP (OperationType in Stellar-transaction.x).
-const REVOKE_SPONSORSHIP: i32 = 18;
-
-/// CLAWBACK (OperationType in Stellar-transaction.x).
-const CLAWBACK: i32 = 19;
-
-/// CLAWBACK_CLAIMABLE_BALANCE (OperationType in Stellar-transaction.x).
-const CLAWBACK_CLAIMABLE_BALANCE: i32 = 20;
-
-/// SET_TRUST_LINE_FLAGS (OperationType in Stellar-transaction.x).
-const SET_TRUST_LINE_FLAGS: i32 = 21;
-
-/// LIQUIDITY_POOL_DEPOSIT (OperationType in Stellar-transaction.x).
-const LIQUIDITY_POOL_DEPOSIT: i32 = 22;
-
-/// LIQUIDITY_POOL_WITHDRAW (OperationType in Stellar-transaction.x).
-const LIQUIDITY_POOL_WITHDRAW: i32 = 23;
-
 /// Reads what an operation answers that was run.
 #[tactic(auto, unfolding(crate::specs::Results::operation_result_tr))]
 pub fn read_operation_result_tr(
     alloc: Global,
     cursor: &mut Cursor<'_>,
 ) -> Result<OperationResultTr, ReadFault>
-    ensures { Reads cause_of result cursor.old cursor.new (operation_result_tr_format.read cursor.old) }
+    ensures { Reads cause_of result cursor.old cursor.new (spec.operation_result_tr.read cursor.old) }
 {
     let mut ahead = cursor.fork();
     let answer = match ahead.i32()? {
@@ -155,7 +91,8 @@ fn read_second_run(
     kind: i32,
     cursor: &mut Cursor<'_>,
 ) -> Result<OperationResultTr, ReadFault>
-    ensures { Reads cause_of result cursor.old cursor.new (pick second_run_arms no_arm start.now (kind, cursor.old)) }
+    ensures { Reads cause_of result cursor.old cursor.new
+        (pick spec.second_run_arms no_arm start.now (kind, cursor.old)) }
 {
     let mut ahead = cursor.fork();
     let answer = match kind {
@@ -179,7 +116,8 @@ fn read_third_run(
     kind: i32,
     cursor: &mut Cursor<'_>,
 ) -> Result<OperationResultTr, ReadFault>
-    ensures { Reads cause_of result cursor.old cursor.new (pick third_run_arms no_arm start.now (kind, cursor.old)) }
+    ensures { Reads cause_of result cursor.old cursor.new
+        (pick spec.third_run_arms no_arm start.now (kind, cursor.old)) }
 {
     let mut ahead = cursor.fork();
     let answer = match kind {
@@ -215,7 +153,8 @@ fn read_last_run(
     kind: i32,
     cursor: &mut Cursor<'_>,
 ) -> Result<OperationResultTr, ReadFault>
-    ensures { Reads cause_of result cursor.old cursor.new (pick last_run_arms no_arm start.now (kind, cursor.old)) }
+    ensures { Reads cause_of result cursor.old cursor.new
+        (pick spec.last_run_arms no_arm start.now (kind, cursor.old)) }
 {
     let mut ahead = cursor.fork();
     let answer = match kind {
@@ -241,112 +180,93 @@ fn read_last_run(
     Ok(answer)
 }
 
+/// The type of the operation that answers.
+fn type_of(value: &OperationResultTr) -> i32
+    ensures { result ≡ spec.type_of value.now }
+{
+    match value {
+        OperationResultTr::CreateAccount(_) => CREATE_ACCOUNT,
+        OperationResultTr::Payment(_) => PAYMENT,
+        OperationResultTr::PathPaymentStrictReceive(_) => PATH_PAYMENT_STRICT_RECEIVE,
+        OperationResultTr::ManageSellOffer(_) => MANAGE_SELL_OFFER,
+        OperationResultTr::CreatePassiveSellOffer(_) => CREATE_PASSIVE_SELL_OFFER,
+        OperationResultTr::SetOptions(_) => SET_OPTIONS,
+        OperationResultTr::ChangeTrust(_) => CHANGE_TRUST,
+        OperationResultTr::AllowTrust(_) => ALLOW_TRUST,
+        OperationResultTr::AccountMerge(_) => ACCOUNT_MERGE,
+        OperationResultTr::Inflation(_) => INFLATION,
+        OperationResultTr::ManageData(_) => MANAGE_DATA,
+        OperationResultTr::BumpSequence(_) => BUMP_SEQUENCE,
+        OperationResultTr::ManageBuyOffer(_) => MANAGE_BUY_OFFER,
+        OperationResultTr::PathPaymentStrictSend(_) => PATH_PAYMENT_STRICT_SEND,
+        OperationResultTr::CreateClaimableBalance(_) => CREATE_CLAIMABLE_BALANCE,
+        OperationResultTr::ClaimClaimableBalance(_) => CLAIM_CLAIMABLE_BALANCE,
+        OperationResultTr::BeginSponsoringFutureReserves(_) => BEGIN_SPONSORING_FUTURE_RESERVES,
+        OperationResultTr::EndSponsoringFutureReserves(_) => END_SPONSORING_FUTURE_RESERVES,
+        OperationResultTr::RevokeSponsorship(_) => REVOKE_SPONSORSHIP,
+        OperationResultTr::Clawback(_) => CLAWBACK,
+        OperationResultTr::ClawbackClaimableBalance(_) => CLAWBACK_CLAIMABLE_BALANCE,
+        OperationResultTr::SetTrustLineFlags(_) => SET_TRUST_LINE_FLAGS,
+        OperationResultTr::LiquidityPoolDeposit(_) => LIQUIDITY_POOL_DEPOSIT,
+        OperationResultTr::LiquidityPoolWithdraw(_) => LIQUIDITY_POOL_WITHDRAW,
+    }
+}
+
 /// Writes what an operation answers that was run.
 #[tactic(auto, unfolding(crate::specs::Results::operation_result_tr))]
 pub fn write_operation_result_tr(
     value: &OperationResultTr,
     builder: &mut Builder,
 ) -> Result<(), AllocError>
-    requires { operation_result_tr_format.within value.now }
-    ensures { OnOk result (builder.new ≡ operation_result_tr_format.onto builder.old value.now) }
+    requires { spec.operation_result_tr.within value.now }
+    ensures { OnOk result (builder.new ≡ spec.operation_result_tr.onto builder.old value.now) }
 {
+    builder.i32(type_of(value))?;
     match value {
-        OperationResultTr::CreateAccount(answer) => {
-            builder.i32(CREATE_ACCOUNT)?;
-            write_create_account_result(answer, builder)
-        }
-        OperationResultTr::Payment(answer) => {
-            builder.i32(PAYMENT)?;
-            write_payment_result(answer, builder)
-        }
-        OperationResultTr::PathPaymentStrictReceive(answer) => {
-            builder.i32(PATH_PAYMENT_STRICT_RECEIVE)?;
-            write_path_payment_strict_receive_result(answer, builder)
-        }
-        OperationResultTr::ManageSellOffer(answer) => {
-            builder.i32(MANAGE_SELL_OFFER)?;
-            write_manage_offer_result(answer, builder)
-        }
-        OperationResultTr::CreatePassiveSellOffer(answer) => {
-            builder.i32(CREATE_PASSIVE_SELL_OFFER)?;
-            write_manage_offer_result(answer, builder)
-        }
-        OperationResultTr::SetOptions(answer) => {
-            builder.i32(SET_OPTIONS)?;
-            write_set_options_result(answer, builder)
-        }
-        OperationResultTr::ChangeTrust(answer) => {
-            builder.i32(CHANGE_TRUST)?;
-            write_change_trust_result(answer, builder)
-        }
-        OperationResultTr::AllowTrust(answer) => {
-            builder.i32(ALLOW_TRUST)?;
-            write_allow_trust_result(answer, builder)
-        }
-        OperationResultTr::AccountMerge(answer) => {
-            builder.i32(ACCOUNT_MERGE)?;
-            write_account_merge_result(answer, builder)
-        }
-        OperationResultTr::Inflation(answer) => {
-            builder.i32(INFLATION)?;
-            write_inflation_result(answer, builder)
-        }
-        OperationResultTr::ManageData(answer) => {
-            builder.i32(MANAGE_DATA)?;
-            write_manage_data_result(answer, builder)
-        }
-        OperationResultTr::BumpSequence(answer) => {
-            builder.i32(BUMP_SEQUENCE)?;
-            write_bump_sequence_result(answer, builder)
-        }
-        OperationResultTr::ManageBuyOffer(answer) => {
-            builder.i32(MANAGE_BUY_OFFER)?;
-            write_manage_offer_result(answer, builder)
-        }
-        OperationResultTr::PathPaymentStrictSend(answer) => {
-            builder.i32(PATH_PAYMENT_STRICT_SEND)?;
-            write_path_payment_strict_send_result(answer, builder)
-        }
-        OperationResultTr::CreateClaimableBalance(answer) => {
-            builder.i32(CREATE_CLAIMABLE_BALANCE)?;
-            write_create_claimable_balance_result(answer, builder)
-        }
-        OperationResultTr::ClaimClaimableBalance(answer) => {
-            builder.i32(CLAIM_CLAIMABLE_BALANCE)?;
-            write_claim_claimable_balance_result(answer, builder)
-        }
-        OperationResultTr::BeginSponsoringFutureReserves(answer) => {
-            builder.i32(BEGIN_SPONSORING_FUTURE_RESERVES)?;
-            write_begin_sponsoring_future_reserves_result(answer, builder)
-        }
-        OperationResultTr::EndSponsoringFutureReserves(answer) => {
-            builder.i32(END_SPONSORING_FUTURE_RESERVES)?;
-            write_end_sponsoring_future_reserves_result(answer, builder)
-        }
-        OperationResultTr::RevokeSponsorship(answer) => {
-            builder.i32(REVOKE_SPONSORSHIP)?;
-            write_revoke_sponsorship_result(answer, builder)
-        }
-        OperationResultTr::Clawback(answer) => {
-            builder.i32(CLAWBACK)?;
-            write_clawback_result(answer, builder)
-        }
-        OperationResultTr::ClawbackClaimableBalance(answer) => {
-            builder.i32(CLAWBACK_CLAIMABLE_BALANCE)?;
-            write_clawback_claimable_balance_result(answer, builder)
-        }
-        OperationResultTr::SetTrustLineFlags(answer) => {
-            builder.i32(SET_TRUST_LINE_FLAGS)?;
-            write_set_trust_line_flags_result(answer, builder)
-        }
-        OperationResultTr::LiquidityPoolDeposit(answer) => {
-            builder.i32(LIQUIDITY_POOL_DEPOSIT)?;
-            write_liquidity_pool_deposit_result(answer, builder)
-        }
-        OperationResultTr::LiquidityPoolWithdraw(answer) => {
-            builder.i32(LIQUIDITY_POOL_WITHDRAW)?;
-            write_liquidity_pool_withdraw_result(answer, builder)
-        }
+        OperationResultTr::CreateAccount(answer) => write_create_account_result(answer, builder),
+        OperationResultTr::Payment(answer) => write_payment_result(answer, builder),
+        OperationResultTr::PathPaymentStrictReceive(answer) =>
+            write_path_payment_strict_receive_result(answer, builder),
+        OperationResultTr::ManageSellOffer(answer) => write_manage_offer_result(answer, builder),
+        OperationResultTr::CreatePassiveSellOffer(answer) => write_manage_offer_result(
+            answer, builder,
+        ),
+        OperationResultTr::SetOptions(answer) => write_set_options_result(answer, builder),
+        OperationResultTr::ChangeTrust(answer) => write_change_trust_result(answer, builder),
+        OperationResultTr::AllowTrust(answer) => write_allow_trust_result(answer, builder),
+        OperationResultTr::AccountMerge(answer) => write_account_merge_result(answer, builder),
+        OperationResultTr::Inflation(answer) => write_inflation_result(answer, builder),
+        OperationResultTr::ManageData(answer) => write_manage_data_result(answer, builder),
+        OperationResultTr::BumpSequence(answer) => write_bump_sequence_result(answer, builder),
+        OperationResultTr::ManageBuyOffer(answer) => write_manage_offer_result(answer, builder),
+        OperationResultTr::PathPaymentStrictSend(answer) => write_path_payment_strict_send_result(
+            answer, builder,
+        ),
+        OperationResultTr::CreateClaimableBalance(answer) => write_create_claimable_balance_result(
+            answer, builder,
+        ),
+        OperationResultTr::ClaimClaimableBalance(answer) => write_claim_claimable_balance_result(
+            answer, builder,
+        ),
+        OperationResultTr::BeginSponsoringFutureReserves(answer) =>
+            write_begin_sponsoring_future_reserves_result(answer, builder),
+        OperationResultTr::EndSponsoringFutureReserves(answer) =>
+            write_end_sponsoring_future_reserves_result(answer, builder),
+        OperationResultTr::RevokeSponsorship(answer) => write_revoke_sponsorship_result(
+            answer, builder,
+        ),
+        OperationResultTr::Clawback(answer) => write_clawback_result(answer, builder),
+        OperationResultTr::ClawbackClaimableBalance(answer) =>
+            write_clawback_claimable_balance_result(answer, builder),
+        OperationResultTr::SetTrustLineFlags(answer) => write_set_trust_line_flags_result(
+            answer, builder,
+        ),
+        OperationResultTr::LiquidityPoolDeposit(answer) => write_liquidity_pool_deposit_result(
+            answer, builder,
+        ),
+        OperationResultTr::LiquidityPoolWithdraw(answer) => write_liquidity_pool_withdraw_result(
+            answer, builder,
+        ),
     }
 }
 
@@ -356,7 +276,7 @@ pub fn read_operation_result(
     alloc: Global,
     cursor: &mut Cursor<'_>,
 ) -> Result<OperationResult, ReadFault>
-    ensures { Reads cause_of result cursor.old cursor.new (operation_result_format.read cursor.old) }
+    ensures { Reads cause_of result cursor.old cursor.new (spec.operation_result.read cursor.old) }
 {
     let mut ahead = cursor.fork();
     let answer = match ahead.i32()? {
@@ -373,8 +293,8 @@ pub fn write_operation_result(
     value: &OperationResult,
     builder: &mut Builder,
 ) -> Result<(), AllocError>
-    requires { operation_result_format.within value.now }
-    ensures { OnOk result (builder.new ≡ operation_result_format.onto builder.old value.now) }
+    requires { spec.operation_result.within value.now }
+    ensures { OnOk result (builder.new ≡ spec.operation_result.onto builder.old value.now) }
 {
     builder.i32(value.code())?;
     match value {
@@ -391,7 +311,7 @@ impl Decode for OperationResultFormat {
 
     type Failure = ReadFault;
 
-    ghost format = { operation_result_format };
+    ghost format = { spec.operation_result };
 
     fn decode(alloc: Global, cursor: &mut Cursor<'_>) -> Result<OperationResult, ReadFault> {
         read_operation_result(alloc, cursor)
@@ -399,6 +319,7 @@ impl Decode for OperationResultFormat {
 }
 
 impl Encode for OperationResultFormat {
+    #[tactic(auto, using(xdr_core::proofs::FormatLaws::written, crate::proofs::OperationLaws::operation_result_laws))]
     fn encode(value: &OperationResult, builder: &mut Builder) -> Result<(), AllocError> {
         write_operation_result(value, builder)
     }

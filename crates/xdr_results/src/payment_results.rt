@@ -3,7 +3,7 @@
 ghost use Rattle.std.specs.Prelude.{◌≡◌, OnOk};
 ghost use Rattle.xdr_core.specs.Place.{Reads, itself};
 ghost use Rattle.xdr_core.specs.ReadFault.{cause_of};
-ghost use Rattle.xdr_results.specs.Answers.{simple_payment_result as simple_payment_result_format, path_payment_success as path_payment_success_format, create_account_result as create_account_result_format, payment_result as payment_result_format, path_payment_strict_receive_result as path_payment_strict_receive_result_format, path_payment_strict_send_result as path_payment_strict_send_result_format};
+ghost use Rattle.xdr_results.specs.Answers as spec;
 
 use crate::claim_atom::ClaimAtomFormat;
 use crate::coded::{plain_value, read_code, write_code};
@@ -30,7 +30,7 @@ const PATH_PAYMENT_STRICT_SEND_NO_ISSUER: i32 = -9;
 /// Reads what arrived at the end of a path.
 #[tactic(auto, unfolding(crate::specs::Answers::simple_payment_result))]
 pub fn read_simple_payment_result(cursor: &mut Cursor<'_>) -> Result<SimplePaymentResult, XdrFault>
-    ensures { Reads itself result cursor.old cursor.new (simple_payment_result_format.read cursor.old) }
+    ensures { Reads itself result cursor.old cursor.new (spec.simple_payment_result.read cursor.old) }
 {
     let mut ahead = cursor.fork();
     let destination = read_account_id(&mut ahead)?;
@@ -50,7 +50,7 @@ pub fn write_simple_payment_result(
     value: &SimplePaymentResult,
     builder: &mut Builder,
 ) -> Result<(), AllocError>
-    ensures { OnOk result (builder.new ≡ simple_payment_result_format.onto builder.old value.now) }
+    ensures { OnOk result (builder.new ≡ spec.simple_payment_result.onto builder.old value.now) }
 {
     write_account_id(&value.destination, builder)?;
     write_asset(&value.asset, builder)?;
@@ -63,7 +63,7 @@ pub fn read_path_payment_success(
     alloc: Global,
     cursor: &mut Cursor<'_>,
 ) -> Result<PathPaymentSuccess, ReadFault>
-    ensures { Reads cause_of result cursor.old cursor.new (path_payment_success_format.read cursor.old) }
+    ensures { Reads cause_of result cursor.old cursor.new (spec.path_payment_success.read cursor.old) }
 {
     let mut ahead = cursor.fork();
     let offers = read_list::<ClaimAtomFormat>(alloc, u32::MAX, &mut ahead)?;
@@ -78,8 +78,8 @@ pub fn write_path_payment_success(
     value: &PathPaymentSuccess,
     builder: &mut Builder,
 ) -> Result<(), AllocError>
-    requires { path_payment_success_format.within value.now }
-    ensures { OnOk result (builder.new ≡ path_payment_success_format.onto builder.old value.now) }
+    requires { spec.path_payment_success.within value.now }
+    ensures { OnOk result (builder.new ≡ spec.path_payment_success.onto builder.old value.now) }
 {
     write_list::<ClaimAtomFormat>(value.offers.as_slice(), u32::MAX, builder)?;
     write_simple_payment_result(&value.last, builder)
@@ -88,7 +88,7 @@ pub fn write_path_payment_success(
 /// Reads what CREATE_ACCOUNT answers.
 #[tactic(auto, unfolding(crate::specs::Answers::create_account_result))]
 pub fn read_create_account_result(cursor: &mut Cursor<'_>) -> Result<CreateAccountResult, XdrFault>
-    ensures { Reads itself result cursor.old cursor.new (create_account_result_format.read cursor.old) }
+    ensures { Reads itself result cursor.old cursor.new (spec.create_account_result.read cursor.old) }
 {
     read_code(cursor)
 }
@@ -99,7 +99,7 @@ pub fn write_create_account_result(
     value: &CreateAccountResult,
     builder: &mut Builder,
 ) -> Result<(), AllocError>
-    ensures { OnOk result (builder.new ≡ create_account_result_format.onto builder.old value.now) }
+    ensures { OnOk result (builder.new ≡ spec.create_account_result.onto builder.old value.now) }
 {
     write_code(value, builder)
 }
@@ -107,7 +107,7 @@ pub fn write_create_account_result(
 /// Reads what PAYMENT answers.
 #[tactic(auto, unfolding(crate::specs::Answers::payment_result))]
 pub fn read_payment_result(cursor: &mut Cursor<'_>) -> Result<PaymentResult, XdrFault>
-    ensures { Reads itself result cursor.old cursor.new (payment_result_format.read cursor.old) }
+    ensures { Reads itself result cursor.old cursor.new (spec.payment_result.read cursor.old) }
 {
     read_code(cursor)
 }
@@ -115,7 +115,7 @@ pub fn read_payment_result(cursor: &mut Cursor<'_>) -> Result<PaymentResult, Xdr
 /// Writes what PAYMENT answers.
 #[tactic(auto, unfolding(crate::specs::Answers::payment_result))]
 pub fn write_payment_result(value: &PaymentResult, builder: &mut Builder) -> Result<(), AllocError>
-    ensures { OnOk result (builder.new ≡ payment_result_format.onto builder.old value.now) }
+    ensures { OnOk result (builder.new ≡ spec.payment_result.onto builder.old value.now) }
 {
     write_code(value, builder)
 }
@@ -126,7 +126,7 @@ pub fn read_path_payment_strict_receive_result(
     alloc: Global,
     cursor: &mut Cursor<'_>,
 ) -> Result<PathPaymentStrictReceiveResult, ReadFault>
-    ensures { Reads cause_of result cursor.old cursor.new (path_payment_strict_receive_result_format.read cursor.old) }
+    ensures { Reads cause_of result cursor.old cursor.new (spec.path_payment_strict_receive_result.read cursor.old) }
 {
     let mut ahead = cursor.fork();
     let answer = match ahead.i32()? {
@@ -148,8 +148,8 @@ pub fn write_path_payment_strict_receive_result(
     value: &PathPaymentStrictReceiveResult,
     builder: &mut Builder,
 ) -> Result<(), AllocError>
-    requires { path_payment_strict_receive_result_format.within value.now }
-    ensures { OnOk result (builder.new ≡ path_payment_strict_receive_result_format.onto builder.old value.now) }
+    requires { spec.path_payment_strict_receive_result.within value.now }
+    ensures { OnOk result (builder.new ≡ spec.path_payment_strict_receive_result.onto builder.old value.now) }
 {
     builder.i32(value.code())?;
     match value {
@@ -167,7 +167,7 @@ pub fn read_path_payment_strict_send_result(
     alloc: Global,
     cursor: &mut Cursor<'_>,
 ) -> Result<PathPaymentStrictSendResult, ReadFault>
-    ensures { Reads cause_of result cursor.old cursor.new (path_payment_strict_send_result_format.read cursor.old) }
+    ensures { Reads cause_of result cursor.old cursor.new (spec.path_payment_strict_send_result.read cursor.old) }
 {
     let mut ahead = cursor.fork();
     let answer = match ahead.i32()? {
@@ -189,8 +189,8 @@ pub fn write_path_payment_strict_send_result(
     value: &PathPaymentStrictSendResult,
     builder: &mut Builder,
 ) -> Result<(), AllocError>
-    requires { path_payment_strict_send_result_format.within value.now }
-    ensures { OnOk result (builder.new ≡ path_payment_strict_send_result_format.onto builder.old value.now) }
+    requires { spec.path_payment_strict_send_result.within value.now }
+    ensures { OnOk result (builder.new ≡ spec.path_payment_strict_send_result.onto builder.old value.now) }
 {
     builder.i32(value.code())?;
     match value {

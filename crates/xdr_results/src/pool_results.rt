@@ -2,7 +2,7 @@
 
 ghost use Rattle.std.specs.Prelude.{◌≡◌, OnOk};
 ghost use Rattle.xdr_core.specs.Place.{Reads, itself};
-ghost use Rattle.xdr_results.specs.Answers.{liquidity_pool_deposit_result as liquidity_pool_deposit_result_format, liquidity_pool_withdraw_result as liquidity_pool_withdraw_result_format};
+ghost use Rattle.xdr_results.specs.Answers as spec;
 
 use crate::coded::{read_code, write_code};
 use op_types::{LiquidityPoolDepositResult, LiquidityPoolWithdrawResult};
@@ -14,7 +14,7 @@ use xdr_core::{Builder, Cursor, XdrFault};
 pub fn read_liquidity_pool_deposit_result(
     cursor: &mut Cursor<'_>,
 ) -> Result<LiquidityPoolDepositResult, XdrFault>
-    ensures { Reads itself result cursor.old cursor.new (liquidity_pool_deposit_result_format.read cursor.old) }
+    ensures { Reads itself result cursor.old cursor.new (spec.liquidity_pool_deposit_result.read cursor.old) }
 {
     read_code(cursor)
 }
@@ -25,7 +25,7 @@ pub fn write_liquidity_pool_deposit_result(
     value: &LiquidityPoolDepositResult,
     builder: &mut Builder,
 ) -> Result<(), AllocError>
-    ensures { OnOk result (builder.new ≡ liquidity_pool_deposit_result_format.onto builder.old value.now) }
+    ensures { OnOk result (builder.new ≡ spec.liquidity_pool_deposit_result.onto builder.old value.now) }
 {
     write_code(value, builder)
 }
@@ -35,7 +35,7 @@ pub fn write_liquidity_pool_deposit_result(
 pub fn read_liquidity_pool_withdraw_result(
     cursor: &mut Cursor<'_>,
 ) -> Result<LiquidityPoolWithdrawResult, XdrFault>
-    ensures { Reads itself result cursor.old cursor.new (liquidity_pool_withdraw_result_format.read cursor.old) }
+    ensures { Reads itself result cursor.old cursor.new (spec.liquidity_pool_withdraw_result.read cursor.old) }
 {
     read_code(cursor)
 }
@@ -46,7 +46,7 @@ pub fn write_liquidity_pool_withdraw_result(
     value: &LiquidityPoolWithdrawResult,
     builder: &mut Builder,
 ) -> Result<(), AllocError>
-    ensures { OnOk result (builder.new ≡ liquidity_pool_withdraw_result_format.onto builder.old value.now) }
+    ensures { OnOk result (builder.new ≡ spec.liquidity_pool_withdraw_result.onto builder.old value.now) }
 {
     write_code(value, builder)
 }

@@ -2,7 +2,7 @@
 
 ghost use Rattle.std.specs.Prelude.{◌≡◌, OnOk};
 ghost use Rattle.xdr_core.specs.Place.{Reads, itself};
-ghost use Rattle.xdr_results.specs.Answers.{begin_sponsoring_future_reserves_result as begin_sponsoring_future_reserves_result_format, end_sponsoring_future_reserves_result as end_sponsoring_future_reserves_result_format, revoke_sponsorship_result as revoke_sponsorship_result_format};
+ghost use Rattle.xdr_results.specs.Answers as spec;
 
 use crate::coded::{read_code, write_code};
 use op_types::{
@@ -16,7 +16,7 @@ use xdr_core::{Builder, Cursor, XdrFault};
 pub fn read_begin_sponsoring_future_reserves_result(
     cursor: &mut Cursor<'_>,
 ) -> Result<BeginSponsoringFutureReservesResult, XdrFault>
-    ensures { Reads itself result cursor.old cursor.new (begin_sponsoring_future_reserves_result_format.read cursor.old) }
+    ensures { Reads itself result cursor.old cursor.new (spec.begin_sponsoring_future_reserves_result.read cursor.old) }
 {
     read_code(cursor)
 }
@@ -27,7 +27,7 @@ pub fn write_begin_sponsoring_future_reserves_result(
     value: &BeginSponsoringFutureReservesResult,
     builder: &mut Builder,
 ) -> Result<(), AllocError>
-    ensures { OnOk result (builder.new ≡ begin_sponsoring_future_reserves_result_format.onto builder.old value.now) }
+    ensures { OnOk result (builder.new ≡ spec.begin_sponsoring_future_reserves_result.onto builder.old value.now) }
 {
     write_code(value, builder)
 }
@@ -37,7 +37,7 @@ pub fn write_begin_sponsoring_future_reserves_result(
 pub fn read_end_sponsoring_future_reserves_result(
     cursor: &mut Cursor<'_>,
 ) -> Result<EndSponsoringFutureReservesResult, XdrFault>
-    ensures { Reads itself result cursor.old cursor.new (end_sponsoring_future_reserves_result_format.read cursor.old) }
+    ensures { Reads itself result cursor.old cursor.new (spec.end_sponsoring_future_reserves_result.read cursor.old) }
 {
     read_code(cursor)
 }
@@ -48,7 +48,7 @@ pub fn write_end_sponsoring_future_reserves_result(
     value: &EndSponsoringFutureReservesResult,
     builder: &mut Builder,
 ) -> Result<(), AllocError>
-    ensures { OnOk result (builder.new ≡ end_sponsoring_future_reserves_result_format.onto builder.old value.now) }
+    ensures { OnOk result (builder.new ≡ spec.end_sponsoring_future_reserves_result.onto builder.old value.now) }
 {
     write_code(value, builder)
 }
@@ -58,7 +58,7 @@ pub fn write_end_sponsoring_future_reserves_result(
 pub fn read_revoke_sponsorship_result(
     cursor: &mut Cursor<'_>,
 ) -> Result<RevokeSponsorshipResult, XdrFault>
-    ensures { Reads itself result cursor.old cursor.new (revoke_sponsorship_result_format.read cursor.old) }
+    ensures { Reads itself result cursor.old cursor.new (spec.revoke_sponsorship_result.read cursor.old) }
 {
     read_code(cursor)
 }
@@ -69,7 +69,7 @@ pub fn write_revoke_sponsorship_result(
     value: &RevokeSponsorshipResult,
     builder: &mut Builder,
 ) -> Result<(), AllocError>
-    ensures { OnOk result (builder.new ≡ revoke_sponsorship_result_format.onto builder.old value.now) }
+    ensures { OnOk result (builder.new ≡ spec.revoke_sponsorship_result.onto builder.old value.now) }
 {
     write_code(value, builder)
 }

@@ -1,9 +1,9 @@
 //! What transactions answer.
 
-ghost use Rattle.std.specs.Prelude.{◌≡◌, OnOk};
+ghost use Rattle.std.specs.Prelude.{◌≡◌, ◌++◌, OnOk};
 ghost use Rattle.xdr_core.specs.Place.{Reads};
 ghost use Rattle.xdr_core.specs.ReadFault.{cause_of};
-ghost use Rattle.xdr_results.specs.Results.{inner_transaction_outcome as inner_transaction_outcome_format, inner_transaction_result as inner_transaction_result_format, inner_transaction_result_pair as inner_transaction_result_pair_format, transaction_outcome as transaction_outcome_format, transaction_result as transaction_result_format, transaction_result_pair as transaction_result_pair_format, transaction_result_set as transaction_result_set_format};
+ghost use Rattle.xdr_results.specs.Results as spec;
 
 use crate::coded::plain_value;
 use crate::operation_result::OperationResultFormat;
@@ -33,7 +33,7 @@ pub fn read_inner_transaction_outcome(
     alloc: Global,
     cursor: &mut Cursor<'_>,
 ) -> Result<InnerTransactionOutcome, ReadFault>
-    ensures { Reads cause_of result cursor.old cursor.new (inner_transaction_outcome_format.read cursor.old) }
+    ensures { Reads cause_of result cursor.old cursor.new (spec.inner_transaction_outcome.read cursor.old) }
 {
     let mut ahead = cursor.fork();
     let answer = match ahead.i32()? {
@@ -59,8 +59,8 @@ pub fn write_inner_transaction_outcome(
     value: &InnerTransactionOutcome,
     builder: &mut Builder,
 ) -> Result<(), AllocError>
-    requires { inner_transaction_outcome_format.within value.now }
-    ensures { OnOk result (builder.new ≡ inner_transaction_outcome_format.onto builder.old value.now) }
+    requires { spec.inner_transaction_outcome.within value.now }
+    ensures { OnOk result (builder.new ≡ spec.inner_transaction_outcome.onto builder.old value.now) }
 {
     builder.i32(value.code())?;
     match value {
@@ -84,7 +84,7 @@ pub fn read_inner_transaction_result(
     alloc: Global,
     cursor: &mut Cursor<'_>,
 ) -> Result<InnerTransactionResult, ReadFault>
-    ensures { Reads cause_of result cursor.old cursor.new (inner_transaction_result_format.read cursor.old) }
+    ensures { Reads cause_of result cursor.old cursor.new (spec.inner_transaction_result.read cursor.old) }
 {
     let mut ahead = cursor.fork();
     let fee_charged = ahead.i64()?;
@@ -103,8 +103,8 @@ pub fn write_inner_transaction_result(
     value: &InnerTransactionResult,
     builder: &mut Builder,
 ) -> Result<(), AllocError>
-    requires { inner_transaction_result_format.within value.now }
-    ensures { OnOk result (builder.new ≡ inner_transaction_result_format.onto builder.old value.now) }
+    requires { spec.inner_transaction_result.within value.now }
+    ensures { OnOk result (builder.new ≡ spec.inner_transaction_result.onto builder.old value.now) }
 {
     builder.i64(value.fee_charged)?;
     write_inner_transaction_outcome(&value.outcome, builder)?;
@@ -117,7 +117,7 @@ pub fn read_inner_transaction_result_pair(
     alloc: Global,
     cursor: &mut Cursor<'_>,
 ) -> Result<InnerTransactionResultPair, ReadFault>
-    ensures { Reads cause_of result cursor.old cursor.new (inner_transaction_result_pair_format.read cursor.old) }
+    ensures { Reads cause_of result cursor.old cursor.new (spec.inner_transaction_result_pair.read cursor.old) }
 {
     let mut ahead = cursor.fork();
     let transaction_hash = read_hash(&mut ahead)?;
@@ -135,8 +135,8 @@ pub fn write_inner_transaction_result_pair(
     value: &InnerTransactionResultPair,
     builder: &mut Builder,
 ) -> Result<(), AllocError>
-    requires { inner_transaction_result_pair_format.within value.now }
-    ensures { OnOk result (builder.new ≡ inner_transaction_result_pair_format.onto builder.old value.now) }
+    requires { spec.inner_transaction_result_pair.within value.now }
+    ensures { OnOk result (builder.new ≡ spec.inner_transaction_result_pair.onto builder.old value.now) }
 {
     write_hash(&value.transaction_hash, builder)?;
     write_inner_transaction_result(&value.result, builder)
@@ -148,7 +148,7 @@ pub fn read_transaction_outcome(
     alloc: Global,
     cursor: &mut Cursor<'_>,
 ) -> Result<TransactionOutcome, ReadFault>
-    ensures { Reads cause_of result cursor.old cursor.new (transaction_outcome_format.read cursor.old) }
+    ensures { Reads cause_of result cursor.old cursor.new (spec.transaction_outcome.read cursor.old) }
 {
     let mut ahead = cursor.fork();
     let answer = match ahead.i32()? {
@@ -180,8 +180,8 @@ pub fn write_transaction_outcome(
     value: &TransactionOutcome,
     builder: &mut Builder,
 ) -> Result<(), AllocError>
-    requires { transaction_outcome_format.within value.now }
-    ensures { OnOk result (builder.new ≡ transaction_outcome_format.onto builder.old value.now) }
+    requires { spec.transaction_outcome.within value.now }
+    ensures { OnOk result (builder.new ≡ spec.transaction_outcome.onto builder.old value.now) }
 {
     builder.i32(value.code())?;
     match value {
@@ -211,7 +211,7 @@ pub fn read_transaction_result(
     alloc: Global,
     cursor: &mut Cursor<'_>,
 ) -> Result<TransactionResult, ReadFault>
-    ensures { Reads cause_of result cursor.old cursor.new (transaction_result_format.read cursor.old) }
+    ensures { Reads cause_of result cursor.old cursor.new (spec.transaction_result.read cursor.old) }
 {
     let mut ahead = cursor.fork();
     let fee_charged = ahead.i64()?;
@@ -230,8 +230,8 @@ pub fn write_transaction_result(
     value: &TransactionResult,
     builder: &mut Builder,
 ) -> Result<(), AllocError>
-    requires { transaction_result_format.within value.now }
-    ensures { OnOk result (builder.new ≡ transaction_result_format.onto builder.old value.now) }
+    requires { spec.transaction_result.within value.now }
+    ensures { OnOk result (builder.new ≡ spec.transaction_result.onto builder.old value.now) }
 {
     builder.i64(value.fee_charged)?;
     write_transaction_outcome(&value.outcome, builder)?;
@@ -244,7 +244,7 @@ pub fn read_transaction_result_pair(
     alloc: Global,
     cursor: &mut Cursor<'_>,
 ) -> Result<TransactionResultPair, ReadFault>
-    ensures { Reads cause_of result cursor.old cursor.new (transaction_result_pair_format.read cursor.old) }
+    ensures { Reads cause_of result cursor.old cursor.new (spec.transaction_result_pair.read cursor.old) }
 {
     let mut ahead = cursor.fork();
     let transaction_hash = read_hash(&mut ahead)?;
@@ -257,13 +257,22 @@ pub fn read_transaction_result_pair(
 }
 
 /// Writes a transaction's result beside its hash.
-#[tactic(auto, unfolding(crate::specs::Results::transaction_result_pair))]
+#[tactic(auto, using(crate::proofs::TransactionLaws::pair_written))]
 pub fn write_transaction_result_pair(
     value: &TransactionResultPair,
     builder: &mut Builder,
 ) -> Result<(), AllocError>
-    requires { transaction_result_pair_format.within value.now }
-    ensures { OnOk result (builder.new ≡ transaction_result_pair_format.onto builder.old value.now) }
+    requires { spec.transaction_result_pair.within value.now }
+    ensures { OnOk result (builder.new ≡ builder.old ++ spec.transaction_result_pair.spell value.now) }
+{
+    write_pair_fields(value, builder)
+}
+
+/// Writes the fields of a result with its transaction's hash.
+#[tactic(auto, unfolding(crate::specs::Results::transaction_result_pair))]
+fn write_pair_fields(value: &TransactionResultPair, builder: &mut Builder) -> Result<(), AllocError>
+    requires { spec.transaction_result_pair.within value.now }
+    ensures { OnOk result (builder.new ≡ spec.transaction_result_pair.onto builder.old value.now) }
 {
     write_hash(&value.transaction_hash, builder)?;
     write_transaction_result(&value.result, builder)
@@ -277,7 +286,7 @@ impl Decode for TransactionResultPairFormat {
 
     type Failure = ReadFault;
 
-    ghost format = { transaction_result_pair_format };
+    ghost format = { spec.transaction_result_pair };
 
     fn decode(alloc: Global, cursor: &mut Cursor<'_>) -> Result<TransactionResultPair, ReadFault> {
         read_transaction_result_pair(alloc, cursor)
@@ -296,7 +305,7 @@ pub fn read_transaction_result_set(
     alloc: Global,
     cursor: &mut Cursor<'_>,
 ) -> Result<TransactionResultSet, ReadFault>
-    ensures { Reads cause_of result cursor.old cursor.new (transaction_result_set_format.read cursor.old) }
+    ensures { Reads cause_of result cursor.old cursor.new (spec.transaction_result_set.read cursor.old) }
 {
     let mut ahead = cursor.fork();
     let results = read_list::<TransactionResultPairFormat>(alloc, u32::MAX, &mut ahead)?;
@@ -305,13 +314,22 @@ pub fn read_transaction_result_set(
 }
 
 /// Writes the results of a set.
-#[tactic(auto, unfolding(crate::specs::Results::transaction_result_set))]
+#[tactic(auto, using(crate::proofs::TransactionLaws::set_written))]
 pub fn write_transaction_result_set(
     value: &TransactionResultSet,
     builder: &mut Builder,
 ) -> Result<(), AllocError>
-    requires { transaction_result_set_format.within value.now }
-    ensures { OnOk result (builder.new ≡ transaction_result_set_format.onto builder.old value.now) }
+    requires { spec.transaction_result_set.within value.now }
+    ensures { OnOk result (builder.new ≡ builder.old ++ spec.transaction_result_set.spell value.now) }
+{
+    write_set_fields(value, builder)
+}
+
+/// Writes the results of a set one behind another, behind their number.
+#[tactic(auto, unfolding(crate::specs::Results::transaction_result_set))]
+fn write_set_fields(value: &TransactionResultSet, builder: &mut Builder) -> Result<(), AllocError>
+    requires { spec.transaction_result_set.within value.now }
+    ensures { OnOk result (builder.new ≡ spec.transaction_result_set.onto builder.old value.now) }
 {
     write_list::<TransactionResultPairFormat>(value.results.as_slice(), u32::MAX, builder)
 }

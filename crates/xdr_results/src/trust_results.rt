@@ -2,7 +2,7 @@
 
 ghost use Rattle.std.specs.Prelude.{◌≡◌, OnOk};
 ghost use Rattle.xdr_core.specs.Place.{Reads, itself};
-ghost use Rattle.xdr_results.specs.Answers.{change_trust_result as change_trust_result_format, allow_trust_result as allow_trust_result_format, clawback_result as clawback_result_format, set_trust_line_flags_result as set_trust_line_flags_result_format};
+ghost use Rattle.xdr_results.specs.Answers as spec;
 
 use crate::coded::{read_code, write_code};
 use op_types::{AllowTrustResult, ChangeTrustResult, ClawbackResult, SetTrustLineFlagsResult};
@@ -12,7 +12,7 @@ use xdr_core::{Builder, Cursor, XdrFault};
 /// Reads what CHANGE_TRUST answers.
 #[tactic(auto, unfolding(crate::specs::Answers::change_trust_result))]
 pub fn read_change_trust_result(cursor: &mut Cursor<'_>) -> Result<ChangeTrustResult, XdrFault>
-    ensures { Reads itself result cursor.old cursor.new (change_trust_result_format.read cursor.old) }
+    ensures { Reads itself result cursor.old cursor.new (spec.change_trust_result.read cursor.old) }
 {
     read_code(cursor)
 }
@@ -23,7 +23,7 @@ pub fn write_change_trust_result(
     value: &ChangeTrustResult,
     builder: &mut Builder,
 ) -> Result<(), AllocError>
-    ensures { OnOk result (builder.new ≡ change_trust_result_format.onto builder.old value.now) }
+    ensures { OnOk result (builder.new ≡ spec.change_trust_result.onto builder.old value.now) }
 {
     write_code(value, builder)
 }
@@ -31,7 +31,7 @@ pub fn write_change_trust_result(
 /// Reads what ALLOW_TRUST answers.
 #[tactic(auto, unfolding(crate::specs::Answers::allow_trust_result))]
 pub fn read_allow_trust_result(cursor: &mut Cursor<'_>) -> Result<AllowTrustResult, XdrFault>
-    ensures { Reads itself result cursor.old cursor.new (allow_trust_result_format.read cursor.old) }
+    ensures { Reads itself result cursor.old cursor.new (spec.allow_trust_result.read cursor.old) }
 {
     read_code(cursor)
 }
@@ -42,7 +42,7 @@ pub fn write_allow_trust_result(
     value: &AllowTrustResult,
     builder: &mut Builder,
 ) -> Result<(), AllocError>
-    ensures { OnOk result (builder.new ≡ allow_trust_result_format.onto builder.old value.now) }
+    ensures { OnOk result (builder.new ≡ spec.allow_trust_result.onto builder.old value.now) }
 {
     write_code(value, builder)
 }
@@ -50,7 +50,7 @@ pub fn write_allow_trust_result(
 /// Reads what CLAWBACK answers.
 #[tactic(auto, unfolding(crate::specs::Answers::clawback_result))]
 pub fn read_clawback_result(cursor: &mut Cursor<'_>) -> Result<ClawbackResult, XdrFault>
-    ensures { Reads itself result cursor.old cursor.new (clawback_result_format.read cursor.old) }
+    ensures { Reads itself result cursor.old cursor.new (spec.clawback_result.read cursor.old) }
 {
     read_code(cursor)
 }
@@ -61,7 +61,7 @@ pub fn write_clawback_result(
     value: &ClawbackResult,
     builder: &mut Builder,
 ) -> Result<(), AllocError>
-    ensures { OnOk result (builder.new ≡ clawback_result_format.onto builder.old value.now) }
+    ensures { OnOk result (builder.new ≡ spec.clawback_result.onto builder.old value.now) }
 {
     write_code(value, builder)
 }
@@ -71,7 +71,7 @@ pub fn write_clawback_result(
 pub fn read_set_trust_line_flags_result(
     cursor: &mut Cursor<'_>,
 ) -> Result<SetTrustLineFlagsResult, XdrFault>
-    ensures { Reads itself result cursor.old cursor.new (set_trust_line_flags_result_format.read cursor.old) }
+    ensures { Reads itself result cursor.old cursor.new (spec.set_trust_line_flags_result.read cursor.old) }
 {
     read_code(cursor)
 }
@@ -82,7 +82,7 @@ pub fn write_set_trust_line_flags_result(
     value: &SetTrustLineFlagsResult,
     builder: &mut Builder,
 ) -> Result<(), AllocError>
-    ensures { OnOk result (builder.new ≡ set_trust_line_flags_result_format.onto builder.old value.now) }
+    ensures { OnOk result (builder.new ≡ spec.set_trust_line_flags_result.onto builder.old value.now) }
 {
     write_code(value, builder)
 }

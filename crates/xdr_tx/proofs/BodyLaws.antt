@@ -1,50 +1,189 @@
--- The laws of operations: what is read is spelled so, what is spelled so is read, and writing puts the spelling at the end.
+-- The laws of operations.
 use Rattle.std.proofs.Common.{pos, refl}
-use Rattle.xdr_core.specs.Format.{Lawful}
-use Rattle.xdr_core.specs.Xdr.{as_it_is, no_arm}
-use Rattle.xdr_core.proofs.Combining.{◌&◌, struct_law, option_law}
-use Rattle.xdr_core.proofs.Unions.{IsFound, union_law}
-use Rattle.xdr_core.proofs.Extensions.{empty_law}
-use Rattle.xdr_core.proofs.Discriminants.{discriminant_fits}
-use Rattle.xdr_entries.proofs.BasicLaws.{muxed_account_lawful}
+use Rattle.xdr_core.proofs.FormatLaws.{Laws, empty_laws, ◌&◌, struct_laws, option_laws, arm_laws, found, union_laws}
+use Rattle.xdr_core.proofs.Unions.{IsFound}
+use Rattle.xdr_entries.proofs.BasicLaws.{muxed_account_laws}
 use Rattle.op_types.specs.declared.operation.OperationBody.{OperationBody}
 use Rattle.op_types.specs.declared.operation.OperationBody.TheVariants as body
-use Rattle.xdr_tx.proofs.OperationLaws.{create_account_op_lawful, set_options_op_lawful, account_merge_op_lawful, manage_data_op_lawful, bump_sequence_op_lawful, payment_op_lawful, path_payment_strict_receive_op_lawful, path_payment_strict_send_op_lawful, manage_sell_offer_op_lawful, create_passive_sell_offer_op_lawful, manage_buy_offer_op_lawful, change_trust_op_lawful, allow_trust_op_lawful, set_trust_line_flags_op_lawful, clawback_op_lawful, create_claimable_balance_op_lawful, claim_claimable_balance_op_lawful, clawback_claimable_balance_op_lawful, begin_sponsoring_future_reserves_op_lawful, revoke_sponsorship_op_lawful, liquidity_pool_deposit_op_lawful, liquidity_pool_withdraw_op_lawful}
-use Rattle.xdr_tx.specs.Operations.{create_account_arm, payment_arm, path_payment_strict_receive_arm, manage_sell_offer_arm, create_passive_sell_offer_arm, set_options_arm, change_trust_arm, allow_trust_arm, account_merge_arm, inflation_arm, manage_data_arm, bump_sequence_arm, manage_buy_offer_arm, path_payment_strict_send_arm, create_claimable_balance_arm, claim_claimable_balance_arm, begin_sponsoring_future_reserves_arm, end_sponsoring_future_reserves_arm, revoke_sponsorship_arm, clawback_arm, clawback_claimable_balance_arm, set_trust_line_flags_arm, liquidity_pool_deposit_arm, liquidity_pool_withdraw_arm, last_body_arms, third_body_arms, second_body_arms, body_arms, body_part, operation_body, operation_fields, operation}
+use Rattle.xdr_tx.proofs.OperationLaws.{
+  create_account_op_laws,
+  set_options_op_laws,
+  account_merge_op_laws,
+  manage_data_op_laws,
+  bump_sequence_op_laws,
+  payment_op_laws,
+  path_payment_strict_receive_op_laws,
+  path_payment_strict_send_op_laws,
+  manage_sell_offer_op_laws,
+  create_passive_sell_offer_op_laws,
+  manage_buy_offer_op_laws,
+  change_trust_op_laws,
+  allow_trust_op_laws,
+  set_trust_line_flags_op_laws,
+  clawback_op_laws,
+  create_claimable_balance_op_laws,
+  claim_claimable_balance_op_laws,
+  clawback_claimable_balance_op_laws,
+  begin_sponsoring_future_reserves_op_laws,
+  revoke_sponsorship_op_laws,
+  liquidity_pool_deposit_op_laws,
+  liquidity_pool_withdraw_op_laws,
+}
+use Rattle.xdr_tx.specs.Operations.{
+  create_account_arm,
+  payment_arm,
+  path_payment_strict_receive_arm,
+  manage_sell_offer_arm,
+  create_passive_sell_offer_arm,
+  set_options_arm,
+  change_trust_arm,
+  allow_trust_arm,
+  account_merge_arm,
+  inflation_arm,
+  manage_data_arm,
+  bump_sequence_arm,
+  manage_buy_offer_arm,
+  path_payment_strict_send_arm,
+  create_claimable_balance_arm,
+  claim_claimable_balance_arm,
+  begin_sponsoring_future_reserves_arm,
+  end_sponsoring_future_reserves_arm,
+  revoke_sponsorship_arm,
+  clawback_arm,
+  clawback_claimable_balance_arm,
+  set_trust_line_flags_arm,
+  liquidity_pool_deposit_arm,
+  liquidity_pool_withdraw_arm,
+  last_body_arms,
+  third_body_arms,
+  second_body_arms,
+  body_arms,
+  body_part,
+  operation_body,
+  operation_fields,
+  operation,
+}
 
 operation_body_found : (v : OperationBody) → IsFound body_part body_arms v
 unfolding second_body_arms third_body_arms last_body_arms
-operation_body_found (body.CreateAccount op) = record { arm = create_account_arm; body = op; law = create_account_op_lawful; fits = discriminant_fits (pos 0) tt; is_part = refl; makes = refl; picked = λ wrong start p. refl }
-operation_body_found (body.Payment op) = record { arm = payment_arm; body = op; law = payment_op_lawful; fits = discriminant_fits (pos 1) tt; is_part = refl; makes = refl; picked = λ wrong start p. refl }
-operation_body_found (body.PathPaymentStrictReceive op) = record { arm = path_payment_strict_receive_arm; body = op; law = path_payment_strict_receive_op_lawful; fits = discriminant_fits (pos 2) tt; is_part = refl; makes = refl; picked = λ wrong start p. refl }
-operation_body_found (body.ManageSellOffer op) = record { arm = manage_sell_offer_arm; body = op; law = manage_sell_offer_op_lawful; fits = discriminant_fits (pos 3) tt; is_part = refl; makes = refl; picked = λ wrong start p. refl }
-operation_body_found (body.CreatePassiveSellOffer op) = record { arm = create_passive_sell_offer_arm; body = op; law = create_passive_sell_offer_op_lawful; fits = discriminant_fits (pos 4) tt; is_part = refl; makes = refl; picked = λ wrong start p. refl }
-operation_body_found (body.SetOptions op) = record { arm = set_options_arm; body = op; law = set_options_op_lawful; fits = discriminant_fits (pos 5) tt; is_part = refl; makes = refl; picked = λ wrong start p. refl }
-operation_body_found (body.ChangeTrust op) = record { arm = change_trust_arm; body = op; law = change_trust_op_lawful; fits = discriminant_fits (pos 6) tt; is_part = refl; makes = refl; picked = λ wrong start p. refl }
-operation_body_found (body.AllowTrust op) = record { arm = allow_trust_arm; body = op; law = allow_trust_op_lawful; fits = discriminant_fits (pos 7) tt; is_part = refl; makes = refl; picked = λ wrong start p. refl }
-operation_body_found (body.AccountMerge op) = record { arm = account_merge_arm; body = op; law = account_merge_op_lawful; fits = discriminant_fits (pos 8) tt; is_part = refl; makes = refl; picked = λ wrong start p. refl }
-operation_body_found body.Inflation = record { arm = inflation_arm; body = tt; law = empty_law; fits = discriminant_fits (pos 9) tt; is_part = refl; makes = refl; picked = λ wrong start p. refl }
-operation_body_found (body.ManageData op) = record { arm = manage_data_arm; body = op; law = manage_data_op_lawful; fits = discriminant_fits (pos 10) tt; is_part = refl; makes = refl; picked = λ wrong start p. refl }
-operation_body_found (body.BumpSequence op) = record { arm = bump_sequence_arm; body = op; law = bump_sequence_op_lawful; fits = discriminant_fits (pos 11) tt; is_part = refl; makes = refl; picked = λ wrong start p. refl }
-operation_body_found (body.ManageBuyOffer op) = record { arm = manage_buy_offer_arm; body = op; law = manage_buy_offer_op_lawful; fits = discriminant_fits (pos 12) tt; is_part = refl; makes = refl; picked = λ wrong start p. refl }
-operation_body_found (body.PathPaymentStrictSend op) = record { arm = path_payment_strict_send_arm; body = op; law = path_payment_strict_send_op_lawful; fits = discriminant_fits (pos 13) tt; is_part = refl; makes = refl; picked = λ wrong start p. refl }
-operation_body_found (body.CreateClaimableBalance op) = record { arm = create_claimable_balance_arm; body = op; law = create_claimable_balance_op_lawful; fits = discriminant_fits (pos 14) tt; is_part = refl; makes = refl; picked = λ wrong start p. refl }
-operation_body_found (body.ClaimClaimableBalance op) = record { arm = claim_claimable_balance_arm; body = op; law = claim_claimable_balance_op_lawful; fits = discriminant_fits (pos 15) tt; is_part = refl; makes = refl; picked = λ wrong start p. refl }
-operation_body_found (body.BeginSponsoringFutureReserves op) = record { arm = begin_sponsoring_future_reserves_arm; body = op; law = begin_sponsoring_future_reserves_op_lawful; fits = discriminant_fits (pos 16) tt; is_part = refl; makes = refl; picked = λ wrong start p. refl }
-operation_body_found body.EndSponsoringFutureReserves = record { arm = end_sponsoring_future_reserves_arm; body = tt; law = empty_law; fits = discriminant_fits (pos 17) tt; is_part = refl; makes = refl; picked = λ wrong start p. refl }
-operation_body_found (body.RevokeSponsorship op) = record { arm = revoke_sponsorship_arm; body = op; law = revoke_sponsorship_op_lawful; fits = discriminant_fits (pos 18) tt; is_part = refl; makes = refl; picked = λ wrong start p. refl }
-operation_body_found (body.Clawback op) = record { arm = clawback_arm; body = op; law = clawback_op_lawful; fits = discriminant_fits (pos 19) tt; is_part = refl; makes = refl; picked = λ wrong start p. refl }
-operation_body_found (body.ClawbackClaimableBalance op) = record { arm = clawback_claimable_balance_arm; body = op; law = clawback_claimable_balance_op_lawful; fits = discriminant_fits (pos 20) tt; is_part = refl; makes = refl; picked = λ wrong start p. refl }
-operation_body_found (body.SetTrustLineFlags op) = record { arm = set_trust_line_flags_arm; body = op; law = set_trust_line_flags_op_lawful; fits = discriminant_fits (pos 21) tt; is_part = refl; makes = refl; picked = λ wrong start p. refl }
-operation_body_found (body.LiquidityPoolDeposit op) = record { arm = liquidity_pool_deposit_arm; body = op; law = liquidity_pool_deposit_op_lawful; fits = discriminant_fits (pos 22) tt; is_part = refl; makes = refl; picked = λ wrong start p. refl }
-operation_body_found (body.LiquidityPoolWithdraw op) = record { arm = liquidity_pool_withdraw_arm; body = op; law = liquidity_pool_withdraw_op_lawful; fits = discriminant_fits (pos 23) tt; is_part = refl; makes = refl; picked = λ wrong start p. refl }
+operation_body_found (body.CreateAccount op) =
+    found create_account_arm op create_account_op_laws tt refl refl (λ _ _ _. refl)
+operation_body_found (body.Payment op) = found payment_arm op payment_op_laws tt refl refl (λ _ _ _. refl)
+operation_body_found (body.PathPaymentStrictReceive op) =
+    found path_payment_strict_receive_arm op path_payment_strict_receive_op_laws tt refl refl (λ _ _ _. refl)
+operation_body_found (body.ManageSellOffer op) =
+    found manage_sell_offer_arm op manage_sell_offer_op_laws tt refl refl (λ _ _ _. refl)
+operation_body_found (body.CreatePassiveSellOffer op) =
+    found create_passive_sell_offer_arm op create_passive_sell_offer_op_laws tt refl refl (λ _ _ _. refl)
+operation_body_found (body.SetOptions op) = found set_options_arm op set_options_op_laws tt refl refl (λ _ _ _. refl)
+operation_body_found (body.ChangeTrust op) =
+    found change_trust_arm op change_trust_op_laws tt refl refl (λ _ _ _. refl)
+operation_body_found (body.AllowTrust op) = found allow_trust_arm op allow_trust_op_laws tt refl refl (λ _ _ _. refl)
+operation_body_found (body.AccountMerge op) =
+    found account_merge_arm op account_merge_op_laws tt refl refl (λ _ _ _. refl)
+operation_body_found body.Inflation = found inflation_arm tt empty_laws tt refl refl (λ _ _ _. refl)
+operation_body_found (body.ManageData op) = found manage_data_arm op manage_data_op_laws tt refl refl (λ _ _ _. refl)
+operation_body_found (body.BumpSequence op) =
+    found bump_sequence_arm op bump_sequence_op_laws tt refl refl (λ _ _ _. refl)
+operation_body_found (body.ManageBuyOffer op) =
+    found manage_buy_offer_arm op manage_buy_offer_op_laws tt refl refl (λ _ _ _. refl)
+operation_body_found (body.PathPaymentStrictSend op) =
+    found path_payment_strict_send_arm op path_payment_strict_send_op_laws tt refl refl (λ _ _ _. refl)
+operation_body_found (body.CreateClaimableBalance op) =
+    found create_claimable_balance_arm op create_claimable_balance_op_laws tt refl refl (λ _ _ _. refl)
+operation_body_found (body.ClaimClaimableBalance op) =
+    found claim_claimable_balance_arm op claim_claimable_balance_op_laws tt refl refl (λ _ _ _. refl)
+operation_body_found (body.BeginSponsoringFutureReserves op) =
+    found begin_sponsoring_future_reserves_arm op
+    begin_sponsoring_future_reserves_op_laws tt refl refl (λ _ _ _. refl)
+operation_body_found body.EndSponsoringFutureReserves =
+    found end_sponsoring_future_reserves_arm tt empty_laws tt refl refl (λ _ _ _. refl)
+operation_body_found (body.RevokeSponsorship op) =
+    found revoke_sponsorship_arm op revoke_sponsorship_op_laws tt refl refl (λ _ _ _. refl)
+operation_body_found (body.Clawback op) = found clawback_arm op clawback_op_laws tt refl refl (λ _ _ _. refl)
+operation_body_found (body.ClawbackClaimableBalance op) =
+    found clawback_claimable_balance_arm op clawback_claimable_balance_op_laws tt refl refl (λ _ _ _. refl)
+operation_body_found (body.SetTrustLineFlags op) =
+    found set_trust_line_flags_arm op set_trust_line_flags_op_laws tt refl refl (λ _ _ _. refl)
+operation_body_found (body.LiquidityPoolDeposit op) =
+    found liquidity_pool_deposit_arm op liquidity_pool_deposit_op_laws tt refl refl (λ _ _ _. refl)
+operation_body_found (body.LiquidityPoolWithdraw op) =
+    found liquidity_pool_withdraw_arm op liquidity_pool_withdraw_op_laws tt refl refl (λ _ _ _. refl)
 
-pub operation_body_lawful : Lawful operation_body
+pub operation_body_laws : Laws operation_body
 unfolding operation_body second_body_arms third_body_arms last_body_arms
-operation_body_lawful = union_law as_it_is body_part body_arms no_arm
-    (record { law = create_account_op_lawful; is_part = λ x. refl }, (record { law = payment_op_lawful; is_part = λ x. refl }, (record { law = path_payment_strict_receive_op_lawful; is_part = λ x. refl }, (record { law = manage_sell_offer_op_lawful; is_part = λ x. refl }, (record { law = create_passive_sell_offer_op_lawful; is_part = λ x. refl }, (record { law = set_options_op_lawful; is_part = λ x. refl }, (record { law = change_trust_op_lawful; is_part = λ x. refl }, (record { law = allow_trust_op_lawful; is_part = λ x. refl }, (record { law = account_merge_op_lawful; is_part = λ x. refl }, (record { law = empty_law; is_part = λ x. refl }, (record { law = manage_data_op_lawful; is_part = λ x. refl }, (record { law = bump_sequence_op_lawful; is_part = λ x. refl }, (record { law = manage_buy_offer_op_lawful; is_part = λ x. refl }, (record { law = path_payment_strict_send_op_lawful; is_part = λ x. refl }, (record { law = create_claimable_balance_op_lawful; is_part = λ x. refl }, (record { law = claim_claimable_balance_op_lawful; is_part = λ x. refl }, (record { law = begin_sponsoring_future_reserves_op_lawful; is_part = λ x. refl }, (record { law = empty_law; is_part = λ x. refl }, (record { law = revoke_sponsorship_op_lawful; is_part = λ x. refl }, (record { law = clawback_op_lawful; is_part = λ x. refl }, (record { law = clawback_claimable_balance_op_lawful; is_part = λ x. refl }, (record { law = set_trust_line_flags_op_lawful; is_part = λ x. refl }, (record { law = liquidity_pool_deposit_op_lawful; is_part = λ x. refl }, (record { law = liquidity_pool_withdraw_op_lawful; is_part = λ x. refl }, tt))))))))))))))))))))))))
+operation_body_laws = union_laws (
+  arm_laws create_account_op_laws (λ x. refl),
+  (
+    arm_laws payment_op_laws (λ x. refl),
+    (
+      arm_laws path_payment_strict_receive_op_laws (λ x. refl),
+      (
+        arm_laws manage_sell_offer_op_laws (λ x. refl),
+        (
+          arm_laws create_passive_sell_offer_op_laws (λ x. refl),
+          (
+            arm_laws set_options_op_laws (λ x. refl),
+            (
+              arm_laws change_trust_op_laws (λ x. refl),
+              (
+                arm_laws allow_trust_op_laws (λ x. refl),
+                (
+                  arm_laws account_merge_op_laws (λ x. refl),
+                  (
+                    arm_laws empty_laws (λ x. refl),
+                    (
+                      arm_laws manage_data_op_laws (λ x. refl),
+                      (
+                        arm_laws bump_sequence_op_laws (λ x. refl),
+                        (
+                          arm_laws manage_buy_offer_op_laws (λ x. refl),
+                          (
+                            arm_laws path_payment_strict_send_op_laws (λ x. refl),
+                            (
+                              arm_laws create_claimable_balance_op_laws (λ x. refl),
+                              (
+                                arm_laws claim_claimable_balance_op_laws (λ x. refl),
+                                (
+                                  arm_laws begin_sponsoring_future_reserves_op_laws (λ x. refl),
+                                  (
+                                    arm_laws empty_laws (λ x. refl),
+                                    (
+                                      arm_laws revoke_sponsorship_op_laws (λ x. refl),
+                                      (
+                                        arm_laws clawback_op_laws (λ x. refl),
+                                        (
+                                          arm_laws clawback_claimable_balance_op_laws (λ x. refl),
+                                          (
+                                            arm_laws set_trust_line_flags_op_laws (λ x. refl),
+                                            (
+                                              arm_laws liquidity_pool_deposit_op_laws (λ x. refl),
+                                              (arm_laws liquidity_pool_withdraw_op_laws (λ x. refl), tt),
+                                            ),
+                                          ),
+                                        ),
+                                      ),
+                                    ),
+                                  ),
+                                ),
+                              ),
+                            ),
+                          ),
+                        ),
+                      ),
+                    ),
+                  ),
+                ),
+              ),
+            ),
+          ),
+        ),
+      ),
+    ),
+  ),
+)
     operation_body_found
 
-pub operation_lawful : Lawful operation
+pub operation_laws : Laws operation
 unfolding operation
-operation_lawful = struct_law operation_fields (option_law as_it_is muxed_account_lawful & operation_body_lawful)
+operation_laws = struct_laws operation_fields (option_laws muxed_account_laws & operation_body_laws)

@@ -1,3 +1,4 @@
+pub mod FieldLaws
 pub mod OperationLaws
 pub mod BodyLaws
 pub mod TransactionLaws

@@ -2,7 +2,7 @@
 use Rattle.std.specs.Prelude.{ℕ, ℤ, pos, List, [], ◌∷◌, Option, refl}
 use Rattle.xdr_core.specs.declared.fault.XdrFault.{XdrFault}
 use Rattle.xdr_core.specs.Leaves.{u32, i64, fixed, var}
-use Rattle.xdr_core.specs.Combinators.{◌⨾◌, Fields, struct_of, empty, Arm, Part, part}
+use Rattle.xdr_core.specs.Combinators.{◌⨾◌, Fields, struct_of, whole, empty, Arm, Part, part}
 use Rattle.xdr_core.specs.Xdr.{Xdr, optional, list_of, union_of}
 use Rattle.ledger_types.specs.declared.ids.AccountId.{AccountId}
 use Rattle.ledger_types.specs.declared.ids.MuxedAccount.{MuxedAccount}
@@ -38,10 +38,22 @@ use Rattle.op_types.specs.declared.balance_ops.ClawbackClaimableBalanceOp.{Clawb
 use Rattle.op_types.specs.declared.trust_ops.SetTrustLineFlagsOp.{SetTrustLineFlagsOp}
 use Rattle.op_types.specs.declared.pool_ops.LiquidityPoolDepositOp.{LiquidityPoolDepositOp}
 use Rattle.op_types.specs.declared.pool_ops.LiquidityPoolWithdrawOp.{LiquidityPoolWithdrawOp}
+use Rattle.op_types.specs.declared.operation_type.TheConstants as types
 use Rattle.op_types.specs.declared.operation.OperationBody.{OperationBody}
 use Rattle.op_types.specs.declared.operation.OperationBody.TheVariants as body
 use Rattle.op_types.specs.declared.operation.Operation.{Operation}
-use Rattle.xdr_entries.specs.Basic.{arm, hash, account_id, claimable_balance_id, muxed_account, signer_key, signer, asset, change_trust_asset, price}
+use Rattle.xdr_entries.specs.Basic.{
+  arm,
+  hash,
+  account_id,
+  claimable_balance_id,
+  muxed_account,
+  signer_key,
+  signer,
+  asset,
+  change_trust_asset,
+  price,
+}
 use Rattle.xdr_entries.specs.Entries.{claimant}
 use Rattle.xdr_entries.specs.Keys.{ledger_key}
 
@@ -49,7 +61,10 @@ use Rattle.xdr_entries.specs.Keys.{ledger_key}
 
 abbrev pub create_account_op_fields : Fields (AccountId × ℤ) CreateAccountOp
 create_account_op_fields = record {
-  to = λ (destination, starting_balance). record { destination = destination; starting_balance = starting_balance };
+  to = λ (destination, starting_balance). record {
+    destination = destination;
+    starting_balance = starting_balance;
+  };
   from = λ o. (o.destination, o.starting_balance);
   there = λ _. refl;
   back = λ _. refl;
@@ -58,16 +73,39 @@ create_account_op_fields = record {
 unfoldable pub create_account_op : Xdr CreateAccountOp
 create_account_op = struct_of create_account_op_fields (account_id ⨾ i64)
 
-abbrev pub set_options_op_fields : Fields (Option AccountId × (Option ℕ × (Option ℕ × (Option ℕ × (Option ℕ × (Option ℕ × (Option ℕ × (Option (List ℕ) × Option Signer)))))))) SetOptionsOp
+-- the thresholds that are set, and what stands behind them
+abbrev pub ThresholdParts : Type 0
+ThresholdParts = Option ℕ × (Option ℕ × (Option ℕ × (Option (List ℕ) × Option Signer)))
+
+abbrev pub threshold_parts : SetOptionsOp → ThresholdParts
+threshold_parts o = (o.low_threshold, (o.med_threshold, (o.high_threshold, (o.home_domain, o.signer))))
+
+abbrev pub SetOptionsParts : Type 0
+SetOptionsParts = Option AccountId × (Option ℕ × (Option ℕ × (Option ℕ × ThresholdParts)))
+
+abbrev pub set_options_op_fields : Fields SetOptionsParts SetOptionsOp
 set_options_op_fields = record {
-  to = λ (inflation_dest, (clear_flags, (set_flags, (master_weight, (low_threshold, (med_threshold, (high_threshold, (home_domain, signer)))))))). record { inflation_dest = inflation_dest; clear_flags = clear_flags; set_flags = set_flags; master_weight = master_weight; low_threshold = low_threshold; med_threshold = med_threshold; high_threshold = high_threshold; home_domain = home_domain; signer = signer };
-  from = λ o. (o.inflation_dest, (o.clear_flags, (o.set_flags, (o.master_weight, (o.low_threshold, (o.med_threshold, (o.high_threshold, (o.home_domain, o.signer))))))));
+  to = λ (inflation, (clear, (set, (master, (low, (medium, (high, (domain, signer)))))))). record {
+    inflation_dest = inflation;
+    clear_flags = clear;
+    set_flags = set;
+    master_weight = master;
+    low_threshold = low;
+    med_threshold = medium;
+    high_threshold = high;
+    home_domain = domain;
+    signer = signer;
+  };
+  from = λ o. (o.inflation_dest, (o.clear_flags, (o.set_flags, (o.master_weight, threshold_parts o))));
   there = λ _. refl;
   back = λ _. refl;
 }
 
 unfoldable pub set_options_op : Xdr SetOptionsOp
-set_options_op = struct_of set_options_op_fields (optional account_id ⨾ optional u32 ⨾ optional u32 ⨾ optional u32 ⨾ optional u32 ⨾ optional u32 ⨾ optional u32 ⨾ optional (var 32) ⨾ optional signer)
+set_options_op =
+    struct_of set_options_op_fields (
+    optional account_id ⨾ optional u32 ⨾ optional u32 ⨾ optional u32 ⨾ optional u32 ⨾ optional u32 ⨾ optional u32
+    ⨾ optional (var 32) ⨾ optional signer)
 
 abbrev pub account_merge_op_fields : Fields MuxedAccount AccountMergeOp
 account_merge_op_fields = record {
@@ -82,7 +120,10 @@ account_merge_op = struct_of account_merge_op_fields (muxed_account)
 
 abbrev pub manage_data_op_fields : Fields (List ℕ × Option (List ℕ)) ManageDataOp
 manage_data_op_fields = record {
-  to = λ (data_name, data_value). record { data_name = data_name; data_value = data_value };
+  to = λ (data_name, data_value). record {
+    data_name = data_name;
+    data_value = data_value;
+  };
   from = λ o. (o.data_name, o.data_value);
   there = λ _. refl;
   back = λ _. refl;
@@ -106,7 +147,11 @@ bump_sequence_op = struct_of bump_sequence_op_fields (i64)
 
 abbrev pub payment_op_fields : Fields (MuxedAccount × (Asset × ℤ)) PaymentOp
 payment_op_fields = record {
-  to = λ (destination, (asset, amount)). record { destination = destination; asset = asset; amount = amount };
+  to = λ (destination, (asset, amount)). record {
+    destination = destination;
+    asset = asset;
+    amount = amount;
+  };
   from = λ o. (o.destination, (o.asset, o.amount));
   there = λ _. refl;
   back = λ _. refl;
@@ -115,33 +160,57 @@ payment_op_fields = record {
 unfoldable pub payment_op : Xdr PaymentOp
 payment_op = struct_of payment_op_fields (muxed_account ⨾ asset ⨾ i64)
 
-abbrev pub path_payment_strict_receive_op_fields : Fields (Asset × (ℤ × (MuxedAccount × (Asset × (ℤ × List Asset))))) PathPaymentStrictReceiveOp
+abbrev pub path_payment_strict_receive_op_fields : Fields (Asset × (ℤ × (MuxedAccount × (Asset × (ℤ × List Asset)))))
+    PathPaymentStrictReceiveOp
 path_payment_strict_receive_op_fields = record {
-  to = λ (send_asset, (send_max, (destination, (dest_asset, (dest_amount, path))))). record { send_asset = send_asset; send_max = send_max; destination = destination; dest_asset = dest_asset; dest_amount = dest_amount; path = path };
+  to = λ (send_asset, (send_max, (destination, (dest_asset, (dest_amount, path))))). record {
+    send_asset = send_asset;
+    send_max = send_max;
+    destination = destination;
+    dest_asset = dest_asset;
+    dest_amount = dest_amount;
+    path = path;
+  };
   from = λ o. (o.send_asset, (o.send_max, (o.destination, (o.dest_asset, (o.dest_amount, o.path)))));
   there = λ _. refl;
   back = λ _. refl;
 }
 
 unfoldable pub path_payment_strict_receive_op : Xdr PathPaymentStrictReceiveOp
-path_payment_strict_receive_op = struct_of path_payment_strict_receive_op_fields (asset ⨾ i64 ⨾ muxed_account ⨾ asset ⨾ i64 ⨾ list_of 5 asset)
+path_payment_strict_receive_op =
+    struct_of path_payment_strict_receive_op_fields (asset ⨾ i64 ⨾ muxed_account ⨾ asset ⨾ i64 ⨾ list_of 5 asset)
 
-abbrev pub path_payment_strict_send_op_fields : Fields (Asset × (ℤ × (MuxedAccount × (Asset × (ℤ × List Asset))))) PathPaymentStrictSendOp
+abbrev pub path_payment_strict_send_op_fields : Fields (Asset × (ℤ × (MuxedAccount × (Asset × (ℤ × List Asset)))))
+    PathPaymentStrictSendOp
 path_payment_strict_send_op_fields = record {
-  to = λ (send_asset, (send_amount, (destination, (dest_asset, (dest_min, path))))). record { send_asset = send_asset; send_amount = send_amount; destination = destination; dest_asset = dest_asset; dest_min = dest_min; path = path };
+  to = λ (send_asset, (send_amount, (destination, (dest_asset, (dest_min, path))))). record {
+    send_asset = send_asset;
+    send_amount = send_amount;
+    destination = destination;
+    dest_asset = dest_asset;
+    dest_min = dest_min;
+    path = path;
+  };
   from = λ o. (o.send_asset, (o.send_amount, (o.destination, (o.dest_asset, (o.dest_min, o.path)))));
   there = λ _. refl;
   back = λ _. refl;
 }
 
 unfoldable pub path_payment_strict_send_op : Xdr PathPaymentStrictSendOp
-path_payment_strict_send_op = struct_of path_payment_strict_send_op_fields (asset ⨾ i64 ⨾ muxed_account ⨾ asset ⨾ i64 ⨾ list_of 5 asset)
+path_payment_strict_send_op =
+    struct_of path_payment_strict_send_op_fields (asset ⨾ i64 ⨾ muxed_account ⨾ asset ⨾ i64 ⨾ list_of 5 asset)
 
 -- ---- offers
 
 abbrev pub manage_sell_offer_op_fields : Fields (Asset × (Asset × (ℤ × (Price × ℤ)))) ManageSellOfferOp
 manage_sell_offer_op_fields = record {
-  to = λ (selling, (buying, (amount, (price, offer_id)))). record { selling = selling; buying = buying; amount = amount; price = price; offer_id = offer_id };
+  to = λ (selling, (buying, (amount, (price, offer_id)))). record {
+    selling = selling;
+    buying = buying;
+    amount = amount;
+    price = price;
+    offer_id = offer_id;
+  };
   from = λ o. (o.selling, (o.buying, (o.amount, (o.price, o.offer_id))));
   there = λ _. refl;
   back = λ _. refl;
@@ -152,7 +221,12 @@ manage_sell_offer_op = struct_of manage_sell_offer_op_fields (asset ⨾ asset �
 
 abbrev pub create_passive_sell_offer_op_fields : Fields (Asset × (Asset × (ℤ × Price))) CreatePassiveSellOfferOp
 create_passive_sell_offer_op_fields = record {
-  to = λ (selling, (buying, (amount, price))). record { selling = selling; buying = buying; amount = amount; price = price };
+  to = λ (selling, (buying, (amount, price))). record {
+    selling = selling;
+    buying = buying;
+    amount = amount;
+    price = price;
+  };
   from = λ o. (o.selling, (o.buying, (o.amount, o.price)));
   there = λ _. refl;
   back = λ _. refl;
@@ -163,7 +237,13 @@ create_passive_sell_offer_op = struct_of create_passive_sell_offer_op_fields (as
 
 abbrev pub manage_buy_offer_op_fields : Fields (Asset × (Asset × (ℤ × (Price × ℤ)))) ManageBuyOfferOp
 manage_buy_offer_op_fields = record {
-  to = λ (selling, (buying, (buy_amount, (price, offer_id)))). record { selling = selling; buying = buying; buy_amount = buy_amount; price = price; offer_id = offer_id };
+  to = λ (selling, (buying, (buy_amount, (price, offer_id)))). record {
+    selling = selling;
+    buying = buying;
+    buy_amount = buy_amount;
+    price = price;
+    offer_id = offer_id;
+  };
   from = λ o. (o.selling, (o.buying, (o.buy_amount, (o.price, o.offer_id))));
   there = λ _. refl;
   back = λ _. refl;
@@ -176,7 +256,10 @@ manage_buy_offer_op = struct_of manage_buy_offer_op_fields (asset ⨾ asset ⨾ 
 
 abbrev pub change_trust_op_fields : Fields (ChangeTrustAsset × ℤ) ChangeTrustOp
 change_trust_op_fields = record {
-  to = λ (line, limit). record { line = line; limit = limit };
+  to = λ (line, limit). record {
+    line = line;
+    limit = limit;
+  };
   from = λ o. (o.line, o.limit);
   there = λ _. refl;
   back = λ _. refl;
@@ -203,7 +286,11 @@ asset_code = union_of asset_code_part asset_code_arms
 
 abbrev pub allow_trust_op_fields : Fields (AccountId × (AssetCode × ℕ)) AllowTrustOp
 allow_trust_op_fields = record {
-  to = λ (trustor, (asset, authorize)). record { trustor = trustor; asset = asset; authorize = authorize };
+  to = λ (trustor, (asset, authorize)). record {
+    trustor = trustor;
+    asset = asset;
+    authorize = authorize;
+  };
   from = λ o. (o.trustor, (o.asset, o.authorize));
   there = λ _. refl;
   back = λ _. refl;
@@ -214,7 +301,12 @@ allow_trust_op = struct_of allow_trust_op_fields (account_id ⨾ asset_code ⨾ 
 
 abbrev pub set_trust_line_flags_op_fields : Fields (AccountId × (Asset × (ℕ × ℕ))) SetTrustLineFlagsOp
 set_trust_line_flags_op_fields = record {
-  to = λ (trustor, (asset, (clear_flags, set_flags))). record { trustor = trustor; asset = asset; clear_flags = clear_flags; set_flags = set_flags };
+  to = λ (trustor, (asset, (clear_flags, set_flags))). record {
+    trustor = trustor;
+    asset = asset;
+    clear_flags = clear_flags;
+    set_flags = set_flags;
+  };
   from = λ o. (o.trustor, (o.asset, (o.clear_flags, o.set_flags)));
   there = λ _. refl;
   back = λ _. refl;
@@ -225,7 +317,11 @@ set_trust_line_flags_op = struct_of set_trust_line_flags_op_fields (account_id �
 
 abbrev pub clawback_op_fields : Fields (Asset × (MuxedAccount × ℤ)) ClawbackOp
 clawback_op_fields = record {
-  to = λ (asset, (from, amount)). record { asset = asset; from = from; amount = amount };
+  to = λ (asset, (from, amount)). record {
+    asset = asset;
+    from = from;
+    amount = amount;
+  };
   from = λ o. (o.asset, (o.from, o.amount));
   there = λ _. refl;
   back = λ _. refl;
@@ -238,7 +334,11 @@ clawback_op = struct_of clawback_op_fields (asset ⨾ muxed_account ⨾ i64)
 
 abbrev pub create_claimable_balance_op_fields : Fields (Asset × (ℤ × List Claimant)) CreateClaimableBalanceOp
 create_claimable_balance_op_fields = record {
-  to = λ (asset, (amount, claimants)). record { asset = asset; amount = amount; claimants = claimants };
+  to = λ (asset, (amount, claimants)). record {
+    asset = asset;
+    amount = amount;
+    claimants = claimants;
+  };
   from = λ o. (o.asset, (o.amount, o.claimants));
   there = λ _. refl;
   back = λ _. refl;
@@ -283,7 +383,7 @@ unfoldable pub begin_sponsoring_future_reserves_op : Xdr BeginSponsoringFutureRe
 begin_sponsoring_future_reserves_op = struct_of begin_sponsoring_future_reserves_op_fields (account_id)
 
 abbrev pub revoke_entry : Arm XdrFault RevokeSponsorshipOp
-revoke_entry = arm (pos 0) ledger_key revoking.LedgerEntry
+revoke_entry = arm (pos 0) (whole ledger_key) revoking.LedgerEntry
 
 abbrev pub revoke_signer : Arm XdrFault RevokeSponsorshipOp
 revoke_signer = arm (pos 1) (account_id ⨾ signer_key) (λ v. revoking.Signer v.0 v.1)
@@ -302,7 +402,13 @@ revoke_sponsorship_op = union_of revoke_part revoke_arms
 
 abbrev pub liquidity_pool_deposit_op_fields : Fields (Hash × (ℤ × (ℤ × (Price × Price)))) LiquidityPoolDepositOp
 liquidity_pool_deposit_op_fields = record {
-  to = λ (pool_id, (max_amount_a, (max_amount_b, (min_price, max_price)))). record { pool_id = pool_id; max_amount_a = max_amount_a; max_amount_b = max_amount_b; min_price = min_price; max_price = max_price };
+  to = λ (pool_id, (max_amount_a, (max_amount_b, (min_price, max_price)))). record {
+    pool_id = pool_id;
+    max_amount_a = max_amount_a;
+    max_amount_b = max_amount_b;
+    min_price = min_price;
+    max_price = max_price;
+  };
   from = λ o. (o.pool_id, (o.max_amount_a, (o.max_amount_b, (o.min_price, o.max_price))));
   there = λ _. refl;
   back = λ _. refl;
@@ -313,7 +419,12 @@ liquidity_pool_deposit_op = struct_of liquidity_pool_deposit_op_fields (hash ⨾
 
 abbrev pub liquidity_pool_withdraw_op_fields : Fields (Hash × (ℤ × (ℤ × ℤ))) LiquidityPoolWithdrawOp
 liquidity_pool_withdraw_op_fields = record {
-  to = λ (pool_id, (amount, (min_amount_a, min_amount_b))). record { pool_id = pool_id; amount = amount; min_amount_a = min_amount_a; min_amount_b = min_amount_b };
+  to = λ (pool_id, (amount, (min_amount_a, min_amount_b))). record {
+    pool_id = pool_id;
+    amount = amount;
+    min_amount_a = min_amount_a;
+    min_amount_b = min_amount_b;
+  };
   from = λ o. (o.pool_id, (o.amount, (o.min_amount_a, o.min_amount_b)));
   there = λ _. refl;
   back = λ _. refl;
@@ -325,91 +436,105 @@ liquidity_pool_withdraw_op = struct_of liquidity_pool_withdraw_op_fields (hash �
 -- ---- operations
 
 abbrev pub create_account_arm : Arm XdrFault OperationBody
-create_account_arm = arm (pos 0) create_account_op body.CreateAccount
+create_account_arm = arm types.CREATE_ACCOUNT create_account_op body.CreateAccount
 
 abbrev pub payment_arm : Arm XdrFault OperationBody
-payment_arm = arm (pos 1) payment_op body.Payment
+payment_arm = arm types.PAYMENT payment_op body.Payment
 
 abbrev pub path_payment_strict_receive_arm : Arm XdrFault OperationBody
-path_payment_strict_receive_arm = arm (pos 2) path_payment_strict_receive_op body.PathPaymentStrictReceive
+path_payment_strict_receive_arm =
+    arm types.PATH_PAYMENT_STRICT_RECEIVE path_payment_strict_receive_op body.PathPaymentStrictReceive
 
 abbrev pub manage_sell_offer_arm : Arm XdrFault OperationBody
-manage_sell_offer_arm = arm (pos 3) manage_sell_offer_op body.ManageSellOffer
+manage_sell_offer_arm = arm types.MANAGE_SELL_OFFER manage_sell_offer_op body.ManageSellOffer
 
 abbrev pub create_passive_sell_offer_arm : Arm XdrFault OperationBody
-create_passive_sell_offer_arm = arm (pos 4) create_passive_sell_offer_op body.CreatePassiveSellOffer
+create_passive_sell_offer_arm =
+    arm types.CREATE_PASSIVE_SELL_OFFER create_passive_sell_offer_op body.CreatePassiveSellOffer
 
 abbrev pub set_options_arm : Arm XdrFault OperationBody
-set_options_arm = arm (pos 5) set_options_op body.SetOptions
+set_options_arm = arm types.SET_OPTIONS set_options_op body.SetOptions
 
 abbrev pub change_trust_arm : Arm XdrFault OperationBody
-change_trust_arm = arm (pos 6) change_trust_op body.ChangeTrust
+change_trust_arm = arm types.CHANGE_TRUST change_trust_op body.ChangeTrust
 
 abbrev pub allow_trust_arm : Arm XdrFault OperationBody
-allow_trust_arm = arm (pos 7) allow_trust_op body.AllowTrust
+allow_trust_arm = arm types.ALLOW_TRUST allow_trust_op body.AllowTrust
 
 abbrev pub account_merge_arm : Arm XdrFault OperationBody
-account_merge_arm = arm (pos 8) account_merge_op body.AccountMerge
+account_merge_arm = arm types.ACCOUNT_MERGE account_merge_op body.AccountMerge
 
 abbrev pub inflation_arm : Arm XdrFault OperationBody
-inflation_arm = arm (pos 9) empty (λ v. body.Inflation)
+inflation_arm = arm types.INFLATION empty (λ v. body.Inflation)
 
 abbrev pub manage_data_arm : Arm XdrFault OperationBody
-manage_data_arm = arm (pos 10) manage_data_op body.ManageData
+manage_data_arm = arm types.MANAGE_DATA manage_data_op body.ManageData
 
 abbrev pub bump_sequence_arm : Arm XdrFault OperationBody
-bump_sequence_arm = arm (pos 11) bump_sequence_op body.BumpSequence
+bump_sequence_arm = arm types.BUMP_SEQUENCE bump_sequence_op body.BumpSequence
 
 abbrev pub manage_buy_offer_arm : Arm XdrFault OperationBody
-manage_buy_offer_arm = arm (pos 12) manage_buy_offer_op body.ManageBuyOffer
+manage_buy_offer_arm = arm types.MANAGE_BUY_OFFER manage_buy_offer_op body.ManageBuyOffer
 
 abbrev pub path_payment_strict_send_arm : Arm XdrFault OperationBody
-path_payment_strict_send_arm = arm (pos 13) path_payment_strict_send_op body.PathPaymentStrictSend
+path_payment_strict_send_arm = arm types.PATH_PAYMENT_STRICT_SEND path_payment_strict_send_op body.PathPaymentStrictSend
 
 abbrev pub create_claimable_balance_arm : Arm XdrFault OperationBody
-create_claimable_balance_arm = arm (pos 14) create_claimable_balance_op body.CreateClaimableBalance
+create_claimable_balance_arm =
+    arm types.CREATE_CLAIMABLE_BALANCE create_claimable_balance_op body.CreateClaimableBalance
 
 abbrev pub claim_claimable_balance_arm : Arm XdrFault OperationBody
-claim_claimable_balance_arm = arm (pos 15) claim_claimable_balance_op body.ClaimClaimableBalance
+claim_claimable_balance_arm = arm types.CLAIM_CLAIMABLE_BALANCE claim_claimable_balance_op body.ClaimClaimableBalance
 
 abbrev pub begin_sponsoring_future_reserves_arm : Arm XdrFault OperationBody
-begin_sponsoring_future_reserves_arm = arm (pos 16) begin_sponsoring_future_reserves_op body.BeginSponsoringFutureReserves
+begin_sponsoring_future_reserves_arm =
+    arm types.BEGIN_SPONSORING_FUTURE_RESERVES begin_sponsoring_future_reserves_op body.BeginSponsoringFutureReserves
 
 abbrev pub end_sponsoring_future_reserves_arm : Arm XdrFault OperationBody
-end_sponsoring_future_reserves_arm = arm (pos 17) empty (λ v. body.EndSponsoringFutureReserves)
+end_sponsoring_future_reserves_arm =
+    arm types.END_SPONSORING_FUTURE_RESERVES empty (λ v. body.EndSponsoringFutureReserves)
 
 abbrev pub revoke_sponsorship_arm : Arm XdrFault OperationBody
-revoke_sponsorship_arm = arm (pos 18) revoke_sponsorship_op body.RevokeSponsorship
+revoke_sponsorship_arm = arm types.REVOKE_SPONSORSHIP revoke_sponsorship_op body.RevokeSponsorship
 
 abbrev pub clawback_arm : Arm XdrFault OperationBody
-clawback_arm = arm (pos 19) clawback_op body.Clawback
+clawback_arm = arm types.CLAWBACK clawback_op body.Clawback
 
 abbrev pub clawback_claimable_balance_arm : Arm XdrFault OperationBody
-clawback_claimable_balance_arm = arm (pos 20) clawback_claimable_balance_op body.ClawbackClaimableBalance
+clawback_claimable_balance_arm =
+    arm types.CLAWBACK_CLAIMABLE_BALANCE clawback_claimable_balance_op body.ClawbackClaimableBalance
 
 abbrev pub set_trust_line_flags_arm : Arm XdrFault OperationBody
-set_trust_line_flags_arm = arm (pos 21) set_trust_line_flags_op body.SetTrustLineFlags
+set_trust_line_flags_arm = arm types.SET_TRUST_LINE_FLAGS set_trust_line_flags_op body.SetTrustLineFlags
 
 abbrev pub liquidity_pool_deposit_arm : Arm XdrFault OperationBody
-liquidity_pool_deposit_arm = arm (pos 22) liquidity_pool_deposit_op body.LiquidityPoolDeposit
+liquidity_pool_deposit_arm = arm types.LIQUIDITY_POOL_DEPOSIT liquidity_pool_deposit_op body.LiquidityPoolDeposit
 
 abbrev pub liquidity_pool_withdraw_arm : Arm XdrFault OperationBody
-liquidity_pool_withdraw_arm = arm (pos 23) liquidity_pool_withdraw_op body.LiquidityPoolWithdraw
+liquidity_pool_withdraw_arm = arm types.LIQUIDITY_POOL_WITHDRAW liquidity_pool_withdraw_op body.LiquidityPoolWithdraw
 
 -- the types from 18 on
 unfoldable pub last_body_arms : List (Arm XdrFault OperationBody)
-last_body_arms = revoke_sponsorship_arm ∷ clawback_arm ∷ clawback_claimable_balance_arm ∷ set_trust_line_flags_arm ∷ liquidity_pool_deposit_arm ∷ liquidity_pool_withdraw_arm ∷ []
+last_body_arms =
+    revoke_sponsorship_arm ∷ clawback_arm ∷ clawback_claimable_balance_arm ∷ set_trust_line_flags_arm
+    ∷ liquidity_pool_deposit_arm ∷ liquidity_pool_withdraw_arm ∷ []
 
 -- the types from 12 on
 unfoldable pub third_body_arms : List (Arm XdrFault OperationBody)
-third_body_arms = manage_buy_offer_arm ∷ path_payment_strict_send_arm ∷ create_claimable_balance_arm ∷ claim_claimable_balance_arm ∷ begin_sponsoring_future_reserves_arm ∷ end_sponsoring_future_reserves_arm ∷ last_body_arms
+third_body_arms =
+    manage_buy_offer_arm ∷ path_payment_strict_send_arm ∷ create_claimable_balance_arm ∷ claim_claimable_balance_arm
+    ∷ begin_sponsoring_future_reserves_arm ∷ end_sponsoring_future_reserves_arm ∷ last_body_arms
 
 -- the types from 6 on
 unfoldable pub second_body_arms : List (Arm XdrFault OperationBody)
-second_body_arms = change_trust_arm ∷ allow_trust_arm ∷ account_merge_arm ∷ inflation_arm ∷ manage_data_arm ∷ bump_sequence_arm ∷ third_body_arms
+second_body_arms =
+    change_trust_arm ∷ allow_trust_arm ∷ account_merge_arm ∷ inflation_arm ∷ manage_data_arm ∷ bump_sequence_arm
+    ∷ third_body_arms
 
 abbrev pub body_arms : List (Arm XdrFault OperationBody)
-body_arms = create_account_arm ∷ payment_arm ∷ path_payment_strict_receive_arm ∷ manage_sell_offer_arm ∷ create_passive_sell_offer_arm ∷ set_options_arm ∷ second_body_arms
+body_arms =
+    create_account_arm ∷ payment_arm ∷ path_payment_strict_receive_arm ∷ manage_sell_offer_arm
+    ∷ create_passive_sell_offer_arm ∷ set_options_arm ∷ second_body_arms
 
 abbrev pub body_part : OperationBody → Part XdrFault OperationBody
 body_part (body.CreateAccount op) = part create_account_arm op
@@ -437,11 +562,43 @@ body_part (body.SetTrustLineFlags op) = part set_trust_line_flags_arm op
 body_part (body.LiquidityPoolDeposit op) = part liquidity_pool_deposit_arm op
 body_part (body.LiquidityPoolWithdraw op) = part liquidity_pool_withdraw_arm op
 
+-- the type of an operation
+abbrev pub type_of : OperationBody → ℤ
+type_of (body.CreateAccount op) = types.CREATE_ACCOUNT
+type_of (body.Payment op) = types.PAYMENT
+type_of (body.PathPaymentStrictReceive op) = types.PATH_PAYMENT_STRICT_RECEIVE
+type_of (body.ManageSellOffer op) = types.MANAGE_SELL_OFFER
+type_of (body.CreatePassiveSellOffer op) = types.CREATE_PASSIVE_SELL_OFFER
+type_of (body.SetOptions op) = types.SET_OPTIONS
+type_of (body.ChangeTrust op) = types.CHANGE_TRUST
+type_of (body.AllowTrust op) = types.ALLOW_TRUST
+type_of (body.AccountMerge op) = types.ACCOUNT_MERGE
+type_of body.Inflation = types.INFLATION
+type_of (body.ManageData op) = types.MANAGE_DATA
+type_of (body.BumpSequence op) = types.BUMP_SEQUENCE
+type_of (body.ManageBuyOffer op) = types.MANAGE_BUY_OFFER
+type_of (body.PathPaymentStrictSend op) = types.PATH_PAYMENT_STRICT_SEND
+type_of (body.CreateClaimableBalance op) = types.CREATE_CLAIMABLE_BALANCE
+type_of (body.ClaimClaimableBalance op) = types.CLAIM_CLAIMABLE_BALANCE
+type_of (body.BeginSponsoringFutureReserves op) = types.BEGIN_SPONSORING_FUTURE_RESERVES
+type_of body.EndSponsoringFutureReserves = types.END_SPONSORING_FUTURE_RESERVES
+type_of (body.RevokeSponsorship op) = types.REVOKE_SPONSORSHIP
+type_of (body.Clawback op) = types.CLAWBACK
+type_of (body.ClawbackClaimableBalance op) = types.CLAWBACK_CLAIMABLE_BALANCE
+type_of (body.SetTrustLineFlags op) = types.SET_TRUST_LINE_FLAGS
+type_of (body.LiquidityPoolDeposit op) = types.LIQUIDITY_POOL_DEPOSIT
+type_of (body.LiquidityPoolWithdraw op) = types.LIQUIDITY_POOL_WITHDRAW
+
 unfoldable pub operation_body : Xdr OperationBody
 operation_body = union_of body_part body_arms
 
 abbrev pub operation_fields : Fields (Option MuxedAccount × OperationBody) Operation
-operation_fields = record { to = λ v. record { source_account = v.0; body = v.1 }; from = λ o. (o.source_account, o.body); there = λ _. refl; back = λ _. refl }
+operation_fields = record {
+  to = λ v. record { source_account = v.0; body = v.1 };
+  from = λ o. (o.source_account, o.body);
+  there = λ _. refl;
+  back = λ _. refl;
+}
 
 unfoldable pub operation : Xdr Operation
 operation = struct_of operation_fields (optional muxed_account ⨾ operation_body)

@@ -1,10 +1,11 @@
--- The formats of transactions, their envelopes and sets of them (Stellar-transaction.x and Stellar-ledger.x of protocol 18, over
--- RFC 4506).
+-- The formats of transactions, their envelopes and sets of them (Stellar-transaction.x and Stellar-ledger.x of protocol
+-- 18, over RFC 4506).
 use Rattle.std.specs.Prelude.{ℕ, ℤ, pos, List, [], ◌∷◌, Option, refl}
 use Rattle.xdr_core.specs.declared.fault.XdrFault.{XdrFault}
 use Rattle.xdr_core.specs.Leaves.{u32, u64, i64, fixed, var}
-use Rattle.xdr_core.specs.Combinators.{◌⨾◌, Fields, struct_of, marked, closed, empty, Arm, Part, part}
+use Rattle.xdr_core.specs.Combinators.{◌⨾◌, Fields, struct_of, whole, marked, closed, empty, Arm, Part, part}
 use Rattle.xdr_core.specs.Xdr.{Xdr, tag, optional, list_of, union_of}
+use Rattle.ledger_types.specs.declared.envelope_type.TheConstants as types
 use Rattle.ledger_types.specs.declared.ids.MuxedAccount.{MuxedAccount}
 use Rattle.ledger_types.specs.declared.ids.Hash.{Hash}
 use Rattle.op_types.specs.declared.operation.Operation.{Operation}
@@ -22,6 +23,7 @@ use Rattle.op_types.specs.declared.transaction.TransactionEnvelope.{TransactionE
 use Rattle.op_types.specs.declared.transaction.TransactionSet.{TransactionSet}
 use Rattle.op_types.specs.declared.transaction.TransactionEnvelope.TheVariants as envelope
 use Rattle.xdr_entries.specs.Basic.{arm, hash, muxed_account}
+use Rattle.xdr_tx.specs.declared.transaction.BehindSource.{BehindSource}
 use Rattle.xdr_tx.specs.Operations.{operation}
 
 -- ---- parts of transactions
@@ -55,69 +57,118 @@ unfoldable pub memo : Xdr Memo
 memo = union_of memo_part memo_arms
 
 abbrev pub time_bounds_fields : Fields (ℕ × ℕ) TimeBounds
-time_bounds_fields = record { to = λ v. record { min_time = v.0; max_time = v.1 }; from = λ t. (t.min_time, t.max_time); there = λ _. refl; back = λ _. refl }
+time_bounds_fields = record {
+  to = λ v. record { min_time = v.0; max_time = v.1 };
+  from = λ t. (t.min_time, t.max_time);
+  there = λ _. refl;
+  back = λ _. refl;
+}
 
 unfoldable pub time_bounds : Xdr TimeBounds
 time_bounds = struct_of time_bounds_fields (u64 ⨾ u64)
 
 abbrev pub signature_fields : Fields (List ℕ × List ℕ) DecoratedSignature
-signature_fields = record { to = λ v. record { hint = v.0; signature = v.1 }; from = λ s. (s.hint, s.signature); there = λ _. refl; back = λ _. refl }
+signature_fields = record {
+  to = λ v. record { hint = v.0; signature = v.1 };
+  from = λ s. (s.hint, s.signature);
+  there = λ _. refl;
+  back = λ _. refl;
+}
 
 unfoldable pub decorated_signature : Xdr DecoratedSignature
 decorated_signature = struct_of signature_fields (fixed 4 ⨾ var 64)
 
 -- ---- transactions
 
-abbrev pub transaction_fields : Fields (MuxedAccount × (ℕ × (ℤ × (Option TimeBounds × (Memo × List Operation))))) Transaction
-transaction_fields = record {
-  to = λ (source, (fee, (seq_num, (bounds, (note, operations))))). record {
-    source_account = source;
+-- what both versions of a transaction have behind their source
+abbrev pub behind_source_fields : Fields (ℕ × (ℤ × (Option TimeBounds × (Memo × List Operation)))) BehindSource
+behind_source_fields = record {
+  to = λ (fee, (seq_num, (bounds, (note, operations)))). record {
     fee = fee;
     seq_num = seq_num;
     time_bounds = bounds;
     memo = note;
     operations = operations;
   };
-  from = λ t. (t.source_account, (t.fee, (t.seq_num, (t.time_bounds, (t.memo, t.operations)))));
+  from = λ b. (b.fee, (b.seq_num, (b.time_bounds, (b.memo, b.operations))));
+  there = λ _. refl;
+  back = λ _. refl;
+}
+
+abbrev pub behind : ℕ → ℤ → Option TimeBounds → Memo → List Operation → BehindSource
+behind fee seq_num bounds note operations = record {
+  fee = fee;
+  seq_num = seq_num;
+  time_bounds = bounds;
+  memo = note;
+  operations = operations;
+}
+
+unfoldable pub behind_source : Xdr BehindSource
+behind_source =
+    struct_of behind_source_fields
+    (u32 ⨾ i64 ⨾ optional time_bounds ⨾ memo ⨾ closed (list_of 100 operation) (tag (pos 0)))
+
+abbrev pub transaction_fields : Fields (MuxedAccount × BehindSource) Transaction
+transaction_fields = record {
+  to = λ (source, behind). record {
+    source_account = source;
+    fee = behind.fee;
+    seq_num = behind.seq_num;
+    time_bounds = behind.time_bounds;
+    memo = behind.memo;
+    operations = behind.operations;
+  };
+  from = λ t. (t.source_account, behind t.fee t.seq_num t.time_bounds t.memo t.operations);
   there = λ _. refl;
   back = λ _. refl;
 }
 
 unfoldable pub transaction : Xdr Transaction
-transaction = struct_of transaction_fields (muxed_account ⨾ u32 ⨾ i64 ⨾ optional time_bounds ⨾ memo ⨾ closed (list_of 100 operation) (tag (pos 0)))
+transaction = struct_of transaction_fields (muxed_account ⨾ behind_source)
 
-abbrev pub transaction_v0_fields : Fields (List ℕ × (ℕ × (ℤ × (Option TimeBounds × (Memo × List Operation))))) TransactionV0
+abbrev pub transaction_v0_fields : Fields (List ℕ × BehindSource) TransactionV0
 transaction_v0_fields = record {
-  to = λ (key, (fee, (seq_num, (bounds, (note, operations))))). record {
+  to = λ (key, behind). record {
     source_account_ed25519 = key;
-    fee = fee;
-    seq_num = seq_num;
-    time_bounds = bounds;
-    memo = note;
-    operations = operations;
+    fee = behind.fee;
+    seq_num = behind.seq_num;
+    time_bounds = behind.time_bounds;
+    memo = behind.memo;
+    operations = behind.operations;
   };
-  from = λ t. (t.source_account_ed25519, (t.fee, (t.seq_num, (t.time_bounds, (t.memo, t.operations)))));
+  from = λ t. (t.source_account_ed25519, behind t.fee t.seq_num t.time_bounds t.memo t.operations);
   there = λ _. refl;
   back = λ _. refl;
 }
 
 -- its source is a key without a type
 unfoldable pub transaction_v0 : Xdr TransactionV0
-transaction_v0 = struct_of transaction_v0_fields (fixed 32 ⨾ u32 ⨾ i64 ⨾ optional time_bounds ⨾ memo ⨾ closed (list_of 100 operation) (tag (pos 0)))
+transaction_v0 = struct_of transaction_v0_fields (fixed 32 ⨾ behind_source)
 
 -- ---- envelopes
 
 abbrev pub v1_fields : Fields (Transaction × List DecoratedSignature) TransactionV1Envelope
-v1_fields = record { to = λ v. record { tx = v.0; signatures = v.1 }; from = λ e. (e.tx, e.signatures); there = λ _. refl; back = λ _. refl }
+v1_fields = record {
+  to = λ v. record { tx = v.0; signatures = v.1 };
+  from = λ e. (e.tx, e.signatures);
+  there = λ _. refl;
+  back = λ _. refl;
+}
 
 unfoldable pub transaction_v1_envelope : Xdr TransactionV1Envelope
-transaction_v1_envelope = struct_of v1_fields (transaction ⨾ list_of 20 decorated_signature)
+transaction_v1_envelope = struct_of v1_fields (whole transaction ⨾ list_of 20 decorated_signature)
 
 abbrev pub v0_fields : Fields (TransactionV0 × List DecoratedSignature) TransactionV0Envelope
-v0_fields = record { to = λ v. record { tx = v.0; signatures = v.1 }; from = λ e. (e.tx, e.signatures); there = λ _. refl; back = λ _. refl }
+v0_fields = record {
+  to = λ v. record { tx = v.0; signatures = v.1 };
+  from = λ e. (e.tx, e.signatures);
+  there = λ _. refl;
+  back = λ _. refl;
+}
 
 unfoldable pub transaction_v0_envelope : Xdr TransactionV0Envelope
-transaction_v0_envelope = struct_of v0_fields (transaction_v0 ⨾ list_of 20 decorated_signature)
+transaction_v0_envelope = struct_of v0_fields (whole transaction_v0 ⨾ list_of 20 decorated_signature)
 
 abbrev pub fee_bump_fields : Fields (MuxedAccount × (ℤ × TransactionV1Envelope)) FeeBumpTransaction
 fee_bump_fields = record {
@@ -127,24 +178,32 @@ fee_bump_fields = record {
   back = λ _. refl;
 }
 
--- its inner transaction has one arm, ENVELOPE_TYPE_TX
+-- the one arm of the inner transaction, ENVELOPE_TYPE_TX, and the end of a fee bump
+abbrev pub inner_tx : Xdr TransactionV1Envelope
+inner_tx = closed (marked (tag types.ENVELOPE_TYPE_TX) transaction_v1_envelope) (tag (pos 0))
+
 unfoldable pub fee_bump_transaction : Xdr FeeBumpTransaction
-fee_bump_transaction = struct_of fee_bump_fields (muxed_account ⨾ i64 ⨾ closed (marked (tag (pos 2)) transaction_v1_envelope) (tag (pos 0)))
+fee_bump_transaction = struct_of fee_bump_fields (muxed_account ⨾ i64 ⨾ inner_tx)
 
 abbrev pub bump_fields : Fields (FeeBumpTransaction × List DecoratedSignature) FeeBumpTransactionEnvelope
-bump_fields = record { to = λ v. record { tx = v.0; signatures = v.1 }; from = λ e. (e.tx, e.signatures); there = λ _. refl; back = λ _. refl }
+bump_fields = record {
+  to = λ v. record { tx = v.0; signatures = v.1 };
+  from = λ e. (e.tx, e.signatures);
+  there = λ _. refl;
+  back = λ _. refl;
+}
 
 unfoldable pub fee_bump_envelope : Xdr FeeBumpTransactionEnvelope
-fee_bump_envelope = struct_of bump_fields (fee_bump_transaction ⨾ list_of 20 decorated_signature)
+fee_bump_envelope = struct_of bump_fields (whole fee_bump_transaction ⨾ list_of 20 decorated_signature)
 
 abbrev pub envelope_v0 : Arm XdrFault TransactionEnvelope
-envelope_v0 = arm (pos 0) transaction_v0_envelope envelope.V0
+envelope_v0 = arm types.ENVELOPE_TYPE_TX_V0 transaction_v0_envelope envelope.V0
 
 abbrev pub envelope_v1 : Arm XdrFault TransactionEnvelope
-envelope_v1 = arm (pos 2) transaction_v1_envelope envelope.V1
+envelope_v1 = arm types.ENVELOPE_TYPE_TX transaction_v1_envelope envelope.V1
 
 abbrev pub envelope_fee_bump : Arm XdrFault TransactionEnvelope
-envelope_fee_bump = arm (pos 5) fee_bump_envelope envelope.FeeBump
+envelope_fee_bump = arm types.ENVELOPE_TYPE_TX_FEE_BUMP fee_bump_envelope envelope.FeeBump
 
 abbrev pub envelope_arms : List (Arm XdrFault TransactionEnvelope)
 envelope_arms = envelope_v0 ∷ envelope_v1 ∷ envelope_fee_bump ∷ []
@@ -160,7 +219,12 @@ transaction_envelope = union_of envelope_part envelope_arms
 -- ---- sets
 
 abbrev pub set_fields : Fields (Hash × List TransactionEnvelope) TransactionSet
-set_fields = record { to = λ v. record { previous_ledger_hash = v.0; txs = v.1 }; from = λ s. (s.previous_ledger_hash, s.txs); there = λ _. refl; back = λ _. refl }
+set_fields = record {
+  to = λ v. record { previous_ledger_hash = v.0; txs = v.1 };
+  from = λ s. (s.previous_ledger_hash, s.txs);
+  there = λ _. refl;
+  back = λ _. refl;
+}
 
 -- the number of envelopes has no bound but that of its field
 unfoldable pub transaction_set : Xdr TransactionSet

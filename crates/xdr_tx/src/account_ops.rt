@@ -3,7 +3,7 @@
 ghost use Rattle.std.specs.Prelude.{◌≡◌, OnOk};
 ghost use Rattle.xdr_core.specs.Place.{Reads, itself};
 ghost use Rattle.xdr_core.specs.ReadFault.{cause_of};
-ghost use Rattle.xdr_tx.specs.Operations.{create_account_op as create_account_op_format, set_options_op as set_options_op_format, account_merge_op as account_merge_op_format, manage_data_op as manage_data_op_format, bump_sequence_op as bump_sequence_op_format};
+ghost use Rattle.xdr_tx.specs.Operations as spec;
 
 use crate::fields::{DataValueFormat, HomeDomainFormat, U32Format};
 use item_list::ItemList;
@@ -18,7 +18,7 @@ use xdr_entries::{
 /// Reads what makes an account.
 #[tactic(auto, unfolding(crate::specs::Operations::create_account_op))]
 pub fn read_create_account_op(cursor: &mut Cursor<'_>) -> Result<CreateAccountOp, XdrFault>
-    ensures { Reads itself result cursor.old cursor.new (create_account_op_format.read cursor.old) }
+    ensures { Reads itself result cursor.old cursor.new (spec.create_account_op.read cursor.old) }
 {
     let mut ahead = cursor.fork();
     let destination = read_account_id(&mut ahead)?;
@@ -36,7 +36,7 @@ pub fn write_create_account_op(
     value: &CreateAccountOp,
     builder: &mut Builder,
 ) -> Result<(), AllocError>
-    ensures { OnOk result (builder.new ≡ create_account_op_format.onto builder.old value.now) }
+    ensures { OnOk result (builder.new ≡ spec.create_account_op.onto builder.old value.now) }
 {
     write_account_id(&value.destination, builder)?;
     builder.i64(value.starting_balance)
@@ -48,7 +48,7 @@ pub fn read_set_options_op(
     alloc: Global,
     cursor: &mut Cursor<'_>,
 ) -> Result<SetOptionsOp, ReadFault>
-    ensures { Reads cause_of result cursor.old cursor.new (set_options_op_format.read cursor.old) }
+    ensures { Reads cause_of result cursor.old cursor.new (spec.set_options_op.read cursor.old) }
 {
     let mut ahead = cursor.fork();
     let inflation_dest = read_option::<AccountIdFormat>(alloc, &mut ahead)?;
@@ -77,8 +77,8 @@ pub fn read_set_options_op(
 /// Writes what changes an account.
 #[tactic(auto, unfolding(crate::specs::Operations::set_options_op))]
 pub fn write_set_options_op(value: &SetOptionsOp, builder: &mut Builder) -> Result<(), AllocError>
-    requires { set_options_op_format.within value.now }
-    ensures { OnOk result (builder.new ≡ set_options_op_format.onto builder.old value.now) }
+    requires { spec.set_options_op.within value.now }
+    ensures { OnOk result (builder.new ≡ spec.set_options_op.onto builder.old value.now) }
 {
     write_option::<AccountIdFormat>(&value.inflation_dest, builder)?;
     write_option::<U32Format>(&value.clear_flags, builder)?;
@@ -94,7 +94,7 @@ pub fn write_set_options_op(value: &SetOptionsOp, builder: &mut Builder) -> Resu
 /// Reads what removes an account.
 #[tactic(auto, unfolding(crate::specs::Operations::account_merge_op))]
 pub fn read_account_merge_op(cursor: &mut Cursor<'_>) -> Result<AccountMergeOp, XdrFault>
-    ensures { Reads itself result cursor.old cursor.new (account_merge_op_format.read cursor.old) }
+    ensures { Reads itself result cursor.old cursor.new (spec.account_merge_op.read cursor.old) }
 {
     let mut ahead = cursor.fork();
     let destination = read_muxed_account(&mut ahead)?;
@@ -108,7 +108,7 @@ pub fn write_account_merge_op(
     value: &AccountMergeOp,
     builder: &mut Builder,
 ) -> Result<(), AllocError>
-    ensures { OnOk result (builder.new ≡ account_merge_op_format.onto builder.old value.now) }
+    ensures { OnOk result (builder.new ≡ spec.account_merge_op.onto builder.old value.now) }
 {
     write_muxed_account(&value.destination, builder)
 }
@@ -119,7 +119,7 @@ pub fn read_manage_data_op(
     alloc: Global,
     cursor: &mut Cursor<'_>,
 ) -> Result<ManageDataOp, ReadFault>
-    ensures { Reads cause_of result cursor.old cursor.new (manage_data_op_format.read cursor.old) }
+    ensures { Reads cause_of result cursor.old cursor.new (spec.manage_data_op.read cursor.old) }
 {
     let mut ahead = cursor.fork();
     let data_name = ItemList::from_slice(alloc, ahead.var(MAX_DATA_NAME_LEN)?)?;
@@ -134,8 +134,8 @@ pub fn read_manage_data_op(
 /// Writes what makes, changes or removes data.
 #[tactic(auto, unfolding(crate::specs::Operations::manage_data_op))]
 pub fn write_manage_data_op(value: &ManageDataOp, builder: &mut Builder) -> Result<(), AllocError>
-    requires { manage_data_op_format.within value.now }
-    ensures { OnOk result (builder.new ≡ manage_data_op_format.onto builder.old value.now) }
+    requires { spec.manage_data_op.within value.now }
+    ensures { OnOk result (builder.new ≡ spec.manage_data_op.onto builder.old value.now) }
 {
     builder.var(value.data_name.as_slice(), MAX_DATA_NAME_LEN)?;
     write_option::<DataValueFormat>(&value.data_value, builder)
@@ -144,7 +144,7 @@ pub fn write_manage_data_op(value: &ManageDataOp, builder: &mut Builder) -> Resu
 /// Reads what raises a sequence number.
 #[tactic(auto, unfolding(crate::specs::Operations::bump_sequence_op))]
 pub fn read_bump_sequence_op(cursor: &mut Cursor<'_>) -> Result<BumpSequenceOp, XdrFault>
-    ensures { Reads itself result cursor.old cursor.new (bump_sequence_op_format.read cursor.old) }
+    ensures { Reads itself result cursor.old cursor.new (spec.bump_sequence_op.read cursor.old) }
 {
     let mut ahead = cursor.fork();
     let bump_to = ahead.i64()?;
@@ -158,7 +158,7 @@ pub fn write_bump_sequence_op(
     value: &BumpSequenceOp,
     builder: &mut Builder,
 ) -> Result<(), AllocError>
-    ensures { OnOk result (builder.new ≡ bump_sequence_op_format.onto builder.old value.now) }
+    ensures { OnOk result (builder.new ≡ spec.bump_sequence_op.onto builder.old value.now) }
 {
     builder.i64(value.bump_to)
 }

@@ -3,7 +3,7 @@
 ghost use Rattle.std.specs.Prelude.{◌≡◌, OnOk};
 ghost use Rattle.xdr_core.specs.Place.{Reads, itself};
 ghost use Rattle.xdr_core.specs.ReadFault.{cause_of};
-ghost use Rattle.xdr_tx.specs.Operations.{create_claimable_balance_op as create_claimable_balance_op_format, claim_claimable_balance_op as claim_claimable_balance_op_format, clawback_claimable_balance_op as clawback_claimable_balance_op_format};
+ghost use Rattle.xdr_tx.specs.Operations as spec;
 
 use op_types::{ClaimClaimableBalanceOp, ClawbackClaimableBalanceOp, CreateClaimableBalanceOp};
 use std::alloc::{AllocError, Global};
@@ -19,7 +19,7 @@ pub fn read_create_claimable_balance_op(
     alloc: Global,
     cursor: &mut Cursor<'_>,
 ) -> Result<CreateClaimableBalanceOp, ReadFault>
-    ensures { Reads cause_of result cursor.old cursor.new (create_claimable_balance_op_format.read cursor.old) }
+    ensures { Reads cause_of result cursor.old cursor.new (spec.create_claimable_balance_op.read cursor.old) }
 {
     let mut ahead = cursor.fork();
     let asset = read_asset(&mut ahead)?;
@@ -39,8 +39,8 @@ pub fn write_create_claimable_balance_op(
     value: &CreateClaimableBalanceOp,
     builder: &mut Builder,
 ) -> Result<(), AllocError>
-    requires { create_claimable_balance_op_format.within value.now }
-    ensures { OnOk result (builder.new ≡ create_claimable_balance_op_format.onto builder.old value.now) }
+    requires { spec.create_claimable_balance_op.within value.now }
+    ensures { OnOk result (builder.new ≡ spec.create_claimable_balance_op.onto builder.old value.now) }
 {
     write_asset(&value.asset, builder)?;
     builder.i64(value.amount)?;
@@ -52,7 +52,7 @@ pub fn write_create_claimable_balance_op(
 pub fn read_claim_claimable_balance_op(
     cursor: &mut Cursor<'_>,
 ) -> Result<ClaimClaimableBalanceOp, XdrFault>
-    ensures { Reads itself result cursor.old cursor.new (claim_claimable_balance_op_format.read cursor.old) }
+    ensures { Reads itself result cursor.old cursor.new (spec.claim_claimable_balance_op.read cursor.old) }
 {
     let mut ahead = cursor.fork();
     let balance_id = read_claimable_balance_id(&mut ahead)?;
@@ -66,7 +66,7 @@ pub fn write_claim_claimable_balance_op(
     value: &ClaimClaimableBalanceOp,
     builder: &mut Builder,
 ) -> Result<(), AllocError>
-    ensures { OnOk result (builder.new ≡ claim_claimable_balance_op_format.onto builder.old value.now) }
+    ensures { OnOk result (builder.new ≡ spec.claim_claimable_balance_op.onto builder.old value.now) }
 {
     write_claimable_balance_id(&value.balance_id, builder)
 }
@@ -76,7 +76,7 @@ pub fn write_claim_claimable_balance_op(
 pub fn read_clawback_claimable_balance_op(
     cursor: &mut Cursor<'_>,
 ) -> Result<ClawbackClaimableBalanceOp, XdrFault>
-    ensures { Reads itself result cursor.old cursor.new (clawback_claimable_balance_op_format.read cursor.old) }
+    ensures { Reads itself result cursor.old cursor.new (spec.clawback_claimable_balance_op.read cursor.old) }
 {
     let mut ahead = cursor.fork();
     let balance_id = read_claimable_balance_id(&mut ahead)?;
@@ -90,7 +90,7 @@ pub fn write_clawback_claimable_balance_op(
     value: &ClawbackClaimableBalanceOp,
     builder: &mut Builder,
 ) -> Result<(), AllocError>
-    ensures { OnOk result (builder.new ≡ clawback_claimable_balance_op_format.onto builder.old value.now) }
+    ensures { OnOk result (builder.new ≡ spec.clawback_claimable_balance_op.onto builder.old value.now) }
 {
     write_claimable_balance_id(&value.balance_id, builder)
 }

@@ -1,14 +1,15 @@
 //! Transactions with their signatures, and sets of them.
 
-ghost use Rattle.std.specs.Prelude.{◌≡◌, OnOk};
+ghost use Rattle.std.specs.Prelude.{◌≡◌, ◌++◌, OnOk};
 ghost use Rattle.xdr_core.specs.Place.{Reads};
 ghost use Rattle.xdr_core.specs.ReadFault.{cause_of};
-ghost use Rattle.xdr_tx.specs.Transactions.{transaction_v0_envelope as transaction_v0_envelope_format, transaction_v1_envelope as transaction_v1_envelope_format, fee_bump_transaction as fee_bump_format, fee_bump_envelope as fee_bump_envelope_format, transaction_envelope as envelope_format, transaction_set as set_format};
+ghost use Rattle.xdr_tx.specs.Transactions as spec;
 
 use crate::signature::{DecoratedSignatureFormat, MAX_SIGNATURES};
 use crate::transaction::{
     read_transaction, read_transaction_v0, write_transaction, write_transaction_v0,
 };
+use ledger_types::{ENVELOPE_TYPE_TX, ENVELOPE_TYPE_TX_FEE_BUMP, ENVELOPE_TYPE_TX_V0};
 use op_types::{
     FeeBumpTransaction, FeeBumpTransactionEnvelope, TransactionEnvelope, TransactionSet,
     TransactionV0Envelope, TransactionV1Envelope,
@@ -17,22 +18,13 @@ use std::alloc::{AllocError, Global};
 use xdr_core::{Builder, Cursor, Decode, Encode, ReadFault, XdrKind, read_list, write_list};
 use xdr_entries::{read_hash, read_muxed_account, write_hash, write_muxed_account};
 
-/// ENVELOPE_TYPE_TX_V0 (Stellar-ledger-entries.x).
-const ENVELOPE_TYPE_TX_V0: i32 = 0;
-
-/// ENVELOPE_TYPE_TX (Stellar-ledger-entries.x).
-const ENVELOPE_TYPE_TX: i32 = 2;
-
-/// ENVELOPE_TYPE_TX_FEE_BUMP (Stellar-ledger-entries.x).
-const ENVELOPE_TYPE_TX_FEE_BUMP: i32 = 5;
-
 /// Reads a transaction of the first version and its signatures.
 #[tactic(auto, unfolding(crate::specs::Transactions::transaction_v0_envelope))]
 pub fn read_transaction_v0_envelope(
     alloc: Global,
     cursor: &mut Cursor<'_>,
 ) -> Result<TransactionV0Envelope, ReadFault>
-    ensures { Reads cause_of result cursor.old cursor.new (transaction_v0_envelope_format.read cursor.old) }
+    ensures { Reads cause_of result cursor.old cursor.new (spec.transaction_v0_envelope.read cursor.old) }
 {
     let mut ahead = cursor.fork();
     let tx = read_transaction_v0(alloc, &mut ahead)?;
@@ -47,8 +39,8 @@ pub fn write_transaction_v0_envelope(
     value: &TransactionV0Envelope,
     builder: &mut Builder,
 ) -> Result<(), AllocError>
-    requires { transaction_v0_envelope_format.within value.now }
-    ensures { OnOk result (builder.new ≡ transaction_v0_envelope_format.onto builder.old value.now) }
+    requires { spec.transaction_v0_envelope.within value.now }
+    ensures { OnOk result (builder.new ≡ spec.transaction_v0_envelope.onto builder.old value.now) }
 {
     write_transaction_v0(&value.tx, builder)?;
     write_list::<DecoratedSignatureFormat>(value.signatures.as_slice(), MAX_SIGNATURES, builder)
@@ -60,7 +52,7 @@ pub fn read_transaction_v1_envelope(
     alloc: Global,
     cursor: &mut Cursor<'_>,
 ) -> Result<TransactionV1Envelope, ReadFault>
-    ensures { Reads cause_of result cursor.old cursor.new (transaction_v1_envelope_format.read cursor.old) }
+    ensures { Reads cause_of result cursor.old cursor.new (spec.transaction_v1_envelope.read cursor.old) }
 {
     let mut ahead = cursor.fork();
     let tx = read_transaction(alloc, &mut ahead)?;
@@ -75,11 +67,23 @@ pub fn write_transaction_v1_envelope(
     value: &TransactionV1Envelope,
     builder: &mut Builder,
 ) -> Result<(), AllocError>
-    requires { transaction_v1_envelope_format.within value.now }
-    ensures { OnOk result (builder.new ≡ transaction_v1_envelope_format.onto builder.old value.now) }
+    requires { spec.transaction_v1_envelope.within value.now }
+    ensures { OnOk result (builder.new ≡ spec.transaction_v1_envelope.onto builder.old value.now) }
 {
     write_transaction(&value.tx, builder)?;
     write_list::<DecoratedSignatureFormat>(value.signatures.as_slice(), MAX_SIGNATURES, builder)
+}
+
+/// Reads the inner transaction of a fee bump, and the end of the fee bump.
+fn read_inner_tx(alloc: Global, cursor: &mut Cursor<'_>) -> Result<TransactionV1Envelope, ReadFault>
+    ensures { Reads cause_of result cursor.old cursor.new (spec.inner_tx.read cursor.old) }
+{
+    let mut ahead = cursor.fork();
+    ahead.tag(ENVELOPE_TYPE_TX)?;
+    let inner_tx = read_transaction_v1_envelope(alloc, &mut ahead)?;
+    ahead.tag(0)?;
+    *cursor = ahead;
+    Ok(inner_tx)
 }
 
 /// Reads a fee bump.
@@ -88,14 +92,12 @@ pub fn read_fee_bump_transaction(
     alloc: Global,
     cursor: &mut Cursor<'_>,
 ) -> Result<FeeBumpTransaction, ReadFault>
-    ensures { Reads cause_of result cursor.old cursor.new (fee_bump_format.read cursor.old) }
+    ensures { Reads cause_of result cursor.old cursor.new (spec.fee_bump_transaction.read cursor.old) }
 {
     let mut ahead = cursor.fork();
     let fee_source = read_muxed_account(&mut ahead)?;
     let fee = ahead.i64()?;
-    ahead.tag(ENVELOPE_TYPE_TX)?;
-    let inner_tx = read_transaction_v1_envelope(alloc, &mut ahead)?;
-    ahead.tag(0)?;
+    let inner_tx = read_inner_tx(alloc, &mut ahead)?;
     *cursor = ahead;
     Ok(FeeBumpTransaction {
         fee_source,
@@ -105,13 +107,25 @@ pub fn read_fee_bump_transaction(
 }
 
 /// Writes a fee bump.
-#[tactic(auto, unfolding(crate::specs::Transactions::fee_bump_transaction, xdr_core::specs::Combinators::constant))]
+#[tactic(auto, using(xdr_core::proofs::FormatLaws::written, crate::proofs::TransactionLaws::fee_bump_transaction_laws))]
 pub fn write_fee_bump_transaction(
     value: &FeeBumpTransaction,
     builder: &mut Builder,
 ) -> Result<(), AllocError>
-    requires { fee_bump_format.within value.now }
-    ensures { OnOk result (builder.new ≡ fee_bump_format.onto builder.old value.now) }
+    requires { spec.fee_bump_transaction.within value.now }
+    ensures { OnOk result (builder.new ≡ builder.old ++ spec.fee_bump_transaction.spell value.now) }
+{
+    write_fee_bump_fields(value, builder)
+}
+
+/// Writes the fields of a fee bump.
+#[tactic(auto, unfolding(crate::specs::Transactions::fee_bump_transaction, xdr_core::specs::Combinators::constant))]
+fn write_fee_bump_fields(
+    value: &FeeBumpTransaction,
+    builder: &mut Builder,
+) -> Result<(), AllocError>
+    requires { spec.fee_bump_transaction.within value.now }
+    ensures { OnOk result (builder.new ≡ spec.fee_bump_transaction.onto builder.old value.now) }
 {
     write_muxed_account(&value.fee_source, builder)?;
     builder.i64(value.fee)?;
@@ -126,7 +140,7 @@ pub fn read_fee_bump_envelope(
     alloc: Global,
     cursor: &mut Cursor<'_>,
 ) -> Result<FeeBumpTransactionEnvelope, ReadFault>
-    ensures { Reads cause_of result cursor.old cursor.new (fee_bump_envelope_format.read cursor.old) }
+    ensures { Reads cause_of result cursor.old cursor.new (spec.fee_bump_envelope.read cursor.old) }
 {
     let mut ahead = cursor.fork();
     let tx = read_fee_bump_transaction(alloc, &mut ahead)?;
@@ -141,8 +155,8 @@ pub fn write_fee_bump_envelope(
     value: &FeeBumpTransactionEnvelope,
     builder: &mut Builder,
 ) -> Result<(), AllocError>
-    requires { fee_bump_envelope_format.within value.now }
-    ensures { OnOk result (builder.new ≡ fee_bump_envelope_format.onto builder.old value.now) }
+    requires { spec.fee_bump_envelope.within value.now }
+    ensures { OnOk result (builder.new ≡ spec.fee_bump_envelope.onto builder.old value.now) }
 {
     write_fee_bump_transaction(&value.tx, builder)?;
     write_list::<DecoratedSignatureFormat>(value.signatures.as_slice(), MAX_SIGNATURES, builder)
@@ -154,7 +168,7 @@ pub fn read_transaction_envelope(
     alloc: Global,
     cursor: &mut Cursor<'_>,
 ) -> Result<TransactionEnvelope, ReadFault>
-    ensures { Reads cause_of result cursor.old cursor.new (envelope_format.read cursor.old) }
+    ensures { Reads cause_of result cursor.old cursor.new (spec.transaction_envelope.read cursor.old) }
 {
     let mut ahead = cursor.fork();
     let envelope = match ahead.i32()? {
@@ -174,13 +188,22 @@ pub fn read_transaction_envelope(
 }
 
 /// Writes an envelope.
-#[tactic(auto, unfolding(crate::specs::Transactions::transaction_envelope))]
+#[tactic(auto, using(xdr_core::proofs::FormatLaws::written, crate::proofs::TransactionLaws::transaction_envelope_laws))]
 pub fn write_transaction_envelope(
     value: &TransactionEnvelope,
     builder: &mut Builder,
 ) -> Result<(), AllocError>
-    requires { envelope_format.within value.now }
-    ensures { OnOk result (builder.new ≡ envelope_format.onto builder.old value.now) }
+    requires { spec.transaction_envelope.within value.now }
+    ensures { OnOk result (builder.new ≡ builder.old ++ spec.transaction_envelope.spell value.now) }
+{
+    write_envelope_arm(value, builder)
+}
+
+/// Writes the type of an envelope and what stands behind it.
+#[tactic(auto, unfolding(crate::specs::Transactions::transaction_envelope))]
+fn write_envelope_arm(value: &TransactionEnvelope, builder: &mut Builder) -> Result<(), AllocError>
+    requires { spec.transaction_envelope.within value.now }
+    ensures { OnOk result (builder.new ≡ spec.transaction_envelope.onto builder.old value.now) }
 {
     match value {
         TransactionEnvelope::V0(envelope) => {
@@ -206,7 +229,7 @@ impl Decode for TransactionEnvelopeFormat {
 
     type Failure = ReadFault;
 
-    ghost format = { envelope_format };
+    ghost format = { spec.transaction_envelope };
 
     fn decode(alloc: Global, cursor: &mut Cursor<'_>) -> Result<TransactionEnvelope, ReadFault> {
         read_transaction_envelope(alloc, cursor)
@@ -225,7 +248,7 @@ pub fn read_transaction_set(
     alloc: Global,
     cursor: &mut Cursor<'_>,
 ) -> Result<TransactionSet, ReadFault>
-    ensures { Reads cause_of result cursor.old cursor.new (set_format.read cursor.old) }
+    ensures { Reads cause_of result cursor.old cursor.new (spec.transaction_set.read cursor.old) }
 {
     let mut ahead = cursor.fork();
     let previous_ledger_hash = read_hash(&mut ahead)?;
@@ -238,13 +261,22 @@ pub fn read_transaction_set(
 }
 
 /// Writes a set of transactions.
-#[tactic(auto, unfolding(crate::specs::Transactions::transaction_set))]
+#[tactic(auto, using(xdr_core::proofs::FormatLaws::written, crate::proofs::TransactionLaws::transaction_set_laws))]
 pub fn write_transaction_set(
     value: &TransactionSet,
     builder: &mut Builder,
 ) -> Result<(), AllocError>
-    requires { set_format.within value.now }
-    ensures { OnOk result (builder.new ≡ set_format.onto builder.old value.now) }
+    requires { spec.transaction_set.within value.now }
+    ensures { OnOk result (builder.new ≡ builder.old ++ spec.transaction_set.spell value.now) }
+{
+    write_set_fields(value, builder)
+}
+
+/// Writes the fields of a set of transactions.
+#[tactic(auto, unfolding(crate::specs::Transactions::transaction_set))]
+fn write_set_fields(value: &TransactionSet, builder: &mut Builder) -> Result<(), AllocError>
+    requires { spec.transaction_set.within value.now }
+    ensures { OnOk result (builder.new ≡ spec.transaction_set.onto builder.old value.now) }
 {
     write_hash(&value.previous_ledger_hash, builder)?;
     write_list::<TransactionEnvelopeFormat>(value.txs.as_slice(), u32::MAX, builder)

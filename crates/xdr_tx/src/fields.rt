@@ -3,12 +3,10 @@
 ghost use Rattle.xdr_core.specs.Leaves.{u32 as u32_format, var};
 
 use item_list::ItemList;
+use ledger_types::MAX_HOME_DOMAIN_LEN;
 use std::alloc::{AllocError, Global};
 use xdr_core::{Builder, Cursor, Decode, Encode, ReadFault};
 use xdr_entries::MAX_DATA_VALUE_LEN;
-
-/// The most bytes of a home domain (string32 in Stellar-ledger-entries.x).
-const MAX_HOME_DOMAIN_LEN: u32 = 32;
 
 /// Numbers of 32 bits, as a format.
 pub enum U32Format {}
@@ -26,6 +24,7 @@ impl Decode for U32Format {
 }
 
 impl Encode for U32Format {
+    #[tactic(auto, using(xdr_core::proofs::FormatLaws::written, xdr_core::proofs::FormatLaws::u32_laws))]
     fn encode(value: &u32, builder: &mut Builder) -> Result<(), AllocError> {
         builder.u32(*value)
     }
@@ -50,6 +49,7 @@ impl Decode for HomeDomainFormat {
 }
 
 impl Encode for HomeDomainFormat {
+    #[tactic(auto, using(xdr_core::proofs::FormatLaws::written, crate::proofs::FieldLaws::home_domain_laws))]
     fn encode(value: &ItemList<u8>, builder: &mut Builder) -> Result<(), AllocError> {
         builder.var(value.as_slice(), MAX_HOME_DOMAIN_LEN)
     }
@@ -74,6 +74,7 @@ impl Decode for DataValueFormat {
 }
 
 impl Encode for DataValueFormat {
+    #[tactic(auto, using(xdr_core::proofs::FormatLaws::written, crate::proofs::FieldLaws::data_value_laws))]
     fn encode(value: &ItemList<u8>, builder: &mut Builder) -> Result<(), AllocError> {
         builder.var(value.as_slice(), MAX_DATA_VALUE_LEN)
     }

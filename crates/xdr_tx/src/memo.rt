@@ -3,7 +3,7 @@
 ghost use Rattle.std.specs.Prelude.{◌≡◌, OnOk};
 ghost use Rattle.xdr_core.specs.Place.{Reads};
 ghost use Rattle.xdr_core.specs.ReadFault.{cause_of};
-ghost use Rattle.xdr_tx.specs.Transactions.{memo as memo_format};
+ghost use Rattle.xdr_tx.specs.Transactions as spec;
 
 use item_list::ItemList;
 use op_types::Memo;
@@ -32,7 +32,7 @@ const MEMO_RETURN: i32 = 4;
 /// Reads a memo.
 #[tactic(auto, unfolding(crate::specs::Transactions::memo))]
 pub fn read_memo(alloc: Global, cursor: &mut Cursor<'_>) -> Result<Memo, ReadFault>
-    ensures { Reads cause_of result cursor.old cursor.new (memo_format.read cursor.old) }
+    ensures { Reads cause_of result cursor.old cursor.new (spec.memo.read cursor.old) }
 {
     let mut ahead = cursor.fork();
     let memo = match ahead.i32()? {
@@ -50,8 +50,8 @@ pub fn read_memo(alloc: Global, cursor: &mut Cursor<'_>) -> Result<Memo, ReadFau
 /// Writes a memo.
 #[tactic(auto, unfolding(crate::specs::Transactions::memo))]
 pub fn write_memo(value: &Memo, builder: &mut Builder) -> Result<(), AllocError>
-    requires { memo_format.within value.now }
-    ensures { OnOk result (builder.new ≡ memo_format.onto builder.old value.now) }
+    requires { spec.memo.within value.now }
+    ensures { OnOk result (builder.new ≡ spec.memo.onto builder.old value.now) }
 {
     match value {
         Memo::None => builder.i32(MEMO_NONE),

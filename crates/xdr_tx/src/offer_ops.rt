@@ -2,7 +2,7 @@
 
 ghost use Rattle.std.specs.Prelude.{◌≡◌, OnOk};
 ghost use Rattle.xdr_core.specs.Place.{Reads, itself};
-ghost use Rattle.xdr_tx.specs.Operations.{manage_sell_offer_op as manage_sell_offer_op_format, create_passive_sell_offer_op as create_passive_sell_offer_op_format, manage_buy_offer_op as manage_buy_offer_op_format};
+ghost use Rattle.xdr_tx.specs.Operations as spec;
 
 use op_types::{CreatePassiveSellOfferOp, ManageBuyOfferOp, ManageSellOfferOp};
 use std::alloc::AllocError;
@@ -12,7 +12,7 @@ use xdr_entries::{read_asset, read_price, write_asset, write_price};
 /// Reads what makes, changes or removes an offer that sells.
 #[tactic(auto, unfolding(crate::specs::Operations::manage_sell_offer_op))]
 pub fn read_manage_sell_offer_op(cursor: &mut Cursor<'_>) -> Result<ManageSellOfferOp, XdrFault>
-    ensures { Reads itself result cursor.old cursor.new (manage_sell_offer_op_format.read cursor.old) }
+    ensures { Reads itself result cursor.old cursor.new (spec.manage_sell_offer_op.read cursor.old) }
 {
     let mut ahead = cursor.fork();
     let selling = read_asset(&mut ahead)?;
@@ -36,7 +36,7 @@ pub fn write_manage_sell_offer_op(
     value: &ManageSellOfferOp,
     builder: &mut Builder,
 ) -> Result<(), AllocError>
-    ensures { OnOk result (builder.new ≡ manage_sell_offer_op_format.onto builder.old value.now) }
+    ensures { OnOk result (builder.new ≡ spec.manage_sell_offer_op.onto builder.old value.now) }
 {
     write_asset(&value.selling, builder)?;
     write_asset(&value.buying, builder)?;
@@ -50,7 +50,7 @@ pub fn write_manage_sell_offer_op(
 pub fn read_create_passive_sell_offer_op(
     cursor: &mut Cursor<'_>,
 ) -> Result<CreatePassiveSellOfferOp, XdrFault>
-    ensures { Reads itself result cursor.old cursor.new (create_passive_sell_offer_op_format.read cursor.old) }
+    ensures { Reads itself result cursor.old cursor.new (spec.create_passive_sell_offer_op.read cursor.old) }
 {
     let mut ahead = cursor.fork();
     let selling = read_asset(&mut ahead)?;
@@ -72,7 +72,7 @@ pub fn write_create_passive_sell_offer_op(
     value: &CreatePassiveSellOfferOp,
     builder: &mut Builder,
 ) -> Result<(), AllocError>
-    ensures { OnOk result (builder.new ≡ create_passive_sell_offer_op_format.onto builder.old value.now) }
+    ensures { OnOk result (builder.new ≡ spec.create_passive_sell_offer_op.onto builder.old value.now) }
 {
     write_asset(&value.selling, builder)?;
     write_asset(&value.buying, builder)?;
@@ -83,7 +83,7 @@ pub fn write_create_passive_sell_offer_op(
 /// Reads what makes, changes or removes an offer that buys.
 #[tactic(auto, unfolding(crate::specs::Operations::manage_buy_offer_op))]
 pub fn read_manage_buy_offer_op(cursor: &mut Cursor<'_>) -> Result<ManageBuyOfferOp, XdrFault>
-    ensures { Reads itself result cursor.old cursor.new (manage_buy_offer_op_format.read cursor.old) }
+    ensures { Reads itself result cursor.old cursor.new (spec.manage_buy_offer_op.read cursor.old) }
 {
     let mut ahead = cursor.fork();
     let selling = read_asset(&mut ahead)?;
@@ -107,7 +107,7 @@ pub fn write_manage_buy_offer_op(
     value: &ManageBuyOfferOp,
     builder: &mut Builder,
 ) -> Result<(), AllocError>
-    ensures { OnOk result (builder.new ≡ manage_buy_offer_op_format.onto builder.old value.now) }
+    ensures { OnOk result (builder.new ≡ spec.manage_buy_offer_op.onto builder.old value.now) }
 {
     write_asset(&value.selling, builder)?;
     write_asset(&value.buying, builder)?;

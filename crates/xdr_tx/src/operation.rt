@@ -5,7 +5,7 @@ ghost use Rattle.xdr_core.specs.Place.{Place, Reads};
 ghost use Rattle.xdr_core.specs.ReadFault.{cause_of};
 ghost use Rattle.xdr_core.specs.Combinators.{pick};
 ghost use Rattle.xdr_core.specs.Xdr.{no_arm};
-ghost use Rattle.xdr_tx.specs.Operations.{second_body_arms, third_body_arms, last_body_arms, operation_body as body_format, operation as operation_format};
+ghost use Rattle.xdr_tx.specs.Operations as spec;
 
 use crate::account_ops::{
     read_account_merge_op, read_bump_sequence_op, read_create_account_op, read_manage_data_op,
@@ -37,82 +37,18 @@ use crate::trust_ops::{
     read_allow_trust_op, read_change_trust_op, read_clawback_op, read_set_trust_line_flags_op,
     write_allow_trust_op, write_change_trust_op, write_clawback_op, write_set_trust_line_flags_op,
 };
+use op_types::operation_type::{
+    ACCOUNT_MERGE, ALLOW_TRUST, BEGIN_SPONSORING_FUTURE_RESERVES, BUMP_SEQUENCE, CHANGE_TRUST,
+    CLAIM_CLAIMABLE_BALANCE, CLAWBACK, CLAWBACK_CLAIMABLE_BALANCE, CREATE_ACCOUNT,
+    CREATE_CLAIMABLE_BALANCE, CREATE_PASSIVE_SELL_OFFER, END_SPONSORING_FUTURE_RESERVES, INFLATION,
+    LIQUIDITY_POOL_DEPOSIT, LIQUIDITY_POOL_WITHDRAW, MANAGE_BUY_OFFER, MANAGE_DATA,
+    MANAGE_SELL_OFFER, PATH_PAYMENT_STRICT_RECEIVE, PATH_PAYMENT_STRICT_SEND, PAYMENT,
+    REVOKE_SPONSORSHIP, SET_OPTIONS, SET_TRUST_LINE_FLAGS,
+};
 use op_types::{Operation, OperationBody};
 use std::alloc::{AllocError, Global};
 use xdr_core::{Builder, Cursor, Decode, Encode, ReadFault, XdrKind, read_option, write_option};
 use xdr_entries::MuxedAccountFormat;
-
-/// CREATE_ACCOUNT (OperationType in Stellar-transaction.x).
-const CREATE_ACCOUNT: i32 = 0;
-
-/// PAYMENT (OperationType in Stellar-transaction.x).
-const PAYMENT: i32 = 1;
-
-/// PATH_PAYMENT_STRICT_RECEIVE (OperationType in Stellar-transaction.x).
-const PATH_PAYMENT_STRICT_RECEIVE: i32 = 2;
-
-/// MANAGE_SELL_OFFER (OperationType in Stellar-transaction.x).
-const MANAGE_SELL_OFFER: i32 = 3;
-
-/// CREATE_PASSIVE_SELL_OFFER (OperationType in Stellar-transaction.x).
-const CREATE_PASSIVE_SELL_OFFER: i32 = 4;
-
-/// SET_OPTIONS (OperationType in Stellar-transaction.x).
-const SET_OPTIONS: i32 = 5;
-
-/// CHANGE_TRUST (OperationType in Stellar-transaction.x).
-const CHANGE_TRUST: i32 = 6;
-
-/// ALLOW_TRUST (OperationType in Stellar-transaction.x).
-const ALLOW_TRUST: i32 = 7;
-
-/// ACCOUNT_MERGE (OperationType in Stellar-transaction.x).
-const ACCOUNT_MERGE: i32 = 8;
-
-/// INFLATION (OperationType in Stellar-transaction.x).
-const INFLATION: i32 = 9;
-
-/// MANAGE_DATA (OperationType in Stellar-transaction.x).
-const MANAGE_DATA: i32 = 10;
-
-/// BUMP_SEQUENCE (OperationType in Stellar-transaction.x).
-const BUMP_SEQUENCE: i32 = 11;
-
-/// MANAGE_BUY_OFFER (OperationType in Stellar-transaction.x).
-const MANAGE_BUY_OFFER: i32 = 12;
-
-/// PATH_PAYMENT_STRICT_SEND (OperationType in Stellar-transaction.x).
-const PATH_PAYMENT_STRICT_SEND: i32 = 13;
-
-/// CREATE_CLAIMABLE_BALANCE (OperationType in Stellar-transaction.x).
-const CREATE_CLAIMABLE_BALANCE: i32 = 14;
-
-/// CLAIM_CLAIMABLE_BALANCE (OperationType in Stellar-transaction.x).
-const CLAIM_CLAIMABLE_BALANCE: i32 = 15;
-
-/// BEGIN_SPONSORING_FUTURE_RESERVES (OperationType in Stellar-transaction.x).
-const BEGIN_SPONSORING_FUTURE_RESERVES: i32 = 16;
-
-/// END_SPONSORING_FUTURE_RESERVES (OperationType in Stellar-transaction.x).
-const END_SPONSORING_FUTURE_RESERVES: i32 = 17;
-
-/// REVOKE_SPONSORSHIP (OperationType in Stellar-transaction.x).
-const REVOKE_SPONSORSHIP: i32 = 18;
-
-/// CLAWBACK (OperationType in Stellar-transaction.x).
-const CLAWBACK: i32 = 19;
-
-/// CLAWBACK_CLAIMABLE_BALANCE (OperationType in Stellar-transaction.x).
-const CLAWBACK_CLAIMABLE_BALANCE: i32 = 20;
-
-/// SET_TRUST_LINE_FLAGS (OperationType in Stellar-transaction.x).
-const SET_TRUST_LINE_FLAGS: i32 = 21;
-
-/// LIQUIDITY_POOL_DEPOSIT (OperationType in Stellar-transaction.x).
-const LIQUIDITY_POOL_DEPOSIT: i32 = 22;
-
-/// LIQUIDITY_POOL_WITHDRAW (OperationType in Stellar-transaction.x).
-const LIQUIDITY_POOL_WITHDRAW: i32 = 23;
 
 /// Reads what an operation does.
 #[tactic(auto, unfolding(crate::specs::Operations::operation_body))]
@@ -120,7 +56,7 @@ pub fn read_operation_body(
     alloc: Global,
     cursor: &mut Cursor<'_>,
 ) -> Result<OperationBody, ReadFault>
-    ensures { Reads cause_of result cursor.old cursor.new (body_format.read cursor.old) }
+    ensures { Reads cause_of result cursor.old cursor.new (spec.operation_body.read cursor.old) }
 {
     let mut ahead = cursor.fork();
     let body = match ahead.i32()? {
@@ -148,7 +84,8 @@ fn read_second_body(
     kind: i32,
     cursor: &mut Cursor<'_>,
 ) -> Result<OperationBody, ReadFault>
-    ensures { Reads cause_of result cursor.old cursor.new (pick second_body_arms no_arm start.now (kind, cursor.old)) }
+    ensures { Reads cause_of result cursor.old cursor.new
+        (pick spec.second_body_arms no_arm start.now (kind, cursor.old)) }
 {
     let mut ahead = cursor.fork();
     let body = match kind {
@@ -172,7 +109,8 @@ fn read_third_body(
     kind: i32,
     cursor: &mut Cursor<'_>,
 ) -> Result<OperationBody, ReadFault>
-    ensures { Reads cause_of result cursor.old cursor.new (pick third_body_arms no_arm start.now (kind, cursor.old)) }
+    ensures { Reads cause_of result cursor.old cursor.new
+        (pick spec.third_body_arms no_arm start.now (kind, cursor.old)) }
 {
     let mut ahead = cursor.fork();
     let body = match kind {
@@ -204,7 +142,8 @@ fn read_last_body(
     kind: i32,
     cursor: &mut Cursor<'_>,
 ) -> Result<OperationBody, ReadFault>
-    ensures { Reads cause_of result cursor.old cursor.new (pick last_body_arms no_arm start.now (kind, cursor.old)) }
+    ensures { Reads cause_of result cursor.old cursor.new
+        (pick spec.last_body_arms no_arm start.now (kind, cursor.old)) }
 {
     let mut ahead = cursor.fork();
     let body = match kind {
@@ -230,110 +169,84 @@ fn read_last_body(
     Ok(body)
 }
 
+/// The type of an operation.
+fn type_of(value: &OperationBody) -> i32
+    ensures { result ≡ spec.type_of value.now }
+{
+    match value {
+        OperationBody::CreateAccount(_) => CREATE_ACCOUNT,
+        OperationBody::Payment(_) => PAYMENT,
+        OperationBody::PathPaymentStrictReceive(_) => PATH_PAYMENT_STRICT_RECEIVE,
+        OperationBody::ManageSellOffer(_) => MANAGE_SELL_OFFER,
+        OperationBody::CreatePassiveSellOffer(_) => CREATE_PASSIVE_SELL_OFFER,
+        OperationBody::SetOptions(_) => SET_OPTIONS,
+        OperationBody::ChangeTrust(_) => CHANGE_TRUST,
+        OperationBody::AllowTrust(_) => ALLOW_TRUST,
+        OperationBody::AccountMerge(_) => ACCOUNT_MERGE,
+        OperationBody::Inflation => INFLATION,
+        OperationBody::ManageData(_) => MANAGE_DATA,
+        OperationBody::BumpSequence(_) => BUMP_SEQUENCE,
+        OperationBody::ManageBuyOffer(_) => MANAGE_BUY_OFFER,
+        OperationBody::PathPaymentStrictSend(_) => PATH_PAYMENT_STRICT_SEND,
+        OperationBody::CreateClaimableBalance(_) => CREATE_CLAIMABLE_BALANCE,
+        OperationBody::ClaimClaimableBalance(_) => CLAIM_CLAIMABLE_BALANCE,
+        OperationBody::BeginSponsoringFutureReserves(_) => BEGIN_SPONSORING_FUTURE_RESERVES,
+        OperationBody::EndSponsoringFutureReserves => END_SPONSORING_FUTURE_RESERVES,
+        OperationBody::RevokeSponsorship(_) => REVOKE_SPONSORSHIP,
+        OperationBody::Clawback(_) => CLAWBACK,
+        OperationBody::ClawbackClaimableBalance(_) => CLAWBACK_CLAIMABLE_BALANCE,
+        OperationBody::SetTrustLineFlags(_) => SET_TRUST_LINE_FLAGS,
+        OperationBody::LiquidityPoolDeposit(_) => LIQUIDITY_POOL_DEPOSIT,
+        OperationBody::LiquidityPoolWithdraw(_) => LIQUIDITY_POOL_WITHDRAW,
+    }
+}
+
 /// Writes what an operation does.
 #[tactic(auto, unfolding(crate::specs::Operations::operation_body))]
 pub fn write_operation_body(value: &OperationBody, builder: &mut Builder) -> Result<(), AllocError>
-    requires { body_format.within value.now }
-    ensures { OnOk result (builder.new ≡ body_format.onto builder.old value.now) }
+    requires { spec.operation_body.within value.now }
+    ensures { OnOk result (builder.new ≡ spec.operation_body.onto builder.old value.now) }
 {
+    builder.i32(type_of(value))?;
     match value {
-        OperationBody::CreateAccount(op) => {
-            builder.i32(CREATE_ACCOUNT)?;
-            write_create_account_op(op, builder)
-        }
-        OperationBody::Payment(op) => {
-            builder.i32(PAYMENT)?;
-            write_payment_op(op, builder)
-        }
-        OperationBody::PathPaymentStrictReceive(op) => {
-            builder.i32(PATH_PAYMENT_STRICT_RECEIVE)?;
-            write_path_payment_strict_receive_op(op, builder)
-        }
-        OperationBody::ManageSellOffer(op) => {
-            builder.i32(MANAGE_SELL_OFFER)?;
-            write_manage_sell_offer_op(op, builder)
-        }
-        OperationBody::CreatePassiveSellOffer(op) => {
-            builder.i32(CREATE_PASSIVE_SELL_OFFER)?;
-            write_create_passive_sell_offer_op(op, builder)
-        }
-        OperationBody::SetOptions(op) => {
-            builder.i32(SET_OPTIONS)?;
-            write_set_options_op(op, builder)
-        }
-        OperationBody::ChangeTrust(op) => {
-            builder.i32(CHANGE_TRUST)?;
-            write_change_trust_op(op, builder)
-        }
-        OperationBody::AllowTrust(op) => {
-            builder.i32(ALLOW_TRUST)?;
-            write_allow_trust_op(op, builder)
-        }
-        OperationBody::AccountMerge(op) => {
-            builder.i32(ACCOUNT_MERGE)?;
-            write_account_merge_op(op, builder)
-        }
-        OperationBody::Inflation => builder.i32(INFLATION),
-        OperationBody::ManageData(op) => {
-            builder.i32(MANAGE_DATA)?;
-            write_manage_data_op(op, builder)
-        }
-        OperationBody::BumpSequence(op) => {
-            builder.i32(BUMP_SEQUENCE)?;
-            write_bump_sequence_op(op, builder)
-        }
-        OperationBody::ManageBuyOffer(op) => {
-            builder.i32(MANAGE_BUY_OFFER)?;
-            write_manage_buy_offer_op(op, builder)
-        }
-        OperationBody::PathPaymentStrictSend(op) => {
-            builder.i32(PATH_PAYMENT_STRICT_SEND)?;
-            write_path_payment_strict_send_op(op, builder)
-        }
-        OperationBody::CreateClaimableBalance(op) => {
-            builder.i32(CREATE_CLAIMABLE_BALANCE)?;
-            write_create_claimable_balance_op(op, builder)
-        }
-        OperationBody::ClaimClaimableBalance(op) => {
-            builder.i32(CLAIM_CLAIMABLE_BALANCE)?;
-            write_claim_claimable_balance_op(op, builder)
-        }
-        OperationBody::BeginSponsoringFutureReserves(op) => {
-            builder.i32(BEGIN_SPONSORING_FUTURE_RESERVES)?;
-            write_begin_sponsoring_future_reserves_op(op, builder)
-        }
-        OperationBody::EndSponsoringFutureReserves => builder.i32(END_SPONSORING_FUTURE_RESERVES),
-        OperationBody::RevokeSponsorship(op) => {
-            builder.i32(REVOKE_SPONSORSHIP)?;
-            write_revoke_sponsorship_op(op, builder)
-        }
-        OperationBody::Clawback(op) => {
-            builder.i32(CLAWBACK)?;
-            write_clawback_op(op, builder)
-        }
-        OperationBody::ClawbackClaimableBalance(op) => {
-            builder.i32(CLAWBACK_CLAIMABLE_BALANCE)?;
-            write_clawback_claimable_balance_op(op, builder)
-        }
-        OperationBody::SetTrustLineFlags(op) => {
-            builder.i32(SET_TRUST_LINE_FLAGS)?;
-            write_set_trust_line_flags_op(op, builder)
-        }
-        OperationBody::LiquidityPoolDeposit(op) => {
-            builder.i32(LIQUIDITY_POOL_DEPOSIT)?;
-            write_liquidity_pool_deposit_op(op, builder)
-        }
-        OperationBody::LiquidityPoolWithdraw(op) => {
-            builder.i32(LIQUIDITY_POOL_WITHDRAW)?;
-            write_liquidity_pool_withdraw_op(op, builder)
-        }
+        OperationBody::CreateAccount(op) => write_create_account_op(op, builder),
+        OperationBody::Payment(op) => write_payment_op(op, builder),
+        OperationBody::PathPaymentStrictReceive(op) => write_path_payment_strict_receive_op(
+            op, builder,
+        ),
+        OperationBody::ManageSellOffer(op) => write_manage_sell_offer_op(op, builder),
+        OperationBody::CreatePassiveSellOffer(op) => write_create_passive_sell_offer_op(
+            op, builder,
+        ),
+        OperationBody::SetOptions(op) => write_set_options_op(op, builder),
+        OperationBody::ChangeTrust(op) => write_change_trust_op(op, builder),
+        OperationBody::AllowTrust(op) => write_allow_trust_op(op, builder),
+        OperationBody::AccountMerge(op) => write_account_merge_op(op, builder),
+        OperationBody::Inflation => Ok(()),
+        OperationBody::ManageData(op) => write_manage_data_op(op, builder),
+        OperationBody::BumpSequence(op) => write_bump_sequence_op(op, builder),
+        OperationBody::ManageBuyOffer(op) => write_manage_buy_offer_op(op, builder),
+        OperationBody::PathPaymentStrictSend(op) => write_path_payment_strict_send_op(op, builder),
+        OperationBody::CreateClaimableBalance(op) => write_create_claimable_balance_op(op, builder),
+        OperationBody::ClaimClaimableBalance(op) => write_claim_claimable_balance_op(op, builder),
+        OperationBody::BeginSponsoringFutureReserves(op) =>
+            write_begin_sponsoring_future_reserves_op(op, builder),
+        OperationBody::EndSponsoringFutureReserves => Ok(()),
+        OperationBody::RevokeSponsorship(op) => write_revoke_sponsorship_op(op, builder),
+        OperationBody::Clawback(op) => write_clawback_op(op, builder),
+        OperationBody::ClawbackClaimableBalance(op) => write_clawback_claimable_balance_op(
+            op, builder,
+        ),
+        OperationBody::SetTrustLineFlags(op) => write_set_trust_line_flags_op(op, builder),
+        OperationBody::LiquidityPoolDeposit(op) => write_liquidity_pool_deposit_op(op, builder),
+        OperationBody::LiquidityPoolWithdraw(op) => write_liquidity_pool_withdraw_op(op, builder),
     }
 }
 
 /// Reads an operation.
 #[tactic(auto, unfolding(crate::specs::Operations::operation))]
 pub fn read_operation(alloc: Global, cursor: &mut Cursor<'_>) -> Result<Operation, ReadFault>
-    ensures { Reads cause_of result cursor.old cursor.new (operation_format.read cursor.old) }
+    ensures { Reads cause_of result cursor.old cursor.new (spec.operation.read cursor.old) }
 {
     let mut ahead = cursor.fork();
     let source_account = read_option::<MuxedAccountFormat>(alloc, &mut ahead)?;
@@ -348,8 +261,8 @@ pub fn read_operation(alloc: Global, cursor: &mut Cursor<'_>) -> Result<Operatio
 /// Writes an operation.
 #[tactic(auto, unfolding(crate::specs::Operations::operation))]
 pub fn write_operation(value: &Operation, builder: &mut Builder) -> Result<(), AllocError>
-    requires { operation_format.within value.now }
-    ensures { OnOk result (builder.new ≡ operation_format.onto builder.old value.now) }
+    requires { spec.operation.within value.now }
+    ensures { OnOk result (builder.new ≡ spec.operation.onto builder.old value.now) }
 {
     write_option::<MuxedAccountFormat>(&value.source_account, builder)?;
     write_operation_body(&value.body, builder)
@@ -363,7 +276,7 @@ impl Decode for OperationFormat {
 
     type Failure = ReadFault;
 
-    ghost format = { operation_format };
+    ghost format = { spec.operation };
 
     fn decode(alloc: Global, cursor: &mut Cursor<'_>) -> Result<Operation, ReadFault> {
         read_operation(alloc, cursor)
@@ -371,6 +284,7 @@ impl Decode for OperationFormat {
 }
 
 impl Encode for OperationFormat {
+    #[tactic(auto, using(xdr_core::proofs::FormatLaws::written, crate::proofs::BodyLaws::operation_laws))]
     fn encode(value: &Operation, builder: &mut Builder) -> Result<(), AllocError> {
         write_operation(value, builder)
     }

@@ -3,7 +3,7 @@
 ghost use Rattle.std.specs.Prelude.{◌≡◌, OnOk};
 ghost use Rattle.xdr_core.specs.Place.{Reads, itself};
 ghost use Rattle.xdr_core.specs.ReadFault.{cause_of};
-ghost use Rattle.xdr_tx.specs.Operations.{payment_op as payment_op_format, path_payment_strict_receive_op as path_payment_strict_receive_op_format, path_payment_strict_send_op as path_payment_strict_send_op_format};
+ghost use Rattle.xdr_tx.specs.Operations as spec;
 
 use op_types::{PathPaymentStrictReceiveOp, PathPaymentStrictSendOp, PaymentOp};
 use std::alloc::{AllocError, Global};
@@ -16,7 +16,7 @@ const MAX_PATH_LEN: u32 = 5;
 /// Reads a payment.
 #[tactic(auto, unfolding(crate::specs::Operations::payment_op))]
 pub fn read_payment_op(cursor: &mut Cursor<'_>) -> Result<PaymentOp, XdrFault>
-    ensures { Reads itself result cursor.old cursor.new (payment_op_format.read cursor.old) }
+    ensures { Reads itself result cursor.old cursor.new (spec.payment_op.read cursor.old) }
 {
     let mut ahead = cursor.fork();
     let destination = read_muxed_account(&mut ahead)?;
@@ -33,7 +33,7 @@ pub fn read_payment_op(cursor: &mut Cursor<'_>) -> Result<PaymentOp, XdrFault>
 /// Writes a payment.
 #[tactic(auto, unfolding(crate::specs::Operations::payment_op))]
 pub fn write_payment_op(value: &PaymentOp, builder: &mut Builder) -> Result<(), AllocError>
-    ensures { OnOk result (builder.new ≡ payment_op_format.onto builder.old value.now) }
+    ensures { OnOk result (builder.new ≡ spec.payment_op.onto builder.old value.now) }
 {
     write_muxed_account(&value.destination, builder)?;
     write_asset(&value.asset, builder)?;
@@ -46,7 +46,7 @@ pub fn read_path_payment_strict_receive_op(
     alloc: Global,
     cursor: &mut Cursor<'_>,
 ) -> Result<PathPaymentStrictReceiveOp, ReadFault>
-    ensures { Reads cause_of result cursor.old cursor.new (path_payment_strict_receive_op_format.read cursor.old) }
+    ensures { Reads cause_of result cursor.old cursor.new (spec.path_payment_strict_receive_op.read cursor.old) }
 {
     let mut ahead = cursor.fork();
     let send_asset = read_asset(&mut ahead)?;
@@ -72,8 +72,8 @@ pub fn write_path_payment_strict_receive_op(
     value: &PathPaymentStrictReceiveOp,
     builder: &mut Builder,
 ) -> Result<(), AllocError>
-    requires { path_payment_strict_receive_op_format.within value.now }
-    ensures { OnOk result (builder.new ≡ path_payment_strict_receive_op_format.onto builder.old value.now) }
+    requires { spec.path_payment_strict_receive_op.within value.now }
+    ensures { OnOk result (builder.new ≡ spec.path_payment_strict_receive_op.onto builder.old value.now) }
 {
     write_asset(&value.send_asset, builder)?;
     builder.i64(value.send_max)?;
@@ -89,7 +89,7 @@ pub fn read_path_payment_strict_send_op(
     alloc: Global,
     cursor: &mut Cursor<'_>,
 ) -> Result<PathPaymentStrictSendOp, ReadFault>
-    ensures { Reads cause_of result cursor.old cursor.new (path_payment_strict_send_op_format.read cursor.old) }
+    ensures { Reads cause_of result cursor.old cursor.new (spec.path_payment_strict_send_op.read cursor.old) }
 {
     let mut ahead = cursor.fork();
     let send_asset = read_asset(&mut ahead)?;
@@ -115,8 +115,8 @@ pub fn write_path_payment_strict_send_op(
     value: &PathPaymentStrictSendOp,
     builder: &mut Builder,
 ) -> Result<(), AllocError>
-    requires { path_payment_strict_send_op_format.within value.now }
-    ensures { OnOk result (builder.new ≡ path_payment_strict_send_op_format.onto builder.old value.now) }
+    requires { spec.path_payment_strict_send_op.within value.now }
+    ensures { OnOk result (builder.new ≡ spec.path_payment_strict_send_op.onto builder.old value.now) }
 {
     write_asset(&value.send_asset, builder)?;
     builder.i64(value.send_amount)?;

@@ -2,7 +2,7 @@
 
 ghost use Rattle.std.specs.Prelude.{◌≡◌, OnOk};
 ghost use Rattle.xdr_core.specs.Place.{Reads, itself};
-ghost use Rattle.xdr_tx.specs.Operations.{liquidity_pool_deposit_op as liquidity_pool_deposit_op_format, liquidity_pool_withdraw_op as liquidity_pool_withdraw_op_format};
+ghost use Rattle.xdr_tx.specs.Operations as spec;
 
 use op_types::{LiquidityPoolDepositOp, LiquidityPoolWithdrawOp};
 use std::alloc::AllocError;
@@ -14,7 +14,7 @@ use xdr_entries::{read_hash, read_price, write_hash, write_price};
 pub fn read_liquidity_pool_deposit_op(
     cursor: &mut Cursor<'_>,
 ) -> Result<LiquidityPoolDepositOp, XdrFault>
-    ensures { Reads itself result cursor.old cursor.new (liquidity_pool_deposit_op_format.read cursor.old) }
+    ensures { Reads itself result cursor.old cursor.new (spec.liquidity_pool_deposit_op.read cursor.old) }
 {
     let mut ahead = cursor.fork();
     let pool_id = read_hash(&mut ahead)?;
@@ -38,7 +38,7 @@ pub fn write_liquidity_pool_deposit_op(
     value: &LiquidityPoolDepositOp,
     builder: &mut Builder,
 ) -> Result<(), AllocError>
-    ensures { OnOk result (builder.new ≡ liquidity_pool_deposit_op_format.onto builder.old value.now) }
+    ensures { OnOk result (builder.new ≡ spec.liquidity_pool_deposit_op.onto builder.old value.now) }
 {
     write_hash(&value.pool_id, builder)?;
     builder.i64(value.max_amount_a)?;
@@ -52,7 +52,7 @@ pub fn write_liquidity_pool_deposit_op(
 pub fn read_liquidity_pool_withdraw_op(
     cursor: &mut Cursor<'_>,
 ) -> Result<LiquidityPoolWithdrawOp, XdrFault>
-    ensures { Reads itself result cursor.old cursor.new (liquidity_pool_withdraw_op_format.read cursor.old) }
+    ensures { Reads itself result cursor.old cursor.new (spec.liquidity_pool_withdraw_op.read cursor.old) }
 {
     let mut ahead = cursor.fork();
     let pool_id = read_hash(&mut ahead)?;
@@ -74,7 +74,7 @@ pub fn write_liquidity_pool_withdraw_op(
     value: &LiquidityPoolWithdrawOp,
     builder: &mut Builder,
 ) -> Result<(), AllocError>
-    ensures { OnOk result (builder.new ≡ liquidity_pool_withdraw_op_format.onto builder.old value.now) }
+    ensures { OnOk result (builder.new ≡ spec.liquidity_pool_withdraw_op.onto builder.old value.now) }
 {
     write_hash(&value.pool_id, builder)?;
     builder.i64(value.amount)?;

@@ -3,7 +3,7 @@
 ghost use Rattle.std.specs.Prelude.{◌≡◌, OnOk};
 ghost use Rattle.xdr_core.specs.Place.{Reads};
 ghost use Rattle.xdr_core.specs.ReadFault.{cause_of};
-ghost use Rattle.xdr_tx.specs.Transactions.{decorated_signature as signature_format};
+ghost use Rattle.xdr_tx.specs.Transactions as spec;
 
 use item_list::ItemList;
 use op_types::DecoratedSignature;
@@ -22,7 +22,7 @@ pub fn read_decorated_signature(
     alloc: Global,
     cursor: &mut Cursor<'_>,
 ) -> Result<DecoratedSignature, ReadFault>
-    ensures { Reads cause_of result cursor.old cursor.new (signature_format.read cursor.old) }
+    ensures { Reads cause_of result cursor.old cursor.new (spec.decorated_signature.read cursor.old) }
 {
     let mut ahead = cursor.fork();
     let hint = ahead.array::<4>()?;
@@ -37,8 +37,8 @@ pub fn write_decorated_signature(
     value: &DecoratedSignature,
     builder: &mut Builder,
 ) -> Result<(), AllocError>
-    requires { signature_format.within value.now }
-    ensures { OnOk result (builder.new ≡ signature_format.onto builder.old value.now) }
+    requires { spec.decorated_signature.within value.now }
+    ensures { OnOk result (builder.new ≡ spec.decorated_signature.onto builder.old value.now) }
 {
     builder.fixed(&value.hint)?;
     builder.var(value.signature.as_slice(), MAX_SIGNATURE_LEN)
@@ -52,7 +52,7 @@ impl Decode for DecoratedSignatureFormat {
 
     type Failure = ReadFault;
 
-    ghost format = { signature_format };
+    ghost format = { spec.decorated_signature };
 
     fn decode(alloc: Global, cursor: &mut Cursor<'_>) -> Result<DecoratedSignature, ReadFault> {
         read_decorated_signature(alloc, cursor)
@@ -60,6 +60,7 @@ impl Decode for DecoratedSignatureFormat {
 }
 
 impl Encode for DecoratedSignatureFormat {
+    #[tactic(auto, using(crate::proofs::TransactionLaws::signature_written))]
     fn encode(value: &DecoratedSignature, builder: &mut Builder) -> Result<(), AllocError> {
         write_decorated_signature(value, builder)
     }

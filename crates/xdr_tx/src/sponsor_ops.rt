@@ -3,7 +3,7 @@
 ghost use Rattle.std.specs.Prelude.{◌≡◌, OnOk};
 ghost use Rattle.xdr_core.specs.Place.{Reads, itself};
 ghost use Rattle.xdr_core.specs.ReadFault.{cause_of};
-ghost use Rattle.xdr_tx.specs.Operations.{begin_sponsoring_future_reserves_op as begin_sponsoring_future_reserves_op_format, revoke_sponsorship_op as revoke_sponsorship_op_format};
+ghost use Rattle.xdr_tx.specs.Operations as spec;
 
 use op_types::{BeginSponsoringFutureReservesOp, RevokeSponsorshipOp};
 use std::alloc::{AllocError, Global};
@@ -24,7 +24,7 @@ const REVOKE_SPONSORSHIP_SIGNER: i32 = 1;
 pub fn read_begin_sponsoring_future_reserves_op(
     cursor: &mut Cursor<'_>,
 ) -> Result<BeginSponsoringFutureReservesOp, XdrFault>
-    ensures { Reads itself result cursor.old cursor.new (begin_sponsoring_future_reserves_op_format.read cursor.old) }
+    ensures { Reads itself result cursor.old cursor.new (spec.begin_sponsoring_future_reserves_op.read cursor.old) }
 {
     let mut ahead = cursor.fork();
     let sponsored_id = read_account_id(&mut ahead)?;
@@ -38,7 +38,7 @@ pub fn write_begin_sponsoring_future_reserves_op(
     value: &BeginSponsoringFutureReservesOp,
     builder: &mut Builder,
 ) -> Result<(), AllocError>
-    ensures { OnOk result (builder.new ≡ begin_sponsoring_future_reserves_op_format.onto builder.old value.now) }
+    ensures { OnOk result (builder.new ≡ spec.begin_sponsoring_future_reserves_op.onto builder.old value.now) }
 {
     write_account_id(&value.sponsored_id, builder)
 }
@@ -49,7 +49,7 @@ pub fn read_revoke_sponsorship_op(
     alloc: Global,
     cursor: &mut Cursor<'_>,
 ) -> Result<RevokeSponsorshipOp, ReadFault>
-    ensures { Reads cause_of result cursor.old cursor.new (revoke_sponsorship_op_format.read cursor.old) }
+    ensures { Reads cause_of result cursor.old cursor.new (spec.revoke_sponsorship_op.read cursor.old) }
 {
     let mut ahead = cursor.fork();
     let op = match ahead.i32()? {
@@ -72,8 +72,8 @@ pub fn write_revoke_sponsorship_op(
     value: &RevokeSponsorshipOp,
     builder: &mut Builder,
 ) -> Result<(), AllocError>
-    requires { revoke_sponsorship_op_format.within value.now }
-    ensures { OnOk result (builder.new ≡ revoke_sponsorship_op_format.onto builder.old value.now) }
+    requires { spec.revoke_sponsorship_op.within value.now }
+    ensures { OnOk result (builder.new ≡ spec.revoke_sponsorship_op.onto builder.old value.now) }
 {
     match value {
         RevokeSponsorshipOp::LedgerEntry(key) => {

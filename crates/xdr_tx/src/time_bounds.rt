@@ -2,7 +2,7 @@
 
 ghost use Rattle.std.specs.Prelude.{◌≡◌, OnOk};
 ghost use Rattle.xdr_core.specs.Place.{Reads, itself};
-ghost use Rattle.xdr_tx.specs.Transactions.{time_bounds as time_bounds_format};
+ghost use Rattle.xdr_tx.specs.Transactions as spec;
 
 use op_types::TimeBounds;
 use std::alloc::{AllocError, Global};
@@ -11,7 +11,7 @@ use xdr_core::{Builder, Cursor, Decode, Encode, ReadFault, XdrFault};
 /// Reads time bounds.
 #[tactic(auto, unfolding(crate::specs::Transactions::time_bounds))]
 pub fn read_time_bounds(cursor: &mut Cursor<'_>) -> Result<TimeBounds, XdrFault>
-    ensures { Reads itself result cursor.old cursor.new (time_bounds_format.read cursor.old) }
+    ensures { Reads itself result cursor.old cursor.new (spec.time_bounds.read cursor.old) }
 {
     let mut ahead = cursor.fork();
     let min_time = ahead.u64()?;
@@ -23,7 +23,7 @@ pub fn read_time_bounds(cursor: &mut Cursor<'_>) -> Result<TimeBounds, XdrFault>
 /// Writes time bounds.
 #[tactic(auto, unfolding(crate::specs::Transactions::time_bounds))]
 pub fn write_time_bounds(value: &TimeBounds, builder: &mut Builder) -> Result<(), AllocError>
-    ensures { OnOk result (builder.new ≡ time_bounds_format.onto builder.old value.now) }
+    ensures { OnOk result (builder.new ≡ spec.time_bounds.onto builder.old value.now) }
 {
     builder.u64(value.min_time)?;
     builder.u64(value.max_time)
@@ -37,7 +37,7 @@ impl Decode for TimeBoundsFormat {
 
     type Failure = ReadFault;
 
-    ghost format = { time_bounds_format };
+    ghost format = { spec.time_bounds };
 
     fn decode(_alloc: Global, cursor: &mut Cursor<'_>) -> Result<TimeBounds, ReadFault> {
         Ok(read_time_bounds(cursor)?)
@@ -45,6 +45,7 @@ impl Decode for TimeBoundsFormat {
 }
 
 impl Encode for TimeBoundsFormat {
+    #[tactic(auto, using(xdr_core::proofs::FormatLaws::written, crate::proofs::TransactionLaws::time_bounds_laws))]
     fn encode(value: &TimeBounds, builder: &mut Builder) -> Result<(), AllocError> {
         write_time_bounds(value, builder)
     }

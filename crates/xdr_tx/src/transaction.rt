@@ -1,14 +1,15 @@
 //! Transactions without their signatures.
 
-ghost use Rattle.std.specs.Prelude.{◌≡◌, OnOk};
+ghost use Rattle.std.specs.Prelude.{◌≡◌, ◌++◌, OnOk};
 ghost use Rattle.xdr_core.specs.Place.{Reads};
 ghost use Rattle.xdr_core.specs.ReadFault.{cause_of};
-ghost use Rattle.xdr_tx.specs.Transactions.{transaction as transaction_format, transaction_v0 as transaction_v0_format};
+ghost use Rattle.xdr_tx.specs.Transactions as spec;
 
 use crate::memo::{read_memo, write_memo};
 use crate::operation::OperationFormat;
 use crate::time_bounds::TimeBoundsFormat;
-use op_types::{Transaction, TransactionV0};
+use item_list::ItemList;
+use op_types::{Memo, Operation, TimeBounds, Transaction, TransactionV0};
 use std::alloc::{AllocError, Global};
 use xdr_core::{Builder, Cursor, ReadFault, read_list, read_option, write_list, write_option};
 use xdr_entries::{read_muxed_account, write_muxed_account};
@@ -16,13 +17,22 @@ use xdr_entries::{read_muxed_account, write_muxed_account};
 /// The most operations of a transaction (MAX_OPS_PER_TX in Stellar-transaction.x).
 const MAX_OPERATIONS: u32 = 100;
 
-/// Reads a transaction.
-#[tactic(auto, unfolding(crate::specs::Transactions::transaction))]
-pub fn read_transaction(alloc: Global, cursor: &mut Cursor<'_>) -> Result<Transaction, ReadFault>
-    ensures { Reads cause_of result cursor.old cursor.new (transaction_format.read cursor.old) }
+/// What both versions of a transaction have behind their source.
+#[derive(Drop)]
+struct BehindSource {
+    fee: u32,
+    seq_num: i64,
+    time_bounds: Option<TimeBounds>,
+    memo: Memo,
+    operations: ItemList<Operation>,
+}
+
+/// Reads what both versions have behind their source.
+#[tactic(auto, unfolding(crate::specs::Transactions::behind_source))]
+fn read_behind_source(alloc: Global, cursor: &mut Cursor<'_>) -> Result<BehindSource, ReadFault>
+    ensures { Reads cause_of result cursor.old cursor.new (spec.behind_source.read cursor.old) }
 {
     let mut ahead = cursor.fork();
-    let source_account = read_muxed_account(&mut ahead)?;
     let fee = ahead.u32()?;
     let seq_num = ahead.i64()?;
     let time_bounds = read_option::<TimeBoundsFormat>(alloc, &mut ahead)?;
@@ -30,8 +40,7 @@ pub fn read_transaction(alloc: Global, cursor: &mut Cursor<'_>) -> Result<Transa
     let operations = read_list::<OperationFormat>(alloc, MAX_OPERATIONS, &mut ahead)?;
     ahead.tag(0)?;
     *cursor = ahead;
-    Ok(Transaction {
-        source_account,
+    Ok(BehindSource {
         fee,
         seq_num,
         time_bounds,
@@ -40,19 +49,71 @@ pub fn read_transaction(alloc: Global, cursor: &mut Cursor<'_>) -> Result<Transa
     })
 }
 
+/// Writes what both versions have behind their source.
+#[tactic(auto, unfolding(crate::specs::Transactions::behind_source, xdr_core::specs::Combinators::constant))]
+fn write_behind_source(
+    fee: u32,
+    seq_num: i64,
+    time_bounds: &Option<TimeBounds>,
+    memo: &Memo,
+    operations: &[Operation],
+    builder: &mut Builder,
+) -> Result<(), AllocError>
+    requires { spec.behind_source.within (spec.behind fee seq_num time_bounds.now memo.now operations.now) }
+    ensures { OnOk result (builder.new
+        ≡ spec.behind_source.onto builder.old (spec.behind fee seq_num time_bounds.now memo.now operations.now)) }
+{
+    builder.u32(fee)?;
+    builder.i64(seq_num)?;
+    write_option::<TimeBoundsFormat>(time_bounds, builder)?;
+    write_memo(memo, builder)?;
+    write_list::<OperationFormat>(operations, MAX_OPERATIONS, builder)?;
+    builder.i32(0)
+}
+
+/// Reads a transaction.
+#[tactic(auto, unfolding(crate::specs::Transactions::transaction))]
+pub fn read_transaction(alloc: Global, cursor: &mut Cursor<'_>) -> Result<Transaction, ReadFault>
+    ensures { Reads cause_of result cursor.old cursor.new (spec.transaction.read cursor.old) }
+{
+    let mut ahead = cursor.fork();
+    let source_account = read_muxed_account(&mut ahead)?;
+    let behind = read_behind_source(alloc, &mut ahead)?;
+    *cursor = ahead;
+    Ok(Transaction {
+        source_account,
+        fee: behind.fee,
+        seq_num: behind.seq_num,
+        time_bounds: behind.time_bounds,
+        memo: behind.memo,
+        operations: behind.operations,
+    })
+}
+
 /// Writes a transaction.
-#[tactic(auto, unfolding(crate::specs::Transactions::transaction, xdr_core::specs::Combinators::constant))]
+#[tactic(auto, using(xdr_core::proofs::FormatLaws::written, crate::proofs::TransactionLaws::transaction_laws))]
 pub fn write_transaction(value: &Transaction, builder: &mut Builder) -> Result<(), AllocError>
-    requires { transaction_format.within value.now }
-    ensures { OnOk result (builder.new ≡ transaction_format.onto builder.old value.now) }
+    requires { spec.transaction.within value.now }
+    ensures { OnOk result (builder.new ≡ builder.old ++ spec.transaction.spell value.now) }
+{
+    write_transaction_fields(value, builder)
+}
+
+/// Writes the fields of a transaction.
+#[tactic(auto, unfolding(crate::specs::Transactions::transaction))]
+fn write_transaction_fields(value: &Transaction, builder: &mut Builder) -> Result<(), AllocError>
+    requires { spec.transaction.within value.now }
+    ensures { OnOk result (builder.new ≡ spec.transaction.onto builder.old value.now) }
 {
     write_muxed_account(&value.source_account, builder)?;
-    builder.u32(value.fee)?;
-    builder.i64(value.seq_num)?;
-    write_option::<TimeBoundsFormat>(&value.time_bounds, builder)?;
-    write_memo(&value.memo, builder)?;
-    write_list::<OperationFormat>(value.operations.as_slice(), MAX_OPERATIONS, builder)?;
-    builder.i32(0)
+    write_behind_source(
+        value.fee,
+        value.seq_num,
+        &value.time_bounds,
+        &value.memo,
+        value.operations.as_slice(),
+        builder,
+    )
 }
 
 /// Reads a transaction of the first version.
@@ -61,38 +122,47 @@ pub fn read_transaction_v0(
     alloc: Global,
     cursor: &mut Cursor<'_>,
 ) -> Result<TransactionV0, ReadFault>
-    ensures { Reads cause_of result cursor.old cursor.new (transaction_v0_format.read cursor.old) }
+    ensures { Reads cause_of result cursor.old cursor.new (spec.transaction_v0.read cursor.old) }
 {
     let mut ahead = cursor.fork();
     let source_account_ed25519 = ahead.array::<32>()?;
-    let fee = ahead.u32()?;
-    let seq_num = ahead.i64()?;
-    let time_bounds = read_option::<TimeBoundsFormat>(alloc, &mut ahead)?;
-    let memo = read_memo(alloc, &mut ahead)?;
-    let operations = read_list::<OperationFormat>(alloc, MAX_OPERATIONS, &mut ahead)?;
-    ahead.tag(0)?;
+    let behind = read_behind_source(alloc, &mut ahead)?;
     *cursor = ahead;
     Ok(TransactionV0 {
         source_account_ed25519,
-        fee,
-        seq_num,
-        time_bounds,
-        memo,
-        operations,
+        fee: behind.fee,
+        seq_num: behind.seq_num,
+        time_bounds: behind.time_bounds,
+        memo: behind.memo,
+        operations: behind.operations,
     })
 }
 
 /// Writes a transaction of the first version.
-#[tactic(auto, unfolding(crate::specs::Transactions::transaction_v0, xdr_core::specs::Combinators::constant))]
+#[tactic(auto, using(xdr_core::proofs::FormatLaws::written, crate::proofs::TransactionLaws::transaction_v0_laws))]
 pub fn write_transaction_v0(value: &TransactionV0, builder: &mut Builder) -> Result<(), AllocError>
-    requires { transaction_v0_format.within value.now }
-    ensures { OnOk result (builder.new ≡ transaction_v0_format.onto builder.old value.now) }
+    requires { spec.transaction_v0.within value.now }
+    ensures { OnOk result (builder.new ≡ builder.old ++ spec.transaction_v0.spell value.now) }
+{
+    write_transaction_v0_fields(value, builder)
+}
+
+/// Writes the fields of a transaction of the first version.
+#[tactic(auto, unfolding(crate::specs::Transactions::transaction_v0))]
+fn write_transaction_v0_fields(
+    value: &TransactionV0,
+    builder: &mut Builder,
+) -> Result<(), AllocError>
+    requires { spec.transaction_v0.within value.now }
+    ensures { OnOk result (builder.new ≡ spec.transaction_v0.onto builder.old value.now) }
 {
     builder.fixed(&value.source_account_ed25519)?;
-    builder.u32(value.fee)?;
-    builder.i64(value.seq_num)?;
-    write_option::<TimeBoundsFormat>(&value.time_bounds, builder)?;
-    write_memo(&value.memo, builder)?;
-    write_list::<OperationFormat>(value.operations.as_slice(), MAX_OPERATIONS, builder)?;
-    builder.i32(0)
+    write_behind_source(
+        value.fee,
+        value.seq_num,
+        &value.time_bounds,
+        &value.memo,
+        value.operations.as_slice(),
+        builder,
+    )
 }

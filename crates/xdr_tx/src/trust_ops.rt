@@ -2,7 +2,7 @@
 
 ghost use Rattle.std.specs.Prelude.{◌≡◌, OnOk};
 ghost use Rattle.xdr_core.specs.Place.{Reads, itself};
-ghost use Rattle.xdr_tx.specs.Operations.{change_trust_op as change_trust_op_format, allow_trust_op as allow_trust_op_format, set_trust_line_flags_op as set_trust_line_flags_op_format, clawback_op as clawback_op_format, asset_code as asset_code_format};
+ghost use Rattle.xdr_tx.specs.Operations as spec;
 
 use op_types::{AllowTrustOp, AssetCode, ChangeTrustOp, ClawbackOp, SetTrustLineFlagsOp};
 use std::alloc::AllocError;
@@ -21,7 +21,7 @@ const ASSET_TYPE_CREDIT_ALPHANUM12: i32 = 2;
 /// Reads the code of an asset.
 #[tactic(auto, unfolding(crate::specs::Operations::asset_code))]
 pub fn read_asset_code(cursor: &mut Cursor<'_>) -> Result<AssetCode, XdrFault>
-    ensures { Reads itself result cursor.old cursor.new (asset_code_format.read cursor.old) }
+    ensures { Reads itself result cursor.old cursor.new (spec.asset_code.read cursor.old) }
 {
     let mut ahead = cursor.fork();
     let code = match ahead.i32()? {
@@ -36,7 +36,7 @@ pub fn read_asset_code(cursor: &mut Cursor<'_>) -> Result<AssetCode, XdrFault>
 /// Writes the code of an asset.
 #[tactic(auto, unfolding(crate::specs::Operations::asset_code))]
 pub fn write_asset_code(value: &AssetCode, builder: &mut Builder) -> Result<(), AllocError>
-    ensures { OnOk result (builder.new ≡ asset_code_format.onto builder.old value.now) }
+    ensures { OnOk result (builder.new ≡ spec.asset_code.onto builder.old value.now) }
 {
     match value {
         AssetCode::Alphanum4(code) => {
@@ -53,7 +53,7 @@ pub fn write_asset_code(value: &AssetCode, builder: &mut Builder) -> Result<(), 
 /// Reads what makes, changes or removes a trust line.
 #[tactic(auto, unfolding(crate::specs::Operations::change_trust_op))]
 pub fn read_change_trust_op(cursor: &mut Cursor<'_>) -> Result<ChangeTrustOp, XdrFault>
-    ensures { Reads itself result cursor.old cursor.new (change_trust_op_format.read cursor.old) }
+    ensures { Reads itself result cursor.old cursor.new (spec.change_trust_op.read cursor.old) }
 {
     let mut ahead = cursor.fork();
     let line = read_change_trust_asset(&mut ahead)?;
@@ -65,7 +65,7 @@ pub fn read_change_trust_op(cursor: &mut Cursor<'_>) -> Result<ChangeTrustOp, Xd
 /// Writes what makes, changes or removes a trust line.
 #[tactic(auto, unfolding(crate::specs::Operations::change_trust_op))]
 pub fn write_change_trust_op(value: &ChangeTrustOp, builder: &mut Builder) -> Result<(), AllocError>
-    ensures { OnOk result (builder.new ≡ change_trust_op_format.onto builder.old value.now) }
+    ensures { OnOk result (builder.new ≡ spec.change_trust_op.onto builder.old value.now) }
 {
     write_change_trust_asset(&value.line, builder)?;
     builder.i64(value.limit)
@@ -74,7 +74,7 @@ pub fn write_change_trust_op(value: &ChangeTrustOp, builder: &mut Builder) -> Re
 /// Reads what says whether a trust line may be used.
 #[tactic(auto, unfolding(crate::specs::Operations::allow_trust_op))]
 pub fn read_allow_trust_op(cursor: &mut Cursor<'_>) -> Result<AllowTrustOp, XdrFault>
-    ensures { Reads itself result cursor.old cursor.new (allow_trust_op_format.read cursor.old) }
+    ensures { Reads itself result cursor.old cursor.new (spec.allow_trust_op.read cursor.old) }
 {
     let mut ahead = cursor.fork();
     let trustor = read_account_id(&mut ahead)?;
@@ -91,7 +91,7 @@ pub fn read_allow_trust_op(cursor: &mut Cursor<'_>) -> Result<AllowTrustOp, XdrF
 /// Writes what says whether a trust line may be used.
 #[tactic(auto, unfolding(crate::specs::Operations::allow_trust_op))]
 pub fn write_allow_trust_op(value: &AllowTrustOp, builder: &mut Builder) -> Result<(), AllocError>
-    ensures { OnOk result (builder.new ≡ allow_trust_op_format.onto builder.old value.now) }
+    ensures { OnOk result (builder.new ≡ spec.allow_trust_op.onto builder.old value.now) }
 {
     write_account_id(&value.trustor, builder)?;
     write_asset_code(&value.asset, builder)?;
@@ -103,7 +103,7 @@ pub fn write_allow_trust_op(value: &AllowTrustOp, builder: &mut Builder) -> Resu
 pub fn read_set_trust_line_flags_op(
     cursor: &mut Cursor<'_>,
 ) -> Result<SetTrustLineFlagsOp, XdrFault>
-    ensures { Reads itself result cursor.old cursor.new (set_trust_line_flags_op_format.read cursor.old) }
+    ensures { Reads itself result cursor.old cursor.new (spec.set_trust_line_flags_op.read cursor.old) }
 {
     let mut ahead = cursor.fork();
     let trustor = read_account_id(&mut ahead)?;
@@ -125,7 +125,7 @@ pub fn write_set_trust_line_flags_op(
     value: &SetTrustLineFlagsOp,
     builder: &mut Builder,
 ) -> Result<(), AllocError>
-    ensures { OnOk result (builder.new ≡ set_trust_line_flags_op_format.onto builder.old value.now) }
+    ensures { OnOk result (builder.new ≡ spec.set_trust_line_flags_op.onto builder.old value.now) }
 {
     write_account_id(&value.trustor, builder)?;
     write_asset(&value.asset, builder)?;
@@ -136,7 +136,7 @@ pub fn write_set_trust_line_flags_op(
 /// Reads what takes an asset back.
 #[tactic(auto, unfolding(crate::specs::Operations::clawback_op))]
 pub fn read_clawback_op(cursor: &mut Cursor<'_>) -> Result<ClawbackOp, XdrFault>
-    ensures { Reads itself result cursor.old cursor.new (clawback_op_format.read cursor.old) }
+    ensures { Reads itself result cursor.old cursor.new (spec.clawback_op.read cursor.old) }
 {
     let mut ahead = cursor.fork();
     let asset = read_asset(&mut ahead)?;
@@ -153,7 +153,7 @@ pub fn read_clawback_op(cursor: &mut Cursor<'_>) -> Result<ClawbackOp, XdrFault>
 /// Writes what takes an asset back.
 #[tactic(auto, unfolding(crate::specs::Operations::clawback_op))]
 pub fn write_clawback_op(value: &ClawbackOp, builder: &mut Builder) -> Result<(), AllocError>
-    ensures { OnOk result (builder.new ≡ clawback_op_format.onto builder.old value.now) }
+    ensures { OnOk result (builder.new ≡ spec.clawback_op.onto builder.old value.now) }
 {
     write_asset(&value.asset, builder)?;
     write_muxed_account(&value.from, builder)?;

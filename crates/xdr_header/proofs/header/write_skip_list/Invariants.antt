@@ -5,4 +5,5 @@ use Rattle.xdr_header.proofs.header.write_skip_list.Given as goal
 
 -- the hashes left are put behind those that were written
 abbrev pub invariant-loop-earlier : goal.invariant-loop-earlier
-invariant-loop-earlier l = fold hash.onto l.builder (drop l.earlier-index l.skip_list) ≡ fold hash.onto l.initial.builder l.skip_list
+invariant-loop-earlier l =
+    fold hash.onto l.builder (drop l.earlier-index l.skip_list) ≡ fold hash.onto l.initial.builder l.skip_list

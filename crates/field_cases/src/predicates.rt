@@ -1,4 +1,5 @@
-//! Predicates, which are read here: a predicate that was built by hand has a spelling only where it has at most 32 levels.
+//! Predicates, which are read here: a predicate that was built by hand has a spelling only where it has at most 32
+//! levels.
 
 use ledger_types::ClaimPredicate;
 use std::alloc::Global;

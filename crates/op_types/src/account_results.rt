@@ -1,7 +1,9 @@
 //! What operations on the source's own account answer.
 
 ghost use Rattle.std.specs.Prelude.{◌≡◌, IfOk};
-ghost use Rattle.op_types.specs.Codes.{set_options_code, set_options_values, account_merge_code, account_merge_values, inflation_code, inflation_values, manage_data_code, manage_data_values, bump_sequence_code, bump_sequence_values};
+ghost use Rattle.op_types.specs.Codes.{set_options_code, set_options_values, account_merge_code, account_merge_values};
+ghost use Rattle.op_types.specs.Codes.{inflation_code, inflation_values, manage_data_code, manage_data_values};
+ghost use Rattle.op_types.specs.Codes.{bump_sequence_code, bump_sequence_values};
 
 use crate::coded::Coded;
 use item_list::ItemList;

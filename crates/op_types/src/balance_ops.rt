@@ -34,7 +34,8 @@ pub struct ClaimClaimableBalanceOp {
     pub balance_id: ClaimableBalanceId,
 }
 
-/// Takes a claimable balance back whose asset the source issues (ClawbackClaimableBalanceOp in Stellar-transaction.x; CAP-0035).
+/// Takes a claimable balance back whose asset the source issues (ClawbackClaimableBalanceOp in Stellar-transaction.x;
+/// CAP-0035).
 #[derive(Clone, Copy)]
 pub struct ClawbackClaimableBalanceOp {
     pub balance_id: ClaimableBalanceId,

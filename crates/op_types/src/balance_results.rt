@@ -1,6 +1,8 @@
 //! What operations on claimable balances answer.
 
-ghost use Rattle.op_types.specs.Codes.{create_claimable_balance_code, create_claimable_balance_values, claim_claimable_balance_code, claim_claimable_balance_values, clawback_claimable_balance_code, clawback_claimable_balance_values};
+ghost use Rattle.op_types.specs.Codes.{create_claimable_balance_code, create_claimable_balance_values};
+ghost use Rattle.op_types.specs.Codes.{claim_claimable_balance_code, claim_claimable_balance_values};
+ghost use Rattle.op_types.specs.Codes.{clawback_claimable_balance_code, clawback_claimable_balance_values};
 
 use crate::coded::Coded;
 use ledger_types::ClaimableBalanceId;

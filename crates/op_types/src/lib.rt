@@ -1,5 +1,5 @@
-//! Operations, transactions and their results, with the names of the protocol's XDR (protocol 18). A field has its name in snake
-//! case; the discriminant of a union is the variant of an enum.
+//! Operations, transactions and their results, with the names of the protocol's XDR (protocol 18). A field has its name
+//! in snake case; the discriminant of a union is the variant of an enum.
 #![tactic(auto)]
 
 mod account_ops;

@@ -46,7 +46,8 @@ impl Clone for ManageOfferSuccess {
     }
 }
 
-/// What MANAGE_SELL_OFFER, CREATE_PASSIVE_SELL_OFFER and MANAGE_BUY_OFFER answer (ManageSellOfferResult and ManageBuyOfferResult in Stellar-transaction.x, whose codes are the same).
+/// What MANAGE_SELL_OFFER, CREATE_PASSIVE_SELL_OFFER and MANAGE_BUY_OFFER answer (ManageSellOfferResult and
+/// ManageBuyOfferResult in Stellar-transaction.x, whose codes are the same).
 #[derive(Clone, Drop)]
 pub enum ManageOfferResult {
     /// MANAGE_SELL_OFFER_SUCCESS, 0.

@@ -1,5 +1,5 @@
-//! The types of operations (OperationType in Stellar-transaction.x of protocol 18): the discriminants of what operations do and of
-//! what they answer.
+//! The types of operations (OperationType in Stellar-transaction.x of protocol 18): the discriminants of what
+//! operations do and of what they answer.
 
 /// Makes an account.
 pub const CREATE_ACCOUNT: i32 = 0;

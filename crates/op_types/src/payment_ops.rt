@@ -14,7 +14,8 @@ pub struct PaymentOp {
     pub amount: i64,
 }
 
-/// Sends whatever is needed of one asset so that the destination gets a fixed amount of another (PathPaymentStrictReceiveOp in Stellar-transaction.x).
+/// Sends whatever is needed of one asset so that the destination gets a fixed amount of another
+/// (PathPaymentStrictReceiveOp in Stellar-transaction.x).
 #[derive(Drop)]
 pub struct PathPaymentStrictReceiveOp {
     pub send_asset: Asset,
@@ -44,7 +45,8 @@ impl PathPaymentStrictReceiveOp {
     }
 }
 
-/// Sends a fixed amount of one asset, of which the destination gets what comes of another (PathPaymentStrictSendOp in Stellar-transaction.x).
+/// Sends a fixed amount of one asset, of which the destination gets what comes of another (PathPaymentStrictSendOp in
+/// Stellar-transaction.x).
 #[derive(Drop)]
 pub struct PathPaymentStrictSendOp {
     pub send_asset: Asset,

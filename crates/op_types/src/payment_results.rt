@@ -1,14 +1,17 @@
 //! What payments answer.
 
 ghost use Rattle.std.specs.Prelude.{◌≡◌, IfOk};
-ghost use Rattle.op_types.specs.Codes.{create_account_code, create_account_values, payment_code, payment_values, path_payment_strict_receive_code, path_payment_strict_receive_values, path_payment_strict_send_code, path_payment_strict_send_values};
+ghost use Rattle.op_types.specs.Codes.{create_account_code, create_account_values, payment_code, payment_values};
+ghost use Rattle.op_types.specs.Codes.{path_payment_strict_receive_code, path_payment_strict_receive_values};
+ghost use Rattle.op_types.specs.Codes.{path_payment_strict_send_code, path_payment_strict_send_values};
 
 use crate::coded::Coded;
 use item_list::ItemList;
 use ledger_types::{AccountId, Asset, ClaimAtom};
 use std::alloc::AllocError;
 
-/// What a payment along a path moved (PathPaymentStrictReceiveResult and PathPaymentStrictSendResult in Stellar-transaction.x).
+/// What a payment along a path moved (PathPaymentStrictReceiveResult and PathPaymentStrictSendResult in
+/// Stellar-transaction.x).
 #[derive(Drop)]
 pub struct PathPaymentSuccess {
     /// What was traded, in the direction from what was sent to what arrived.

@@ -1,6 +1,7 @@
 //! What liquidity pools answer.
 
-ghost use Rattle.op_types.specs.Codes.{liquidity_pool_deposit_code, liquidity_pool_deposit_values, liquidity_pool_withdraw_code, liquidity_pool_withdraw_values};
+ghost use Rattle.op_types.specs.Codes.{liquidity_pool_deposit_code, liquidity_pool_deposit_values};
+ghost use Rattle.op_types.specs.Codes.{liquidity_pool_withdraw_code, liquidity_pool_withdraw_values};
 
 use crate::coded::Coded;
 

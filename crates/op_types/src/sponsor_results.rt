@@ -1,6 +1,8 @@
 //! What sponsorship answers.
 
-ghost use Rattle.op_types.specs.Codes.{begin_sponsoring_future_reserves_code, begin_sponsoring_future_reserves_values, end_sponsoring_future_reserves_code, end_sponsoring_future_reserves_values, revoke_sponsorship_code, revoke_sponsorship_values};
+ghost use Rattle.op_types.specs.Codes.{begin_sponsoring_future_reserves_code, begin_sponsoring_future_reserves_values};
+ghost use Rattle.op_types.specs.Codes.{end_sponsoring_future_reserves_code, end_sponsoring_future_reserves_values};
+ghost use Rattle.op_types.specs.Codes.{revoke_sponsorship_code, revoke_sponsorship_values};
 
 use crate::coded::Coded;
 

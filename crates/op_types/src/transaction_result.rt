@@ -9,8 +9,8 @@ use item_list::ItemList;
 use ledger_types::Hash;
 use std::alloc::AllocError;
 
-/// How the inner transaction of a fee bump ended, with the results of its operations where its checks passed (the union `result`
-/// of InnerTransactionResult in Stellar-transaction.x).
+/// How the inner transaction of a fee bump ended, with the results of its operations where its checks passed (the union
+/// `result` of InnerTransactionResult in Stellar-transaction.x).
 #[derive(Drop)]
 pub enum InnerTransactionOutcome {
     /// txSUCCESS, 0: the operations succeeded.
@@ -154,7 +154,8 @@ impl InnerTransactionResult {
     }
 }
 
-/// The result of the inner transaction of a fee bump beside its hash (InnerTransactionResultPair in Stellar-transaction.x).
+/// The result of the inner transaction of a fee bump beside its hash (InnerTransactionResultPair in
+/// Stellar-transaction.x).
 #[derive(Drop)]
 pub struct InnerTransactionResultPair {
     pub transaction_hash: Hash,
@@ -173,8 +174,8 @@ impl InnerTransactionResultPair {
     }
 }
 
-/// How a transaction ended, with the results of its operations where its checks passed, or of its inner transaction (the union
-/// `result` of TransactionResult in Stellar-transaction.x).
+/// How a transaction ended, with the results of its operations where its checks passed, or of its inner transaction
+/// (the union `result` of TransactionResult in Stellar-transaction.x).
 #[derive(Drop)]
 pub enum TransactionOutcome {
     /// txSUCCESS, 0: the operations succeeded.
@@ -335,7 +336,8 @@ impl Clone for TransactionResultPair {
     }
 }
 
-/// The results of a set, in the order in which its transactions were applied (TransactionResultSet in Stellar-ledger.x).
+/// The results of a set, in the order in which its transactions were applied (TransactionResultSet in
+/// Stellar-ledger.x).
 #[derive(Drop)]
 pub struct TransactionResultSet {
     pub results: ItemList<TransactionResultPair>,

@@ -29,7 +29,8 @@ pub struct AllowTrustOp {
     pub authorize: u32,
 }
 
-/// Changes the flags of a trust line in an asset that the source issues (SetTrustLineFlagsOp in Stellar-transaction.x; CAP-0035).
+/// Changes the flags of a trust line in an asset that the source issues (SetTrustLineFlagsOp in Stellar-transaction.x;
+/// CAP-0035).
 #[derive(Clone, Copy)]
 pub struct SetTrustLineFlagsOp {
     pub trustor: AccountId,

@@ -1,6 +1,8 @@
 //! What operations on trust lines answer.
 
-ghost use Rattle.op_types.specs.Codes.{change_trust_code, change_trust_values, allow_trust_code, allow_trust_values, clawback_code, clawback_values, set_trust_line_flags_code, set_trust_line_flags_values};
+ghost use Rattle.op_types.specs.Codes.{change_trust_code, change_trust_values, allow_trust_code, allow_trust_values};
+ghost use Rattle.op_types.specs.Codes.{clawback_code, clawback_values, set_trust_line_flags_code};
+ghost use Rattle.op_types.specs.Codes.{set_trust_line_flags_values};
 
 use crate::coded::Coded;
 

@@ -1,52 +1,19 @@
 -- The laws of the formats of headers, values and records.
 use Rattle.std.proofs.Common.{pos, refl, arith}
-use Rattle.xdr_core.proofs.FormatLaws.{
-  Laws,
-  written,
-  u32_laws,
-  u64_laws,
-  i64_laws,
-  var_laws,
-  ◌&◌,
-  struct_laws,
-  whole_laws,
-  closed_laws,
-  tag_laws,
-  list_laws,
-  times_laws,
-  arm_laws,
-  found,
-  union_laws,
-  extension_laws,
-}
+use Rattle.xdr_core.proofs.FormatLaws.{Laws, written, u32_laws, u64_laws, i64_laws, var_laws, ◌&◌, struct_laws}
+use Rattle.xdr_core.proofs.FormatLaws.{whole_laws, closed_laws, tag_laws, list_laws, times_laws, arm_laws, found}
+use Rattle.xdr_core.proofs.FormatLaws.{union_laws, extension_laws}
 use Rattle.xdr_core.specs.Leaves.{var}
 use Rattle.xdr_core.proofs.Unions.{IsFound}
 use Rattle.xdr_entries.proofs.BasicLaws.{hash_laws, account_id_laws}
 use Rattle.xdr_tx.proofs.TransactionLaws.{transaction_set_laws}
 use Rattle.ledger_types.specs.declared.header.LedgerUpgrade.{LedgerUpgrade}
 use Rattle.ledger_types.specs.declared.header.LedgerUpgrade.TheVariants as upgrade
-use Rattle.xdr_header.specs.Header.{
-  value_signature_fields,
-  ledger_close_value_signature,
-  value_fields,
-  stellar_value,
-  upgrade_version,
-  upgrade_base_fee,
-  upgrade_max_tx_set_size,
-  upgrade_base_reserve,
-  upgrade_flags,
-  upgrade_arms,
-  upgrade_part,
-  ledger_upgrade,
-  header_v1_fields,
-  ledger_header_extension_v1,
-  limits_fields,
-  limits,
-  counts_fields,
-  counts,
-  header_fields,
-  ledger_header,
-}
+use Rattle.xdr_header.specs.Header.{value_signature_fields, ledger_close_value_signature, value_fields, stellar_value}
+use Rattle.xdr_header.specs.Header.{upgrade_version, upgrade_base_fee, upgrade_max_tx_set_size, upgrade_base_reserve}
+use Rattle.xdr_header.specs.Header.{upgrade_flags, upgrade_arms, upgrade_part, ledger_upgrade, header_v1_fields}
+use Rattle.xdr_header.specs.Header.{ledger_header_extension_v1, limits_fields, limits, counts_fields, counts}
+use Rattle.xdr_header.specs.Header.{header_fields, ledger_header}
 use Rattle.xdr_header.specs.Records.{record_fields, close_record}
 
 pub ledger_close_value_signature_laws : Laws ledger_close_value_signature

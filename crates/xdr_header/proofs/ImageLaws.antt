@@ -1,35 +1,6 @@
 -- The laws of the formats of files and images.
-use Rattle.std.proofs.Common.{
-  ◌≡◌,
-  ℕ,
-  zero,
-  suc,
-  ◌+◌,
-  ◌-◌,
-  ◌^◌,
-  ◌<◌,
-  ◌≤◌,
-  pos,
-  Bool,
-  true,
-  false,
-  cond,
-  ltb,
-  List,
-  [],
-  ◌∷◌,
-  ◌++◌,
-  length,
-  Ok,
-  Err,
-  refl,
-  sym,
-  ap,
-  subst,
-  ◌∙◌,
-  append_assoc,
-  arith,
-}
+use Rattle.std.proofs.Common.{◌≡◌, ℕ, zero, suc, ◌+◌, ◌-◌, ◌^◌, ◌<◌, ◌≤◌, pos, Bool, true, false, cond, ltb, List, []}
+use Rattle.std.proofs.Common.{◌∷◌, ◌++◌, length, Ok, Err, refl, sym, ap, subst, ◌∙◌, append_assoc, arith}
 use Rattle.std.proofs.lemmas.Bool.{ltb-false, le-ltb}
 use Rattle.std.proofs.lemmas.List.{append-nil}
 use Rattle.xdr_core.specs.declared.fault.XdrFault.{XdrFault}
@@ -42,29 +13,11 @@ use Rattle.xdr_core.proofs.Steps.{bind_ok, guarded_ok, ok_is, Takes-then, place_
 use Rattle.xdr_core.proofs.LeafLaws.{u64_lawful}
 use Rattle.xdr_core.proofs.Opaque.{bytes_again}
 use Rattle.xdr_core.proofs.Marks.{bytes_takes}
-use Rattle.xdr_core.proofs.Placing.{
-  Placed,
-  Places,
-  goes_on,
-  bind_places,
-  map_places,
-  placed_other,
-  err_is,
-  bytes_places,
-  u64_places,
-}
+use Rattle.xdr_core.proofs.Placing.{Placed, Places, goes_on, bind_places, map_places, placed_other, err_is}
+use Rattle.xdr_core.proofs.Placing.{bytes_places, u64_places}
 use Rattle.xdr_core.proofs.FormatLaws.{Laws, mark_laws, ◌&◌, struct_laws, marked_laws, tag_laws}
-use Rattle.xdr_header.specs.Image.{
-  file_at,
-  file,
-  no_files,
-  front_and,
-  spell_front,
-  onto_front,
-  files,
-  image_fields,
-  start_image,
-}
+use Rattle.xdr_header.specs.Image.{file_at, file, no_files, front_and, spell_front, onto_front, files, image_fields}
+use Rattle.xdr_header.specs.Image.{start_image}
 
 -- a number of 64 bits has a spelling
 u64_within : (v : ℕ) → u64.within v

@@ -32,9 +32,7 @@ use Rattle.op_types.specs.declared.balance_results.CreateClaimableBalanceResult.
 use Rattle.op_types.specs.declared.balance_results.CreateClaimableBalanceResult.TheVariants as create_claimable_balance
 use Rattle.op_types.specs.declared.balance_results.ClaimClaimableBalanceResult.{ClaimClaimableBalanceResult}
 use Rattle.op_types.specs.declared.balance_results.ClaimClaimableBalanceResult.TheVariants as claim_claimable_balance
-use Rattle.op_types.specs.declared.sponsor_results.BeginSponsoringFutureReservesResult.{
-  BeginSponsoringFutureReservesResult,
-}
+use Rattle.op_types.specs.declared.sponsor_results.BeginSponsoringFutureReservesResult.{BeginSponsoringFutureReservesResult}
 use Rattle.op_types.specs.declared.sponsor_results.BeginSponsoringFutureReservesResult.TheVariants as begin_sponsoring
 use Rattle.op_types.specs.declared.sponsor_results.EndSponsoringFutureReservesResult.{EndSponsoringFutureReservesResult}
 use Rattle.op_types.specs.declared.sponsor_results.EndSponsoringFutureReservesResult.TheVariants as end_sponsoring
@@ -50,97 +48,40 @@ use Rattle.op_types.specs.declared.pool_results.LiquidityPoolDepositResult.{Liqu
 use Rattle.op_types.specs.declared.pool_results.LiquidityPoolDepositResult.TheVariants as liquidity_pool_deposit
 use Rattle.op_types.specs.declared.pool_results.LiquidityPoolWithdrawResult.{LiquidityPoolWithdrawResult}
 use Rattle.op_types.specs.declared.pool_results.LiquidityPoolWithdrawResult.TheVariants as liquidity_pool_withdraw
-use Rattle.op_types.specs.Codes.{
-  create_account_code,
-  payment_code,
-  path_payment_strict_receive_code,
-  path_payment_strict_send_code,
-  manage_offer_code,
-  set_options_code,
-  change_trust_code,
-  allow_trust_code,
-  account_merge_code,
-  inflation_code,
-  manage_data_code,
-  bump_sequence_code,
-  create_claimable_balance_code,
-  claim_claimable_balance_code,
-  begin_sponsoring_future_reserves_code,
-  end_sponsoring_future_reserves_code,
-  revoke_sponsorship_code,
-  clawback_code,
-  clawback_claimable_balance_code,
-  set_trust_line_flags_code,
-  liquidity_pool_deposit_code,
-  liquidity_pool_withdraw_code,
-  create_account_values,
-  payment_values,
-  set_options_values,
-  change_trust_values,
-  allow_trust_values,
-  manage_data_values,
-  bump_sequence_values,
-  claim_claimable_balance_values,
-  begin_sponsoring_future_reserves_values,
-  end_sponsoring_future_reserves_values,
-  revoke_sponsorship_values,
-  clawback_values,
-  clawback_claimable_balance_values,
-  set_trust_line_flags_values,
-  liquidity_pool_deposit_values,
-  liquidity_pool_withdraw_values,
-  path_payment_strict_receive_values,
-  path_payment_strict_send_values,
-  manage_offer_values,
-  account_merge_values,
-  inflation_values,
-  create_claimable_balance_values,
-}
+use Rattle.op_types.specs.Codes.{create_account_code, payment_code, path_payment_strict_receive_code}
+use Rattle.op_types.specs.Codes.{path_payment_strict_send_code, manage_offer_code, set_options_code, change_trust_code}
+use Rattle.op_types.specs.Codes.{allow_trust_code, account_merge_code, inflation_code, manage_data_code}
+use Rattle.op_types.specs.Codes.{bump_sequence_code, create_claimable_balance_code, claim_claimable_balance_code}
+use Rattle.op_types.specs.Codes.{begin_sponsoring_future_reserves_code, end_sponsoring_future_reserves_code}
+use Rattle.op_types.specs.Codes.{revoke_sponsorship_code, clawback_code, clawback_claimable_balance_code}
+use Rattle.op_types.specs.Codes.{set_trust_line_flags_code, liquidity_pool_deposit_code, liquidity_pool_withdraw_code}
+use Rattle.op_types.specs.Codes.{create_account_values, payment_values, set_options_values, change_trust_values}
+use Rattle.op_types.specs.Codes.{allow_trust_values, manage_data_values, bump_sequence_values}
+use Rattle.op_types.specs.Codes.{claim_claimable_balance_values, begin_sponsoring_future_reserves_values}
+use Rattle.op_types.specs.Codes.{end_sponsoring_future_reserves_values, revoke_sponsorship_values, clawback_values}
+use Rattle.op_types.specs.Codes.{clawback_claimable_balance_values, set_trust_line_flags_values}
+use Rattle.op_types.specs.Codes.{liquidity_pool_deposit_values, liquidity_pool_withdraw_values}
+use Rattle.op_types.specs.Codes.{path_payment_strict_receive_values, path_payment_strict_send_values}
+use Rattle.op_types.specs.Codes.{manage_offer_values, account_merge_values, inflation_values}
+use Rattle.op_types.specs.Codes.{create_claimable_balance_values}
 use Rattle.xdr_results.proofs.PayloadLaws.{path_payment_success_laws, manage_offer_success_laws, inflation_payout_laws}
-use Rattle.xdr_results.specs.Answers.{
-  create_account_result,
-  payment_result,
-  path_payment_strict_receive_success_arm,
-  path_payment_strict_receive_no_issuer_arm,
-  path_payment_strict_receive_result_arms,
-  path_payment_strict_receive_result_part,
-  path_payment_strict_receive_result,
-  path_payment_strict_send_success_arm,
-  path_payment_strict_send_no_issuer_arm,
-  path_payment_strict_send_result_arms,
-  path_payment_strict_send_result_part,
-  path_payment_strict_send_result,
-  manage_offer_success_arm,
-  manage_offer_result_arms,
-  manage_offer_result_part,
-  manage_offer_result,
-  set_options_result,
-  change_trust_result,
-  allow_trust_result,
-  account_merge_success_arm,
-  account_merge_result_arms,
-  account_merge_result_part,
-  account_merge_result,
-  inflation_success_arm,
-  inflation_result_arms,
-  inflation_result_part,
-  inflation_result,
-  manage_data_result,
-  bump_sequence_result,
-  create_claimable_balance_success_arm,
-  create_claimable_balance_result_arms,
-  create_claimable_balance_result_part,
-  create_claimable_balance_result,
-  claim_claimable_balance_result,
-  begin_sponsoring_future_reserves_result,
-  end_sponsoring_future_reserves_result,
-  revoke_sponsorship_result,
-  clawback_result,
-  clawback_claimable_balance_result,
-  set_trust_line_flags_result,
-  liquidity_pool_deposit_result,
-  liquidity_pool_withdraw_result,
-}
+use Rattle.xdr_results.specs.Answers.{create_account_result, payment_result, path_payment_strict_receive_success_arm}
+use Rattle.xdr_results.specs.Answers.{path_payment_strict_receive_no_issuer_arm}
+use Rattle.xdr_results.specs.Answers.{path_payment_strict_receive_result_arms, path_payment_strict_receive_result_part}
+use Rattle.xdr_results.specs.Answers.{path_payment_strict_receive_result, path_payment_strict_send_success_arm}
+use Rattle.xdr_results.specs.Answers.{path_payment_strict_send_no_issuer_arm, path_payment_strict_send_result_arms}
+use Rattle.xdr_results.specs.Answers.{path_payment_strict_send_result_part, path_payment_strict_send_result}
+use Rattle.xdr_results.specs.Answers.{manage_offer_success_arm, manage_offer_result_arms, manage_offer_result_part}
+use Rattle.xdr_results.specs.Answers.{manage_offer_result, set_options_result, change_trust_result, allow_trust_result}
+use Rattle.xdr_results.specs.Answers.{account_merge_success_arm, account_merge_result_arms, account_merge_result_part}
+use Rattle.xdr_results.specs.Answers.{account_merge_result, inflation_success_arm, inflation_result_arms}
+use Rattle.xdr_results.specs.Answers.{inflation_result_part, inflation_result, manage_data_result, bump_sequence_result}
+use Rattle.xdr_results.specs.Answers.{create_claimable_balance_success_arm, create_claimable_balance_result_arms}
+use Rattle.xdr_results.specs.Answers.{create_claimable_balance_result_part, create_claimable_balance_result}
+use Rattle.xdr_results.specs.Answers.{claim_claimable_balance_result, begin_sponsoring_future_reserves_result}
+use Rattle.xdr_results.specs.Answers.{end_sponsoring_future_reserves_result, revoke_sponsorship_result, clawback_result}
+use Rattle.xdr_results.specs.Answers.{clawback_claimable_balance_result, set_trust_line_flags_result}
+use Rattle.xdr_results.specs.Answers.{liquidity_pool_deposit_result, liquidity_pool_withdraw_result}
 
 create_account_result_found : (v : CreateAccountResult) → IsListed create_account_code create_account_values v
 create_account_result_found create_account.Success = plain_under create_account_code tt refl (λ _ _ _. refl)

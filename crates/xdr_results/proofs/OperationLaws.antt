@@ -8,67 +8,29 @@ use Rattle.op_types.specs.declared.operation_result.OperationResultTr.TheVariant
 use Rattle.op_types.specs.declared.operation_result.OperationResult.{OperationResult}
 use Rattle.op_types.specs.declared.operation_result.OperationResult.TheVariants as operation
 use Rattle.op_types.specs.Codes.{operation_code, operation_values}
-use Rattle.xdr_results.proofs.AnswerLaws.{
-  create_account_result_laws,
-  payment_result_laws,
-  path_payment_strict_receive_result_laws,
-  path_payment_strict_send_result_laws,
-  manage_offer_result_laws,
-  set_options_result_laws,
-  change_trust_result_laws,
-  allow_trust_result_laws,
-  account_merge_result_laws,
-  inflation_result_laws,
-  manage_data_result_laws,
-  bump_sequence_result_laws,
-  create_claimable_balance_result_laws,
-  claim_claimable_balance_result_laws,
-  begin_sponsoring_future_reserves_result_laws,
-  end_sponsoring_future_reserves_result_laws,
-  revoke_sponsorship_result_laws,
-  clawback_result_laws,
-  clawback_claimable_balance_result_laws,
-  set_trust_line_flags_result_laws,
-  liquidity_pool_deposit_result_laws,
-  liquidity_pool_withdraw_result_laws,
-}
+use Rattle.xdr_results.proofs.AnswerLaws.{create_account_result_laws, payment_result_laws}
+use Rattle.xdr_results.proofs.AnswerLaws.{path_payment_strict_receive_result_laws, path_payment_strict_send_result_laws}
+use Rattle.xdr_results.proofs.AnswerLaws.{manage_offer_result_laws, set_options_result_laws, change_trust_result_laws}
+use Rattle.xdr_results.proofs.AnswerLaws.{allow_trust_result_laws, account_merge_result_laws, inflation_result_laws}
+use Rattle.xdr_results.proofs.AnswerLaws.{manage_data_result_laws, bump_sequence_result_laws}
+use Rattle.xdr_results.proofs.AnswerLaws.{create_claimable_balance_result_laws, claim_claimable_balance_result_laws}
+use Rattle.xdr_results.proofs.AnswerLaws.{begin_sponsoring_future_reserves_result_laws}
+use Rattle.xdr_results.proofs.AnswerLaws.{end_sponsoring_future_reserves_result_laws, revoke_sponsorship_result_laws}
+use Rattle.xdr_results.proofs.AnswerLaws.{clawback_result_laws, clawback_claimable_balance_result_laws}
+use Rattle.xdr_results.proofs.AnswerLaws.{set_trust_line_flags_result_laws, liquidity_pool_deposit_result_laws}
+use Rattle.xdr_results.proofs.AnswerLaws.{liquidity_pool_withdraw_result_laws}
 use Rattle.xdr_results.specs.Coded.{plain}
-use Rattle.xdr_results.specs.Results.{
-  create_account_answer,
-  payment_answer,
-  path_payment_strict_receive_answer,
-  manage_sell_offer_answer,
-  create_passive_sell_offer_answer,
-  set_options_answer,
-  change_trust_answer,
-  allow_trust_answer,
-  account_merge_answer,
-  inflation_answer,
-  manage_data_answer,
-  bump_sequence_answer,
-  manage_buy_offer_answer,
-  path_payment_strict_send_answer,
-  create_claimable_balance_answer,
-  claim_claimable_balance_answer,
-  begin_sponsoring_future_reserves_answer,
-  end_sponsoring_future_reserves_answer,
-  revoke_sponsorship_answer,
-  clawback_answer,
-  clawback_claimable_balance_answer,
-  set_trust_line_flags_answer,
-  liquidity_pool_deposit_answer,
-  liquidity_pool_withdraw_answer,
-  last_run_arms,
-  third_run_arms,
-  second_run_arms,
-  run_arms,
-  run_part,
-  operation_result_tr,
-  operation_inner,
-  operation_arms,
-  operation_part,
-  operation_result,
-}
+use Rattle.xdr_results.specs.Results.{create_account_answer, payment_answer, path_payment_strict_receive_answer}
+use Rattle.xdr_results.specs.Results.{manage_sell_offer_answer, create_passive_sell_offer_answer, set_options_answer}
+use Rattle.xdr_results.specs.Results.{change_trust_answer, allow_trust_answer, account_merge_answer, inflation_answer}
+use Rattle.xdr_results.specs.Results.{manage_data_answer, bump_sequence_answer, manage_buy_offer_answer}
+use Rattle.xdr_results.specs.Results.{path_payment_strict_send_answer, create_claimable_balance_answer}
+use Rattle.xdr_results.specs.Results.{claim_claimable_balance_answer, begin_sponsoring_future_reserves_answer}
+use Rattle.xdr_results.specs.Results.{end_sponsoring_future_reserves_answer, revoke_sponsorship_answer, clawback_answer}
+use Rattle.xdr_results.specs.Results.{clawback_claimable_balance_answer, set_trust_line_flags_answer}
+use Rattle.xdr_results.specs.Results.{liquidity_pool_deposit_answer, liquidity_pool_withdraw_answer, last_run_arms}
+use Rattle.xdr_results.specs.Results.{third_run_arms, second_run_arms, run_arms, run_part, operation_result_tr}
+use Rattle.xdr_results.specs.Results.{operation_inner, operation_arms, operation_part, operation_result}
 
 operation_result_tr_found : (v : OperationResultTr) → IsFound run_part run_arms v
 unfolding second_run_arms third_run_arms last_run_arms

@@ -1,17 +1,7 @@
 -- The laws of the formats of what stands behind codes.
 use Rattle.std.proofs.Common.{pos, refl, arith}
-use Rattle.xdr_core.proofs.FormatLaws.{
-  Laws,
-  i64_laws,
-  fixed_laws,
-  empty_laws,
-  ◌&◌,
-  struct_laws,
-  list_laws,
-  arm_laws,
-  found,
-  union_laws,
-}
+use Rattle.xdr_core.proofs.FormatLaws.{Laws, i64_laws, fixed_laws, empty_laws, ◌&◌, struct_laws, list_laws, arm_laws}
+use Rattle.xdr_core.proofs.FormatLaws.{found, union_laws}
 use Rattle.xdr_core.proofs.Unions.{IsFound}
 use Rattle.xdr_entries.proofs.BasicLaws.{hash_laws, account_id_laws, asset_laws}
 use Rattle.xdr_entries.proofs.EntryLaws.{offer_entry_laws}
@@ -19,29 +9,11 @@ use Rattle.ledger_types.specs.declared.claim_atom.ClaimAtom.{ClaimAtom}
 use Rattle.ledger_types.specs.declared.claim_atom.ClaimAtom.TheVariants as atoms
 use Rattle.op_types.specs.declared.offer_results.ManageOfferEffect.{ManageOfferEffect}
 use Rattle.op_types.specs.declared.offer_results.ManageOfferEffect.TheVariants as effects
-use Rattle.xdr_results.specs.Answers.{
-  asset_amount,
-  atom_v0,
-  atom_order_book,
-  atom_liquidity_pool,
-  atom_arms,
-  atom_part,
-  claim_atom,
-  simple_fields,
-  simple_payment_result,
-  path_fields,
-  path_payment_success,
-  effect_created,
-  effect_updated,
-  effect_deleted,
-  effect_arms,
-  effect_part,
-  manage_offer_effect,
-  offer_success_fields,
-  manage_offer_success,
-  payout_fields,
-  inflation_payout,
-}
+use Rattle.xdr_results.specs.Answers.{asset_amount, atom_v0, atom_order_book, atom_liquidity_pool, atom_arms, atom_part}
+use Rattle.xdr_results.specs.Answers.{claim_atom, simple_fields, simple_payment_result, path_fields}
+use Rattle.xdr_results.specs.Answers.{path_payment_success, effect_created, effect_updated, effect_deleted, effect_arms}
+use Rattle.xdr_results.specs.Answers.{effect_part, manage_offer_effect, offer_success_fields, manage_offer_success}
+use Rattle.xdr_results.specs.Answers.{payout_fields, inflation_payout}
 
 asset_amount_laws : Laws asset_amount
 asset_amount_laws = asset_laws & i64_laws

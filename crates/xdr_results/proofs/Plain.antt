@@ -1,23 +1,5 @@
 -- Values that have nothing behind their discriminant: which one a discriminant picks, and the laws of their arms.
-use Rattle.std.proofs.Common.{
-  ◌≡◌,
-  ℤ,
-  ◌^◌,
-  T,
-  ltb,
-  true,
-  false,
-  cond,
-  List,
-  [],
-  ◌∷◌,
-  Option,
-  Some,
-  None,
-  Ok,
-  Err,
-  refl,
-}
+use Rattle.std.proofs.Common.{◌≡◌, ℤ, ◌^◌, T, ltb, true, false, cond, List, [], ◌∷◌, Option, Some, None, Ok, Err, refl}
 use lib.Signed.{mag}
 use Rattle.std.specs.Prelude.{find}
 use Rattle.std.specs.Ordering.{int_eq}

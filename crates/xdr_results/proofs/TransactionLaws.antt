@@ -1,18 +1,7 @@
 -- The laws of the formats of what transactions answer.
 use Rattle.std.proofs.Common.{pos, negsuc, refl, arith}
-use Rattle.xdr_core.proofs.FormatLaws.{
-  Laws,
-  written,
-  i64_laws,
-  ◌&◌,
-  struct_laws,
-  closed_laws,
-  tag_laws,
-  list_laws,
-  arm_laws,
-  found,
-  union_laws,
-}
+use Rattle.xdr_core.proofs.FormatLaws.{Laws, written, i64_laws, ◌&◌, struct_laws, closed_laws, tag_laws, list_laws}
+use Rattle.xdr_core.proofs.FormatLaws.{arm_laws, found, union_laws}
 use Rattle.xdr_results.proofs.Plain.{plain_under, plain_are}
 use Rattle.xdr_core.proofs.Unions.{IsFound}
 use Rattle.xdr_entries.proofs.BasicLaws.{hash_laws}
@@ -23,30 +12,12 @@ use Rattle.op_types.specs.declared.transaction_result.TransactionOutcome.TheVari
 use Rattle.op_types.specs.Codes.{inner_code, outcome_code, inner_values, outcome_values}
 use Rattle.xdr_results.proofs.OperationLaws.{operation_result_laws}
 use Rattle.xdr_results.specs.Coded.{plain}
-use Rattle.xdr_results.specs.Results.{
-  inner_success,
-  inner_failed,
-  inner_arms,
-  inner_part,
-  inner_transaction_outcome,
-  inner_result_fields,
-  inner_transaction_result,
-  inner_pair_fields,
-  inner_transaction_result_pair,
-  outcome_success,
-  outcome_failed,
-  outcome_inner_success,
-  outcome_inner_failed,
-  outcome_arms,
-  outcome_part,
-  transaction_outcome,
-  result_fields,
-  transaction_result,
-  pair_fields,
-  transaction_result_pair,
-  result_set_fields,
-  transaction_result_set,
-}
+use Rattle.xdr_results.specs.Results.{inner_success, inner_failed, inner_arms, inner_part, inner_transaction_outcome}
+use Rattle.xdr_results.specs.Results.{inner_result_fields, inner_transaction_result, inner_pair_fields}
+use Rattle.xdr_results.specs.Results.{inner_transaction_result_pair, outcome_success, outcome_failed}
+use Rattle.xdr_results.specs.Results.{outcome_inner_success, outcome_inner_failed, outcome_arms, outcome_part}
+use Rattle.xdr_results.specs.Results.{transaction_outcome, result_fields, transaction_result, pair_fields}
+use Rattle.xdr_results.specs.Results.{transaction_result_pair, result_set_fields, transaction_result_set}
 
 inner_transaction_outcome_found : (v : InnerTransactionOutcome) → IsFound inner_part inner_arms v
 inner_transaction_outcome_found (inner.Success results) =

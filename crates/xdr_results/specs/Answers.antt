@@ -34,9 +34,7 @@ use Rattle.op_types.specs.declared.account_results.BumpSequenceResult.{BumpSeque
 use Rattle.op_types.specs.declared.balance_results.CreateClaimableBalanceResult.{CreateClaimableBalanceResult}
 use Rattle.op_types.specs.declared.balance_results.CreateClaimableBalanceResult.TheVariants as create_claimable_balance
 use Rattle.op_types.specs.declared.balance_results.ClaimClaimableBalanceResult.{ClaimClaimableBalanceResult}
-use Rattle.op_types.specs.declared.sponsor_results.BeginSponsoringFutureReservesResult.{
-  BeginSponsoringFutureReservesResult,
-}
+use Rattle.op_types.specs.declared.sponsor_results.BeginSponsoringFutureReservesResult.{BeginSponsoringFutureReservesResult}
 use Rattle.op_types.specs.declared.sponsor_results.EndSponsoringFutureReservesResult.{EndSponsoringFutureReservesResult}
 use Rattle.op_types.specs.declared.sponsor_results.RevokeSponsorshipResult.{RevokeSponsorshipResult}
 use Rattle.op_types.specs.declared.trust_results.ClawbackResult.{ClawbackResult}
@@ -45,52 +43,22 @@ use Rattle.op_types.specs.declared.trust_results.SetTrustLineFlagsResult.{SetTru
 use Rattle.op_types.specs.declared.pool_results.LiquidityPoolDepositResult.{LiquidityPoolDepositResult}
 use Rattle.op_types.specs.declared.pool_results.LiquidityPoolWithdrawResult.{LiquidityPoolWithdrawResult}
 use Rattle.op_types.specs.Numbers.{minus}
-use Rattle.op_types.specs.Codes.{
-  create_account_code,
-  create_account_values,
-  payment_code,
-  payment_values,
-  path_payment_strict_receive_code,
-  path_payment_strict_receive_values,
-  path_payment_strict_send_code,
-  path_payment_strict_send_values,
-  manage_offer_code,
-  manage_offer_values,
-  set_options_code,
-  set_options_values,
-  change_trust_code,
-  change_trust_values,
-  allow_trust_code,
-  allow_trust_values,
-  account_merge_code,
-  account_merge_values,
-  inflation_code,
-  inflation_values,
-  manage_data_code,
-  manage_data_values,
-  bump_sequence_code,
-  bump_sequence_values,
-  create_claimable_balance_code,
-  create_claimable_balance_values,
-  claim_claimable_balance_code,
-  claim_claimable_balance_values,
-  begin_sponsoring_future_reserves_code,
-  begin_sponsoring_future_reserves_values,
-  end_sponsoring_future_reserves_code,
-  end_sponsoring_future_reserves_values,
-  revoke_sponsorship_code,
-  revoke_sponsorship_values,
-  clawback_code,
-  clawback_values,
-  clawback_claimable_balance_code,
-  clawback_claimable_balance_values,
-  set_trust_line_flags_code,
-  set_trust_line_flags_values,
-  liquidity_pool_deposit_code,
-  liquidity_pool_deposit_values,
-  liquidity_pool_withdraw_code,
-  liquidity_pool_withdraw_values,
-}
+use Rattle.op_types.specs.Codes.{create_account_code, create_account_values, payment_code, payment_values}
+use Rattle.op_types.specs.Codes.{path_payment_strict_receive_code, path_payment_strict_receive_values}
+use Rattle.op_types.specs.Codes.{path_payment_strict_send_code, path_payment_strict_send_values, manage_offer_code}
+use Rattle.op_types.specs.Codes.{manage_offer_values, set_options_code, set_options_values, change_trust_code}
+use Rattle.op_types.specs.Codes.{change_trust_values, allow_trust_code, allow_trust_values, account_merge_code}
+use Rattle.op_types.specs.Codes.{account_merge_values, inflation_code, inflation_values, manage_data_code}
+use Rattle.op_types.specs.Codes.{manage_data_values, bump_sequence_code, bump_sequence_values}
+use Rattle.op_types.specs.Codes.{create_claimable_balance_code, create_claimable_balance_values}
+use Rattle.op_types.specs.Codes.{claim_claimable_balance_code, claim_claimable_balance_values}
+use Rattle.op_types.specs.Codes.{begin_sponsoring_future_reserves_code, begin_sponsoring_future_reserves_values}
+use Rattle.op_types.specs.Codes.{end_sponsoring_future_reserves_code, end_sponsoring_future_reserves_values}
+use Rattle.op_types.specs.Codes.{revoke_sponsorship_code, revoke_sponsorship_values, clawback_code, clawback_values}
+use Rattle.op_types.specs.Codes.{clawback_claimable_balance_code, clawback_claimable_balance_values}
+use Rattle.op_types.specs.Codes.{set_trust_line_flags_code, set_trust_line_flags_values, liquidity_pool_deposit_code}
+use Rattle.op_types.specs.Codes.{liquidity_pool_deposit_values, liquidity_pool_withdraw_code}
+use Rattle.op_types.specs.Codes.{liquidity_pool_withdraw_values}
 use Rattle.xdr_entries.specs.Basic.{arm, hash, account_id, claimable_balance_id, asset}
 use Rattle.xdr_entries.specs.Entries.{offer_entry}
 use Rattle.xdr_results.specs.Coded.{plain, plain_arms, codes}

@@ -21,40 +21,18 @@ use Rattle.op_types.specs.declared.transaction_result.TransactionResultSet.{Tran
 use Rattle.op_types.specs.declared.transaction_result.InnerTransactionOutcome.TheVariants as inner
 use Rattle.op_types.specs.declared.transaction_result.TransactionOutcome.TheVariants as outcome
 use Rattle.op_types.specs.Numbers.{minus}
-use Rattle.op_types.specs.Codes.{
-  operation_code,
-  operation_values,
-  inner_code,
-  inner_values,
-  outcome_code,
-  outcome_values,
-}
+use Rattle.op_types.specs.Codes.{operation_code, operation_values, inner_code, inner_values, outcome_code}
+use Rattle.op_types.specs.Codes.{outcome_values}
 use Rattle.xdr_entries.specs.Basic.{arm, hash}
 use Rattle.xdr_results.specs.Coded.{plain, plain_arms}
-use Rattle.xdr_results.specs.Answers.{
-  create_account_result,
-  payment_result,
-  path_payment_strict_receive_result,
-  path_payment_strict_send_result,
-  manage_offer_result,
-  set_options_result,
-  change_trust_result,
-  allow_trust_result,
-  account_merge_result,
-  inflation_result,
-  manage_data_result,
-  bump_sequence_result,
-  create_claimable_balance_result,
-  claim_claimable_balance_result,
-  begin_sponsoring_future_reserves_result,
-  end_sponsoring_future_reserves_result,
-  revoke_sponsorship_result,
-  clawback_result,
-  clawback_claimable_balance_result,
-  set_trust_line_flags_result,
-  liquidity_pool_deposit_result,
-  liquidity_pool_withdraw_result,
-}
+use Rattle.xdr_results.specs.Answers.{create_account_result, payment_result, path_payment_strict_receive_result}
+use Rattle.xdr_results.specs.Answers.{path_payment_strict_send_result, manage_offer_result, set_options_result}
+use Rattle.xdr_results.specs.Answers.{change_trust_result, allow_trust_result, account_merge_result, inflation_result}
+use Rattle.xdr_results.specs.Answers.{manage_data_result, bump_sequence_result, create_claimable_balance_result}
+use Rattle.xdr_results.specs.Answers.{claim_claimable_balance_result, begin_sponsoring_future_reserves_result}
+use Rattle.xdr_results.specs.Answers.{end_sponsoring_future_reserves_result, revoke_sponsorship_result, clawback_result}
+use Rattle.xdr_results.specs.Answers.{clawback_claimable_balance_result, set_trust_line_flags_result}
+use Rattle.xdr_results.specs.Answers.{liquidity_pool_deposit_result, liquidity_pool_withdraw_result}
 
 -- ---- operations
 

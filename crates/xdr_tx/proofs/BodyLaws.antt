@@ -5,64 +5,27 @@ use Rattle.xdr_core.proofs.Unions.{IsFound}
 use Rattle.xdr_entries.proofs.BasicLaws.{muxed_account_laws}
 use Rattle.op_types.specs.declared.operation.OperationBody.{OperationBody}
 use Rattle.op_types.specs.declared.operation.OperationBody.TheVariants as body
-use Rattle.xdr_tx.proofs.OperationLaws.{
-  create_account_op_laws,
-  set_options_op_laws,
-  account_merge_op_laws,
-  manage_data_op_laws,
-  bump_sequence_op_laws,
-  payment_op_laws,
-  path_payment_strict_receive_op_laws,
-  path_payment_strict_send_op_laws,
-  manage_sell_offer_op_laws,
-  create_passive_sell_offer_op_laws,
-  manage_buy_offer_op_laws,
-  change_trust_op_laws,
-  allow_trust_op_laws,
-  set_trust_line_flags_op_laws,
-  clawback_op_laws,
-  create_claimable_balance_op_laws,
-  claim_claimable_balance_op_laws,
-  clawback_claimable_balance_op_laws,
-  begin_sponsoring_future_reserves_op_laws,
-  revoke_sponsorship_op_laws,
-  liquidity_pool_deposit_op_laws,
-  liquidity_pool_withdraw_op_laws,
-}
-use Rattle.xdr_tx.specs.Operations.{
-  create_account_arm,
-  payment_arm,
-  path_payment_strict_receive_arm,
-  manage_sell_offer_arm,
-  create_passive_sell_offer_arm,
-  set_options_arm,
-  change_trust_arm,
-  allow_trust_arm,
-  account_merge_arm,
-  inflation_arm,
-  manage_data_arm,
-  bump_sequence_arm,
-  manage_buy_offer_arm,
-  path_payment_strict_send_arm,
-  create_claimable_balance_arm,
-  claim_claimable_balance_arm,
-  begin_sponsoring_future_reserves_arm,
-  end_sponsoring_future_reserves_arm,
-  revoke_sponsorship_arm,
-  clawback_arm,
-  clawback_claimable_balance_arm,
-  set_trust_line_flags_arm,
-  liquidity_pool_deposit_arm,
-  liquidity_pool_withdraw_arm,
-  last_body_arms,
-  third_body_arms,
-  second_body_arms,
-  body_arms,
-  body_part,
-  operation_body,
-  operation_fields,
-  operation,
-}
+use Rattle.xdr_tx.proofs.OperationLaws.{create_account_op_laws, set_options_op_laws, account_merge_op_laws}
+use Rattle.xdr_tx.proofs.OperationLaws.{manage_data_op_laws, bump_sequence_op_laws, payment_op_laws}
+use Rattle.xdr_tx.proofs.OperationLaws.{path_payment_strict_receive_op_laws, path_payment_strict_send_op_laws}
+use Rattle.xdr_tx.proofs.OperationLaws.{manage_sell_offer_op_laws, create_passive_sell_offer_op_laws}
+use Rattle.xdr_tx.proofs.OperationLaws.{manage_buy_offer_op_laws, change_trust_op_laws, allow_trust_op_laws}
+use Rattle.xdr_tx.proofs.OperationLaws.{set_trust_line_flags_op_laws, clawback_op_laws}
+use Rattle.xdr_tx.proofs.OperationLaws.{create_claimable_balance_op_laws, claim_claimable_balance_op_laws}
+use Rattle.xdr_tx.proofs.OperationLaws.{clawback_claimable_balance_op_laws, begin_sponsoring_future_reserves_op_laws}
+use Rattle.xdr_tx.proofs.OperationLaws.{revoke_sponsorship_op_laws, liquidity_pool_deposit_op_laws}
+use Rattle.xdr_tx.proofs.OperationLaws.{liquidity_pool_withdraw_op_laws}
+use Rattle.xdr_tx.specs.Operations.{create_account_arm, payment_arm, path_payment_strict_receive_arm}
+use Rattle.xdr_tx.specs.Operations.{manage_sell_offer_arm, create_passive_sell_offer_arm, set_options_arm}
+use Rattle.xdr_tx.specs.Operations.{change_trust_arm, allow_trust_arm, account_merge_arm, inflation_arm}
+use Rattle.xdr_tx.specs.Operations.{manage_data_arm, bump_sequence_arm, manage_buy_offer_arm}
+use Rattle.xdr_tx.specs.Operations.{path_payment_strict_send_arm, create_claimable_balance_arm}
+use Rattle.xdr_tx.specs.Operations.{claim_claimable_balance_arm, begin_sponsoring_future_reserves_arm}
+use Rattle.xdr_tx.specs.Operations.{end_sponsoring_future_reserves_arm, revoke_sponsorship_arm, clawback_arm}
+use Rattle.xdr_tx.specs.Operations.{clawback_claimable_balance_arm, set_trust_line_flags_arm}
+use Rattle.xdr_tx.specs.Operations.{liquidity_pool_deposit_arm, liquidity_pool_withdraw_arm, last_body_arms}
+use Rattle.xdr_tx.specs.Operations.{third_body_arms, second_body_arms, body_arms, body_part, operation_body}
+use Rattle.xdr_tx.specs.Operations.{operation_fields, operation}
 
 operation_body_found : (v : OperationBody) → IsFound body_part body_arms v
 unfolding second_body_arms third_body_arms last_body_arms

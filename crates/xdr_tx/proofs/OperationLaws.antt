@@ -1,92 +1,34 @@
 -- The laws of the formats of operations.
 use Rattle.std.proofs.Common.{pos, refl, arith}
-use Rattle.xdr_core.proofs.FormatLaws.{
-  Laws,
-  u32_laws,
-  i64_laws,
-  fixed_laws,
-  var_laws,
-  ◌&◌,
-  struct_laws,
-  whole_laws,
-  option_laws,
-  list_laws,
-  arm_laws,
-  found,
-  union_laws,
-}
+use Rattle.xdr_core.proofs.FormatLaws.{Laws, u32_laws, i64_laws, fixed_laws, var_laws, ◌&◌, struct_laws, whole_laws}
+use Rattle.xdr_core.proofs.FormatLaws.{option_laws, list_laws, arm_laws, found, union_laws}
 use Rattle.xdr_core.proofs.Unions.{IsFound}
-use Rattle.xdr_entries.proofs.BasicLaws.{
-  hash_laws,
-  account_id_laws,
-  claimable_balance_id_laws,
-  muxed_account_laws,
-  signer_key_laws,
-  signer_laws,
-  asset_laws,
-  change_trust_asset_laws,
-  price_laws,
-}
+use Rattle.xdr_entries.proofs.BasicLaws.{hash_laws, account_id_laws, claimable_balance_id_laws, muxed_account_laws}
+use Rattle.xdr_entries.proofs.BasicLaws.{signer_key_laws, signer_laws, asset_laws, change_trust_asset_laws, price_laws}
 use Rattle.xdr_entries.proofs.EntryLaws.{claimant_laws}
 use Rattle.xdr_entries.proofs.KeyLaws.{ledger_key_laws}
 use Rattle.op_types.specs.declared.trust_ops.AssetCode.{AssetCode}
 use Rattle.op_types.specs.declared.trust_ops.AssetCode.TheVariants as asset_codes
 use Rattle.op_types.specs.declared.sponsor_ops.RevokeSponsorshipOp.{RevokeSponsorshipOp}
 use Rattle.op_types.specs.declared.sponsor_ops.RevokeSponsorshipOp.TheVariants as revoking
-use Rattle.xdr_tx.specs.Operations.{
-  create_account_op_fields,
-  create_account_op,
-  set_options_op_fields,
-  set_options_op,
-  account_merge_op_fields,
-  account_merge_op,
-  manage_data_op_fields,
-  manage_data_op,
-  bump_sequence_op_fields,
-  bump_sequence_op,
-  payment_op_fields,
-  payment_op,
-  path_payment_strict_receive_op_fields,
-  path_payment_strict_receive_op,
-  path_payment_strict_send_op_fields,
-  path_payment_strict_send_op,
-  manage_sell_offer_op_fields,
-  manage_sell_offer_op,
-  create_passive_sell_offer_op_fields,
-  create_passive_sell_offer_op,
-  manage_buy_offer_op_fields,
-  manage_buy_offer_op,
-  change_trust_op_fields,
-  change_trust_op,
-  code4,
-  code12,
-  asset_code_arms,
-  asset_code_part,
-  asset_code,
-  allow_trust_op_fields,
-  allow_trust_op,
-  set_trust_line_flags_op_fields,
-  set_trust_line_flags_op,
-  clawback_op_fields,
-  clawback_op,
-  create_claimable_balance_op_fields,
-  create_claimable_balance_op,
-  claim_claimable_balance_op_fields,
-  claim_claimable_balance_op,
-  clawback_claimable_balance_op_fields,
-  clawback_claimable_balance_op,
-  begin_sponsoring_future_reserves_op_fields,
-  begin_sponsoring_future_reserves_op,
-  revoke_entry,
-  revoke_signer,
-  revoke_arms,
-  revoke_part,
-  revoke_sponsorship_op,
-  liquidity_pool_deposit_op_fields,
-  liquidity_pool_deposit_op,
-  liquidity_pool_withdraw_op_fields,
-  liquidity_pool_withdraw_op,
-}
+use Rattle.xdr_tx.specs.Operations.{create_account_op_fields, create_account_op, set_options_op_fields, set_options_op}
+use Rattle.xdr_tx.specs.Operations.{account_merge_op_fields, account_merge_op, manage_data_op_fields, manage_data_op}
+use Rattle.xdr_tx.specs.Operations.{bump_sequence_op_fields, bump_sequence_op, payment_op_fields, payment_op}
+use Rattle.xdr_tx.specs.Operations.{path_payment_strict_receive_op_fields, path_payment_strict_receive_op}
+use Rattle.xdr_tx.specs.Operations.{path_payment_strict_send_op_fields, path_payment_strict_send_op}
+use Rattle.xdr_tx.specs.Operations.{manage_sell_offer_op_fields, manage_sell_offer_op}
+use Rattle.xdr_tx.specs.Operations.{create_passive_sell_offer_op_fields, create_passive_sell_offer_op}
+use Rattle.xdr_tx.specs.Operations.{manage_buy_offer_op_fields, manage_buy_offer_op, change_trust_op_fields}
+use Rattle.xdr_tx.specs.Operations.{change_trust_op, code4, code12, asset_code_arms, asset_code_part, asset_code}
+use Rattle.xdr_tx.specs.Operations.{allow_trust_op_fields, allow_trust_op, set_trust_line_flags_op_fields}
+use Rattle.xdr_tx.specs.Operations.{set_trust_line_flags_op, clawback_op_fields, clawback_op}
+use Rattle.xdr_tx.specs.Operations.{create_claimable_balance_op_fields, create_claimable_balance_op}
+use Rattle.xdr_tx.specs.Operations.{claim_claimable_balance_op_fields, claim_claimable_balance_op}
+use Rattle.xdr_tx.specs.Operations.{clawback_claimable_balance_op_fields, clawback_claimable_balance_op}
+use Rattle.xdr_tx.specs.Operations.{begin_sponsoring_future_reserves_op_fields, begin_sponsoring_future_reserves_op}
+use Rattle.xdr_tx.specs.Operations.{revoke_entry, revoke_signer, revoke_arms, revoke_part, revoke_sponsorship_op}
+use Rattle.xdr_tx.specs.Operations.{liquidity_pool_deposit_op_fields, liquidity_pool_deposit_op}
+use Rattle.xdr_tx.specs.Operations.{liquidity_pool_withdraw_op_fields, liquidity_pool_withdraw_op}
 
 pub create_account_op_laws : Laws create_account_op
 unfolding create_account_op

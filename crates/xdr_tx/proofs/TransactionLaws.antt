@@ -1,26 +1,8 @@
 -- The laws of the formats of transactions, envelopes and sets.
 use Rattle.std.proofs.Common.{pos, refl, arith}
-use Rattle.xdr_core.proofs.FormatLaws.{
-  Laws,
-  written,
-  u32_laws,
-  u64_laws,
-  i64_laws,
-  fixed_laws,
-  var_laws,
-  empty_laws,
-  ◌&◌,
-  struct_laws,
-  whole_laws,
-  marked_laws,
-  closed_laws,
-  tag_laws,
-  option_laws,
-  list_laws,
-  arm_laws,
-  found,
-  union_laws,
-}
+use Rattle.xdr_core.proofs.FormatLaws.{Laws, written, u32_laws, u64_laws, i64_laws, fixed_laws, var_laws, empty_laws}
+use Rattle.xdr_core.proofs.FormatLaws.{◌&◌, struct_laws, whole_laws, marked_laws, closed_laws, tag_laws, option_laws}
+use Rattle.xdr_core.proofs.FormatLaws.{list_laws, arm_laws, found, union_laws}
 use Rattle.xdr_core.proofs.Unions.{IsFound}
 use Rattle.xdr_entries.proofs.BasicLaws.{hash_laws, muxed_account_laws}
 use Rattle.op_types.specs.declared.transaction.Memo.{Memo}
@@ -28,42 +10,13 @@ use Rattle.op_types.specs.declared.transaction.Memo.TheVariants as memos
 use Rattle.op_types.specs.declared.transaction.TransactionEnvelope.{TransactionEnvelope}
 use Rattle.op_types.specs.declared.transaction.TransactionEnvelope.TheVariants as envelope
 use Rattle.xdr_tx.proofs.BodyLaws.{operation_laws}
-use Rattle.xdr_tx.specs.Transactions.{
-  memo_none,
-  memo_text,
-  memo_id,
-  memo_hash,
-  memo_return,
-  memo_arms,
-  memo_part,
-  memo,
-  time_bounds_fields,
-  time_bounds,
-  signature_fields,
-  decorated_signature,
-  behind_source_fields,
-  behind_source,
-  transaction_fields,
-  transaction,
-  transaction_v0_fields,
-  transaction_v0,
-  v1_fields,
-  transaction_v1_envelope,
-  v0_fields,
-  transaction_v0_envelope,
-  fee_bump_fields,
-  fee_bump_transaction,
-  bump_fields,
-  fee_bump_envelope,
-  envelope_v0,
-  envelope_v1,
-  envelope_fee_bump,
-  envelope_arms,
-  envelope_part,
-  transaction_envelope,
-  set_fields,
-  transaction_set,
-}
+use Rattle.xdr_tx.specs.Transactions.{memo_none, memo_text, memo_id, memo_hash, memo_return, memo_arms, memo_part, memo}
+use Rattle.xdr_tx.specs.Transactions.{time_bounds_fields, time_bounds, signature_fields, decorated_signature}
+use Rattle.xdr_tx.specs.Transactions.{behind_source_fields, behind_source, transaction_fields, transaction}
+use Rattle.xdr_tx.specs.Transactions.{transaction_v0_fields, transaction_v0, v1_fields, transaction_v1_envelope}
+use Rattle.xdr_tx.specs.Transactions.{v0_fields, transaction_v0_envelope, fee_bump_fields, fee_bump_transaction}
+use Rattle.xdr_tx.specs.Transactions.{bump_fields, fee_bump_envelope, envelope_v0, envelope_v1, envelope_fee_bump}
+use Rattle.xdr_tx.specs.Transactions.{envelope_arms, envelope_part, transaction_envelope, set_fields, transaction_set}
 
 memo_found : (v : Memo) → IsFound memo_part memo_arms v
 memo_found memos.None = found memo_none tt empty_laws tt refl refl (λ _ _ _. refl)

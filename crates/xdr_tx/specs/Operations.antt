@@ -42,18 +42,8 @@ use Rattle.op_types.specs.declared.operation_type.TheConstants as types
 use Rattle.op_types.specs.declared.operation.OperationBody.{OperationBody}
 use Rattle.op_types.specs.declared.operation.OperationBody.TheVariants as body
 use Rattle.op_types.specs.declared.operation.Operation.{Operation}
-use Rattle.xdr_entries.specs.Basic.{
-  arm,
-  hash,
-  account_id,
-  claimable_balance_id,
-  muxed_account,
-  signer_key,
-  signer,
-  asset,
-  change_trust_asset,
-  price,
-}
+use Rattle.xdr_entries.specs.Basic.{arm, hash, account_id, claimable_balance_id, muxed_account, signer_key, signer}
+use Rattle.xdr_entries.specs.Basic.{asset, change_trust_asset, price}
 use Rattle.xdr_entries.specs.Entries.{claimant}
 use Rattle.xdr_entries.specs.Keys.{ledger_key}
 

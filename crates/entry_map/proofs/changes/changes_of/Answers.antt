@@ -17,11 +17,14 @@ loop-key-preserved g c =
           ∙ sym (append_assoc c.loop-key.yielded (c.in-Some.key ∷ []) (into_iter_items c.next.new.self)))
           c.loop-key.invariant.keys;
       init = picks_more key_of
-          (IsNew before after) c.loop-key.yielded c.in-Some.key c.loop-key.batch.init c.note_at.new.batch.init c.loop-key.invariant.init c.in_ok-note_at.ensures.init;
+          (IsNew before after) c.loop-key.yielded c.in-Some.key c.loop-key.batch.init c.note_at.new.batch.init
+          c.loop-key.invariant.init c.in_ok-note_at.ensures.init;
       live = picks_more key_of
-          (IsChanged before after) c.loop-key.yielded c.in-Some.key c.loop-key.batch.live c.note_at.new.batch.live c.loop-key.invariant.live c.in_ok-note_at.ensures.live;
+          (IsChanged before after) c.loop-key.yielded c.in-Some.key c.loop-key.batch.live c.note_at.new.batch.live
+          c.loop-key.invariant.live c.in_ok-note_at.ensures.live;
       dead = picks_more (λ q. q)
-          (IsGone before after) c.loop-key.yielded c.in-Some.key c.loop-key.batch.dead c.note_at.new.batch.dead c.loop-key.invariant.dead c.in_ok-note_at.ensures.dead;
+          (IsGone before after) c.loop-key.yielded c.in-Some.key c.loop-key.batch.dead c.note_at.new.batch.dead
+          c.loop-key.invariant.dead c.in_ok-note_at.ensures.dead;
     }
 
 pub returns : goal.returns

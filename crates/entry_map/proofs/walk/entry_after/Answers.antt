@@ -10,8 +10,10 @@ loop-at-init g c = seen_first _ c.args.key.now c.in_ok-at.at c.in_ok-at.ensures
 
 pub returns-in-Some-2 : goal.returns-in-Some-2
 returns-in-Some-2 g c =
-    found_next (g.B.Base.entries c.args.base.now) c.args.lower.now c.args.top.now c.args.key.now c.loop-at.at c.in-Some.next c.in-Some-2.entry c.loop-at.invariant
-    (next_is (is_known (g.B.Base.entries c.args.base.now) c.args.lower.now c.args.top.now) c.loop-at.at c.in_ok-next.field-0 (Some c.in-Some.next) c.in-Some.is c.in_ok-next.ensures)
+    found_next (g.B.Base.entries c.args.base.now) c.args.lower.now c.args.top.now c.args.key.now c.loop-at.at
+    c.in-Some.next c.in-Some-2.entry c.loop-at.invariant
+    (next_is (is_known (g.B.Base.entries c.args.base.now) c.args.lower.now c.args.top.now) c.loop-at.at
+    c.in_ok-next.field-0 (Some c.in-Some.next) c.in-Some.is c.in_ok-next.ensures)
     (sym c.in_ok-entry.ensures.found ∙ c.in-Some-2.is)
     (is_some_of (λ e. key_of e
     ≡ c.in-Some.next) c.in_ok-entry.field-0 c.in-Some-2.entry c.in_ok-entry.ensures.keyed c.in-Some-2.is)
@@ -19,14 +21,20 @@ returns-in-Some-2 g c =
 pub loop-at-smaller : goal.loop-at-smaller
 loop-at-smaller g c =
     known_falls (g.B.Base.entries c.args.base.now) c.args.lower.now c.args.top.now c.loop-at.at c.in-Some.next
-    (next_is (is_known (g.B.Base.entries c.args.base.now) c.args.lower.now c.args.top.now) c.loop-at.at c.in_ok-next.field-0 (Some c.in-Some.next) c.in-Some.is c.in_ok-next.ensures)
+    (next_is (is_known (g.B.Base.entries c.args.base.now) c.args.lower.now c.args.top.now) c.loop-at.at
+    c.in_ok-next.field-0 (Some c.in-Some.next) c.in-Some.is c.in_ok-next.ensures)
 
 pub loop-at-preserved : goal.loop-at-preserved
 loop-at-preserved g c =
-    seen_next (g.B.Base.entries c.args.base.now) c.args.lower.now c.args.top.now c.args.key.now c.loop-at.at c.in-Some.next c.loop-at.invariant
-    (next_is (is_known (g.B.Base.entries c.args.base.now) c.args.lower.now c.args.top.now) c.loop-at.at c.in_ok-next.field-0 (Some c.in-Some.next) c.in-Some.is c.in_ok-next.ensures)
+    seen_next (g.B.Base.entries c.args.base.now) c.args.lower.now c.args.top.now c.args.key.now c.loop-at.at
+    c.in-Some.next c.loop-at.invariant
+    (next_is (is_known (g.B.Base.entries c.args.base.now) c.args.lower.now c.args.top.now) c.loop-at.at
+    c.in_ok-next.field-0 (Some c.in-Some.next) c.in-Some.is c.in_ok-next.ensures)
     (sym c.in_ok-entry.ensures.found ∙ c.in_default-2.is)
 
 pub returns : goal.returns
-returns g c = ended (g.B.Base.entries c.args.base.now) c.args.lower.now c.args.top.now c.args.key.now c.loop-at.at c.loop-at.invariant
-    (next_is (is_known (g.B.Base.entries c.args.base.now) c.args.lower.now c.args.top.now) c.loop-at.at c.in_ok-next.field-0 None c.in_default.is c.in_ok-next.ensures)
+returns g c =
+    ended (g.B.Base.entries c.args.base.now) c.args.lower.now c.args.top.now c.args.key.now c.loop-at.at
+    c.loop-at.invariant
+    (next_is (is_known (g.B.Base.entries c.args.base.now) c.args.lower.now c.args.top.now) c.loop-at.at
+    c.in_ok-next.field-0 None c.in_default.is c.in_ok-next.ensures)

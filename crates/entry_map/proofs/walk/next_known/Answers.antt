@@ -14,4 +14,5 @@ returns g c =
     c.in_ok-in_base.in_base (option_copied c.next_after.result) (option_copied c.next_changed.result)
     (option_copied c.as_ref.result)
     (option_copied c.lesser-in_layers.result) (Some c.in-Some.least.now)
-    c.in_ok-in_base.ensures c.next_after.ensures c.next_changed.ensures c.lesser-in_layers.ensures c.as_ref.ensures.value c.in-Some.ensures)
+    c.in_ok-in_base.ensures c.next_after.ensures c.next_changed.ensures c.lesser-in_layers.ensures
+    c.as_ref.ensures.value c.in-Some.ensures)

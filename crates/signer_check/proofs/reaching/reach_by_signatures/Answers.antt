@@ -36,7 +36,8 @@ loop-signature-preserved c =
           rw (w.missing-is, w.signature-items-is)
           (stands_on reached used c.loop-signature.missing w.in-Some-missing_with.rest now place left after
           (get_or now place past) past w.in-Some.signer.now
-          (omega arith) refl w.in-Some.ensures.signer w.in-Some.ensures.others w.in-Some-missing_with.ensures c.loop-signature.invariant)
+          (omega arith) refl w.in-Some.ensures.signer w.in-Some.ensures.others w.in-Some-missing_with.ensures
+          c.loop-signature.invariant)
       | in_default w ↦
           rw (w.missing-is, w.signature-items-is, set-get_or now place past)
           (stands_unmatched reached used c.loop-signature.missing now place left after (get_or now place past) past
@@ -61,6 +62,7 @@ returns c =
     let all = counted_by_signatures 0 c.args.signatures.now c.args.signers.now in
     let used = used_for (until_reached c.args.needed 0 all) c.args.signatures.now in
     let end =
-    stands_all (reaches c.args.needed 0 all) used c.loop-signature.missing c.loop-signature.signature-items c.loop-signature.signature-index (left_of c.loop-signature.counted c.args.signers.now)
+    stands_all (reaches c.args.needed 0 all) used c.loop-signature.missing c.loop-signature.signature-items
+    c.loop-signature.signature-index (left_of c.loop-signature.counted c.args.signers.now)
     (omega arith) c.loop-signature.invariant in
     record { reached = end.0; used = end.1 }

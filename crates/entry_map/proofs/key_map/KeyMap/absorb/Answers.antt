@@ -13,7 +13,8 @@ returns-clause-ok g c =
     (subst (λ m. OnOk c.append.result ((q : LedgerKey)
     → get (seen c.append.new.self) q ≡ option_or (get m q) (get (seen c.self.inside.tree) q))) c.newer.view_is
     (IfOk-weaker c.append.result _ _
-    (λ _ inserts. get-absorbed c.self.inside.tree c.newer.inside.tree c.append.new.self inserts c.append.ensures.other_was_ordered) c.append.ensures.inserts_all))
+    (λ _ inserts. get-absorbed c.self.inside.tree c.newer.inside.tree c.append.new.self inserts
+    c.append.ensures.other_was_ordered) c.append.ensures.inserts_all))
 
 pub returns-clause-each : goal.returns-clause-each
 returns-clause-each g c q =
@@ -21,4 +22,5 @@ returns-clause-each g c q =
     ⊎ (get (seen c.append.new.self) q ≡ get m q)) c.self.view_is
     (subst (λ m. (get (seen c.append.new.self) q ≡ get m q)
     ⊎ (get (seen c.append.new.self) q ≡ get (seen c.self.inside.tree) q)) c.newer.view_is
-    (each-absorbed c.self.inside.tree c.newer.inside.tree c.append.new.self c.append.new.other c.append.ensures.moves c.append.ensures.other_was_ordered q))
+    (each-absorbed c.self.inside.tree c.newer.inside.tree c.append.new.self c.append.new.other c.append.ensures.moves
+    c.append.ensures.other_was_ordered q))

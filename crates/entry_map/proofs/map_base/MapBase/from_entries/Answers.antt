@@ -25,7 +25,8 @@ from_pairs-requires c =
     let none : into_iter_items c.loop-entry.entry-iterator ≡ [] =
     grind (arith, common_steps, c.in-None.ensures.steps) in
     subst (λ es. IsDistinct (eq_by_cmp key_cmp) es)
-    (all_keys c.loop-entry.yielded _ c.loop-entry.pairs.items c.args.entries.items c.loop-entry.invariant.made c.loop-entry.invariant.left none) c.requires
+    (all_keys c.loop-entry.yielded _ c.loop-entry.pairs.items c.args.entries.items c.loop-entry.invariant.made
+    c.loop-entry.invariant.left none) c.requires
 
 pub invariant_of-result : goal.invariant_of-result
 invariant_of-result c =

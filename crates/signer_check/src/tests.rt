@@ -30,6 +30,12 @@ const SIGNED_ONE: ([u8; 4], &[u8]) = (HINT_OF_ONE, b"one");
 
 const SIGNED_TWO: ([u8; 4], &[u8]) = (HINT_OF_TWO, b"two");
 
+// The bytes of the account's own key, with their hint.
+const SIGNED_NINE: ([u8; 4], &[u8]) = ([9; 4], &[9; 32]);
+
+// A text with the hint of another one.
+const MISLED: ([u8; 4], &[u8]) = (HINT_OF_TWO, b"one");
+
 /// A signer by the text with this hash.
 fn text_of(hash: Hash, weight: u32) -> Signer {
     Signer {
@@ -122,7 +128,7 @@ fn all_agree(alloc: Global, cases: &[Case<'_>]) -> bool {
     true
 }
 
-fn case<'a>(
+fn case_of<'a>(
     signers: &'a [Signer],
     signatures: &'a [([u8; 4], &'a [u8])],
     needed: u32,
@@ -141,9 +147,9 @@ fn signatures_are_used_up_to_the_one_that_reaches_the_need(rt: HostRuntime) {
     let both = [text_of(ONE, 1), text_of(TWO, 1)];
     let signed = [SIGNED_TWO, SIGNED_ONE];
     let cases = [
-        case(&both, &signed, 2, (true, true)),
-        case(&both, &signed, 1, (true, false)),
-        case(&both, &signed, 3, (false, true)),
+        case_of(&both, &signed, 2, (true, true)),
+        case_of(&both, &signed, 1, (true, false)),
+        case_of(&both, &signed, 3, (false, true)),
     ];
     assert!(rt; all_agree(rt.alloc(), &cases));
 }
@@ -174,8 +180,8 @@ fn each_signer_counts_once(rt: HostRuntime) {
     let signed = [SIGNED_ONE, SIGNED_ONE];
     let double = [text_of(ONE, 1), text_of(ONE, 1)];
     let cases = [
-        case(&double[..1], &signed, 2, (false, false)),
-        case(&double, &signed, 2, (true, true)),
+        case_of(&double[..1], &signed, 2, (false, false)),
+        case_of(&double, &signed, 2, (true, true)),
     ];
     assert!(rt; all_agree(rt.alloc(), &cases));
 }
@@ -184,8 +190,8 @@ fn each_signer_counts_once(rt: HostRuntime) {
 fn a_weight_above_255_counts_as_255(rt: HostRuntime) {
     let heavy = [text_of(ONE, 1_000)];
     let cases = [
-        case(&heavy, &[SIGNED_ONE], 255, (true, true)),
-        case(&heavy, &[SIGNED_ONE], 256, (false, true)),
+        case_of(&heavy, &[SIGNED_ONE], 255, (true, true)),
+        case_of(&heavy, &[SIGNED_ONE], 256, (false, true)),
     ];
     assert!(rt; all_agree(rt.alloc(), &cases));
 }
@@ -194,9 +200,9 @@ fn a_weight_above_255_counts_as_255(rt: HostRuntime) {
 fn a_need_of_0_takes_one_signer(rt: HostRuntime) {
     let signer = [text_of(ONE, 1)];
     let cases = [
-        case(&signer, &[], 0, (false, true)),
-        case(&signer, &[SIGNED_TWO], 0, (false, false)),
-        case(&signer, &[SIGNED_ONE], 0, (true, true)),
+        case_of(&signer, &[], 0, (false, true)),
+        case_of(&signer, &[SIGNED_TWO], 0, (false, false)),
+        case_of(&signer, &[SIGNED_ONE], 0, (true, true)),
     ];
     assert!(rt; all_agree(rt.alloc(), &cases));
 }
@@ -209,8 +215,8 @@ fn a_signer_by_the_hash_counts_before_the_signatures(rt: HostRuntime) {
     };
     let signers = [text_of(ONE, 2), by_hash];
     let cases = [
-        case(&signers, &[SIGNED_ONE], 2, (true, false)),
-        case(&signers, &[SIGNED_ONE], 4, (true, true)),
+        case_of(&signers, &[SIGNED_ONE], 2, (true, false)),
+        case_of(&signers, &[SIGNED_ONE], 4, (true, true)),
     ];
     assert!(rt; all_agree(rt.alloc(), &cases));
 }
@@ -221,12 +227,11 @@ fn an_ed25519_key_and_a_wrong_hint_match_nothing(rt: HostRuntime) {
         key: SignerKey::Ed25519(ONE.0),
         weight: 1,
     }];
-    let own = [([9; 4], [9; 32].as_slice())];
-    let misled = [(HINT_OF_TWO, b"one".as_slice())];
+    let by_text = [text_of(ONE, 1)];
     let cases = [
-        case(&listed, &[SIGNED_ONE], 1, (false, false)),
-        case(&[], &own, 1, (false, false)),
-        case(&[text_of(ONE, 1)], &misled, 1, (false, false)),
+        case_of(&listed, &[SIGNED_ONE], 1, (false, false)),
+        case_of(&[], &[SIGNED_NINE], 1, (false, false)),
+        case_of(&by_text, &[MISLED], 1, (false, false)),
     ];
     assert!(rt; all_agree(rt.alloc(), &cases));
 }

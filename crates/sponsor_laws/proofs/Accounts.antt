@@ -15,7 +15,7 @@ use Rattle.entry_slots.specs.AccountExtensions.{second_in, sponsored_in, sponsor
 use Rattle.entry_slots.specs.EntrySponsor.{sponsor_of}
 use Rattle.sponsor_rules.specs.Charge.{multiplicity, owner_of}
 use Rattle.sponsor_rules.specs.Counting.{count_in, with_count, with_new_count}
-use Rattle.sponsor_rules.specs.Payers.{is_account}
+use Rattle.sponsor_rules.specs.Payers.{is_same_account}
 use Rattle.sponsor_rules.specs.declared.count.Count.{Count}
 use Rattle.sponsor_rules.specs.declared.count.Count.TheVariants.{SubEntries, Sponsoring, Sponsored}
 use Rattle.sponsor_laws.specs.Sums.{signer_sponsors, is_this, is_there, subentries_for, sponsored_signers}
@@ -136,9 +136,9 @@ counted_split Sponsored id e = refl
 
 pub own_part-keeps : (count : Count) (id : AccountId) (a b : AccountEntry) → KeepsParts a b
     → own_part count id (body.Account b) ≡ own_part count id (body.Account a)
-own_part-keeps SubEntries id a b h = λ i. if is_account (h.id i) id then length (h.signers i) else 0
+own_part-keeps SubEntries id a b h = λ i. if is_same_account (h.id i) id then length (h.signers i) else 0
 own_part-keeps Sponsoring id a b h = ap (count_by (is_this id)) h.sponsors
-own_part-keeps Sponsored id a b h = λ i. if is_account (h.id i) id then count_by is_there (h.sponsors i) else 0
+own_part-keeps Sponsored id a b h = λ i. if is_same_account (h.id i) id then count_by is_there (h.sponsors i) else 0
 
 -- an entry whose account keeps its parts counts as before
 pub counted-keeps : (count : Count) (id : AccountId) (e : LedgerEntry) (a b : AccountEntry) → e.body ≡ body.Account a

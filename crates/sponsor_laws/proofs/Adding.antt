@@ -20,7 +20,8 @@ use Rattle.entry_slots.specs.Accounts.{account_in, HasAccount}
 use Rattle.entry_slots.specs.EntrySponsor.{sponsor_of, with_sponsor}
 use Rattle.sponsor_rules.specs.Charge.{charge_of, line_multiplicity, multiplicity, owner_of}
 use Rattle.sponsor_rules.specs.Counting.{count_in, with_more}
-use Rattle.sponsor_rules.specs.Payers.{is_account, open_sponsor, payer_of, payer_by, payer_tests, subentry_tests}
+use Rattle.sponsor_rules.specs.Payers.{is_same_account, open_sponsor, payer_of, payer_by, payer_tests_at}
+use Rattle.sponsor_rules.specs.Payers.{subentry_tests_at}
 use Rattle.sponsor_rules.specs.Adding.{own_tests, map_after_counting, sponsored_entry, map_after_adding_account}
 use Rattle.sponsor_rules.specs.Adding.{map_after_adding_balance, map_after_adding_subentry, map_after_adding_by}
 use Rattle.sponsor_laws.proofs.Changes.{map_with_more, shifted_raise, elsewhere_none, instead_plus, here}
@@ -87,7 +88,7 @@ module _ (old : EntryMap) (h : IsEven old) where
       let second = shifted_counting no_shift no_shift k old old h.own (unshifted old h.own) owner s in
       let same_body = sponsored_body s e in
       let payer_is : (x : AccountId) → s ≡ Some x → payer_of ctx owner ≡ x = λ x pays. ap (payer_by owner) pays in
-      subst IsEven (done_by (subentry_tests ctx old owner k) (put m e') new done)
+      subst IsEven (done_by (subentry_tests_at ctx old owner k) (put m e') new done)
       (added (plus p (shared k (Some owner) s)) m e' second (ap (λ b. get old (key_of_body b)) same_body
       ∙ free) (ap account_in same_body ∙ is.no_account)
       (λ count id.
@@ -120,7 +121,7 @@ module _ (old : EntryMap) (h : IsEven old) where
       let m = map_with_more Sponsoring k payer old in
       let first = shifted_raise no_shift no_shift Sponsoring k payer old old h.own (unshifted old h.own) in
       let over = payer_passed ctx old payer k (put m e') new done in
-      subst IsEven (done_by (payer_tests ctx old payer k) (put m e') new done)
+      subst IsEven (done_by (payer_tests_at ctx old payer k) (put m e') new done)
       (added (plus no_shift (at_one Sponsoring k payer)) m e' first free (ap account_in is)
       (λ count id.
       let split = counted_split count id e' in
@@ -162,9 +163,9 @@ module _ (old : EntryMap) (h : IsEven old) where
   empty_part : (count : Count) (id : AccountId) (account : AccountEntry) → account.signers ≡ []
       → signer_sponsors account ≡ [] → own_part count id (body.Account account) ≡ 0
   empty_part SubEntries id account none unsponsored =
-      nothing_if (is_account account.account_id id) (length account.signers) (ap length none)
+      nothing_if (is_same_account account.account_id id) (length account.signers) (ap length none)
   empty_part Sponsoring id account none unsponsored = ap (count_by (is_this id)) unsponsored
-  empty_part Sponsored id account none unsponsored = nothing_if (is_account account.account_id id)
+  empty_part Sponsored id account none unsponsored = nothing_if (is_same_account account.account_id id)
       (count_by is_there (signer_sponsors account)) (ap (count_by is_there) unsponsored)
 
   no_signer_sponsors : (account : AccountEntry) → IsNewAccount account → signer_sponsors account ≡ []
@@ -248,7 +249,7 @@ module _ (old : EntryMap) (h : IsEven old) where
       let none = elsewhere_none Sponsored count 2 account.account_id other.account_id others in
       let both = shared_both count other.account_id account.account_id s 2 in
       (omega arith, refl)) first in
-      subst IsEven (done_by (payer_tests ctx old s 2) (put m e') new done)
+      subst IsEven (done_by (payer_tests_at ctx old s 2) (put m e') new done)
       (added_account p m e' more second (ap (λ x. get old (key.Account x)) parts.id ∙ own_free) refl
       (parts.signers ∙ fresh.signers) (parts.sponsors ∙ no_signer_sponsors account fresh)
       (λ count id. ap (λ x. share count id 2 (Some x) (Some s)) parts.id)

@@ -12,7 +12,7 @@ use Rattle.sponsor_rules.specs.declared.count.Count.TheVariants.{SubEntries, Spo
 use Rattle.entry_slots.specs.Accounts.{HasAccount}
 use Rattle.sponsor_rules.specs.Counting.{count_in, with_more}
 use Rattle.sponsor_rules.specs.Paying.{map_after_charging, with_subentry}
-use Rattle.sponsor_rules.specs.Payers.{open_sponsor, payer_of, payer_by, subentry_tests}
+use Rattle.sponsor_rules.specs.Payers.{open_sponsor, payer_of, payer_by, subentry_tests_at}
 use Rattle.sponsor_rules.specs.Adding.{map_after_counting}
 use Rattle.sponsor_rules.specs.SignerPlace.{place_for, with_signer}
 use Rattle.sponsor_rules.specs.Signers.{map_after_adding_signer, map_with_signer}
@@ -96,7 +96,7 @@ module _ (old : EntryMap) (h : IsEven old) (id : AccountId) (a : AccountEntry) (
       let once = twice (map_after_charging 1 s old) id (with_subentry 1 s) (with_signer signer s) (charging_own old h s)
       (with_subentry_id s) (λ b. refl) in
       let payer_is : (x : AccountId) → s ≡ Some x → payer_of ctx id ≡ x = λ x pays. ap (payer_by id) pays in
-      subst IsEven (once ∙ done_by (subentry_tests ctx old id 1) after new done)
+      subst IsEven (once ∙ done_by (subentry_tests_at ctx old id 1) after new done)
       (edited (signer_shift id s) no_shift id (with_signer signer s) old m h second held.entry a held.there held.is
       (with_signer_edits signer s (λ x pays. subst (HasAccount old) (payer_is x pays) payer_stands))
       (λ i. let le = few_more old id i 1 h (has_few old id 1 h stands tests.not_full) in omega arith)

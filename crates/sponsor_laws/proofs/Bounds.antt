@@ -9,11 +9,13 @@ use Rattle.sponsor_rules.specs.declared.count.Count.{Count}
 use Rattle.sponsor_rules.specs.declared.count.Count.TheVariants.{SubEntries, Sponsoring}
 use Rattle.sponsor_rules.specs.declared.context.Ctx.{Ctx}
 use Rattle.sponsor_rules.specs.declared.fault.AddFault.{AddFault}
-use Rattle.sponsor_rules.specs.declared.fault.AddFault.TheVariants.{TooManySubentries, TooManySponsoring, LowReserve}
+use Rattle.sponsor_rules.specs.declared.fault.AddFault.TheVariants.{TooManySubentries, TooManySponsoring}
+use Rattle.sponsor_rules.specs.declared.fault.AddFault.TheVariants.{LowReserve}
 use Rattle.entry_slots.specs.Accounts.{account_at, HasAccount}
 use Rattle.entry_slots.specs.Tests.{Tests, first_fault, unless_fault, unless_first}
 use Rattle.sponsor_rules.specs.Counting.{count_at, count_if}
-use Rattle.sponsor_rules.specs.Payers.{is_full, is_over, is_short, payer_of, payer_tests, subentry_tests, is_account}
+use Rattle.sponsor_rules.specs.Payers.{is_full, is_over, is_short, payer_of, payer_tests_at, subentry_tests_at}
+use Rattle.sponsor_rules.specs.Payers.{is_same_account}
 use Rattle.sponsor_laws.specs.Sums.{is_this, total}
 use Rattle.sponsor_rules.proofs.Ids.{same_account}
 use Rattle.sponsor_laws.proofs.Even.{IsEven, sums_of, all_few, all_fit, this_is}
@@ -42,10 +44,10 @@ done_by tests m new is = (passed tests m new is).1
 
 -- a payer that passed
 pub payer_passed : (ctx : Ctx) (m : EntryMap) (payer : AccountId) (k : ℕ) (after new : EntryMap)
-    → unless_first (payer_tests ctx m payer k) after ≡ Ok new → is_over (account_at m payer) k ≡ false
+    → unless_first (payer_tests_at ctx m payer k) after ≡ Ok new → is_over (account_at m payer) k ≡ false
 payer_passed ctx m payer k after new is = (first_passed (is_over (account_at m payer) k) TooManySponsoring
     ((is_short ctx.base_reserve (account_at m payer) k, LowReserve) ∷ [])
-    (passed (payer_tests ctx m payer k) after new is).0).0
+    (passed (payer_tests_at ctx m payer k) after new is).0).0
 
 -- an owner and a payer that passed
 pub record HavePassed (ctx : Ctx) (m : EntryMap) (id : AccountId) (k : ℕ) : Type 0 where
@@ -54,15 +56,16 @@ pub record HavePassed (ctx : Ctx) (m : EntryMap) (id : AccountId) (k : ℕ) : Ty
   pub owner : is_over (account_at m id) k ≡ false
 
 pub have_passed : (ctx : Ctx) (m : EntryMap) (owner : AccountId) (k : ℕ) (after new : EntryMap)
-    → unless_first (subentry_tests ctx m owner k) after ≡ Ok new → HavePassed ctx m owner k
+    → unless_first (subentry_tests_at ctx m owner k) after ≡ Ok new → HavePassed ctx m owner k
 have_passed ctx m owner k after new is =
-    let short : Tests AddFault = (is_short ctx.base_reserve (account_at m (payer_of ctx owner)) k, LowReserve) ∷ [] in
+    let short : Tests AddFault =
+    (is_short ctx.base_reserve (account_at m (payer_of ctx owner)) k, LowReserve) ∷ [] in
     let full = first_passed (is_full (account_at m owner) k) TooManySubentries ((
       is_over
           (account_at m (payer_of ctx owner)) k || is_over (account_at m owner) k,
       TooManySponsoring,
     ) ∷ short)
-    (passed (subentry_tests ctx m owner k) after new is).0 in
+    (passed (subentry_tests_at ctx m owner k) after new is).0 in
     let over = neither (is_over (account_at m (payer_of ctx owner)) k) (is_over (account_at m owner) k)
     (first_passed (is_over (account_at m (payer_of ctx owner)) k || is_over
     (account_at m owner) k) TooManySponsoring short full.1).0 in
@@ -100,8 +103,8 @@ one_of_two false false t k n first second apart le = omega arith
 
 -- an account with room for k subentries more has few, and so has each other one
 pub few_more : (m : EntryMap) (owner id : AccountId) (k : ℕ) → IsEven m → total SubEntries owner m + k ≤ 1000
-    → total SubEntries id m + (if is_account owner id then k else 0) ≤ 1000
-few_more m owner id k h le = one_more (is_account owner id) (total SubEntries id m) k 1000
+    → total SubEntries id m + (if is_same_account owner id then k else 0) ≤ 1000
+few_more m owner id k h le = one_more (is_same_account owner id) (total SubEntries id m) k 1000
     (λ is. subst (λ x. total SubEntries x m + k ≤ 1000) (same_account owner id is) le) (all_few m id h)
 
 abbrev pub HasRoom : EntryMap → AccountId → ℕ → Type 0
@@ -118,8 +121,8 @@ pays_more m id payer k h room = one_more (is_this id payer) (total SubEntries id
 pub both_more : (m : EntryMap) (id owner : AccountId) (payer : Option AccountId) (k : ℕ) → IsEven m → HasRoom m owner k
     → ((s : AccountId) → payer ≡ Some s → HasRoom m s k × (s ≢ owner))
     → total SubEntries id m + total Sponsoring id m +
-    ((if is_account owner id then k else 0) + (if is_this id payer then k else 0)) ≤ 4294967295
-both_more m id owner payer k h owner_room room = one_of_two (is_account owner id) (is_this id payer)
+    ((if is_same_account owner id then k else 0) + (if is_this id payer then k else 0)) ≤ 4294967295
+both_more m id owner payer k h owner_room room = one_of_two (is_same_account owner id) (is_this id payer)
     (total SubEntries id m + total Sponsoring id m) k 4294967295
     (λ is. subst (λ x. HasRoom m x k) (same_account owner id is) owner_room)
     (λ is. (room id (this_is id payer is)).0)

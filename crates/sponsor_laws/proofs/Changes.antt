@@ -22,7 +22,7 @@ use Rattle.sponsor_rules.specs.declared.count.Count.TheVariants.{SubEntries, Spo
 use Rattle.entry_slots.specs.Accounts.{account_in, account_of, account_at, with_account, with_account_of}
 use Rattle.entry_slots.specs.Accounts.{with_account_in}
 use Rattle.sponsor_rules.specs.Counting.{count_in, with_more, with_less}
-use Rattle.sponsor_rules.specs.Payers.{is_account}
+use Rattle.sponsor_rules.specs.Payers.{is_same_account}
 use Rattle.sponsor_laws.specs.Sums.{total, counted_for}
 use Rattle.sponsor_laws.proofs.Totals.{part_of, sum_in-insert}
 use Rattle.sponsor_rules.proofs.Ids.{is_itself}
@@ -179,7 +179,7 @@ module _ (p q p' q' : Shift) (id : AccountId) (f : AccountEntry → AccountEntry
       → IsShiftedAccount p q was account → IsShiftedAccount p' q' was (f account)
 
   abbrev pub AgreeElsewhere : Type 0
-  AgreeElsewhere = (i : AccountId) → is_account id i ≡ false → (count : Count)
+  AgreeElsewhere = (i : AccountId) → is_same_account id i ≡ false → (count : Count)
       → (p' count i ≡ p count i) × (q' count i ≡ q count i)
 
   moved_bodies : (x : LedgerEntryBody) (a : AccountEntry) → Moves → key_of_body x ≡ key.Account id
@@ -290,10 +290,10 @@ instead_none at other = refl
 
 pub here : (count other : Count) (k : ℕ) (id i : AccountId) → i ≡ id
     → at_one count k id other i ≡ instead count other k 0
-here count other k id i same = ap (λ t. instead count other (if t then k else 0) 0) (ap (is_account id) same
+here count other k id i same = ap (λ t. instead count other (if t then k else 0) 0) (ap (is_same_account id) same
     ∙ is_itself id)
 
-pub elsewhere_none : (count other : Count) (k : ℕ) (id i : AccountId) → is_account id i ≡ false
+pub elsewhere_none : (count other : Count) (k : ℕ) (id i : AccountId) → is_same_account id i ≡ false
     → at_one count k id other i ≡ 0
 elsewhere_none count other k id i apart = ap (λ t. instead count other (if t then k else 0) 0) apart
     ∙ instead_none count other

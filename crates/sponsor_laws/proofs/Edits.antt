@@ -18,7 +18,7 @@ use Rattle.entry_slots.specs.Accounts.{account_in, with_account, HasAccount}
 use Rattle.entry_slots.specs.EntrySponsor.{sponsor_of}
 use Rattle.sponsor_rules.specs.Charge.{multiplicity, owner_of}
 use Rattle.sponsor_rules.specs.Counting.{count_in}
-use Rattle.sponsor_rules.specs.Payers.{is_account}
+use Rattle.sponsor_rules.specs.Payers.{is_same_account}
 use Rattle.sponsor_laws.specs.Sums.{HasItems, is_this, is_there, signer_sponsors, total, counted_for}
 use Rattle.sponsor_laws.proofs.Totals.{part_of}
 use Rattle.sponsor_rules.proofs.Ids.{is_itself}
@@ -133,9 +133,9 @@ named_stands old xs more s i le new before has = stands_or_not (HasAccount old i
 
 -- the own part of an account with these signers' sponsors
 abbrev pub signed : Count → AccountId → AccountId → ℕ → List (Option AccountId) → ℕ
-signed SubEntries i id n xs = if is_account id i then n else 0
+signed SubEntries i id n xs = if is_same_account id i then n else 0
 signed Sponsoring i id n xs = count_by (is_this i) xs
-signed Sponsored i id n xs = if is_account id i then count_by is_there xs else 0
+signed Sponsored i id n xs = if is_same_account id i then count_by is_there xs else 0
 
 pub own_signed : (count : Count) (i : AccountId) (a : AccountEntry)
     → own_part count i (body.Account a) ≡ signed count i a.account_id (length a.signers) (signer_sponsors a)
@@ -159,12 +159,13 @@ pub signed_more : (count : Count) (i id : AccountId) (n m : ℕ) (xs more : List
     → ((f : Option AccountId → ℕ) → sum_by f more ≡ sum_by f xs + f s)
     → signed count i id m more ≡ signed count i id n xs +
     (at_one SubEntries 1 id count i + share count i 1 (Some id) s)
-signed_more SubEntries i id n m xs more s one sums = let is = one_more_if (is_account id i) n m 1 one in omega arith
+signed_more SubEntries i id n m xs more s one sums = let is = one_more_if (is_same_account id i) n m 1 one in
+    omega arith
 signed_more Sponsoring i id n m xs more s one sums = let is = sums (λ o. cond (is_this i o) 1 0) in omega arith
 signed_more Sponsored i id n m xs more s one sums =
-    let is = one_more_if (is_account id i) (count_by is_there xs) (count_by is_there more) (cond (is_there s) 1 0)
+    let is = one_more_if (is_same_account id i) (count_by is_there xs) (count_by is_there more) (cond (is_there s) 1 0)
     (sums (λ o. cond (is_there o) 1 0)) in
-    let other = turned (is_account id i) (is_there s) 1 in
+    let other = turned (is_same_account id i) (is_there s) 1 in
     omega arith
 
 -- a signer that had the sponsor s has the sponsor t
@@ -174,10 +175,11 @@ pub signed_other : (count : Count) (i id : AccountId) (n : ℕ) (xs more : List 
 signed_other SubEntries i id n xs more s t sums = refl
 signed_other Sponsoring i id n xs more s t sums = sums (λ o. cond (is_this i o) 1 0)
 signed_other Sponsored i id n xs more s t sums =
-    let old = one_more_if (is_account id i) (count_by is_there more) (count_by is_there more + cond (is_there s) 1 0)
+    let old =
+    one_more_if (is_same_account id i) (count_by is_there more) (count_by is_there more + cond (is_there s) 1 0)
     (cond (is_there s) 1 0) refl in
-    let new = one_more_if (is_account id i) (count_by is_there xs) (count_by is_there more + cond (is_there s) 1 0)
+    let new = one_more_if (is_same_account id i) (count_by is_there xs) (count_by is_there more + cond (is_there s) 1 0)
     (cond (is_there t) 1 0) (sums (λ o. cond (is_there o) 1 0)) in
-    let first = turned (is_account id i) (is_there s) 1 in
-    let second = turned (is_account id i) (is_there t) 1 in
+    let first = turned (is_same_account id i) (is_there s) 1 in
+    let second = turned (is_same_account id i) (is_there t) 1 in
     omega arith

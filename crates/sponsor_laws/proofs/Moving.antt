@@ -20,7 +20,7 @@ use Rattle.entry_slots.specs.Tests.{unless_first}
 use Rattle.sponsor_rules.specs.Charge.{charge_of, line_multiplicity, multiplicity, owner_of}
 use Rattle.sponsor_rules.specs.Counting.{count_in}
 use Rattle.sponsor_rules.specs.Paying.{map_after_releasing, map_after_exchange}
-use Rattle.sponsor_rules.specs.Payers.{is_account, other_than, payer_tests, move_tests}
+use Rattle.sponsor_rules.specs.Payers.{is_same_account, other_than, payer_tests_at, move_tests_at}
 use Rattle.sponsor_rules.specs.Moving.{map_with_other_payer, map_with_sponsor, recorded_in, map_after_moving_between}
 use Rattle.sponsor_rules.specs.Moving.{map_after_moving_owned, map_after_moving_balance, map_after_moving_by}
 use Rattle.sponsor_rules.specs.Moving.{map_after_moving_entry}
@@ -40,12 +40,12 @@ use Rattle.sponsor_laws.proofs.Bounds.{done_by, payer_passed, has_room, pays_mor
 pub other_is : (owner : AccountId) (payer : Option AccountId) (s : AccountId) → other_than owner payer ≡ Some s
     → payer ≡ Some s
 other_is owner None s is = is
-other_is owner (Some payer) s is = elim (is_account payer owner) as (λ b. (if b then None else Some payer) ≡ Some s
+other_is owner (Some payer) s is = elim (is_same_account payer owner) as (λ b. (if b then None else Some payer) ≡ Some s
     → Some payer ≡ Some s) [ true ↦ λ none. absurd (cc) | false ↦ λ same. same ] is
 
 pub room_of : (old : EntryMap) → IsEven old → (ctx : Ctx) (owner : AccountId) (s : Option AccountId) (n : ℕ)
     (after new : EntryMap) → ((id : AccountId) → s ≡ Some id → HasAccount old id)
-    → unless_first (move_tests ctx old owner s n) after ≡ Ok new
+    → unless_first (move_tests_at ctx old owner s n) after ≡ Ok new
     → (id : AccountId) → s ≡ Some id → HasRoom old id n
 room_of old h ctx owner None n after new stands done id is = absurd (cc)
 room_of old h ctx owner (Some payer) n after new stands done id is = let same : payer ≡ id = cc in
@@ -133,7 +133,7 @@ module _ (old : EntryMap) (h : IsEven old) (k : LedgerKey) (e : LedgerEntry) (th
 
   between_done : (ctx : Ctx) (owner : AccountId) (n : ℕ) (was s : Option AccountId) (new : EntryMap)
       → (AreNone was s → ⊥) → map_after_moving_between ctx k owner n was s old ≡ Ok new
-      → unless_first (move_tests ctx old owner s n) (map_with_sponsor k s (map_with_other_payer owner n was s old))
+      → unless_first (move_tests_at ctx old owner s n) (map_with_sponsor k s (map_with_other_payer owner n was s old))
       ≡ Ok new
   between_done ctx owner n None None new some done = absurd (some (refl, refl))
   between_done ctx owner n was s new some done = done
@@ -156,7 +156,7 @@ module _ (old : EntryMap) (h : IsEven old) (k : LedgerKey) (e : LedgerEntry) (th
         | inl none ↦ subst IsEven (none_done ctx owner n (sponsor_of e) s new none.0 none.1 done) h
         | inr some ↦
             let tested = between_done ctx owner n (sponsor_of e) s new some.0 done in
-            subst IsEven (done_by (move_tests ctx old owner s n) after new tested)
+            subst IsEven (done_by (move_tests_at ctx old owner s n) after new tested)
             (moved_between owner n s owns times stand (room_of old h ctx owner s n after new stand tested) some.1)
       ]
 
@@ -178,7 +178,7 @@ module _ (old : EntryMap) (h : IsEven old) (k : LedgerKey) (e : LedgerEntry) (th
       let second = shifted_raise no_shift q Sponsoring n payer old (map_after_releasing n was old) h.own first in
       let m = map_after_exchange n was (Some payer) old in
       let over = payer_passed ctx old payer n (map_with_sponsor k (Some payer) m) new done in
-      subst IsEven (done_by (payer_tests ctx old payer n) (map_with_sponsor k (Some payer) m) new done)
+      subst IsEven (done_by (payer_tests_at ctx old payer n) (map_with_sponsor k (Some payer) m) new done)
       (moved_to (plus no_shift (at_one Sponsoring n payer)) q m (Some payer) second
       (λ count id.
       let before : share count id (multiplicity e.body) (owner_of e.body) was ≡ share count id n None was =

@@ -14,7 +14,7 @@ use Rattle.entry_slots.specs.AccountExtensions.{signer_sponsor}
 use Rattle.sponsor_rules.specs.Counting.{count_in, with_less}
 use Rattle.entry_slots.specs.Tests.{unless_first}
 use Rattle.sponsor_rules.specs.Paying.{map_after_releasing, map_after_exchange, with_other_payer}
-use Rattle.sponsor_rules.specs.Payers.{other_than, move_tests}
+use Rattle.sponsor_rules.specs.Payers.{other_than, move_tests_at}
 use Rattle.sponsor_rules.specs.Moving.{map_with_other_payer}
 use Rattle.sponsor_rules.specs.SignerPlace.{found_at, place_of, with_signer_sponsor, found_signer}
 use Rattle.sponsor_rules.specs.Signers.{map_after_moving_found, map_after_moving_signer_between, with_moved_signer}
@@ -128,7 +128,7 @@ module _ (old : EntryMap) (h : IsEven old) (id : AccountId) (a : AccountEntry) (
 
   between_done : (ctx : Ctx) (s t : Option AccountId) (new : EntryMap) → (AreNone s t → ⊥)
       → map_after_moving_signer_between ctx id place s t old ≡ Ok new
-      → unless_first (move_tests ctx old id t 1) (with_account (map_after_exchange 1 s t old) id
+      → unless_first (move_tests_at ctx old id t 1) (with_account (map_after_exchange 1 s t old) id
       (with_moved_signer place s t)) ≡ Ok new
   between_done ctx None None new some done = absurd (some (refl, refl))
   between_done ctx s t new some done = done
@@ -142,7 +142,7 @@ module _ (old : EntryMap) (h : IsEven old) (id : AccountId) (a : AccountEntry) (
         | inl none ↦ subst IsEven (none_done ctx s t new none.0 none.1 done) h
         | inr some ↦
             let tested = between_done ctx s t new some.0 done in
-            subst IsEven (done_by (move_tests ctx old id t 1) after new tested)
+            subst IsEven (done_by (move_tests_at ctx old id t 1) after new tested)
             (moved_between t payer (room_of old h ctx id t 1 after new payer tested) some.1)
       ]
 

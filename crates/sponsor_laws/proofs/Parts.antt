@@ -24,7 +24,7 @@ use Rattle.sponsor_rules.specs.declared.count.Count.TheVariants.{SubEntries, Spo
 use Rattle.entry_slots.specs.Accounts.{account_in}
 use Rattle.entry_slots.specs.EntrySponsor.{sponsor_of}
 use Rattle.sponsor_rules.specs.Charge.{line_multiplicity, multiplicity, owner_of}
-use Rattle.sponsor_rules.specs.Payers.{is_account}
+use Rattle.sponsor_rules.specs.Payers.{is_same_account}
 use Rattle.sponsor_laws.specs.Sums.{is_this, is_there, signer_sponsors, subentries_for, total, counted_for}
 use Rattle.sponsor_rules.proofs.Ids.{is_itself}
 use Rattle.sponsor_laws.proofs.Accounts.{share, own_part, counted_split}
@@ -141,14 +141,14 @@ share_nothing Sponsoring id owner sponsor = nothing_if (is_this id sponsor) 0 re
 share_nothing Sponsored id owner sponsor = nothing_if (is_there sponsor) _ (nothing_if (is_this id owner) 0 refl)
 
 pub share_of_others : (count : Count) (id owner : AccountId) (k : ℕ) (sponsor : Option AccountId)
-    → is_account owner id ≡ false → share count id k (Some owner) sponsor ≡ share count id k None sponsor
+    → is_same_account owner id ≡ false → share count id k (Some owner) sponsor ≡ share count id k None sponsor
 share_of_others SubEntries id owner k sponsor apart = refl
 share_of_others Sponsoring id owner k sponsor apart = refl
 share_of_others Sponsored id owner k sponsor apart = ap
     (λ t. if is_there sponsor then (if t then k else 0) else 0) apart
 
 pub bare_part : (count : Count) (id : AccountId) (account : AccountEntry) → signer_sponsors account ≡ []
-    → is_account account.account_id id ≡ false → own_part count id (body.Account account) ≡ 0
+    → is_same_account account.account_id id ≡ false → own_part count id (body.Account account) ≡ 0
 bare_part SubEntries id account none apart = ap (λ t. if t then length account.signers else 0) apart
 bare_part Sponsoring id account none apart = ap (count_by (is_this id)) none
 bare_part Sponsored id account none apart = ap (λ t. if t then count_by is_there (signer_sponsors account) else 0) apart

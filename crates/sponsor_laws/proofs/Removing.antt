@@ -19,8 +19,8 @@ use Rattle.entry_slots.specs.Accounts.{account_in, HasAccount}
 use Rattle.entry_slots.specs.EntrySponsor.{sponsor_of}
 use Rattle.sponsor_rules.specs.Charge.{charge_of, line_multiplicity, multiplicity, owner_of}
 use Rattle.sponsor_rules.specs.Paying.{map_after_releasing}
-use Rattle.sponsor_rules.specs.Payers.{is_account}
-use Rattle.sponsor_rules.specs.Removing.{map_after_discounting, map_after_release, map_after_removing_entry}
+use Rattle.sponsor_rules.specs.Payers.{is_same_account}
+use Rattle.sponsor_rules.specs.Removing.{map_after_discounting, map_without_charge, map_after_removing_entry}
 use Rattle.sponsor_laws.specs.Sums.{signer_sponsors, subentries_for, total, counted_for}
 use Rattle.sponsor_laws.specs.Laws.{AreKept, IsRemovable, IsBare, RemovingKeeps}
 use Rattle.sponsor_rules.proofs.Ids.{is_itself}
@@ -137,7 +137,8 @@ module _ (old : EntryMap) (h : IsEven old) (k : LedgerKey) (e : LedgerEntry) (th
         (account_of_entry old x y n.account h.own at n.is) n.sponsor
 
     -- an account that still stands is another one
-    another : (m : EntryMap) (id : AccountId) → HasAccount (erase m k) id → is_account account.account_id id ≡ false
+    another : (m : EntryMap) (id : AccountId) → HasAccount (erase m k) id
+        → is_same_account account.account_id id ≡ false
     another m id stands = apart_ids account.account_id id (λ same.
         let entry = account_entry (erase m k) id stands.0 stands.1 in
         let gone : get (erase m k) (key.Account id) ≡ None = ap (get (erase m k)) (ap key.Account (sym same)
@@ -171,7 +172,7 @@ module _ (old : EntryMap) (h : IsEven old) (k : LedgerKey) (e : LedgerEntry) (th
 -- ---- all kinds
 
 removed_by : (old : EntryMap) (k : LedgerKey) (e : LedgerEntry) (b : LedgerEntryBody) → e.body ≡ b → IsEven old
-    → get old k ≡ Some e → IsRemovable k old → IsEven (erase (map_after_release (charge_of b) (sponsor_of e) old) k)
+    → get old k ≡ Some e → IsRemovable k old → IsEven (erase (map_without_charge (charge_of b) (sponsor_of e) old) k)
 removed_by old k e (body.Account account) is h there removable =
     removed_account old h k e there account is (removable e account there (ap account_in is))
 removed_by old k e (body.ClaimableBalance balance) is h there removable = removed_balance old h k e there balance is

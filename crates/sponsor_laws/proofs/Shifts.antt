@@ -16,7 +16,7 @@ use Rattle.entry_slots.specs.Accounts.{account_in}
 use Rattle.entry_slots.specs.EntrySponsor.{sponsor_of}
 use Rattle.sponsor_rules.specs.Charge.{multiplicity, owner_of}
 use Rattle.sponsor_rules.specs.Counting.{count_in}
-use Rattle.sponsor_rules.specs.Payers.{is_account}
+use Rattle.sponsor_rules.specs.Payers.{is_same_account}
 use Rattle.sponsor_laws.specs.Sums.{total, counted_for}
 use Rattle.sponsor_rules.proofs.Ids.{same_account}
 use Rattle.sponsor_laws.proofs.Accounts.{KeepsParts, keeps_all, instead, share, own_part, own_part-keeps, counted_split}
@@ -29,7 +29,7 @@ Shift = Count → AccountId → ℕ
 
 -- k at one count of one account
 abbrev pub at_one : Count → ℕ → AccountId → Shift
-at_one count k id other i = instead count other (if is_account id i then k else 0) 0
+at_one count k id other i = instead count other (if is_same_account id i then k else 0) 0
 
 abbrev pub plus : Shift → Shift → Shift
 plus p q count i = p count i + q count i
@@ -112,8 +112,8 @@ module _ (p q : Shift) where
   account_after (body.Account a) other account h is = absurd h
   account_after other b account h is = absurd (cc)
 
-pub apart_ids : (id i : AccountId) → (id ≡ i → ⊥) → is_account id i ≡ false
-apart_ids id i apart = elim (is_account id i) as (λ b. is_account id i ≡ b
+pub apart_ids : (id i : AccountId) → (id ≡ i → ⊥) → is_same_account id i ≡ false
+apart_ids id i apart = elim (is_same_account id i) as (λ b. is_same_account id i ≡ b
     → b ≡ false) [ true ↦ λ h. absurd (apart (same_account id i h)) | false ↦ λ h. refl ] refl
 
 entries_of : (p q : Shift) (x y : Option LedgerEntry) (e : LedgerEntry) → Alike p q x y → x ≡ Some e

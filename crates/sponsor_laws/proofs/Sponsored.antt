@@ -15,7 +15,7 @@ use Rattle.sponsor_rules.specs.declared.count.Count.TheVariants.{SubEntries, Spo
 use Rattle.entry_slots.specs.Accounts.{account_in}
 use Rattle.entry_slots.specs.EntrySponsor.{sponsor_of}
 use Rattle.sponsor_rules.specs.Charge.{multiplicity, owner_of}
-use Rattle.sponsor_rules.specs.Payers.{is_account}
+use Rattle.sponsor_rules.specs.Payers.{is_same_account}
 use Rattle.sponsor_laws.specs.Sums.{HasItems, is_this, is_there, signer_sponsors, subentries_for, sponsored_signers}
 use Rattle.sponsor_laws.specs.Sums.{counted_for, total}
 use Rattle.sponsor_laws.specs.Laws.{SponsoredAtMost}
@@ -44,7 +44,7 @@ paid_at_most id e = let le = only_if (is_there (sponsor_of e))
 -- each of an account's signers has one who pays, or none
 signers_at_most : (id : AccountId) (account : AccountEntry) → HasItems account
     → sponsored_signers id (body.Account account) ≤ subentries_for id (body.Account account)
-signers_at_most id account items = if_at_most (is_account account.account_id id)
+signers_at_most id account items = if_at_most (is_same_account account.account_id id)
     (count_by is_there (signer_sponsors account)) (length account.signers)
     (let le = count_by-le-length is_there (signer_sponsors account) in let same = as_many account items in omega arith)
 
@@ -55,7 +55,7 @@ account_at_most id e account items is =
     let paid = paid_at_most id e in
     let own : (if is_this id (owner_of e.body) then multiplicity e.body else 0) ≤ 2 =
     subst (λ b. (if is_this id (owner_of b) then multiplicity b else 0) ≤ 2) (sym is)
-    (only_if (is_account account.account_id id) 2) in
+    (only_if (is_same_account account.account_id id) 2) in
     let signers : sponsored_signers id e.body ≤ subentries_for id e.body =
     subst (λ b. sponsored_signers id b ≤ subentries_for id b) (sym is) (signers_at_most id account items) in
     omega arith
@@ -65,8 +65,10 @@ body_at_most : (id : AccountId) (b : LedgerEntryBody)
     → ((account : AccountEntry) → account_in b ≡ Some account → account.account_id ≢ id)
     → (if is_this id (owner_of b) then multiplicity b else 0) + sponsored_signers id b ≤ subentries_for id b
 body_at_most id (body.Account account) another =
-    let apart : is_account account.account_id id ≡ false = apart_ids account.account_id id (another account refl) in
-    let own : ◌≡◌ {A = ℕ} (if is_account account.account_id id then 2 else 0) 0 = ap (λ t. if t then 2 else 0) apart in
+    let apart : is_same_account account.account_id id ≡ false =
+    apart_ids account.account_id id (another account refl) in
+    let own : ◌≡◌ {A = ℕ} (if is_same_account account.account_id id then 2 else 0) 0 =
+    ap (λ t. if t then 2 else 0) apart in
     let signers = sponsored_none id (body.Account account) apart in
     omega arith
 body_at_most id other another = omega arith

@@ -17,7 +17,7 @@ use Rattle.entry_slots.specs.AccountExtensions.{second_in, sponsorship_of}
 use Rattle.entry_slots.specs.EntrySponsor.{sponsor_of}
 use Rattle.sponsor_rules.specs.Charge.{multiplicity, owner_of}
 use Rattle.sponsor_rules.specs.Counting.{count_in}
-use Rattle.sponsor_rules.specs.Payers.{is_account}
+use Rattle.sponsor_rules.specs.Payers.{is_same_account}
 use Rattle.sponsor_rules.specs.declared.count.Count.{Count}
 use Rattle.sponsor_rules.specs.declared.count.Count.TheVariants.{SubEntries, Sponsoring, Sponsored}
 
@@ -26,7 +26,7 @@ use Rattle.sponsor_rules.specs.declared.count.Count.TheVariants.{SubEntries, Spo
 -- an account that may be missing is this one
 abbrev pub is_this : AccountId → Option AccountId → Bool
 is_this id None = false
-is_this id (Some other) = is_account other id
+is_this id (Some other) = is_same_account other id
 
 abbrev pub is_there : Option AccountId → Bool
 is_there None = false
@@ -39,12 +39,12 @@ signer_sponsors account = (sponsorship_of account).signer_sponsoring_ids
 -- A line, an offer or data counts as often as its multiplicity for its owner, and an account's signers for it once
 -- each.
 abbrev pub subentries_for : AccountId → LedgerEntryBody → ℕ
-subentries_for id (body.Account account) = if is_account account.account_id id then length account.signers else 0
+subentries_for id (body.Account account) = if is_same_account account.account_id id then length account.signers else 0
 subentries_for id other = if is_this id (owner_of other) then multiplicity other else 0
 
 -- how many reserves of signers others pay for this account
 abbrev pub sponsored_signers : AccountId → LedgerEntryBody → ℕ
-sponsored_signers id (body.Account account) = if is_account account.account_id id then count_by is_there
+sponsored_signers id (body.Account account) = if is_same_account account.account_id id then count_by is_there
     (signer_sponsors account) else 0
 sponsored_signers id other = 0
 

@@ -4,7 +4,8 @@ use Rattle.entry_map.specs.EntryMap.{EntryMap}
 use Rattle.entry_map.specs.Undo.{Undo}
 use Rattle.entry_slots.specs.Tests.{Tests, first_fault, unless_fault, unless_first}
 use Rattle.sponsor_rules.specs.declared.fault.AddFault.{AddFault}
-use Rattle.sponsor_rules.specs.declared.fault.AddFault.TheVariants.{TooManySubentries, TooManySponsoring, LowReserve}
+use Rattle.sponsor_rules.specs.declared.fault.AddFault.TheVariants.{TooManySubentries, TooManySponsoring}
+use Rattle.sponsor_rules.specs.declared.fault.AddFault.TheVariants.{LowReserve}
 use Rattle.sponsor_rules.specs.declared.fault.AddFault.TheVariants.{NoMemory}
 use Rattle.sponsor_rules.specs.Outcome.{IsRefused, IsFound}
 

@@ -19,7 +19,8 @@ use Rattle.sponsor_rules.specs.declared.fault.AddFault.TheVariants.{LowReserve}
 use Rattle.sponsor_rules.specs.Charge.{charge_of}
 use Rattle.sponsor_rules.specs.Counting.{with_more}
 use Rattle.sponsor_rules.specs.Paying.{map_after_charging, with_subentry}
-use Rattle.sponsor_rules.specs.Payers.{open_sponsor, payer_of, payer_tests, subentry_tests, IsReady, IsReadyAccount}
+use Rattle.sponsor_rules.specs.Payers.{open_sponsor, payer_of, payer_tests_at, subentry_tests_at, IsReady}
+use Rattle.sponsor_rules.specs.Payers.{IsReadyAccount}
 
 -- an entry that is added; one without a sponsor stays as it is
 abbrev pub sponsored_entry : Option AccountId → LedgerEntry → LedgerEntry
@@ -35,29 +36,31 @@ sponsored_account_entry sponsor entry account =
 abbrev pub own_tests : Ctx → AccountEntry → Tests AddFault
 own_tests ctx account = (is_lt (int_cmp account.balance (pos (2 * ctx.base_reserve))), LowReserve) ∷ []
 
--- An account pays two reserves out of its own balance, or a sponsor pays them.
+-- An account without a sponsor has to have two reserves in its own balance; else a sponsor pays them.
 abbrev pub map_after_adding_account : Ctx → LedgerEntry → AccountEntry → Option AccountId → EntryMap
     → Result EntryMap AddFault
 map_after_adding_account ctx entry account None m = unless_first (own_tests ctx account) (put m entry)
 map_after_adding_account ctx entry account (Some sponsor) m =
-    unless_first (payer_tests ctx m sponsor 2)
+    unless_first (payer_tests_at ctx m sponsor 2)
     (put (map_after_charging 2 (Some sponsor) m) (sponsored_account_entry sponsor entry account))
 
 -- The payer of a claimable balance is always recorded.
 abbrev pub map_after_adding_balance : Ctx → LedgerEntry → AccountId → ℕ → EntryMap → Result EntryMap AddFault
 map_after_adding_balance ctx entry payer k m =
-    unless_first (payer_tests ctx m payer k) (put (map_after_charging k (Some payer) m)
+    unless_first (payer_tests_at ctx m payer k) (put (map_after_charging k (Some payer) m)
     (with_sponsor (Some payer) entry))
 
 -- the map with the counts of a subentry's owner and of its sponsor
 abbrev pub map_after_counting : AccountId → ℕ → Option AccountId → EntryMap → EntryMap
 map_after_counting owner k sponsor m = with_account (map_after_charging k sponsor m) owner (with_subentry k sponsor)
 
+-- the map after a line, an offer or data is added, or the fault of the first test that holds
 abbrev pub map_after_adding_subentry : Ctx → LedgerEntry → AccountId → ℕ → EntryMap → Result EntryMap AddFault
 map_after_adding_subentry ctx entry owner k m =
-    unless_first (subentry_tests ctx m owner k)
+    unless_first (subentry_tests_at ctx m owner k)
     (put (map_after_counting owner k (open_sponsor ctx owner) m) (sponsored_entry (open_sponsor ctx owner) entry))
 
+-- the map after an account is added, where what charges itself is one
 abbrev pub map_after_adding_own : Ctx → LedgerEntry → Option AccountEntry → Option AccountId → EntryMap
     → Result EntryMap AddFault
 map_after_adding_own ctx entry None sponsor m = Ok m
@@ -73,10 +76,13 @@ map_after_adding_by ctx owner entry (charge.Payer k) account m =
     map_after_adding_balance ctx entry (payer_of ctx owner) k m
 map_after_adding_by ctx owner entry charge.Nobody account m = Ok (put m entry)
 
+-- The map after an entry is added, or the fault of the first test that holds. The owner is the account whose open
+-- sponsorship pays.
 abbrev pub map_after_adding : Ctx → AccountId → LedgerEntry → EntryMap → Result EntryMap AddFault
 map_after_adding ctx owner entry m = map_after_adding_by ctx owner entry (charge_of entry.body)
     (account_in entry.body) m
 
+-- an account that is added is ready
 abbrev pub IsReadyToAdd : Option AccountEntry → Type 0
 IsReadyToAdd None = Unit {0}
 IsReadyToAdd (Some account) = IsReadyAccount account

@@ -32,7 +32,7 @@ KeepsOtherCounts count was account = (other : Count) → other ≢ count → cou
 abbrev pub RaisesNoCount : (was account : AccountEntry) → Type 0
 RaisesNoCount was account = (count : Count) → count_in count account ≤ count_in count was
 
--- k reserves of an account, if it stands, can be added to its subentries, and a sponsor's to those that others pay
+-- an owner's counts of subentries and of sponsored reserves can each take k more in 32 bits
 pub record FitsSubentry (k : ℕ) (owner : Option AccountEntry) : Type 0 where
   pub subentries : count_if SubEntries owner + k < 2 ^ 32
   pub sponsored : count_if Sponsored owner + k < 2 ^ 32
@@ -43,7 +43,7 @@ pub record FitsSubentry (k : ℕ) (owner : Option AccountEntry) : Type 0 where
 abbrev pub IsChanged : (AccountEntry → AccountEntry → Type 0) → EntryMap → AccountId → AccountEntry → Type 0
 IsChanged R m id account = (was : AccountEntry) → account_at m id ≡ Some was → R was account
 
--- an account that is to stand under an id in place of the one that stands, whose means it has
+-- an account with the means of the one that stands under the id, to be stored in its place
 pub record IsChangeOf (m : EntryMap) (id : AccountId) (account : AccountEntry) : Type 0 where
   pub was : AccountEntry
   pub stands : account_at m id ≡ Some was

@@ -14,7 +14,7 @@ use Rattle.sponsor_rules.specs.declared.context.Ctx.{Ctx}
 use Rattle.sponsor_rules.specs.declared.fault.AddFault.{AddFault}
 use Rattle.sponsor_rules.specs.Charge.{charge_of}
 use Rattle.sponsor_rules.specs.Paying.{map_after_exchange, with_other_payer}
-use Rattle.sponsor_rules.specs.Payers.{other_than, payer_tests, move_tests}
+use Rattle.sponsor_rules.specs.Payers.{other_than, payer_tests_at, move_tests_at}
 
 abbrev pub recorded_in : EntryMap → Option AccountId → Option LedgerEntry → EntryMap
 recorded_in m sponsor None = m
@@ -35,20 +35,20 @@ abbrev pub map_after_moving_between : Ctx → LedgerKey → AccountId → ℕ �
     → Result EntryMap AddFault
 map_after_moving_between ctx key owner k None None m = Ok m
 map_after_moving_between ctx key owner k old new m =
-    unless_first (move_tests ctx m owner new k) (map_with_sponsor key new (map_with_other_payer owner k old new m))
+    unless_first (move_tests_at ctx m owner new k) (map_with_sponsor key new (map_with_other_payer owner k old new m))
 
--- to another payer, or to the owner
+-- the map after a thing that has an owner moves to another payer, or to its owner
 abbrev pub map_after_moving_owned : Ctx → LedgerKey → AccountId → ℕ → (old payer : Option AccountId) → EntryMap
     → Result EntryMap AddFault
 map_after_moving_owned ctx key owner k old payer m = map_after_moving_between ctx key owner k old
     (other_than owner payer) m
 
--- A claimable balance has no owner that could pay for it, so it moves only to a payer.
+-- A claimable balance names no owner, so it moves only to a payer.
 abbrev pub map_after_moving_balance : Ctx → LedgerKey → ℕ → (old payer : Option AccountId) → EntryMap
     → Result EntryMap AddFault
 map_after_moving_balance ctx key k old None m = Ok m
 map_after_moving_balance ctx key k old (Some payer) m =
-    unless_first (payer_tests ctx m payer k) (map_with_sponsor key (Some payer)
+    unless_first (payer_tests_at ctx m payer k) (map_with_sponsor key (Some payer)
     (map_after_exchange k old (Some payer) m))
 
 abbrev pub map_after_moving_by : Ctx → LedgerKey → Charge → (old payer : Option AccountId) → EntryMap

@@ -18,15 +18,15 @@ map_after_discounting owner k sponsor m = with_account (map_after_releasing k sp
     (without_subentry k sponsor)
 
 -- An account's own counts go with it.
-abbrev pub map_after_release : Charge → Option AccountId → EntryMap → EntryMap
-map_after_release (charge.Itself id) sponsor m = map_after_releasing 2 sponsor m
-map_after_release (charge.Subentry owner k) sponsor m = map_after_discounting owner k sponsor m
-map_after_release (charge.Payer k) sponsor m = map_after_releasing k sponsor m
-map_after_release charge.Nobody sponsor m = m
+abbrev pub map_without_charge : Charge → Option AccountId → EntryMap → EntryMap
+map_without_charge (charge.Itself id) sponsor m = map_after_releasing 2 sponsor m
+map_without_charge (charge.Subentry owner k) sponsor m = map_after_discounting owner k sponsor m
+map_without_charge (charge.Payer k) sponsor m = map_after_releasing k sponsor m
+map_without_charge charge.Nobody sponsor m = m
 
 abbrev pub map_after_removing_entry : LedgerKey → EntryMap → Option LedgerEntry → EntryMap
 map_after_removing_entry key m None = m
-map_after_removing_entry key m (Some entry) = erase (map_after_release (charge_of entry.body) (sponsor_of entry) m) key
+map_after_removing_entry key m (Some entry) = erase (map_without_charge (charge_of entry.body) (sponsor_of entry) m) key
 
 -- nothing changes where there is no such entry
 abbrev pub map_after_removing : LedgerKey → EntryMap → EntryMap

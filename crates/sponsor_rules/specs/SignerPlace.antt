@@ -14,7 +14,7 @@ use Rattle.sponsor_rules.specs.declared.signer_place.FoundSigner.{FoundSigner}
 
 -- ---- places
 
--- where a new signer stands: behind those with lower keys
+-- where a new signer stands: behind the signers at the front that have lower keys
 abbrev pub place_for : SignerKey → List Signer → ℕ
 place_for key signers = prefix_len (λ signer. is_lt (signer_key_cmp signer.key key)) signers
 

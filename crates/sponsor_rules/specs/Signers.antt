@@ -15,7 +15,7 @@ use Rattle.sponsor_rules.specs.declared.fault.AddFault.{AddFault}
 use Rattle.sponsor_rules.specs.declared.signer_place.FoundSigner.{FoundSigner}
 use Rattle.sponsor_rules.specs.Paying.{map_after_charging, map_after_releasing, map_after_exchange, with_subentry}
 use Rattle.sponsor_rules.specs.Paying.{without_subentry, with_other_payer}
-use Rattle.sponsor_rules.specs.Payers.{open_sponsor, other_than, subentry_tests, move_tests}
+use Rattle.sponsor_rules.specs.Payers.{open_sponsor, other_than, subentry_tests_at, move_tests_at}
 use Rattle.sponsor_rules.specs.SignerPlace.{found_signer, with_signer, without_signer, with_signer_sponsor}
 
 -- ---- adding
@@ -30,7 +30,7 @@ map_with_signer id signer sponsor m = with_account (map_after_charging 1 sponsor
 
 abbrev pub map_after_adding_signer : Ctx → AccountId → Signer → EntryMap → Result EntryMap AddFault
 map_after_adding_signer ctx id signer m =
-    unless_first (subentry_tests ctx m id 1) (map_with_signer id signer (open_sponsor ctx id) m)
+    unless_first (subentry_tests_at ctx m id 1) (map_with_signer id signer (open_sponsor ctx id) m)
 
 -- ---- removing
 
@@ -62,7 +62,7 @@ abbrev pub map_after_moving_signer_between : Ctx → AccountId → ℕ → (old 
     → Result EntryMap AddFault
 map_after_moving_signer_between ctx id place None None m = Ok m
 map_after_moving_signer_between ctx id place old new m =
-    unless_first (move_tests ctx m id new 1) (with_account (map_after_exchange 1 old new m) id
+    unless_first (move_tests_at ctx m id new 1) (with_account (map_after_exchange 1 old new m) id
     (with_moved_signer place old new))
 
 abbrev pub map_after_moving_found : Ctx → AccountId → Option AccountId → EntryMap → Option FoundSigner

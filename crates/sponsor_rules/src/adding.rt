@@ -18,7 +18,7 @@ use crate::counting::raise;
 use crate::fault::AddFault;
 use crate::owner::gain_subentry;
 use crate::payers::{open_sponsor, payer_by, payer_fault};
-use crate::paying::{charge_payer, pay_for_subentry};
+use crate::paying::{pay_for_subentry, raise_sponsoring};
 use crate::stored::{load, put_entry, store_changed};
 use entry_map::{Base, Entries};
 use entry_slots::{AccountSlot, account_slot_in, set_sponsor, store_account};
@@ -26,8 +26,9 @@ use ledger_types::{AccountId, LedgerEntry, LedgerEntryExtensionV1};
 use std::alloc::AllocError;
 
 /// Adds an entry, for which its owner or that account's open sponsor pays: the counts change, and a sponsor is recorded
-/// in the entry. The `owner` of a claimable balance is the account that makes it. A pool is put without payer. Where it
-/// answers one of the first three faults, nothing has changed.
+/// in the entry. `owner` is the account whose open sponsorship pays: of an account that account itself, of a subentry
+/// the account that has it, of a claimable balance the account that makes it. A pool is put without payer. Where it
+/// answers a fault other than `NoMemory`, nothing has changed.
 pub fn add_entry<B: Base>(
     entries: &mut Entries<'_, B>,
     ctx: &Ctx,
@@ -42,6 +43,7 @@ pub fn add_entry<B: Base>(
 {
     match charge_of(&entry.body) {
         Charge::Itself { owner: _ } => match account_slot_in(entry) {
+            // Only an account charges itself, so this doesn't occur.
             None => Ok(()),
             Some(slot) => add_account(entries, ctx, owner, slot),
         },
@@ -89,13 +91,13 @@ fn add_subentry<B: Base>(
 {
     let sponsor = open_sponsor(ctx, owner);
     let slot = pay_for_subentry(entries, ctx, owner, &sponsor, count)?;
-    count_subentry(entries, count, owner, slot, &sponsor)?;
+    count_for_owner(entries, count, owner, slot, &sponsor)?;
     put_entry(entries, sponsored_entry(sponsor, entry))?;
     Ok(())
 }
 
 /// Counts a subentry more for its owner. `slot` is what stands under the owner's id.
-fn count_subentry<B: Base>(
+fn count_for_owner<B: Base>(
     entries: &mut Entries<'_, B>,
     by: u64,
     owner: &AccountId,
@@ -135,12 +137,13 @@ fn add_balance<B: Base>(
     if let Some(fault) = payer_fault(ctx.base_reserve, &slot, count) {
         return Err(fault);
     }
-    charge_payer(entries, count, &payer, slot)?;
+    raise_sponsoring(entries, count, &payer, slot)?;
     put_entry(entries, sponsored_entry(Some(payer), entry))?;
     Ok(())
 }
 
-/// Adds an account. Where it has no sponsor it pays two reserves out of its own balance.
+/// Adds an account. Without a sponsor its balance has to hold two reserves: a new account has no liabilities and no
+/// counts, so what is available isn't asked.
 fn add_account<B: Base>(
     entries: &mut Entries<'_, B>,
     ctx: &Ctx,
@@ -181,7 +184,7 @@ fn add_sponsored_account<B: Base>(
     if let Some(fault) = payer_fault(ctx.base_reserve, &payer, 2) {
         return Err(fault);
     }
-    charge_payer(entries, 2, sponsor, payer)?;
+    raise_sponsoring(entries, 2, sponsor, payer)?;
     let slot = sponsored_account(sponsor, slot)?;
     put_account(entries, slot)?;
     Ok(())

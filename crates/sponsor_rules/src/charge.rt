@@ -18,7 +18,7 @@ pub enum Charge {
     Nobody,
 }
 
-/// What a thing charges.
+/// What a thing charges, by its kind.
 pub fn charge_of(body: &LedgerEntryBody) -> Charge
     ensures { result ≡ spec.charge_of body.now }
 {

@@ -3,8 +3,8 @@
 use item_list::ItemList;
 use ledger_types::AccountId;
 
-/// A sponsorship that is open: `sponsor` pays the reserves of what `sponsored` adds (CAP-0033). No account is sponsored
-/// twice or by itself.
+/// A sponsorship that is open: `sponsor` pays the reserves of what `sponsored` adds (CAP-0033). That no account is
+/// sponsored twice or by itself is for the operations that open sponsorships; nothing here asks for it.
 #[derive(Clone, Copy)]
 pub struct Sponsorship {
     pub sponsored: AccountId,
@@ -21,7 +21,7 @@ pub struct Ctx {
     pub version: u32,
     /// The header's: in stroops, for each thing that an account keeps on the ledger.
     pub base_reserve: u32,
-    /// The header's.
+    /// The header's `flags`, 0 without its extension.
     pub flags: u32,
     /// In seconds since 1970-01-01T00:00:00Z.
     pub close_time: u64,

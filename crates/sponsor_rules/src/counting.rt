@@ -33,7 +33,11 @@ fn set_in_sponsorship(sponsorship: &mut AccountEntryExtensionV2, count: Count, v
 }
 
 /// Gives an account another count of its sponsorship.
-fn set_sponsorship(account: &mut AccountEntry, count: Count, value: u32) -> Result<(), AllocError>
+fn set_sponsorship_count(
+    account: &mut AccountEntry,
+    count: Count,
+    value: u32,
+) -> Result<(), AllocError>
     ensures { OnOk result (
         account.new ≡ with_sponsorship (spec.with_count_in count value (sponsorship_of account.old)) account.old) }
 {
@@ -59,7 +63,7 @@ fn set_count(account: &mut AccountEntry, count: Count, value: u32) -> Result<(),
             account.num_sub_entries = value;
             Ok(())
         }
-        _ => set_sponsorship(account, count, value),
+        _ => set_sponsorship_count(account, count, value),
     }
 }
 

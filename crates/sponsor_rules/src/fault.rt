@@ -5,8 +5,8 @@ ghost use Rattle.sponsor_rules.specs.declared.fault.AddFault.TheVariants.{NoMemo
 
 use std::alloc::AllocError;
 
-/// Why an entry or a signer is not added, or not moved to another payer (SponsorshipResult in stellar-core). The first
-/// three leave the map as it was.
+/// Why an entry or a signer is not added, or not moved to another payer (SponsorshipResult in stellar-core). Each but
+/// `NoMemory` leaves the map as it was.
 #[derive(Clone, Copy, Debug, PartialEq, Eq)]
 pub enum AddFault {
     /// The owner would have more than 1000 subentries.

@@ -30,7 +30,7 @@ use std::alloc::AllocError;
 /// Moves the entry with a key to another payer, or to its owner where none is given: the counts of those that pay for
 /// it change, and the new sponsor is recorded. A claimable balance stays as it is where no payer is given; a pool
 /// always does, and so does what had no sponsor and gets none. Nothing changes where there is no such entry. Where it
-/// answers one of the faults that aren't want of memory, nothing has changed.
+/// answers a fault other than `NoMemory`, nothing has changed.
 pub fn move_entry<B: Base>(
     entries: &mut Entries<'_, B>,
     ctx: &Ctx,
@@ -50,11 +50,11 @@ pub fn move_entry<B: Base>(
     match charge_of(&entry.body) {
         Charge::Itself { owner } => {
             let new = other_than(&owner, payer);
-            move_owned(entries, ctx, key, &owner, 2, &old, &new)
+            move_between(entries, ctx, key, &owner, 2, &old, &new)
         }
         Charge::Subentry { owner, count } => {
             let new = other_than(&owner, payer);
-            move_owned(entries, ctx, key, &owner, count, &old, &new)
+            move_between(entries, ctx, key, &owner, count, &old, &new)
         }
         Charge::Payer { count } => move_balance(entries, ctx, key, count, &old, payer),
         Charge::Nobody => Ok(()),
@@ -62,7 +62,7 @@ pub fn move_entry<B: Base>(
 }
 
 /// Moves an entry that has an owner. What had no sponsor and gets none stays as it is.
-fn move_owned<B: Base>(
+fn move_between<B: Base>(
     entries: &mut Entries<'_, B>,
     ctx: &Ctx,
     key: &LedgerKey,
@@ -81,13 +81,13 @@ fn move_owned<B: Base>(
         return Ok(());
     }
     let slot = exchange_payers(entries, ctx, owner, count, old, new)?;
-    pay_otherwise(entries, count, owner, slot, old, new)?;
+    change_owner_payer(entries, count, owner, slot, old, new)?;
     record_sponsor(entries, key, *new)?;
     Ok(())
 }
 
 /// Another sponsor, or none, pays for something of an owner. `slot` is what stands under the owner's id.
-fn pay_otherwise<B: Base>(
+fn change_owner_payer<B: Base>(
     entries: &mut Entries<'_, B>,
     by: u64,
     owner: &AccountId,

@@ -18,7 +18,7 @@ const MAX_SUBENTRIES: u128 = 1000;
 
 /// Whether two ids name the same account.
 pub fn is_same_account(a: &AccountId, b: &AccountId) -> bool
-    ensures { result ≡ spec.is_account a.now b.now }
+    ensures { result ≡ spec.is_same_account a.now b.now }
 {
     a.0 == b.0
 }
@@ -57,7 +57,7 @@ pub fn other_than(owner: &AccountId, payer: Option<AccountId>) -> Option<Account
 }
 
 /// The subentries of an account, and the reserves that it pays for others: 0 where it doesn't stand.
-fn reserves(slot: &Option<AccountSlot>) -> (u32, u32)
+fn own_counts(slot: &Option<AccountSlot>) -> (u32, u32)
     ensures { result ≡
         (count_if SubEntries (account_of_slot slot.now), count_if Sponsoring (account_of_slot slot.now)) }
 {
@@ -71,7 +71,7 @@ fn reserves(slot: &Option<AccountSlot>) -> (u32, u32)
 fn is_full(owner: &Option<AccountSlot>, more: u64) -> bool
     ensures { result ≡ spec.is_full (account_of_slot owner.now) more }
 {
-    let (sub_entries, _) = reserves(owner);
+    let (sub_entries, _) = own_counts(owner);
     MAX_SUBENTRIES < u128::from(sub_entries) + u128::from(more)
 }
 
@@ -79,7 +79,7 @@ fn is_full(owner: &Option<AccountSlot>, more: u64) -> bool
 fn is_over(payer: &Option<AccountSlot>, more: u64) -> bool
     ensures { result ≡ spec.is_over (account_of_slot payer.now) more }
 {
-    let (sub_entries, sponsoring) = reserves(payer);
+    let (sub_entries, sponsoring) = own_counts(payer);
     u128::from(u32::MAX) < u128::from(sub_entries) + u128::from(sponsoring) + u128::from(more)
 }
 
@@ -89,12 +89,12 @@ pub fn is_short(base_reserve: u32, payer: &Option<AccountSlot>, more: u64) -> bo
 {
     match payer {
         None => false,
-        Some(slot) => available(&slot.account, base_reserve) < reserve(more, base_reserve),
+        Some(slot) => available(&slot.account, base_reserve) < stroops_of(more, base_reserve),
     }
 }
 
 /// So many reserves, in stroops.
-fn reserve(count: u64, base_reserve: u32) -> i128
+fn stroops_of(count: u64, base_reserve: u32) -> i128
     ensures { result ≡ pos (count * base_reserve) }
 {
     (u128::from(count) * u128::from(base_reserve)) as i128
@@ -102,7 +102,7 @@ fn reserve(count: u64, base_reserve: u32) -> i128
 
 /// Why an account that isn't the owner of a subentry cannot pay `more` reserves, if it cannot.
 pub fn payer_fault(base_reserve: u32, payer: &Option<AccountSlot>, more: u64) -> Option<AddFault>
-    ensures fault { result ≡ first_fault (spec.tests_of_payer base_reserve (account_of_slot payer.now) more) }
+    ensures fault { result ≡ first_fault (spec.payer_tests base_reserve (account_of_slot payer.now) more) }
     ensures room { IfNone result (count_if Sponsoring (account_of_slot payer.now) + more ≤ 4294967295) }
 {
     if is_over(payer, more) {
@@ -122,7 +122,7 @@ pub fn subentry_fault(
     more: u64,
 ) -> Option<AddFault>
     ensures fault { result ≡ first_fault (
-        spec.tests_of_subentry base_reserve (account_of_slot owner.now) (account_of_slot payer.now) more) }
+        spec.subentry_tests base_reserve (account_of_slot owner.now) (account_of_slot payer.now) more) }
     ensures few { IfNone result (count_if SubEntries (account_of_slot owner.now) + more ≤ 1000) }
     ensures room { IfNone result (count_if Sponsoring (account_of_slot payer.now) + more ≤ 4294967295) }
 {

@@ -24,7 +24,7 @@ use ledger_types::AccountId;
 use std::alloc::AllocError;
 
 /// A sponsor pays `by` reserves more. `slot` is what stands under its id.
-pub fn charge_payer<B: Base>(
+pub fn raise_sponsoring<B: Base>(
     entries: &mut Entries<'_, B>,
     by: u64,
     sponsor: &AccountId,
@@ -46,7 +46,7 @@ pub fn charge_payer<B: Base>(
 }
 
 /// A sponsor, if there is one, pays `by` reserves less.
-pub fn release_payer<B: Base>(
+pub fn lower_sponsoring<B: Base>(
     entries: &mut Entries<'_, B>,
     by: u64,
     sponsor: &Option<AccountId>,
@@ -59,12 +59,12 @@ pub fn release_payer<B: Base>(
 {
     match sponsor {
         None => Ok(()),
-        Some(sponsor) => release_sponsor(entries, by, sponsor),
+        Some(sponsor) => lower_sponsoring_of(entries, by, sponsor),
     }
 }
 
 /// A sponsor pays `by` reserves less.
-fn release_sponsor<B: Base>(
+fn lower_sponsoring_of<B: Base>(
     entries: &mut Entries<'_, B>,
     by: u64,
     sponsor: &AccountId,
@@ -96,9 +96,9 @@ pub fn pay_for_subentry<B: Base>(
     requires owner { payers.IsReady entries.old.current owner.now }
     ensures refused { IfErr result (λ fault.
         IsFound fault entries.old entries.new (
-        first_fault (payers.subentry_tests ctx.now entries.old.current owner.now count))) }
+        first_fault (payers.subentry_tests_at ctx.now entries.old.current owner.now count))) }
     ensures passed { OnOk result (
-        first_fault (payers.subentry_tests ctx.now entries.old.current owner.now count) ≡ None) }
+        first_fault (payers.subentry_tests_at ctx.now entries.old.current owner.now count) ≡ None) }
     ensures charged { OnOk result (
         entries.new ≡ with_current entries.old (spec.map_after_charging count sponsor.now entries.old.current)) }
     ensures loaded { IfOk result (keeping.IsLoaded entries.new.current owner.now) }
@@ -111,12 +111,12 @@ pub fn pay_for_subentry<B: Base>(
             Some(fault) => Err(fault),
             None => Ok(slot),
         },
-        Some(sponsor) => charge_sponsor(entries, ctx, owner, slot, sponsor, count),
+        Some(sponsor) => pay_by_sponsor(entries, ctx, owner, slot, sponsor, count),
     }
 }
 
 /// Tests whether an account can have a subentry more for which another one pays, and charges that one.
-fn charge_sponsor<B: Base>(
+fn pay_by_sponsor<B: Base>(
     entries: &mut Entries<'_, B>,
     ctx: &Ctx,
     owner: &AccountId,
@@ -130,9 +130,9 @@ fn charge_sponsor<B: Base>(
     requires loaded { keeping.IsLoaded entries.old.current owner.now slot }
     ensures refused { IfErr result (λ fault.
         IsFound fault entries.old entries.new (
-        first_fault (payers.subentry_tests ctx.now entries.old.current owner.now count))) }
+        first_fault (payers.subentry_tests_at ctx.now entries.old.current owner.now count))) }
     ensures passed { OnOk result (
-        first_fault (payers.subentry_tests ctx.now entries.old.current owner.now count) ≡ None) }
+        first_fault (payers.subentry_tests_at ctx.now entries.old.current owner.now count) ≡ None) }
     ensures charged { OnOk result (
         entries.new ≡ with_current entries.old (spec.map_after_charging count (Some sponsor.now) entries.old.current)) }
     ensures loaded { IfOk result (keeping.IsLoaded entries.new.current owner.now) }
@@ -143,7 +143,7 @@ fn charge_sponsor<B: Base>(
     if let Some(fault) = subentry_fault(ctx.base_reserve, &slot, &payer, count) {
         return Err(fault);
     }
-    charge_payer(entries, count, sponsor, payer)?;
+    raise_sponsoring(entries, count, sponsor, payer)?;
     Ok(still_loaded(entries, owner, slot, &Some(*sponsor))?)
 }
 
@@ -161,9 +161,9 @@ pub fn exchange_payers<B: Base>(
     requires owner { payers.IsReady entries.old.current owner.now }
     ensures refused { IfErr result (λ fault.
         IsFound fault entries.old entries.new (
-        first_fault (payers.move_tests ctx.now entries.old.current owner.now new.now count))) }
+        first_fault (payers.move_tests_at ctx.now entries.old.current owner.now new.now count))) }
     ensures passed { OnOk result (
-        first_fault (payers.move_tests ctx.now entries.old.current owner.now new.now count) ≡ None) }
+        first_fault (payers.move_tests_at ctx.now entries.old.current owner.now new.now count) ≡ None) }
     ensures charged { OnOk result (
         entries.new ≡
         with_current entries.old (spec.map_after_exchange count old.now new.now entries.old.current)) }
@@ -192,9 +192,9 @@ fn release_to_owner<B: Base>(
     requires owner { payers.IsReady entries.old.current owner.now }
     ensures refused { IfErr result (λ fault.
         IsFound fault entries.old entries.new (
-        first_fault (payers.move_tests ctx.now entries.old.current owner.now None count))) }
+        first_fault (payers.move_tests_at ctx.now entries.old.current owner.now None count))) }
     ensures passed { OnOk result (
-        first_fault (payers.move_tests ctx.now entries.old.current owner.now None count) ≡ None) }
+        first_fault (payers.move_tests_at ctx.now entries.old.current owner.now None count) ≡ None) }
     ensures released { OnOk result (
         entries.new ≡ with_current entries.old (spec.map_after_releasing count old.now entries.old.current)) }
     ensures loaded { IfOk result (keeping.IsLoaded entries.new.current owner.now) }
@@ -205,7 +205,7 @@ fn release_to_owner<B: Base>(
     if is_short(ctx.base_reserve, &slot, count) {
         return Err(AddFault::LowReserve);
     }
-    release_payer(entries, count, old)?;
+    lower_sponsoring(entries, count, old)?;
     Ok(still_loaded(entries, owner, slot, old)?)
 }
 
@@ -220,8 +220,9 @@ pub fn exchange_sponsors<B: Base>(
 ) -> Result<(), AddFault>
     ensures refused { IfErr result (λ fault.
         IsFound fault entries.old entries.new (
-        first_fault (payers.payer_tests ctx.now entries.old.current new.now count))) }
-    ensures passed { OnOk result (first_fault (payers.payer_tests ctx.now entries.old.current new.now count) ≡ None) }
+        first_fault (payers.payer_tests_at ctx.now entries.old.current new.now count))) }
+    ensures passed { OnOk result (
+        first_fault (payers.payer_tests_at ctx.now entries.old.current new.now count) ≡ None) }
     ensures charged { OnOk result (
         entries.new ≡
         with_current entries.old (spec.map_after_exchange count old.now (Some new.now) entries.old.current)) }
@@ -233,8 +234,8 @@ pub fn exchange_sponsors<B: Base>(
     if let Some(fault) = payer_fault(ctx.base_reserve, &payer, count) {
         return Err(fault);
     }
-    release_payer(entries, count, old)?;
+    lower_sponsoring(entries, count, old)?;
     let payer = still_loaded(entries, new, payer, old)?;
-    charge_payer(entries, count, new, payer)?;
+    raise_sponsoring(entries, count, new, payer)?;
     Ok(())
 }

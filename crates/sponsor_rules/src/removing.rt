@@ -10,15 +10,15 @@ ghost use Rattle.sponsor_rules.specs.Removing as spec;
 use crate::charge::{Charge, charge_of};
 use crate::context::Ctx;
 use crate::owner::lose_subentry;
-use crate::paying::release_payer;
+use crate::paying::lower_sponsoring;
 use crate::stored::{erase_entry, load, store_changed};
 use entry_map::{Base, Entries};
 use entry_slots::sponsor_in;
 use ledger_types::{AccountId, LedgerKey};
 use std::alloc::AllocError;
 
-/// Removes the entry with a key: the counts of its owner and of its sponsor fall. Nothing changes where there is no
-/// such entry.
+/// Removes the entry with a key: the counts of its sponsor, and of a subentry's owner, fall. Nothing changes where
+/// there is no such entry.
 pub fn remove_entry<B: Base>(
     entries: &mut Entries<'_, B>,
     _ctx: &Ctx,
@@ -32,31 +32,32 @@ pub fn remove_entry<B: Base>(
     let Some(entry) = entries.get(key)? else {
         return Ok(());
     };
-    release(entries, charge_of(&entry.body), &sponsor_in(&entry.ext))?;
+    remove_charge(entries, charge_of(&entry.body), &sponsor_in(&entry.ext))?;
     erase_entry(entries, key)
 }
 
-/// Lowers the counts of a thing's owner and of its sponsor.
-fn release<B: Base>(
+/// Lowers what a thing has added to counts: its sponsor's, and its owner's where it is a subentry. An account's own
+/// counts go with it.
+fn remove_charge<B: Base>(
     entries: &mut Entries<'_, B>,
     charge: Charge,
     sponsor: &Option<AccountId>,
 ) -> Result<(), AllocError>
     ensures released { OnOk result (
-        entries.new ≡ with_current entries.old (spec.map_after_release charge sponsor.now entries.old.current)) }
+        entries.new ≡ with_current entries.old (spec.map_without_charge charge sponsor.now entries.old.current)) }
     ensures low { OnOk result (keeping.RaisesNone entries.old.current entries.new.current) }
     ensures balances { OnOk result (keeping.LeavesBalances entries.old.current entries.new.current) }
 {
     match charge {
-        Charge::Itself { owner: _ } => release_payer(entries, 2, sponsor),
-        Charge::Subentry { owner, count } => release_subentry(entries, count, &owner, sponsor),
-        Charge::Payer { count } => release_payer(entries, count, sponsor),
+        Charge::Itself { owner: _ } => lower_sponsoring(entries, 2, sponsor),
+        Charge::Subentry { owner, count } => discount_subentry(entries, count, &owner, sponsor),
+        Charge::Payer { count } => lower_sponsoring(entries, count, sponsor),
         Charge::Nobody => Ok(()),
     }
 }
 
 /// Counts a subentry less for its owner and for its sponsor.
-fn release_subentry<B: Base>(
+fn discount_subentry<B: Base>(
     entries: &mut Entries<'_, B>,
     by: u64,
     owner: &AccountId,
@@ -68,12 +69,12 @@ fn release_subentry<B: Base>(
     ensures low { OnOk result (keeping.RaisesNone entries.old.current entries.new.current) }
     ensures balances { OnOk result (keeping.LeavesBalances entries.old.current entries.new.current) }
 {
-    release_payer(entries, by, sponsor)?;
-    discount_subentry(entries, by, owner, sponsor)
+    lower_sponsoring(entries, by, sponsor)?;
+    discount_for_owner(entries, by, owner, sponsor)
 }
 
 /// Counts a subentry less for its owner.
-fn discount_subentry<B: Base>(
+fn discount_for_owner<B: Base>(
     entries: &mut Entries<'_, B>,
     by: u64,
     owner: &AccountId,

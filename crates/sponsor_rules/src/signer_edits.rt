@@ -10,7 +10,8 @@ use item_list::ItemList;
 use ledger_types::{AccountEntry, AccountId, Signer};
 use std::alloc::AllocError;
 
-/// Puts a signer at its place among those of an account, and its sponsor, or none, among theirs.
+/// Puts a signer at its place among those of an account, and its sponsor, or none, at the same place among the signers'
+/// sponsors, where the account has that list: a sponsored count has added it by then.
 pub fn insert_signer(
     account: &mut AccountEntry,
     signer: Signer,
@@ -45,7 +46,7 @@ pub fn remove_signer_at(account: &mut AccountEntry, place: usize)
     }
 }
 
-/// Records another sponsor, or none, of the signer at a place.
+/// Records another sponsor, or none, of the signer at a place, where the account has the list of signers' sponsors.
 pub fn set_signer_sponsor(account: &mut AccountEntry, place: usize, sponsor: Option<AccountId>)
     ensures set { account.new ≡ spec.with_signer_sponsor place sponsor account.old }
     ensures means { KeepsMeans account.old account.new }

@@ -24,7 +24,7 @@ fn compare(a: &SignerKey, b: &SignerKey) -> Ordering
     a.cmp(b)
 }
 
-/// Where a new signer with this key stands: behind those with lower keys.
+/// Where a new signer with this key stands: behind the signers at the front that have lower keys.
 pub fn place_for(key: &SignerKey, signers: &[Signer]) -> usize
     ensures place { result ≡ spec.place_for key.now signers.now }
     ensures within { result ≤ length signers.now }

@@ -14,7 +14,7 @@ use crate::context::Ctx;
 use crate::fault::AddFault;
 use crate::owner::{change_payer, gain_subentry, lose_subentry};
 use crate::payers::{open_sponsor, other_than};
-use crate::paying::{exchange_payers, pay_for_subentry, release_payer};
+use crate::paying::{exchange_payers, lower_sponsoring, pay_for_subentry};
 use crate::signer_edits::{insert_signer, remove_signer_at, set_signer_sponsor};
 use crate::signer_place::{FoundSigner, found_signer};
 use crate::stored::{load, still_loaded, store_changed};
@@ -24,8 +24,8 @@ use ledger_types::{AccountId, Hash, Signer, SignerKey};
 use std::alloc::AllocError;
 
 /// Adds a signer to an account, for which the account or its open sponsor pays: the counts change, the signer stands
-/// behind those with lower keys, and a sponsor is recorded at its place. Where it answers one of the first three
-/// faults, nothing has changed.
+/// behind the signers at the front that have lower keys, and a sponsor is recorded at its place. Where it answers a
+/// fault other than `NoMemory`, nothing has changed.
 pub fn add_signer<B: Base>(
     entries: &mut Entries<'_, B>,
     ctx: &Ctx,
@@ -85,7 +85,7 @@ pub fn remove_signer<B: Base>(
     let Some(found) = found_signer(key, &slot) else {
         return Ok(());
     };
-    release_payer(entries, 1, &found.sponsor)?;
+    lower_sponsoring(entries, 1, &found.sponsor)?;
     let slot = still_loaded(entries, account, slot, &found.sponsor)?;
     take_signer(entries, account, slot, found)
 }
@@ -132,8 +132,7 @@ pub fn remove_preauth<B: Base>(
 
 /// Moves the signer with a key to another payer, or to the account itself where none is given: the counts of those that
 /// pay for it change, and the new sponsor is recorded at its place. Nothing changes where there is no such signer, nor
-/// where it had no sponsor and gets none. Where it answers one of the faults that aren't want of memory, nothing has
-/// changed.
+/// where it had no sponsor and gets none. Where it answers a fault other than `NoMemory`, nothing has changed.
 pub fn move_signer<B: Base>(
     entries: &mut Entries<'_, B>,
     ctx: &Ctx,
@@ -150,11 +149,11 @@ pub fn move_signer<B: Base>(
         return Ok(());
     };
     let new = other_than(account, payer);
-    move_between(entries, ctx, account, found.place, &found.sponsor, &new)
+    move_signer_between(entries, ctx, account, found.place, &found.sponsor, &new)
 }
 
 /// Moves the signer at a place from one sponsor to another. What had no sponsor and gets none stays as it is.
-fn move_between<B: Base>(
+fn move_signer_between<B: Base>(
     entries: &mut Entries<'_, B>,
     ctx: &Ctx,
     account: &AccountId,

@@ -24,7 +24,8 @@ pub fn load<B: Base>(
     load_account(entries, id)
 }
 
-/// What stands under an account's id, where `slot` does unless it is the account that has changed since it was loaded.
+/// What stands under an account's id. `slot` was loaded there before the account `changed` was stored: unless that is
+/// the same account, it is still right.
 pub fn still_loaded<B: Base>(
     entries: &Entries<'_, B>,
     id: &AccountId,

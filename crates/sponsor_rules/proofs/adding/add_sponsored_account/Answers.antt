@@ -3,5 +3,5 @@ use Rattle.sponsor_rules.proofs.adding.add_sponsored_account.Goals as goal
 
 pub returns-clause-balances : goal.returns-clause-balances
 returns-clause-balances g c =
-    leaves_then_others _ _ _ _ _ c.in_ok-slot.ensures.named c.in_ok-charge_payer.ensures.balances
+    leaves_then_others _ _ _ _ _ c.in_ok-slot.ensures.named c.in_ok-raise_sponsoring.ensures.balances
     c.in_ok-put_account.ensures.balances

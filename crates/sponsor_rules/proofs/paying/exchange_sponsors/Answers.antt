@@ -2,8 +2,8 @@ use Rattle.sponsor_rules.proofs.AccountMaps.{loaded_after, leaves_both}
 use Rattle.sponsor_rules.proofs.paying.exchange_sponsors.Goals as goal
 
 pub still_loaded-requires : goal.still_loaded-requires
-still_loaded-requires g c = loaded_after _ _ _ _ _ c.in_ok-payer.ensures c.in_ok-release_payer.ensures.others
+still_loaded-requires g c = loaded_after _ _ _ _ _ c.in_ok-payer.ensures c.in_ok-lower_sponsoring.ensures.others
 
 pub returns-clause-balances : goal.returns-clause-balances
 returns-clause-balances g c =
-    leaves_both _ _ _ c.in_ok-release_payer.ensures.balances c.in_ok-charge_payer.ensures.balances
+    leaves_both _ _ _ c.in_ok-lower_sponsoring.ensures.balances c.in_ok-raise_sponsoring.ensures.balances

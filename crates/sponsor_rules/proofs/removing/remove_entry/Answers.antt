@@ -6,4 +6,4 @@ use Rattle.sponsor_rules.proofs.removing.remove_entry.Goals as goal
 pub returns-clause-balances : goal.returns-clause-balances
 returns-clause-balances g c =
     on_ok_weaker c.erase_entry.result
-    (leaves_then_others _ _ _ _ _ refl c.in_ok-release.ensures.balances) c.erase_entry.ensures.balances
+    (leaves_then_others _ _ _ _ _ refl c.in_ok-remove_charge.ensures.balances) c.erase_entry.ensures.balances

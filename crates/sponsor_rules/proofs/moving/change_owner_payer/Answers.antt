@@ -4,7 +4,7 @@ use Rattle.entry_map.specs.Undo.{with_current}
 use Rattle.sponsor_rules.specs.Keeping.{IsLoaded}
 use Rattle.sponsor_rules.specs.Paying as paying
 use Rattle.sponsor_rules.proofs.AccountMaps.{stored_as, with_account_none}
-use Rattle.sponsor_rules.proofs.moving.pay_otherwise.Goals as goal
+use Rattle.sponsor_rules.proofs.moving.change_owner_payer.Goals as goal
 
 pub returns-clause-changed : goal.returns-clause-changed
 returns-clause-changed g c =

@@ -3,20 +3,20 @@ use Rattle.std.proofs.lemmas.Result.{on_ok_weaker}
 use Rattle.entry_map.specs.Undo.{with_current}
 use Rattle.sponsor_rules.specs.Keeping.{IsLoaded}
 use Rattle.sponsor_rules.specs.declared.count.Count.TheVariants.{Sponsoring}
-use Rattle.sponsor_rules.specs.Counting.{with_more}
+use Rattle.sponsor_rules.specs.Counting.{with_less}
 use Rattle.sponsor_rules.proofs.AccountMaps.{stored_as, with_account_none}
-use Rattle.sponsor_rules.proofs.paying.charge_payer.Goals as goal
+use Rattle.sponsor_rules.proofs.paying.lower_sponsoring_of.Goals as goal
 
-pub returns-clause-charged : goal.returns-clause-charged
-returns-clause-charged g c =
+pub returns-clause-released : goal.returns-clause-released
+returns-clause-released g c =
     let loaded : IsLoaded c.args.entries.now.current c.args.sponsor.now (Some c.in-Some.slot) = search rules in
     on_ok_weaker c.store_changed.result
     (λ is. is ∙ ap (with_current c.args.entries.now) (stored_as c.args.entries.now.current c.args.sponsor.now
-    (with_more Sponsoring c.args.by) c.in-Some.slot c.raise.new.account loaded c.in_ok-raise.ensures.raised))
+    (with_less Sponsoring c.args.by) c.in-Some.slot c.lower.new.account loaded c.in_ok-lower.ensures.lowered))
     c.store_changed.ensures.stored
 
-pub returns-in_default-clause-charged : goal.returns-in_default-clause-charged
-returns-in_default-clause-charged g c =
+pub returns-in_default-clause-released : goal.returns-in_default-clause-released
+returns-in_default-clause-released g c =
     let loaded : IsLoaded c.args.entries.now.current c.args.sponsor.now None = search rules in
     ap (with_current c.args.entries.now) (sym (with_account_none c.args.entries.now.current c.args.sponsor.now
-    (with_more Sponsoring c.args.by) loaded))
+    (with_less Sponsoring c.args.by) loaded))

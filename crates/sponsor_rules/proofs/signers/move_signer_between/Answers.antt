@@ -1,5 +1,5 @@
 use Rattle.sponsor_rules.proofs.AccountMaps.{leaves_both}
-use Rattle.sponsor_rules.proofs.signers.move_between.Goals as goal
+use Rattle.sponsor_rules.proofs.signers.move_signer_between.Goals as goal
 
 pub returns-clause-balances : goal.returns-clause-balances
 returns-clause-balances g c =

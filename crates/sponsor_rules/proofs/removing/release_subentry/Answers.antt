@@ -1,7 +1,0 @@
-use Rattle.std.proofs.lemmas.Result.{on_ok_weaker}
-use Rattle.sponsor_rules.proofs.AccountMaps.{leaves_both}
-use Rattle.sponsor_rules.proofs.removing.release_subentry.Goals as goal
-
-pub returns-clause-balances : goal.returns-clause-balances
-returns-clause-balances g c = on_ok_weaker c.discount_subentry.result
-    (leaves_both _ _ _ c.in_ok-release_payer.ensures.balances) c.discount_subentry.ensures.balances

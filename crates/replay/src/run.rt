@@ -16,7 +16,8 @@ use std::alloc::Global;
 
 /// The passphrase of `set --network PASSPHRASE`, where the words are this command.
 fn network_of(words: &[String]) -> Option<&str>
-    ensures { MatchOption result (command_of (words_of words.now) ≡ None) (λ network. command_of (words_of words.now) ≡ Some network.now) }
+    ensures { MatchOption result (command_of (words_of words.now) ≡ None) (
+        λ network. command_of (words_of words.now) ≡ Some network.now) }
 {
     match words {
         [command, option, network] => {
@@ -51,7 +52,8 @@ fn respond<I: Source, O: Sink>(
     input: &mut I,
     out: &mut O,
 ) -> Status
-    ensures { Responded (words_of words.now) (seen I.left I.faults input.old input.new) (seen O.taken O.faults out.old out.new) result }
+    ensures { Responded (words_of words.now)
+        (seen I.left I.faults input.old input.new) (seen O.taken O.faults out.old out.new) result }
 {
     let Some(network) = network_of(words) else {
         return Status::Usage;
@@ -82,7 +84,8 @@ fn run<I: Source, O: Sink, E: Sink>(
     out: &mut O,
     err: &mut E,
 ) -> Status
-    ensures { Ran (words_of words.now) (seen I.left I.faults input.old input.new) (seen O.taken O.faults out.old out.new) (seen E.taken E.faults err.old err.new) result }
+    ensures { Ran (words_of words.now) (seen I.left I.faults input.old input.new)
+        (seen O.taken O.faults out.old out.new) (seen E.taken E.faults err.old err.new) result }
 {
     let end = respond(alloc, words, input, out);
     tell(end, err)
@@ -98,7 +101,8 @@ pub fn run_program<I: Source, O: Sink, E: Sink>(
     err: &mut E,
 ) -> u8
     ensures { (end : Status) × ((result ≡ status_code end)
-        × Ran (words_of words.now) (seen I.left I.faults input.old input.new) (seen O.taken O.faults out.old out.new) (seen E.taken E.faults err.old err.new) end) }
+        × Ran (words_of words.now) (seen I.left I.faults input.old input.new)
+        (seen O.taken O.faults out.old out.new) (seen E.taken E.faults err.old err.new) end) }
 {
     run(alloc, words, input, out, err).code()
 }
@@ -106,7 +110,8 @@ pub fn run_program<I: Source, O: Sink, E: Sink>(
 /// Ends the program where memory was refused before its words were read: nothing else is read or written. It answers
 /// the exit status of the process.
 pub fn end_without_memory<E: Sink>(err: &mut E) -> u8
-    ensures { (end : Status) × ((result ≡ status_code end) × Told status.NoMemory (seen E.taken E.faults err.old err.new) end) }
+    ensures { (end : Status) × ((result ≡ status_code end)
+        × Told status.NoMemory (seen E.taken E.faults err.old err.new) end) }
 {
     tell(Status::NoMemory, err).code()
 }

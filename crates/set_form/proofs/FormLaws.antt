@@ -1,4 +1,5 @@
--- The law of each format: what is read is spelled so, what is spelled so is read, and writing puts the spelling at the end.
+-- The law of each format: what is read is spelled so, what is spelled so is read, and writing puts the spelling at the
+-- end.
 use Rattle.std.proofs.Common.{◌≡◌, ℕ, ◌<◌, ◌≤◌, ◌^◌, ℤ, pos, List, [], ◌∷◌, ◌++◌, length, Ok, refl, arith}
 use Rattle.std.specs.Int.{w32}
 use Rattle.std.proofs.Math.Facts.{sfits_lit}

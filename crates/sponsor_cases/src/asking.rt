@@ -70,7 +70,10 @@ fn is_owner_ready(entries: &Entries<'_, MapBase>, key: &LedgerKey) -> Result<boo
     };
     match charge_of(&entry.body) {
         Charge::Itself { owner } => is_ready(entries, &owner),
-        Charge::Subentry { owner, count: _ } => is_ready(entries, &owner),
+        Charge::Subentry {
+            owner,
+            multiplicity: _,
+        } => is_ready(entries, &owner),
         _ => Ok(true),
     }
 }

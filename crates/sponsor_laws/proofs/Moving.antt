@@ -20,8 +20,9 @@ use Rattle.entry_slots.specs.Tests.{unless_first}
 use Rattle.sponsor_rules.specs.Charge.{charge_of, line_multiplicity, multiplicity, owner_of}
 use Rattle.sponsor_rules.specs.Counting.{count_in}
 use Rattle.sponsor_rules.specs.Paying.{map_after_releasing, map_after_exchange}
-use Rattle.sponsor_rules.specs.Payers.{is_same_account, other_than, payer_tests_at, move_tests_at}
-use Rattle.sponsor_rules.specs.Moving.{map_with_other_payer, map_with_sponsor, recorded_in, map_after_moving_between}
+use Rattle.sponsor_rules.specs.Payers.{is_same_account, payer_other_than, payer_tests_at, move_tests_at}
+use Rattle.sponsor_rules.specs.Moving.{map_with_other_payer, map_with_sponsor, map_with_recorded}
+use Rattle.sponsor_rules.specs.Moving.{map_after_moving_between}
 use Rattle.sponsor_rules.specs.Moving.{map_after_moving_owned, map_after_moving_balance, map_after_moving_by}
 use Rattle.sponsor_rules.specs.Moving.{map_after_moving_entry}
 use Rattle.sponsor_laws.specs.Sums.{total, counted_for}
@@ -37,7 +38,7 @@ use Rattle.sponsor_laws.proofs.Settling.{placed, stands_after, stands_put, names
 use Rattle.sponsor_laws.proofs.Parts.{pays_for, is_paid_for, enough}
 use Rattle.sponsor_laws.proofs.Bounds.{done_by, payer_passed, has_room, pays_more, HasRoom}
 
-pub other_is : (owner : AccountId) (payer : Option AccountId) (s : AccountId) → other_than owner payer ≡ Some s
+pub other_is : (owner : AccountId) (payer : Option AccountId) (s : AccountId) → payer_other_than owner payer ≡ Some s
     → payer ≡ Some s
 other_is owner None s is = is
 other_is owner (Some payer) s is = elim (is_same_account payer owner) as (λ b. (if b then None else Some payer) ≡ Some s
@@ -65,7 +66,7 @@ module _ (old : EntryMap) (h : IsEven old) (k : LedgerKey) (e : LedgerEntry) (th
       let now = entry_after p q old m k e shifted there in
       let e' = with_sponsor s now.0 in
       let its_key : key_of e' ≡ k = same_key p q e.body now.0.body now.2.bodies ∙ h.own k e there in
-      let is_put : recorded_in m s (get m k) ≡ put m e' = ap (recorded_in m s) now.1 in
+      let is_put : map_with_recorded m s (get m k) ≡ put m e' = ap (map_with_recorded m s) now.1 in
       subst IsEven (sym is_put) (placed p q old m e' h shifted (record {
         balanced = λ count id.
             let part : part_of (counted_for count id) (get old (key_of e')) ≡ counted_for count id e =
@@ -148,7 +149,7 @@ module _ (old : EntryMap) (h : IsEven old) (k : LedgerKey) (e : LedgerEntry) (th
       → owner_of e.body ≡ Some owner → multiplicity e.body ≡ n → PayerStands payer old
       → map_after_moving_owned ctx k owner n (sponsor_of e) payer old ≡ Ok new → IsEven new
   owned_moved ctx owner n payer new owns times stands done =
-      let s = other_than owner payer in
+      let s = payer_other_than owner payer in
       let after = map_with_sponsor k s (map_with_other_payer owner n (sponsor_of e) s old) in
       let stand = λ (id : AccountId) (is : s ≡ Some id). stands id (other_is owner payer id is) in
       elim (shifted_payers no_shift no_shift n old old h.own (unshifted old h.own) owner (sponsor_of e) s

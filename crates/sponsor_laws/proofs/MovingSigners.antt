@@ -14,7 +14,7 @@ use Rattle.entry_slots.specs.AccountExtensions.{signer_sponsor}
 use Rattle.sponsor_rules.specs.Counting.{count_in, with_less}
 use Rattle.entry_slots.specs.Tests.{unless_first}
 use Rattle.sponsor_rules.specs.Paying.{map_after_releasing, map_after_exchange, with_other_payer}
-use Rattle.sponsor_rules.specs.Payers.{other_than, move_tests_at}
+use Rattle.sponsor_rules.specs.Payers.{payer_other_than, move_tests_at}
 use Rattle.sponsor_rules.specs.Moving.{map_with_other_payer}
 use Rattle.sponsor_rules.specs.SignerPlace.{found_at, place_of, with_signer_sponsor, found_signer}
 use Rattle.sponsor_rules.specs.Signers.{map_after_moving_found, map_after_moving_signer_between, with_moved_signer}
@@ -152,7 +152,7 @@ module _ (old : EntryMap) (h : IsEven old) (id : AccountId) (key : SignerKey) (c
       → map_after_moving_found ctx id payer old (found_at a o) ≡ Ok new → IsEven new
   moved_at a None stands found done = subst IsEven (cc) h
   moved_at a (Some place) stands found done =
-      let t = other_than id payer in
+      let t = payer_other_than id payer in
       let within = place_within_signers key a.signers place found in
       signer_moved old h id a (held_by old id a stands) place within ctx t new
       (λ x is. payer_stands x (other_is id payer x is)) done

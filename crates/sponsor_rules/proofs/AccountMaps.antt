@@ -23,8 +23,8 @@ use Rattle.entry_slots.specs.EntrySponsor.{with_sponsor}
 use Rattle.sponsor_rules.specs.declared.count.Count.{Count}
 use Rattle.sponsor_rules.specs.Counting.{count_if, count_at}
 use Rattle.sponsor_rules.specs.Keeping.{KeepsMeans, KeepsOtherCounts, RaisesNoCount, IsChanged, IsChangeOf, KeepsOthers}
-use Rattle.sponsor_rules.specs.Keeping.{RaisesNone, ChangesAtMost, IsLoaded, HasMeans, LeavesBalances}
-use Rattle.sponsor_rules.specs.Keeping.{LeavesOtherBalances}
+use Rattle.sponsor_rules.specs.Keeping.{RaisesNone, ChangesAtMost, IsLoaded, HasMeans, LeavesMeans}
+use Rattle.sponsor_rules.specs.Keeping.{LeavesOtherMeans}
 use Rattle.sponsor_rules.proofs.Keeping.{means_kept, means_kept_twice}
 
 -- ---- slots and accounts
@@ -169,7 +169,7 @@ stored_others m id slot named = record {
 }
 
 pub stored_balances : (m : EntryMap) (id : AccountId) (slot : AccountSlot) → slot.account.account_id ≡ id
-    → IsChangeOf m id slot.account → LeavesBalances m (put m (entry_of_account slot))
+    → IsChangeOf m id slot.account → LeavesMeans m (put m (entry_of_account slot))
 stored_balances m id slot named change = record {
   kept = λ other was stands. elim (after m id slot other named) [
     | inl here ↦
@@ -216,7 +216,7 @@ stored_low m id slot named change low = record {
 
 -- ---- after another change
 
-pub put_balances : (m : EntryMap) (e : LedgerEntry) → LeavesOtherBalances (key_of e) m (put m e)
+pub put_balances : (m : EntryMap) (e : LedgerEntry) → LeavesOtherMeans (key_of e) m (put m e)
 unfolding account_at
 put_balances m e = record {
   kept = λ id was apart stands.
@@ -227,7 +227,7 @@ put_balances m e = record {
       ] refl (get-insert keys_total m (key_of e) e (key.Account id));
 }
 
-pub erased_balances : (m : EntryMap) (k : LedgerKey) → LeavesOtherBalances k m (erase m k)
+pub erased_balances : (m : EntryMap) (k : LedgerKey) → LeavesOtherMeans k m (erase m k)
 unfolding account_at
 erased_balances m k = record {
   kept = λ id was apart stands.
@@ -253,7 +253,7 @@ erased_low m k = record {
 
 -- an entry that stands gets another sponsor
 pub recorded_balances : (m : EntryMap) (k : LedgerKey) (e : LedgerEntry) (sponsor : Option AccountId) → get m k ≡ Some e
-    → key_of e ≡ k → LeavesBalances m (put m (with_sponsor sponsor e))
+    → key_of e ≡ k → LeavesMeans m (put m (with_sponsor sponsor e))
 unfolding account_at
 recorded_balances m k e sponsor there named = record {
   kept = λ id was stands.
@@ -286,7 +286,7 @@ raises_none_both a b c first second = record {
 pub changes_nothing : (changed : Option AccountId) (m : EntryMap) → ChangesAtMost changed m m
 changes_nothing changed m = record { others = λ other apart. refl }
 
-pub leaves_itself : (m : EntryMap) → LeavesBalances m m
+pub leaves_itself : (m : EntryMap) → LeavesMeans m m
 leaves_itself m = record { kept = λ id was stands. record { account = was; stands = stands; means = means_kept was } }
 
 has_means_on : (a b : EntryMap) (id : AccountId) (was : AccountEntry) → HasMeans a id was
@@ -299,18 +299,18 @@ has_means_on a b id was first then =
       means = means_kept_twice was first.account second.account first.means second.means;
     }
 
-pub leaves_both : (a b c : EntryMap) → LeavesBalances a b → LeavesBalances b c → LeavesBalances a c
+pub leaves_both : (a b c : EntryMap) → LeavesMeans a b → LeavesMeans b c → LeavesMeans a c
 leaves_both a b c first second = record {
   kept = λ id was stands. has_means_on b c id was (first.kept id was stands)
       (second.kept id);
 }
 
-pub leaves_then_others : (k q : LedgerKey) (a b c : EntryMap) → q ≡ k → LeavesBalances a b → LeavesOtherBalances q b c
-    → LeavesOtherBalances k a c
+pub leaves_then_others : (k q : LedgerKey) (a b c : EntryMap) → q ≡ k → LeavesMeans a b → LeavesOtherMeans q b c
+    → LeavesOtherMeans k a c
 leaves_then_others k q a b c same first second = record {
   kept = λ id was apart stands. has_means_on b c id was (first.kept id was stands)
       (λ account. second.kept id account (λ is. apart (is ∙ same)));
 }
 
-pub leaves_others : (k : LedgerKey) (a b : EntryMap) → LeavesBalances a b → LeavesOtherBalances k a b
+pub leaves_others : (k : LedgerKey) (a b : EntryMap) → LeavesMeans a b → LeavesOtherMeans k a b
 leaves_others k a b leaves = record { kept = λ id was apart. leaves.kept id was }

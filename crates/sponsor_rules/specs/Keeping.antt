@@ -74,10 +74,10 @@ pub record HasMeans (m : EntryMap) (id : AccountId) (was : AccountEntry) : Type 
   pub means : KeepsMeans was account
 
 -- Each account that stood stands, and its balance, liabilities, sequence number, thresholds and flags are as they were.
-pub record LeavesBalances (old new : EntryMap) : Type 0 where
+pub record LeavesMeans (old new : EntryMap) : Type 0 where
   pub kept : (id : AccountId) (was : AccountEntry) → account_at old id ≡ Some was → HasMeans new id was
 
 -- the same of each account but the one under a key
-pub record LeavesOtherBalances (k : LedgerKey) (old new : EntryMap) : Type 0 where
+pub record LeavesOtherMeans (k : LedgerKey) (old new : EntryMap) : Type 0 where
   pub kept : (id : AccountId) (was : AccountEntry) → key.Account id ≢ k → account_at old id ≡ Some was
       → HasMeans new id was

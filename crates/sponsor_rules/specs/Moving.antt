@@ -14,15 +14,15 @@ use Rattle.sponsor_rules.specs.declared.context.Ctx.{Ctx}
 use Rattle.sponsor_rules.specs.declared.fault.AddFault.{AddFault}
 use Rattle.sponsor_rules.specs.Charge.{charge_of}
 use Rattle.sponsor_rules.specs.Paying.{map_after_exchange, with_other_payer}
-use Rattle.sponsor_rules.specs.Payers.{other_than, payer_tests_at, move_tests_at}
+use Rattle.sponsor_rules.specs.Payers.{payer_other_than, payer_tests_at, move_tests_at}
 
-abbrev pub recorded_in : EntryMap → Option AccountId → Option LedgerEntry → EntryMap
-recorded_in m sponsor None = m
-recorded_in m sponsor (Some entry) = put m (with_sponsor sponsor entry)
+abbrev pub map_with_recorded : EntryMap → Option AccountId → Option LedgerEntry → EntryMap
+map_with_recorded m sponsor None = m
+map_with_recorded m sponsor (Some entry) = put m (with_sponsor sponsor entry)
 
 -- the map, in which the entry with this key has another sponsor, or none
 unfoldable pub map_with_sponsor : LedgerKey → Option AccountId → EntryMap → EntryMap
-map_with_sponsor key sponsor m = recorded_in m sponsor (get m key)
+map_with_sponsor key sponsor m = map_with_recorded m sponsor (get m key)
 
 -- the map, in which another sponsor, or none, pays k reserves of the owner
 abbrev pub map_with_other_payer : AccountId → ℕ → (old new : Option AccountId) → EntryMap → EntryMap
@@ -41,7 +41,7 @@ map_after_moving_between ctx key owner k old new m =
 abbrev pub map_after_moving_owned : Ctx → LedgerKey → AccountId → ℕ → (old payer : Option AccountId) → EntryMap
     → Result EntryMap AddFault
 map_after_moving_owned ctx key owner k old payer m = map_after_moving_between ctx key owner k old
-    (other_than owner payer) m
+    (payer_other_than owner payer) m
 
 -- A claimable balance names no owner, so it moves only to a payer.
 abbrev pub map_after_moving_balance : Ctx → LedgerKey → ℕ → (old payer : Option AccountId) → EntryMap

@@ -39,9 +39,9 @@ abbrev pub payer_of : Ctx → AccountId → AccountId
 payer_of ctx owner = payer_by owner (open_sponsor ctx owner)
 
 -- the payer, where that is another account than the owner
-abbrev pub other_than : AccountId → Option AccountId → Option AccountId
-other_than owner None = None
-other_than owner (Some payer) = if is_same_account payer owner then None else Some payer
+abbrev pub payer_other_than : AccountId → Option AccountId → Option AccountId
+payer_other_than owner None = None
+payer_other_than owner (Some payer) = if is_same_account payer owner then None else Some payer
 
 -- ---- the tests of a payer, of accounts that may be missing
 

@@ -15,7 +15,7 @@ use Rattle.sponsor_rules.specs.declared.fault.AddFault.{AddFault}
 use Rattle.sponsor_rules.specs.declared.signer_place.FoundSigner.{FoundSigner}
 use Rattle.sponsor_rules.specs.Paying.{map_after_charging, map_after_releasing, map_after_exchange, with_subentry}
 use Rattle.sponsor_rules.specs.Paying.{without_subentry, with_other_payer}
-use Rattle.sponsor_rules.specs.Payers.{open_sponsor, other_than, subentry_tests_at, move_tests_at}
+use Rattle.sponsor_rules.specs.Payers.{open_sponsor, payer_other_than, subentry_tests_at, move_tests_at}
 use Rattle.sponsor_rules.specs.SignerPlace.{found_signer, with_signer, without_signer, with_signer_sponsor}
 
 -- ---- adding
@@ -69,7 +69,7 @@ abbrev pub map_after_moving_found : Ctx → AccountId → Option AccountId → E
     → Result EntryMap AddFault
 map_after_moving_found ctx id payer m None = Ok m
 map_after_moving_found ctx id payer m (Some found) =
-    map_after_moving_signer_between ctx id found.place found.sponsor (other_than id payer) m
+    map_after_moving_signer_between ctx id found.place found.sponsor (payer_other_than id payer) m
 
 -- nothing changes where there is no such signer
 abbrev pub map_after_moving_signer : Ctx → AccountId → SignerKey → Option AccountId → EntryMap

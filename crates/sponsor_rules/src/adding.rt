@@ -38,8 +38,8 @@ pub fn add_entry<B: Base>(
     requires { spec.AreReady owner.now entry.body entries.old.current }
     ensures outcome { IsOutcome result entries.old entries.new (
         spec.map_after_adding ctx.now owner.now entry entries.old.current) }
-    ensures balances { OnOk result (
-        keeping.LeavesOtherBalances (key_of entry) entries.old.current entries.new.current) }
+    ensures means { OnOk result (
+        keeping.LeavesOtherMeans (key_of entry) entries.old.current entries.new.current) }
 {
     match charge_of(&entry.body) {
         Charge::Itself { owner: _ } => match account_slot_in(entry) {
@@ -47,8 +47,11 @@ pub fn add_entry<B: Base>(
             None => Ok(()),
             Some(slot) => add_account(entries, ctx, owner, slot),
         },
-        Charge::Subentry { owner: _, count } => add_subentry(entries, ctx, owner, entry, count),
-        Charge::Payer { count } => add_balance(entries, ctx, owner, entry, count),
+        Charge::Subentry {
+            owner: _,
+            multiplicity,
+        } => add_subentry(entries, ctx, owner, entry, multiplicity),
+        Charge::Payer { multiplicity } => add_balance(entries, ctx, owner, entry, multiplicity),
         Charge::Nobody => add_pool(entries, entry),
     }
 }
@@ -68,8 +71,8 @@ fn sponsored_entry(sponsor: Option<AccountId>, entry: LedgerEntry) -> LedgerEntr
 /// Adds a pool.
 fn add_pool<B: Base>(entries: &mut Entries<'_, B>, entry: LedgerEntry) -> Result<(), AddFault>
     ensures outcome { IsOutcome result entries.old entries.new (Ok (put entries.old.current entry)) }
-    ensures balances { OnOk result (
-        keeping.LeavesOtherBalances (key_of entry) entries.old.current entries.new.current) }
+    ensures means { OnOk result (
+        keeping.LeavesOtherMeans (key_of entry) entries.old.current entries.new.current) }
 {
     Ok(put_entry(entries, entry)?)
 }
@@ -80,18 +83,18 @@ fn add_subentry<B: Base>(
     ctx: &Ctx,
     owner: &AccountId,
     entry: LedgerEntry,
-    count: u64,
+    multiplicity: u64,
 ) -> Result<(), AddFault>
-    requires count { count ≤ 2 }
+    requires multiplicity { multiplicity ≤ 2 }
     requires owner { payers.IsReady entries.old.current owner.now }
     ensures outcome { IsOutcome result entries.old entries.new (
-        spec.map_after_adding_subentry ctx.now entry owner.now count entries.old.current) }
-    ensures balances { OnOk result (
-        keeping.LeavesOtherBalances (key_of entry) entries.old.current entries.new.current) }
+        spec.map_after_adding_subentry ctx.now entry owner.now multiplicity entries.old.current) }
+    ensures means { OnOk result (
+        keeping.LeavesOtherMeans (key_of entry) entries.old.current entries.new.current) }
 {
     let sponsor = open_sponsor(ctx, owner);
-    let slot = pay_for_subentry(entries, ctx, owner, &sponsor, count)?;
-    count_for_owner(entries, count, owner, slot, &sponsor)?;
+    let slot = pay_for_subentry(entries, ctx, owner, &sponsor, multiplicity)?;
+    count_for_owner(entries, multiplicity, owner, slot, &sponsor)?;
     put_entry(entries, sponsored_entry(sponsor, entry))?;
     Ok(())
 }
@@ -99,23 +102,23 @@ fn add_subentry<B: Base>(
 /// Counts a subentry more for its owner. `slot` is what stands under the owner's id.
 fn count_for_owner<B: Base>(
     entries: &mut Entries<'_, B>,
-    by: u64,
+    multiplicity: u64,
     owner: &AccountId,
     slot: Option<AccountSlot>,
     sponsor: &Option<AccountId>,
 ) -> Result<(), AllocError>
     requires loaded { keeping.IsLoaded entries.old.current owner.now slot }
-    requires fits { keeping.FitsSubentry by (account_of_slot slot) }
+    requires fits { keeping.FitsSubentry multiplicity (account_of_slot slot) }
     ensures counted { OnOk result (
         entries.new ≡
         with_current entries.old (
-        with_account entries.old.current owner.now (paying.with_subentry by sponsor.now))) }
-    ensures balances { OnOk result (keeping.LeavesBalances entries.old.current entries.new.current) }
+        with_account entries.old.current owner.now (paying.with_subentry multiplicity sponsor.now))) }
+    ensures means { OnOk result (keeping.LeavesMeans entries.old.current entries.new.current) }
 {
     let Some(mut slot) = slot else {
         return Ok(());
     };
-    gain_subentry(&mut slot.account, by, sponsor)?;
+    gain_subentry(&mut slot.account, multiplicity, sponsor)?;
     store_changed(entries, owner, slot)
 }
 
@@ -125,19 +128,20 @@ fn add_balance<B: Base>(
     ctx: &Ctx,
     owner: &AccountId,
     entry: LedgerEntry,
-    count: u64,
+    multiplicity: u64,
 ) -> Result<(), AddFault>
     ensures outcome { IsOutcome result entries.old entries.new (
-        spec.map_after_adding_balance ctx.now entry (payers.payer_of ctx.now owner.now) count entries.old.current) }
-    ensures balances { OnOk result (
-        keeping.LeavesOtherBalances (key_of entry) entries.old.current entries.new.current) }
+        spec.map_after_adding_balance ctx.now entry (payers.payer_of ctx.now owner.now) multiplicity
+        entries.old.current) }
+    ensures means { OnOk result (
+        keeping.LeavesOtherMeans (key_of entry) entries.old.current entries.new.current) }
 {
     let payer = payer_by(owner, open_sponsor(ctx, owner));
     let slot = load(entries, &payer)?;
-    if let Some(fault) = payer_fault(ctx.base_reserve, &slot, count) {
+    if let Some(fault) = payer_fault(ctx.base_reserve, &slot, multiplicity) {
         return Err(fault);
     }
-    raise_sponsoring(entries, count, &payer, slot)?;
+    raise_sponsoring(entries, multiplicity, &payer, slot)?;
     put_entry(entries, sponsored_entry(Some(payer), entry))?;
     Ok(())
 }
@@ -154,8 +158,8 @@ fn add_account<B: Base>(
     ensures outcome { IsOutcome result entries.old entries.new (
         spec.map_after_adding_account ctx.now (entry_of_account slot) slot.account (
         payers.open_sponsor ctx.now owner.now) entries.old.current) }
-    ensures balances { OnOk result (
-        keeping.LeavesOtherBalances (key_of (entry_of_account slot)) entries.old.current entries.new.current) }
+    ensures means { OnOk result (
+        keeping.LeavesOtherMeans (key_of (entry_of_account slot)) entries.old.current entries.new.current) }
 {
     match open_sponsor(ctx, owner) {
         Some(sponsor) => add_sponsored_account(entries, ctx, &sponsor, slot),
@@ -177,8 +181,8 @@ fn add_sponsored_account<B: Base>(
     ensures outcome { IsOutcome result entries.old entries.new (
         spec.map_after_adding_account ctx.now (entry_of_account slot) slot.account (Some sponsor.now)
         entries.old.current) }
-    ensures balances { OnOk result (
-        keeping.LeavesOtherBalances (key_of (entry_of_account slot)) entries.old.current entries.new.current) }
+    ensures means { OnOk result (
+        keeping.LeavesOtherMeans (key_of (entry_of_account slot)) entries.old.current entries.new.current) }
 {
     let payer = load(entries, sponsor)?;
     if let Some(fault) = payer_fault(ctx.base_reserve, &payer, 2) {
@@ -194,8 +198,8 @@ fn add_sponsored_account<B: Base>(
 fn put_account<B: Base>(entries: &mut Entries<'_, B>, slot: AccountSlot) -> Result<(), AllocError>
     ensures put { OnOk result (
         entries.new ≡ with_current entries.old (put entries.old.current (entry_of_account slot))) }
-    ensures balances { OnOk result (
-        keeping.LeavesOtherBalances (key_of (entry_of_account slot)) entries.old.current entries.new.current) }
+    ensures means { OnOk result (
+        keeping.LeavesOtherMeans (key_of (entry_of_account slot)) entries.old.current entries.new.current) }
 {
     store_account(entries, slot)
 }

@@ -10,10 +10,10 @@ use ledger_types::{AccountId, LedgerEntryBody, TrustLineAsset};
 pub enum Charge {
     /// An account charges itself two reserves.
     Itself { owner: AccountId },
-    /// A line, an offer or data counts `count` times for its owner.
-    Subentry { owner: AccountId, count: u64 },
+    /// A line, an offer or data counts `multiplicity` times for its owner.
+    Subentry { owner: AccountId, multiplicity: u64 },
     /// A claimable balance charges its payer one reserve a claimant.
-    Payer { count: u64 },
+    Payer { multiplicity: u64 },
     /// A pool charges nobody.
     Nobody,
 }
@@ -28,18 +28,18 @@ pub fn charge_of(body: &LedgerEntryBody) -> Charge
         },
         LedgerEntryBody::TrustLine(line) => Charge::Subentry {
             owner: line.account_id,
-            count: line_multiplicity(&line.asset),
+            multiplicity: line_multiplicity(&line.asset),
         },
         LedgerEntryBody::Offer(offer) => Charge::Subentry {
             owner: offer.seller_id,
-            count: 1,
+            multiplicity: 1,
         },
         LedgerEntryBody::Data(data_entry) => Charge::Subentry {
             owner: data_entry.account_id,
-            count: 1,
+            multiplicity: 1,
         },
         LedgerEntryBody::ClaimableBalance(balance) => Charge::Payer {
-            count: balance.claimants.len() as u64,
+            multiplicity: balance.claimants.len() as u64,
         },
         LedgerEntryBody::LiquidityPool(_) => Charge::Nobody,
     }

@@ -19,7 +19,7 @@ use crate::charge::{Charge, charge_of};
 use crate::context::Ctx;
 use crate::fault::AddFault;
 use crate::owner::change_payer;
-use crate::payers::other_than;
+use crate::payers::payer_other_than;
 use crate::paying::{exchange_payers, exchange_sponsors};
 use crate::stored::store_changed;
 use entry_map::{Base, Entries};
@@ -41,7 +41,7 @@ pub fn move_entry<B: Base>(
         (owner : AnId) → owner_of entry.body ≡ Some owner → payers.IsReady entries.old.current owner }
     ensures outcome { IsOutcome result entries.old entries.new (
         spec.map_after_moving ctx.now key.now payer entries.old.current) }
-    ensures balances { OnOk result (keeping.LeavesBalances entries.old.current entries.new.current) }
+    ensures means { OnOk result (keeping.LeavesMeans entries.old.current entries.new.current) }
 {
     let Some(entry) = entries.get(key)? else {
         return Ok(());
@@ -49,14 +49,24 @@ pub fn move_entry<B: Base>(
     let old = sponsor_in(&entry.ext);
     match charge_of(&entry.body) {
         Charge::Itself { owner } => {
-            let new = other_than(&owner, payer);
+            let new = payer_other_than(&owner, payer);
             move_between(entries, ctx, key, &owner, 2, &old, &new)
         }
-        Charge::Subentry { owner, count } => {
-            let new = other_than(&owner, payer);
-            move_between(entries, ctx, key, &owner, count, &old, &new)
+        Charge::Subentry {
+            owner,
+            multiplicity,
+        } => {
+            let new = payer_other_than(&owner, payer);
+            move_between(entries, ctx, key, &owner, multiplicity, &old, &new)
         }
-        Charge::Payer { count } => move_balance(entries, ctx, key, count, &old, payer),
+        Charge::Payer { multiplicity } => move_balance(
+            entries,
+            ctx,
+            key,
+            multiplicity,
+            &old,
+            payer,
+        ),
         Charge::Nobody => Ok(()),
     }
 }
@@ -67,21 +77,21 @@ fn move_between<B: Base>(
     ctx: &Ctx,
     key: &LedgerKey,
     owner: &AccountId,
-    count: u64,
+    multiplicity: u64,
     old: &Option<AccountId>,
     new: &Option<AccountId>,
 ) -> Result<(), AddFault>
-    requires count { count ≤ 2 }
+    requires multiplicity { multiplicity ≤ 2 }
     requires owner { payers.IsReady entries.old.current owner.now }
     ensures outcome { IsOutcome result entries.old entries.new (
-        spec.map_after_moving_between ctx.now key.now owner.now count old.now new.now entries.old.current) }
-    ensures balances { OnOk result (keeping.LeavesBalances entries.old.current entries.new.current) }
+        spec.map_after_moving_between ctx.now key.now owner.now multiplicity old.now new.now entries.old.current) }
+    ensures means { OnOk result (keeping.LeavesMeans entries.old.current entries.new.current) }
 {
     if old.is_none() && new.is_none() {
         return Ok(());
     }
-    let slot = exchange_payers(entries, ctx, owner, count, old, new)?;
-    change_owner_payer(entries, count, owner, slot, old, new)?;
+    let slot = exchange_payers(entries, ctx, owner, multiplicity, old, new)?;
+    change_owner_payer(entries, multiplicity, owner, slot, old, new)?;
     record_sponsor(entries, key, *new)?;
     Ok(())
 }
@@ -89,24 +99,24 @@ fn move_between<B: Base>(
 /// Another sponsor, or none, pays for something of an owner. `slot` is what stands under the owner's id.
 fn change_owner_payer<B: Base>(
     entries: &mut Entries<'_, B>,
-    by: u64,
+    multiplicity: u64,
     owner: &AccountId,
     slot: Option<AccountSlot>,
     old: &Option<AccountId>,
     new: &Option<AccountId>,
 ) -> Result<(), AllocError>
     requires loaded { keeping.IsLoaded entries.old.current owner.now slot }
-    requires fits { count_if Sponsored (account_of_slot slot) + by < 2 ^ 32 }
+    requires fits { count_if Sponsored (account_of_slot slot) + multiplicity < 2 ^ 32 }
     ensures changed { OnOk result (
         entries.new ≡
         with_current entries.old (
-        with_account entries.old.current owner.now (paying.with_other_payer by old.now new.now))) }
-    ensures balances { OnOk result (keeping.LeavesBalances entries.old.current entries.new.current) }
+        with_account entries.old.current owner.now (paying.with_other_payer multiplicity old.now new.now))) }
+    ensures means { OnOk result (keeping.LeavesMeans entries.old.current entries.new.current) }
 {
     let Some(mut slot) = slot else {
         return Ok(());
     };
-    change_payer(&mut slot.account, by, old, new)?;
+    change_payer(&mut slot.account, multiplicity, old, new)?;
     store_changed(entries, owner, slot)
 }
 
@@ -115,18 +125,18 @@ fn move_balance<B: Base>(
     entries: &mut Entries<'_, B>,
     ctx: &Ctx,
     key: &LedgerKey,
-    count: u64,
+    multiplicity: u64,
     old: &Option<AccountId>,
     payer: Option<AccountId>,
 ) -> Result<(), AddFault>
     ensures outcome { IsOutcome result entries.old entries.new (
-        spec.map_after_moving_balance ctx.now key.now count old.now payer entries.old.current) }
-    ensures balances { OnOk result (keeping.LeavesBalances entries.old.current entries.new.current) }
+        spec.map_after_moving_balance ctx.now key.now multiplicity old.now payer entries.old.current) }
+    ensures means { OnOk result (keeping.LeavesMeans entries.old.current entries.new.current) }
 {
     let Some(payer) = payer else {
         return Ok(());
     };
-    exchange_sponsors(entries, ctx, count, old, &payer)?;
+    exchange_sponsors(entries, ctx, multiplicity, old, &payer)?;
     record_sponsor(entries, key, Some(payer))?;
     Ok(())
 }
@@ -140,7 +150,7 @@ fn record_sponsor<B: Base>(
 ) -> Result<(), AllocError>
     ensures recorded { OnOk result (
         entries.new ≡ with_current entries.old (spec.map_with_sponsor key.now sponsor entries.old.current)) }
-    ensures balances { OnOk result (keeping.LeavesBalances entries.old.current entries.new.current) }
+    ensures means { OnOk result (keeping.LeavesMeans entries.old.current entries.new.current) }
 {
     let Some(mut entry) = entries.get(key)? else {
         return Ok(());

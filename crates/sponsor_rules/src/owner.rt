@@ -11,77 +11,77 @@ use crate::counting::{lower, raise};
 use ledger_types::{AccountEntry, AccountId};
 use std::alloc::AllocError;
 
-/// A sponsor, if there is one, pays `by` reserves more of an account.
+/// A sponsor, if there is one, pays `multiplicity` reserves more of an account.
 fn pay_more(
     account: &mut AccountEntry,
-    by: u64,
+    multiplicity: u64,
     sponsor: &Option<AccountId>,
 ) -> Result<(), AllocError>
-    requires { counting.count_in Sponsored account.old + by < 2 ^ 32 }
-    ensures paid { OnOk result (account.new ≡ spec.with_more_paid by sponsor.now account.old) }
+    requires { counting.count_in Sponsored account.old + multiplicity < 2 ^ 32 }
+    ensures paid { OnOk result (account.new ≡ spec.with_more_paid multiplicity sponsor.now account.old) }
     ensures means { OnOk result (KeepsMeans account.old account.new) }
 {
     match sponsor {
         None => Ok(()),
-        Some(_) => raise(account, Count::Sponsored, by),
+        Some(_) => raise(account, Count::Sponsored, multiplicity),
     }
 }
 
-/// A sponsor, if there is one, pays `by` reserves less of an account.
+/// A sponsor, if there is one, pays `multiplicity` reserves less of an account.
 fn pay_less(
     account: &mut AccountEntry,
-    by: u64,
+    multiplicity: u64,
     sponsor: &Option<AccountId>,
 ) -> Result<(), AllocError>
-    ensures paid { OnOk result (account.new ≡ spec.with_less_paid by sponsor.now account.old) }
+    ensures paid { OnOk result (account.new ≡ spec.with_less_paid multiplicity sponsor.now account.old) }
     ensures low { OnOk result (RaisesNoCount account.old account.new) }
     ensures means { OnOk result (KeepsMeans account.old account.new) }
 {
     match sponsor {
         None => Ok(()),
-        Some(_) => lower(account, Count::Sponsored, by),
+        Some(_) => lower(account, Count::Sponsored, multiplicity),
     }
 }
 
-/// An account has a subentry more, which counts `by` times.
+/// An account has a subentry more, which counts `multiplicity` times.
 pub fn gain_subentry(
     account: &mut AccountEntry,
-    by: u64,
+    multiplicity: u64,
     sponsor: &Option<AccountId>,
 ) -> Result<(), AllocError>
-    requires { FitsSubentry by (Some account.old) }
-    ensures gained { OnOk result (account.new ≡ spec.with_subentry by sponsor.now account.old) }
+    requires { FitsSubentry multiplicity (Some account.old) }
+    ensures gained { OnOk result (account.new ≡ spec.with_subentry multiplicity sponsor.now account.old) }
     ensures means { OnOk result (KeepsMeans account.old account.new) }
 {
-    raise(account, Count::SubEntries, by)?;
-    pay_more(account, by, sponsor)
+    raise(account, Count::SubEntries, multiplicity)?;
+    pay_more(account, multiplicity, sponsor)
 }
 
 /// An account has a subentry less.
 pub fn lose_subentry(
     account: &mut AccountEntry,
-    by: u64,
+    multiplicity: u64,
     sponsor: &Option<AccountId>,
 ) -> Result<(), AllocError>
-    ensures lost { OnOk result (account.new ≡ spec.without_subentry by sponsor.now account.old) }
+    ensures lost { OnOk result (account.new ≡ spec.without_subentry multiplicity sponsor.now account.old) }
     ensures low { OnOk result (RaisesNoCount account.old account.new) }
     ensures means { OnOk result (KeepsMeans account.old account.new) }
 {
-    lower(account, Count::SubEntries, by)?;
-    pay_less(account, by, sponsor)
+    lower(account, Count::SubEntries, multiplicity)?;
+    pay_less(account, multiplicity, sponsor)
 }
 
-/// Another sponsor, or none, pays `by` reserves of an account.
+/// Another sponsor, or none, pays `multiplicity` reserves of an account.
 pub fn change_payer(
     account: &mut AccountEntry,
-    by: u64,
+    multiplicity: u64,
     old: &Option<AccountId>,
     new: &Option<AccountId>,
 ) -> Result<(), AllocError>
-    requires { counting.count_in Sponsored account.old + by < 2 ^ 32 }
-    ensures changed { OnOk result (account.new ≡ spec.with_other_payer by old.now new.now account.old) }
+    requires { counting.count_in Sponsored account.old + multiplicity < 2 ^ 32 }
+    ensures changed { OnOk result (account.new ≡ spec.with_other_payer multiplicity old.now new.now account.old) }
     ensures means { OnOk result (KeepsMeans account.old account.new) }
 {
-    pay_less(account, by, old)?;
-    pay_more(account, by, new)
+    pay_less(account, multiplicity, old)?;
+    pay_more(account, multiplicity, new)
 }

@@ -46,8 +46,8 @@ pub fn payer_by(owner: &AccountId, sponsor: Option<AccountId>) -> AccountId
 }
 
 /// The payer, where that is another account than the owner.
-pub fn other_than(owner: &AccountId, payer: Option<AccountId>) -> Option<AccountId>
-    ensures { result ≡ spec.other_than owner.now payer }
+pub fn payer_other_than(owner: &AccountId, payer: Option<AccountId>) -> Option<AccountId>
+    ensures { result ≡ spec.payer_other_than owner.now payer }
 {
     match payer {
         None => None,
@@ -67,29 +67,31 @@ fn own_counts(slot: &Option<AccountSlot>) -> (u32, u32)
     }
 }
 
-/// Whether `more` subentries would be too many for an account.
-fn is_full(owner: &Option<AccountSlot>, more: u64) -> bool
-    ensures { result ≡ spec.is_full (account_of_slot owner.now) more }
+/// Whether `multiplicity` subentries would be too many for an account.
+fn is_full(owner: &Option<AccountSlot>, multiplicity: u64) -> bool
+    ensures { result ≡ spec.is_full (account_of_slot owner.now) multiplicity }
 {
     let (sub_entries, _) = own_counts(owner);
-    MAX_SUBENTRIES < u128::from(sub_entries) + u128::from(more)
+    MAX_SUBENTRIES < u128::from(sub_entries) + u128::from(multiplicity)
 }
 
-/// Whether an account's counts could not take `more` reserves.
-fn is_over(payer: &Option<AccountSlot>, more: u64) -> bool
-    ensures { result ≡ spec.is_over (account_of_slot payer.now) more }
+/// Whether an account's counts could not take `multiplicity` reserves.
+fn is_over(payer: &Option<AccountSlot>, multiplicity: u64) -> bool
+    ensures { result ≡ spec.is_over (account_of_slot payer.now) multiplicity }
 {
     let (sub_entries, sponsoring) = own_counts(payer);
-    u128::from(u32::MAX) < u128::from(sub_entries) + u128::from(sponsoring) + u128::from(more)
+    u128::from(u32::MAX)
+        < u128::from(sub_entries) + u128::from(sponsoring) + u128::from(multiplicity)
 }
 
-/// Whether an account cannot spend `more` reserves.
-pub fn is_short(base_reserve: u32, payer: &Option<AccountSlot>, more: u64) -> bool
-    ensures { result ≡ spec.is_short base_reserve (account_of_slot payer.now) more }
+/// Whether an account cannot spend `multiplicity` reserves.
+pub fn is_short(base_reserve: u32, payer: &Option<AccountSlot>, multiplicity: u64) -> bool
+    ensures { result ≡ spec.is_short base_reserve (account_of_slot payer.now) multiplicity }
 {
     match payer {
         None => false,
-        Some(slot) => available(&slot.account, base_reserve) < stroops_of(more, base_reserve),
+        Some(slot) => available(&slot.account, base_reserve)
+            < stroops_of(multiplicity, base_reserve),
     }
 }
 
@@ -100,15 +102,19 @@ fn stroops_of(count: u64, base_reserve: u32) -> i128
     (u128::from(count) * u128::from(base_reserve)) as i128
 }
 
-/// Why an account that isn't the owner of a subentry cannot pay `more` reserves, if it cannot.
-pub fn payer_fault(base_reserve: u32, payer: &Option<AccountSlot>, more: u64) -> Option<AddFault>
-    ensures fault { result ≡ first_fault (spec.payer_tests base_reserve (account_of_slot payer.now) more) }
-    ensures room { IfNone result (count_if Sponsoring (account_of_slot payer.now) + more ≤ 4294967295) }
+/// Why an account that isn't the owner of a subentry cannot pay `multiplicity` reserves, if it cannot.
+pub fn payer_fault(
+    base_reserve: u32,
+    payer: &Option<AccountSlot>,
+    multiplicity: u64,
+) -> Option<AddFault>
+    ensures fault { result ≡ first_fault (spec.payer_tests base_reserve (account_of_slot payer.now) multiplicity) }
+    ensures room { IfNone result (count_if Sponsoring (account_of_slot payer.now) + multiplicity ≤ 4294967295) }
 {
-    if is_over(payer, more) {
+    if is_over(payer, multiplicity) {
         return Some(AddFault::TooManySponsoring);
     }
-    if is_short(base_reserve, payer, more) {
+    if is_short(base_reserve, payer, multiplicity) {
         return Some(AddFault::LowReserve);
     }
     None
@@ -119,20 +125,20 @@ pub fn subentry_fault(
     base_reserve: u32,
     owner: &Option<AccountSlot>,
     payer: &Option<AccountSlot>,
-    more: u64,
+    multiplicity: u64,
 ) -> Option<AddFault>
     ensures fault { result ≡ first_fault (
-        spec.subentry_tests base_reserve (account_of_slot owner.now) (account_of_slot payer.now) more) }
-    ensures few { IfNone result (count_if SubEntries (account_of_slot owner.now) + more ≤ 1000) }
-    ensures room { IfNone result (count_if Sponsoring (account_of_slot payer.now) + more ≤ 4294967295) }
+        spec.subentry_tests base_reserve (account_of_slot owner.now) (account_of_slot payer.now) multiplicity) }
+    ensures few { IfNone result (count_if SubEntries (account_of_slot owner.now) + multiplicity ≤ 1000) }
+    ensures room { IfNone result (count_if Sponsoring (account_of_slot payer.now) + multiplicity ≤ 4294967295) }
 {
-    if is_full(owner, more) {
+    if is_full(owner, multiplicity) {
         return Some(AddFault::TooManySubentries);
     }
-    if is_over(payer, more) || is_over(owner, more) {
+    if is_over(payer, multiplicity) || is_over(owner, multiplicity) {
         return Some(AddFault::TooManySponsoring);
     }
-    if is_short(base_reserve, payer, more) {
+    if is_short(base_reserve, payer, multiplicity) {
         return Some(AddFault::LowReserve);
     }
     None

@@ -23,62 +23,65 @@ use entry_slots::AccountSlot;
 use ledger_types::AccountId;
 use std::alloc::AllocError;
 
-/// A sponsor pays `by` reserves more. `slot` is what stands under its id.
+/// A sponsor pays `multiplicity` reserves more. `slot` is what stands under its id.
 pub fn raise_sponsoring<B: Base>(
     entries: &mut Entries<'_, B>,
-    by: u64,
+    multiplicity: u64,
     sponsor: &AccountId,
     slot: Option<AccountSlot>,
 ) -> Result<(), AllocError>
     requires loaded { keeping.IsLoaded entries.old.current sponsor.now slot }
-    requires fits { count_if Sponsoring (account_of_slot slot) + by < 2 ^ 32 }
+    requires fits { count_if Sponsoring (account_of_slot slot) + multiplicity < 2 ^ 32 }
     ensures charged { OnOk result (
-        entries.new ≡ with_current entries.old (spec.map_after_charging by (Some sponsor.now) entries.old.current)) }
+        entries.new ≡
+        with_current entries.old (spec.map_after_charging multiplicity (Some sponsor.now) entries.old.current)) }
     ensures kept { OnOk result (keeping.KeepsOthers Sponsoring entries.old.current entries.new.current) }
     ensures others { OnOk result (keeping.ChangesAtMost (Some sponsor.now) entries.old.current entries.new.current) }
-    ensures balances { OnOk result (keeping.LeavesBalances entries.old.current entries.new.current) }
+    ensures means { OnOk result (keeping.LeavesMeans entries.old.current entries.new.current) }
 {
     let Some(mut slot) = slot else {
         return Ok(());
     };
-    raise(&mut slot.account, Count::Sponsoring, by)?;
+    raise(&mut slot.account, Count::Sponsoring, multiplicity)?;
     store_changed(entries, sponsor, slot)
 }
 
-/// A sponsor, if there is one, pays `by` reserves less.
+/// A sponsor, if there is one, pays `multiplicity` reserves less.
 pub fn lower_sponsoring<B: Base>(
     entries: &mut Entries<'_, B>,
-    by: u64,
+    multiplicity: u64,
     sponsor: &Option<AccountId>,
 ) -> Result<(), AllocError>
     ensures released { OnOk result (
-        entries.new ≡ with_current entries.old (spec.map_after_releasing by sponsor.now entries.old.current)) }
+        entries.new ≡
+        with_current entries.old (spec.map_after_releasing multiplicity sponsor.now entries.old.current)) }
     ensures low { OnOk result (keeping.RaisesNone entries.old.current entries.new.current) }
     ensures others { OnOk result (keeping.ChangesAtMost sponsor.now entries.old.current entries.new.current) }
-    ensures balances { OnOk result (keeping.LeavesBalances entries.old.current entries.new.current) }
+    ensures means { OnOk result (keeping.LeavesMeans entries.old.current entries.new.current) }
 {
     match sponsor {
         None => Ok(()),
-        Some(sponsor) => lower_sponsoring_of(entries, by, sponsor),
+        Some(sponsor) => lower_sponsoring_of(entries, multiplicity, sponsor),
     }
 }
 
-/// A sponsor pays `by` reserves less.
+/// A sponsor pays `multiplicity` reserves less.
 fn lower_sponsoring_of<B: Base>(
     entries: &mut Entries<'_, B>,
-    by: u64,
+    multiplicity: u64,
     sponsor: &AccountId,
 ) -> Result<(), AllocError>
     ensures released { OnOk result (
-        entries.new ≡ with_current entries.old (spec.map_after_releasing by (Some sponsor.now) entries.old.current)) }
+        entries.new ≡
+        with_current entries.old (spec.map_after_releasing multiplicity (Some sponsor.now) entries.old.current)) }
     ensures low { OnOk result (keeping.RaisesNone entries.old.current entries.new.current) }
     ensures others { OnOk result (keeping.ChangesAtMost (Some sponsor.now) entries.old.current entries.new.current) }
-    ensures balances { OnOk result (keeping.LeavesBalances entries.old.current entries.new.current) }
+    ensures means { OnOk result (keeping.LeavesMeans entries.old.current entries.new.current) }
 {
     let Some(mut slot) = load(entries, sponsor)? else {
         return Ok(());
     };
-    lower(&mut slot.account, Count::Sponsoring, by)?;
+    lower(&mut slot.account, Count::Sponsoring, multiplicity)?;
     store_changed(entries, sponsor, slot)
 }
 
@@ -89,29 +92,30 @@ pub fn pay_for_subentry<B: Base>(
     ctx: &Ctx,
     owner: &AccountId,
     sponsor: &Option<AccountId>,
-    count: u64,
+    multiplicity: u64,
 ) -> Result<Option<AccountSlot>, AddFault>
-    requires count { count ≤ 2 }
+    requires multiplicity { multiplicity ≤ 2 }
     requires sponsor { sponsor.now ≡ payers.open_sponsor ctx.now owner.now }
     requires owner { payers.IsReady entries.old.current owner.now }
     ensures refused { IfErr result (λ fault.
         IsFound fault entries.old entries.new (
-        first_fault (payers.subentry_tests_at ctx.now entries.old.current owner.now count))) }
+        first_fault (payers.subentry_tests_at ctx.now entries.old.current owner.now multiplicity))) }
     ensures passed { OnOk result (
-        first_fault (payers.subentry_tests_at ctx.now entries.old.current owner.now count) ≡ None) }
+        first_fault (payers.subentry_tests_at ctx.now entries.old.current owner.now multiplicity) ≡ None) }
     ensures charged { OnOk result (
-        entries.new ≡ with_current entries.old (spec.map_after_charging count sponsor.now entries.old.current)) }
+        entries.new ≡
+        with_current entries.old (spec.map_after_charging multiplicity sponsor.now entries.old.current)) }
     ensures loaded { IfOk result (keeping.IsLoaded entries.new.current owner.now) }
-    ensures fits { IfOk result (λ slot. keeping.FitsSubentry count (account_of_slot slot)) }
-    ensures balances { OnOk result (keeping.LeavesBalances entries.old.current entries.new.current) }
+    ensures fits { IfOk result (λ slot. keeping.FitsSubentry multiplicity (account_of_slot slot)) }
+    ensures means { OnOk result (keeping.LeavesMeans entries.old.current entries.new.current) }
 {
     let slot = load(entries, owner)?;
     match sponsor {
-        None => match subentry_fault(ctx.base_reserve, &slot, &slot, count) {
+        None => match subentry_fault(ctx.base_reserve, &slot, &slot, multiplicity) {
             Some(fault) => Err(fault),
             None => Ok(slot),
         },
-        Some(sponsor) => pay_by_sponsor(entries, ctx, owner, slot, sponsor, count),
+        Some(sponsor) => pay_by_sponsor(entries, ctx, owner, slot, sponsor, multiplicity),
     }
 }
 
@@ -122,28 +126,29 @@ fn pay_by_sponsor<B: Base>(
     owner: &AccountId,
     slot: Option<AccountSlot>,
     sponsor: &AccountId,
-    count: u64,
+    multiplicity: u64,
 ) -> Result<Option<AccountSlot>, AddFault>
-    requires count { count ≤ 2 }
+    requires multiplicity { multiplicity ≤ 2 }
     requires sponsor { payers.payer_of ctx.now owner.now ≡ sponsor.now }
     requires owner { payers.IsReady entries.old.current owner.now }
     requires loaded { keeping.IsLoaded entries.old.current owner.now slot }
     ensures refused { IfErr result (λ fault.
         IsFound fault entries.old entries.new (
-        first_fault (payers.subentry_tests_at ctx.now entries.old.current owner.now count))) }
+        first_fault (payers.subentry_tests_at ctx.now entries.old.current owner.now multiplicity))) }
     ensures passed { OnOk result (
-        first_fault (payers.subentry_tests_at ctx.now entries.old.current owner.now count) ≡ None) }
+        first_fault (payers.subentry_tests_at ctx.now entries.old.current owner.now multiplicity) ≡ None) }
     ensures charged { OnOk result (
-        entries.new ≡ with_current entries.old (spec.map_after_charging count (Some sponsor.now) entries.old.current)) }
+        entries.new ≡
+        with_current entries.old (spec.map_after_charging multiplicity (Some sponsor.now) entries.old.current)) }
     ensures loaded { IfOk result (keeping.IsLoaded entries.new.current owner.now) }
-    ensures fits { IfOk result (λ slot. keeping.FitsSubentry count (account_of_slot slot)) }
-    ensures balances { OnOk result (keeping.LeavesBalances entries.old.current entries.new.current) }
+    ensures fits { IfOk result (λ slot. keeping.FitsSubentry multiplicity (account_of_slot slot)) }
+    ensures means { OnOk result (keeping.LeavesMeans entries.old.current entries.new.current) }
 {
     let payer = load(entries, sponsor)?;
-    if let Some(fault) = subentry_fault(ctx.base_reserve, &slot, &payer, count) {
+    if let Some(fault) = subentry_fault(ctx.base_reserve, &slot, &payer, multiplicity) {
         return Err(fault);
     }
-    raise_sponsoring(entries, count, sponsor, payer)?;
+    raise_sponsoring(entries, multiplicity, sponsor, payer)?;
     Ok(still_loaded(entries, owner, slot, &Some(*sponsor))?)
 }
 
@@ -153,28 +158,28 @@ pub fn exchange_payers<B: Base>(
     entries: &mut Entries<'_, B>,
     ctx: &Ctx,
     owner: &AccountId,
-    count: u64,
+    multiplicity: u64,
     old: &Option<AccountId>,
     new: &Option<AccountId>,
 ) -> Result<Option<AccountSlot>, AddFault>
-    requires count { count ≤ 2 }
+    requires multiplicity { multiplicity ≤ 2 }
     requires owner { payers.IsReady entries.old.current owner.now }
     ensures refused { IfErr result (λ fault.
         IsFound fault entries.old entries.new (
-        first_fault (payers.move_tests_at ctx.now entries.old.current owner.now new.now count))) }
+        first_fault (payers.move_tests_at ctx.now entries.old.current owner.now new.now multiplicity))) }
     ensures passed { OnOk result (
-        first_fault (payers.move_tests_at ctx.now entries.old.current owner.now new.now count) ≡ None) }
+        first_fault (payers.move_tests_at ctx.now entries.old.current owner.now new.now multiplicity) ≡ None) }
     ensures charged { OnOk result (
         entries.new ≡
-        with_current entries.old (spec.map_after_exchange count old.now new.now entries.old.current)) }
+        with_current entries.old (spec.map_after_exchange multiplicity old.now new.now entries.old.current)) }
     ensures loaded { IfOk result (keeping.IsLoaded entries.new.current owner.now) }
-    ensures fits { IfOk result (λ slot. count_if Sponsored (account_of_slot slot) + count < 2 ^ 32) }
-    ensures balances { OnOk result (keeping.LeavesBalances entries.old.current entries.new.current) }
+    ensures fits { IfOk result (λ slot. count_if Sponsored (account_of_slot slot) + multiplicity < 2 ^ 32) }
+    ensures means { OnOk result (keeping.LeavesMeans entries.old.current entries.new.current) }
 {
     match new {
-        None => release_to_owner(entries, ctx, owner, count, old),
+        None => release_to_owner(entries, ctx, owner, multiplicity, old),
         Some(new) => {
-            exchange_sponsors(entries, ctx, count, old, new)?;
+            exchange_sponsors(entries, ctx, multiplicity, old, new)?;
             Ok(load(entries, owner)?)
         }
     }
@@ -185,27 +190,28 @@ fn release_to_owner<B: Base>(
     entries: &mut Entries<'_, B>,
     ctx: &Ctx,
     owner: &AccountId,
-    count: u64,
+    multiplicity: u64,
     old: &Option<AccountId>,
 ) -> Result<Option<AccountSlot>, AddFault>
-    requires count { count ≤ 2 }
+    requires multiplicity { multiplicity ≤ 2 }
     requires owner { payers.IsReady entries.old.current owner.now }
     ensures refused { IfErr result (λ fault.
         IsFound fault entries.old entries.new (
-        first_fault (payers.move_tests_at ctx.now entries.old.current owner.now None count))) }
+        first_fault (payers.move_tests_at ctx.now entries.old.current owner.now None multiplicity))) }
     ensures passed { OnOk result (
-        first_fault (payers.move_tests_at ctx.now entries.old.current owner.now None count) ≡ None) }
+        first_fault (payers.move_tests_at ctx.now entries.old.current owner.now None multiplicity) ≡ None) }
     ensures released { OnOk result (
-        entries.new ≡ with_current entries.old (spec.map_after_releasing count old.now entries.old.current)) }
+        entries.new ≡
+        with_current entries.old (spec.map_after_releasing multiplicity old.now entries.old.current)) }
     ensures loaded { IfOk result (keeping.IsLoaded entries.new.current owner.now) }
-    ensures fits { IfOk result (λ slot. count_if Sponsored (account_of_slot slot) + count < 2 ^ 32) }
-    ensures balances { OnOk result (keeping.LeavesBalances entries.old.current entries.new.current) }
+    ensures fits { IfOk result (λ slot. count_if Sponsored (account_of_slot slot) + multiplicity < 2 ^ 32) }
+    ensures means { OnOk result (keeping.LeavesMeans entries.old.current entries.new.current) }
 {
     let slot = load(entries, owner)?;
-    if is_short(ctx.base_reserve, &slot, count) {
+    if is_short(ctx.base_reserve, &slot, multiplicity) {
         return Err(AddFault::LowReserve);
     }
-    lower_sponsoring(entries, count, old)?;
+    lower_sponsoring(entries, multiplicity, old)?;
     Ok(still_loaded(entries, owner, slot, old)?)
 }
 
@@ -214,28 +220,28 @@ fn release_to_owner<B: Base>(
 pub fn exchange_sponsors<B: Base>(
     entries: &mut Entries<'_, B>,
     ctx: &Ctx,
-    count: u64,
+    multiplicity: u64,
     old: &Option<AccountId>,
     new: &AccountId,
 ) -> Result<(), AddFault>
     ensures refused { IfErr result (λ fault.
         IsFound fault entries.old entries.new (
-        first_fault (payers.payer_tests_at ctx.now entries.old.current new.now count))) }
+        first_fault (payers.payer_tests_at ctx.now entries.old.current new.now multiplicity))) }
     ensures passed { OnOk result (
-        first_fault (payers.payer_tests_at ctx.now entries.old.current new.now count) ≡ None) }
+        first_fault (payers.payer_tests_at ctx.now entries.old.current new.now multiplicity) ≡ None) }
     ensures charged { OnOk result (
         entries.new ≡
-        with_current entries.old (spec.map_after_exchange count old.now (Some new.now) entries.old.current)) }
+        with_current entries.old (spec.map_after_exchange multiplicity old.now (Some new.now) entries.old.current)) }
     ensures kept { OnOk result (
         (id : AnId) → count_at entries.new.current id Sponsored ≤ count_at entries.old.current id Sponsored) }
-    ensures balances { OnOk result (keeping.LeavesBalances entries.old.current entries.new.current) }
+    ensures means { OnOk result (keeping.LeavesMeans entries.old.current entries.new.current) }
 {
     let payer = load(entries, new)?;
-    if let Some(fault) = payer_fault(ctx.base_reserve, &payer, count) {
+    if let Some(fault) = payer_fault(ctx.base_reserve, &payer, multiplicity) {
         return Err(fault);
     }
-    lower_sponsoring(entries, count, old)?;
+    lower_sponsoring(entries, multiplicity, old)?;
     let payer = still_loaded(entries, new, payer, old)?;
-    raise_sponsoring(entries, count, new, payer)?;
+    raise_sponsoring(entries, multiplicity, new, payer)?;
     Ok(())
 }

@@ -27,7 +27,7 @@ pub fn remove_entry<B: Base>(
     ensures removed { OnOk result (
         entries.new ≡ with_current entries.old (spec.map_after_removing key.now entries.old.current)) }
     ensures low { OnOk result (keeping.RaisesNone entries.old.current entries.new.current) }
-    ensures balances { OnOk result (keeping.LeavesOtherBalances key.now entries.old.current entries.new.current) }
+    ensures means { OnOk result (keeping.LeavesOtherMeans key.now entries.old.current entries.new.current) }
 {
     let Some(entry) = entries.get(key)? else {
         return Ok(());
@@ -46,12 +46,15 @@ fn remove_charge<B: Base>(
     ensures released { OnOk result (
         entries.new ≡ with_current entries.old (spec.map_without_charge charge sponsor.now entries.old.current)) }
     ensures low { OnOk result (keeping.RaisesNone entries.old.current entries.new.current) }
-    ensures balances { OnOk result (keeping.LeavesBalances entries.old.current entries.new.current) }
+    ensures means { OnOk result (keeping.LeavesMeans entries.old.current entries.new.current) }
 {
     match charge {
         Charge::Itself { owner: _ } => lower_sponsoring(entries, 2, sponsor),
-        Charge::Subentry { owner, count } => discount_subentry(entries, count, &owner, sponsor),
-        Charge::Payer { count } => lower_sponsoring(entries, count, sponsor),
+        Charge::Subentry {
+            owner,
+            multiplicity,
+        } => discount_subentry(entries, multiplicity, &owner, sponsor),
+        Charge::Payer { multiplicity } => lower_sponsoring(entries, multiplicity, sponsor),
         Charge::Nobody => Ok(()),
     }
 }
@@ -59,37 +62,37 @@ fn remove_charge<B: Base>(
 /// Counts a subentry less for its owner and for its sponsor.
 fn discount_subentry<B: Base>(
     entries: &mut Entries<'_, B>,
-    by: u64,
+    multiplicity: u64,
     owner: &AccountId,
     sponsor: &Option<AccountId>,
 ) -> Result<(), AllocError>
     ensures released { OnOk result (
         entries.new ≡
-        with_current entries.old (spec.map_after_discounting owner.now by sponsor.now entries.old.current)) }
+        with_current entries.old (spec.map_after_discounting owner.now multiplicity sponsor.now entries.old.current)) }
     ensures low { OnOk result (keeping.RaisesNone entries.old.current entries.new.current) }
-    ensures balances { OnOk result (keeping.LeavesBalances entries.old.current entries.new.current) }
+    ensures means { OnOk result (keeping.LeavesMeans entries.old.current entries.new.current) }
 {
-    lower_sponsoring(entries, by, sponsor)?;
-    discount_for_owner(entries, by, owner, sponsor)
+    lower_sponsoring(entries, multiplicity, sponsor)?;
+    discount_for_owner(entries, multiplicity, owner, sponsor)
 }
 
 /// Counts a subentry less for its owner.
 fn discount_for_owner<B: Base>(
     entries: &mut Entries<'_, B>,
-    by: u64,
+    multiplicity: u64,
     owner: &AccountId,
     sponsor: &Option<AccountId>,
 ) -> Result<(), AllocError>
     ensures discounted { OnOk result (
         entries.new ≡
         with_current entries.old (
-        with_account entries.old.current owner.now (paying.without_subentry by sponsor.now))) }
+        with_account entries.old.current owner.now (paying.without_subentry multiplicity sponsor.now))) }
     ensures low { OnOk result (keeping.RaisesNone entries.old.current entries.new.current) }
-    ensures balances { OnOk result (keeping.LeavesBalances entries.old.current entries.new.current) }
+    ensures means { OnOk result (keeping.LeavesMeans entries.old.current entries.new.current) }
 {
     let Some(mut slot) = load(entries, owner)? else {
         return Ok(());
     };
-    lose_subentry(&mut slot.account, by, sponsor)?;
+    lose_subentry(&mut slot.account, multiplicity, sponsor)?;
     store_changed(entries, owner, slot)
 }

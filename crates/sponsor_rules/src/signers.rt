@@ -13,7 +13,7 @@ ghost use Rattle.sponsor_rules.specs.Signers as spec;
 use crate::context::Ctx;
 use crate::fault::AddFault;
 use crate::owner::{change_payer, gain_subentry, lose_subentry};
-use crate::payers::{open_sponsor, other_than};
+use crate::payers::{open_sponsor, payer_other_than};
 use crate::paying::{exchange_payers, lower_sponsoring, pay_for_subentry};
 use crate::signer_edits::{insert_signer, remove_signer_at, set_signer_sponsor};
 use crate::signer_place::{FoundSigner, found_signer};
@@ -35,7 +35,7 @@ pub fn add_signer<B: Base>(
     requires { payers.IsReady entries.old.current account.now }
     ensures outcome { IsOutcome result entries.old entries.new (
         spec.map_after_adding_signer ctx.now account.now signer entries.old.current) }
-    ensures balances { OnOk result (keeping.LeavesBalances entries.old.current entries.new.current) }
+    ensures means { OnOk result (keeping.LeavesMeans entries.old.current entries.new.current) }
 {
     let sponsor = open_sponsor(ctx, account);
     let slot = pay_for_subentry(entries, ctx, account, &sponsor, 1)?;
@@ -57,7 +57,7 @@ fn put_signer<B: Base>(
         entries.new ≡
         with_current entries.old (
         with_account entries.old.current account.now (spec.with_counted_signer signer sponsor))) }
-    ensures balances { OnOk result (keeping.LeavesBalances entries.old.current entries.new.current) }
+    ensures means { OnOk result (keeping.LeavesMeans entries.old.current entries.new.current) }
 {
     let Some(mut slot) = slot else {
         return Ok(());
@@ -79,7 +79,7 @@ pub fn remove_signer<B: Base>(
         entries.new ≡
         with_current entries.old (spec.map_after_removing_signer account.now key.now entries.old.current)) }
     ensures low { OnOk result (keeping.RaisesNone entries.old.current entries.new.current) }
-    ensures balances { OnOk result (keeping.LeavesBalances entries.old.current entries.new.current) }
+    ensures means { OnOk result (keeping.LeavesMeans entries.old.current entries.new.current) }
 {
     let slot = load(entries, account)?;
     let Some(found) = found_signer(key, &slot) else {
@@ -103,7 +103,7 @@ fn take_signer<B: Base>(
         with_current entries.old (
         with_account entries.old.current account.now (spec.without_counted_signer found))) }
     ensures low { OnOk result (keeping.RaisesNone entries.old.current entries.new.current) }
-    ensures balances { OnOk result (keeping.LeavesBalances entries.old.current entries.new.current) }
+    ensures means { OnOk result (keeping.LeavesMeans entries.old.current entries.new.current) }
 {
     let Some(mut slot) = slot else {
         return Ok(());
@@ -125,7 +125,7 @@ pub fn remove_preauth<B: Base>(
         entries.new ≡
         with_current entries.old (spec.map_after_removing_preauth account.now hash.now entries.old.current)) }
     ensures low { OnOk result (keeping.RaisesNone entries.old.current entries.new.current) }
-    ensures balances { OnOk result (keeping.LeavesBalances entries.old.current entries.new.current) }
+    ensures means { OnOk result (keeping.LeavesMeans entries.old.current entries.new.current) }
 {
     remove_signer(entries, ctx, account, &SignerKey::PreAuthTx(*hash))
 }
@@ -143,12 +143,12 @@ pub fn move_signer<B: Base>(
     requires { payers.IsReady entries.old.current account.now }
     ensures outcome { IsOutcome result entries.old entries.new (
         spec.map_after_moving_signer ctx.now account.now key.now payer entries.old.current) }
-    ensures balances { OnOk result (keeping.LeavesBalances entries.old.current entries.new.current) }
+    ensures means { OnOk result (keeping.LeavesMeans entries.old.current entries.new.current) }
 {
     let Some(found) = found_signer(key, &load(entries, account)?) else {
         return Ok(());
     };
-    let new = other_than(account, payer);
+    let new = payer_other_than(account, payer);
     move_signer_between(entries, ctx, account, found.place, &found.sponsor, &new)
 }
 
@@ -164,7 +164,7 @@ fn move_signer_between<B: Base>(
     requires { payers.IsReady entries.old.current account.now }
     ensures outcome { IsOutcome result entries.old entries.new (
         spec.map_after_moving_signer_between ctx.now account.now place old.now new.now entries.old.current) }
-    ensures balances { OnOk result (keeping.LeavesBalances entries.old.current entries.new.current) }
+    ensures means { OnOk result (keeping.LeavesMeans entries.old.current entries.new.current) }
 {
     if old.is_none() && new.is_none() {
         return Ok(());
@@ -189,7 +189,7 @@ fn record_signer_sponsor<B: Base>(
         entries.new ≡
         with_current entries.old (
         with_account entries.old.current account.now (spec.with_moved_signer place old.now new.now))) }
-    ensures balances { OnOk result (keeping.LeavesBalances entries.old.current entries.new.current) }
+    ensures means { OnOk result (keeping.LeavesMeans entries.old.current entries.new.current) }
 {
     let Some(mut slot) = slot else {
         return Ok(());

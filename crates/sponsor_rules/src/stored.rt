@@ -54,7 +54,7 @@ pub fn store_changed<B: Base>(
     requires change { spec.IsChangeOf entries.old.current id.now slot.account }
     ensures stored { OnOk result (
         entries.new ≡ with_current entries.old (put entries.old.current (entry_of_account slot))) }
-    ensures balances { OnOk result (spec.LeavesBalances entries.old.current entries.new.current) }
+    ensures means { OnOk result (spec.LeavesMeans entries.old.current entries.new.current) }
     ensures others { OnOk result (spec.ChangesAtMost (Some id.now) entries.old.current entries.new.current) }
     ensures kept { (count : ACount) →
         spec.IsChanged (spec.KeepsOtherCounts count) entries.old.current id.now slot.account →
@@ -71,7 +71,7 @@ pub fn put_entry<B: Base>(
     entry: LedgerEntry,
 ) -> Result<(), AllocError>
     ensures put { OnOk result (entries.new ≡ with_current entries.old (put entries.old.current entry)) }
-    ensures balances { OnOk result (spec.LeavesOtherBalances (key_of entry) entries.old.current entries.new.current) }
+    ensures means { OnOk result (spec.LeavesOtherMeans (key_of entry) entries.old.current entries.new.current) }
 {
     entries.put(entry)
 }
@@ -80,7 +80,7 @@ pub fn put_entry<B: Base>(
 pub fn erase_entry<B: Base>(entries: &mut Entries<'_, B>, key: &LedgerKey) -> Result<(), AllocError>
     ensures erased { OnOk result (entries.new ≡ with_current entries.old (erase entries.old.current key.now)) }
     ensures low { OnOk result (spec.RaisesNone entries.old.current entries.new.current) }
-    ensures balances { OnOk result (spec.LeavesOtherBalances key.now entries.old.current entries.new.current) }
+    ensures means { OnOk result (spec.LeavesOtherMeans key.now entries.old.current entries.new.current) }
 {
     entries.erase(key)
 }

@@ -61,7 +61,8 @@ pub goes_on : (network : Hash) (terms : Terms) (front : List TransactionResultPa
     → (front ++ record { transaction_hash = digest; result = record { fee_charged = charge; outcome = end } } ∷ [])
     ++ apply_all network terms (drop (i + 1) txs) (drop (i + 1) charges) after ≡ all
 unfolding apply_all
-goes_on network terms front txs charges i e charge accounts after digest end all lt len at at_charge is_digest is_end is_after so_far =
+goes_on network terms front txs charges i e charge accounts after digest end all lt len at at_charge is_digest is_end
+    is_after so_far =
     let first : drop i txs ≡ e ∷ drop (i + 1) txs =
     rw (add-one, drop-cons txs i e) (ap (λ (x : TransactionEnvelope). x ∷ drop (suc i) txs) (sym at)) in
     let within : i < length charges = omega (arith, len) in

@@ -28,7 +28,8 @@ fn charge_source(
     accounts: &mut [AccountEntry],
 ) -> i64
     requires { IdsRise accounts.old }
-    ensures charge { result ≡ fee_of_source base_fee envelope.now.tx.fee (account_at envelope.now.tx.source_account accounts.old) }
+    ensures charge { result ≡
+        fee_of_source base_fee envelope.now.tx.fee (account_at envelope.now.tx.source_account accounts.old) }
     ensures debited { accounts.new ≡ with_account envelope.now.tx.source_account (debited_by result) accounts.old }
     ensures ids { IdsRise accounts.new }
 {

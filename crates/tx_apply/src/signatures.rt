@@ -33,7 +33,8 @@ fn matches_key(hint: &[u8; 4], digest: &Hash, key: &SignerKey) -> bool
 
 /// Where the first signer stands that the signature matches.
 fn first_place(signers: &[Signer], signature: &DecoratedSignature) -> Option<usize>
-    ensures { result ≡ position (λ signer. key_matches signature.now.hint (sha256 signature.now.signature) signer.key) signers.now }
+    ensures { result ≡ position (
+        λ signer. key_matches signature.now.hint (sha256 signature.now.signature) signer.key) signers.now }
 {
     let digest = hash(signature.signature.as_slice());
     signers.iter().position(|signer| matches_key(&signature.hint, &digest, &signer.key))
@@ -41,8 +42,10 @@ fn first_place(signers: &[Signer], signature: &DecoratedSignature) -> Option<usi
 
 /// Takes the first of the signers left that the signature matches out of them, and answers what it weighs.
 fn count_signer(left: &mut Vec<Signer>, signature: &DecoratedSignature) -> Option<u32>
-    ensures weight { result ≡ (counts_of left.old.items (first_match signature.now.hint (sha256 signature.now.signature) left.old.items)).weight }
-    ensures others { left.new.items ≡ (counts_of left.old.items (first_match signature.now.hint (sha256 signature.now.signature) left.old.items)).left }
+    ensures weight { result ≡ (counts_of left.old.items (
+        first_match signature.now.hint (sha256 signature.now.signature) left.old.items)).weight }
+    ensures others { left.new.items ≡ (counts_of left.old.items (
+        first_match signature.now.hint (sha256 signature.now.signature) left.old.items)).left }
 {
     let Some(place) = first_place(left, signature) else {
         return None;

@@ -11,7 +11,7 @@ returns-clause-counted g c =
     let loaded : IsLoaded c.args.entries.now.current c.args.owner.now (Some c.in-Some.slot) = search rules in
     on_ok_weaker c.store_changed.result
     (λ is. is ∙ ap (with_current c.args.entries.now) (stored_as c.args.entries.now.current c.args.owner.now
-    (paying.with_subentry c.args.by c.args.sponsor.now) c.in-Some.slot c.gain_subentry.new.account loaded
+    (paying.with_subentry c.args.multiplicity c.args.sponsor.now) c.in-Some.slot c.gain_subentry.new.account loaded
     c.in_ok-gain_subentry.ensures.gained))
     c.store_changed.ensures.stored
 
@@ -19,4 +19,4 @@ pub returns-in_default-clause-counted : goal.returns-in_default-clause-counted
 returns-in_default-clause-counted g c =
     let loaded : IsLoaded c.args.entries.now.current c.args.owner.now None = search rules in
     ap (with_current c.args.entries.now) (sym (with_account_none c.args.entries.now.current c.args.owner.now
-    (paying.with_subentry c.args.by c.args.sponsor.now) loaded))
+    (paying.with_subentry c.args.multiplicity c.args.sponsor.now) loaded))

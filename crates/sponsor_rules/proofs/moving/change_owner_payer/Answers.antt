@@ -11,7 +11,8 @@ returns-clause-changed g c =
     let loaded : IsLoaded c.args.entries.now.current c.args.owner.now (Some c.in-Some.slot) = search rules in
     on_ok_weaker c.store_changed.result
     (λ is. is ∙ ap (with_current c.args.entries.now) (stored_as c.args.entries.now.current c.args.owner.now
-    (paying.with_other_payer c.args.by c.args.old.now c.args.new.now) c.in-Some.slot c.change_payer.new.account
+    (paying.with_other_payer c.args.multiplicity c.args.old.now c.args.new.now) c.in-Some.slot
+    c.change_payer.new.account
     loaded c.in_ok-change_payer.ensures.changed))
     c.store_changed.ensures.stored
 
@@ -19,4 +20,4 @@ pub returns-in_default-clause-changed : goal.returns-in_default-clause-changed
 returns-in_default-clause-changed g c =
     let loaded : IsLoaded c.args.entries.now.current c.args.owner.now None = search rules in
     ap (with_current c.args.entries.now) (sym (with_account_none c.args.entries.now.current c.args.owner.now
-    (paying.with_other_payer c.args.by c.args.old.now c.args.new.now) loaded))
+    (paying.with_other_payer c.args.multiplicity c.args.old.now c.args.new.now) loaded))

@@ -11,7 +11,7 @@ returns-clause-discounted g c =
     let loaded : IsLoaded c.args.entries.now.current c.args.owner.now (Some c.in-Some.slot) = search rules in
     on_ok_weaker c.store_changed.result
     (λ is. is ∙ ap (with_current c.args.entries.now) (stored_as c.args.entries.now.current c.args.owner.now
-    (paying.without_subentry c.args.by c.args.sponsor.now) c.in-Some.slot c.lose_subentry.new.account loaded
+    (paying.without_subentry c.args.multiplicity c.args.sponsor.now) c.in-Some.slot c.lose_subentry.new.account loaded
     c.in_ok-lose_subentry.ensures.lost))
     c.store_changed.ensures.stored
 
@@ -19,4 +19,4 @@ pub returns-in_default-clause-discounted : goal.returns-in_default-clause-discou
 returns-in_default-clause-discounted g c =
     let loaded : IsLoaded c.args.entries.now.current c.args.owner.now None = search rules in
     ap (with_current c.args.entries.now) (sym (with_account_none c.args.entries.now.current c.args.owner.now
-    (paying.without_subentry c.args.by c.args.sponsor.now) loaded))
+    (paying.without_subentry c.args.multiplicity c.args.sponsor.now) loaded))

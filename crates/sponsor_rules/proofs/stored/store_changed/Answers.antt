@@ -1,12 +1,12 @@
 use Rattle.std.proofs.Common.{sym, subst, Some}
 use Rattle.std.proofs.lemmas.Result.{on_ok_weaker}
-use Rattle.sponsor_rules.specs.Keeping.{KeepsOthers, RaisesNone, ChangesAtMost, LeavesBalances}
+use Rattle.sponsor_rules.specs.Keeping.{KeepsOthers, RaisesNone, ChangesAtMost, LeavesMeans}
 use Rattle.sponsor_rules.proofs.AccountMaps.{stored_balances, stored_others, stored_kept, stored_low}
 use Rattle.sponsor_rules.proofs.stored.store_changed.Goals as goal
 
-pub returns-clause-balances : goal.returns-clause-balances
-returns-clause-balances g c = on_ok_weaker c.store_account.result
-    (λ is. subst (λ u. LeavesBalances c.args.entries.now.current u.current) (sym is)
+pub returns-clause-means : goal.returns-clause-means
+returns-clause-means g c = on_ok_weaker c.store_account.result
+    (λ is. subst (λ u. LeavesMeans c.args.entries.now.current u.current) (sym is)
     (stored_balances c.args.entries.now.current c.args.id.now c.args.slot c.requires.named c.requires.change))
     c.store_account.ensures
 

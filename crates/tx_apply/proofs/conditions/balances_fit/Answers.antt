@@ -17,7 +17,9 @@ loop-account-preserved c =
 pub returns : goal.returns
 returns c =
     let total = to_z w128 c.loop-account.total-bits in
-    let sum = sum_all c.args.accounts.now c.loop-account.account-index total c.loop-account-test.false c.loop-account.invariant in
+    let sum =
+    sum_all c.args.accounts.now c.loop-account.account-index total c.loop-account-test.false
+    c.loop-account.invariant in
     let limit : to_z w128 (of_z w128 c.from.result) ≡ pos 9223372036854775807 =
     ap (λ (x : ℤ). to_z w128 (of_z w128 x)) c.from.ensures in
     ap (λ (x : ℤ). int_le x (to_z w128 (of_z w128 c.from.result))) sum

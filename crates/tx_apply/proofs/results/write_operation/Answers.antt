@@ -16,4 +16,5 @@ returns-in_ok-i32-in-BumpSequence-3 c =
     let second = then_i32 out (i32.spell (pos 0)) c.i32.new.self c.i32-in-BumpSequence.new.self (pos 11) (pos 11)
     (sfits_lit {w = w32} {z = pos 11} tt) refl c.in_ok-i32-in-BumpSequence-2.ensures first in
     rw c.in-BumpSequence.is (then_i32 out (i32.spell (pos 0)
-    ++ i32.spell (pos 11)) c.i32-in-BumpSequence.new.self c.i32-in-BumpSequence-2.new.self c.bump_code.result code fits c.bump_code.ensures c.in_ok-i32-in-BumpSequence-3.ensures second)
+    ++ i32.spell (pos 11)) c.i32-in-BumpSequence.new.self c.i32-in-BumpSequence-2.new.self c.bump_code.result code fits
+    c.bump_code.ensures c.in_ok-i32-in-BumpSequence-3.ensures second)

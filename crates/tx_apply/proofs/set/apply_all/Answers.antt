@@ -10,13 +10,19 @@ loop-index-preserved c =
     let fits : FitsSigned w64 charge = search rules in
     record {
       applied = rw (c.in_ok-push.ensures.items, to_z-of_z w64 charge fits)
-          (goes_on c.args.network.now c.args.terms c.loop-index.pairs.items c.args.txs.now c.args.charges.now c.loop-index.index c.index-txs-index.result charge
-          c.loop-index.accounts c.apply_transaction.new.accounts c.in_ok-transaction_hash.transaction_hash c.in_ok-outcome.outcome (apply_all c.args.network.now c.args.terms c.args.txs.now c.args.charges.now c.args.accounts.now)
-          c.loop-index-test.true c.requires.charged c.index-txs-index.is refl c.in_ok-transaction_hash.ensures c.in_ok-outcome.ensures.outcome c.in_ok-outcome.ensures.accounts c.loop-index.invariant.applied);
+          (goes_on c.args.network.now c.args.terms c.loop-index.pairs.items c.args.txs.now c.args.charges.now
+          c.loop-index.index c.index-txs-index.result charge
+          c.loop-index.accounts c.apply_transaction.new.accounts c.in_ok-transaction_hash.transaction_hash
+          c.in_ok-outcome.outcome
+          (apply_all c.args.network.now c.args.terms c.args.txs.now c.args.charges.now c.args.accounts.now)
+          c.loop-index-test.true c.requires.charged c.index-txs-index.is refl c.in_ok-transaction_hash.ensures
+          c.in_ok-outcome.ensures.outcome c.in_ok-outcome.ensures.accounts c.loop-index.invariant.applied);
       ids = c.apply_transaction.ensures.ids;
     }
 
 pub returns : goal.returns
 returns c =
-    is_done c.args.network.now c.args.terms c.loop-index.pairs.items c.args.txs.now c.args.charges.now c.loop-index.index c.loop-index.accounts (apply_all c.args.network.now c.args.terms c.args.txs.now c.args.charges.now c.args.accounts.now)
+    is_done c.args.network.now c.args.terms c.loop-index.pairs.items c.args.txs.now c.args.charges.now
+    c.loop-index.index c.loop-index.accounts
+    (apply_all c.args.network.now c.args.terms c.args.txs.now c.args.charges.now c.args.accounts.now)
     c.loop-index-test.false c.loop-index.invariant.applied

@@ -100,7 +100,7 @@ fn params() -> PoolParams {
 }
 
 /// What sponsorship adds to an account.
-#[tactic(auto, unfolding(xdr_entries::specs::Entries::account_extension_v2, xdr_core::specs::Combinators::list, xdr_core::specs::Combinators::constant, xdr_core::specs::Leaves::u32))]
+#[tactic(auto, unfolding(crate::proofs::Opened::of_sponsorship))]
 fn write_sponsorships(alloc: Global, builder: &mut Builder) -> Result<(), AllocError> {
     let sponsorships = AccountEntryExtensionV2 {
         num_sponsored: 1,
@@ -111,7 +111,7 @@ fn write_sponsorships(alloc: Global, builder: &mut Builder) -> Result<(), AllocE
 }
 
 /// An account without signers.
-#[tactic(auto, unfolding(xdr_entries::specs::Entries::account_entry, xdr_entries::specs::Entries::account_head, xdr_entries::specs::Entries::account_tail, xdr_core::specs::Combinators::option, xdr_core::specs::Combinators::list, xdr_core::specs::Combinators::extension, xdr_core::specs::Leaves::u32, xdr_core::specs::Leaves::i64, xdr_core::specs::Leaves::var, xdr_core::specs::Leaves::fixed))]
+#[tactic(auto, unfolding(crate::proofs::Opened::of_account))]
 fn write_account(alloc: Global, builder: &mut Builder) -> Result<(), AllocError> {
     let entry = AccountEntry {
         account_id: account(0x01),
@@ -129,7 +129,7 @@ fn write_account(alloc: Global, builder: &mut Builder) -> Result<(), AllocError>
 }
 
 /// A trust line in the shares of a pool.
-#[tactic(auto, unfolding(xdr_entries::specs::Entries::trust_line_entry, xdr_entries::specs::Basic::trust_line_asset, xdr_core::specs::Combinators::extension, xdr_core::specs::Leaves::i64, xdr_core::specs::Leaves::u32))]
+#[tactic(auto, unfolding(crate::proofs::Opened::of_line))]
 fn write_line(builder: &mut Builder) -> Result<(), AllocError> {
     let line = TrustLineEntry {
         account_id: account(0x01),
@@ -143,7 +143,7 @@ fn write_line(builder: &mut Builder) -> Result<(), AllocError> {
 }
 
 /// Data with a name and a value.
-#[tactic(auto, unfolding(xdr_entries::specs::Entries::data_entry, xdr_core::specs::Combinators::constant, xdr_core::specs::Leaves::var))]
+#[tactic(auto, unfolding(crate::proofs::Opened::of_data))]
 fn write_data(alloc: Global, builder: &mut Builder) -> Result<(), AllocError> {
     let data_name = ItemList::from_slice(alloc, b"name")?;
     let entry = DataEntry {
@@ -168,7 +168,7 @@ fn write_pool(builder: &mut Builder) -> Result<(), AllocError> {
 }
 
 /// The entry of an offer.
-#[tactic(auto, unfolding(xdr_entries::specs::Entries::ledger_entry, xdr_entries::specs::Entries::ledger_entry_body, xdr_core::specs::Combinators::extension, xdr_core::specs::Leaves::u32))]
+#[tactic(auto, unfolding(crate::proofs::Opened::of_entry))]
 fn offer_entry() -> LedgerEntry
     ensures { ledger_entry.within result }
 {

@@ -59,7 +59,7 @@ pub fn write(alloc: Global, case: HeaderCase, builder: &mut Builder) -> Result<(
 }
 
 /// A header whose numbers and hashes all differ.
-#[tactic(auto, unfolding(xdr_header::specs::Header::ledger_header, xdr_header::specs::Header::counts, xdr_header::specs::Header::limits, xdr_core::specs::Combinators::times, xdr_core::specs::Combinators::extension, xdr_core::specs::Leaves::u32, xdr_core::specs::Leaves::u64, xdr_core::specs::Leaves::i64))]
+#[tactic(auto, unfolding(crate::proofs::Opened::of_header))]
 fn write_header(alloc: Global, builder: &mut Builder) -> Result<(), AllocError> {
     let header = LedgerHeader {
         ledger_version: 1,
@@ -82,7 +82,7 @@ fn write_header(alloc: Global, builder: &mut Builder) -> Result<(), AllocError> 
 }
 
 /// A value without upgrades and without a signature.
-#[tactic(auto, unfolding(xdr_header::specs::Header::stellar_value, xdr_core::specs::Combinators::list, xdr_core::specs::Combinators::extension, xdr_core::specs::Leaves::u64))]
+#[tactic(auto, unfolding(crate::proofs::Opened::of_value))]
 fn value(alloc: Global) -> StellarValue
     ensures { stellar_value.within result }
 {

@@ -103,7 +103,7 @@ fn write_bounds(builder: &mut Builder) -> Result<(), AllocError> {
 }
 
 /// SET_OPTIONS with each number.
-#[tactic(auto, unfolding(xdr_tx::specs::Operations::set_options_op, xdr_core::specs::Combinators::option, xdr_core::specs::Leaves::u32))]
+#[tactic(auto, unfolding(crate::proofs::Opened::of_options))]
 fn write_options(builder: &mut Builder) -> Result<(), AllocError> {
     let op = SetOptionsOp {
         inflation_dest: None,
@@ -120,7 +120,7 @@ fn write_options(builder: &mut Builder) -> Result<(), AllocError> {
 }
 
 /// PATH_PAYMENT_STRICT_RECEIVE with an empty path.
-#[tactic(auto, unfolding(xdr_tx::specs::Operations::path_payment_strict_receive_op, xdr_entries::specs::Basic::asset, xdr_core::specs::Combinators::list, xdr_core::specs::Leaves::i64))]
+#[tactic(auto, unfolding(crate::proofs::Opened::of_paths))]
 fn write_strict_receive(alloc: Global, builder: &mut Builder) -> Result<(), AllocError> {
     let op = PathPaymentStrictReceiveOp {
         send_asset: Asset::Native,
@@ -134,7 +134,7 @@ fn write_strict_receive(alloc: Global, builder: &mut Builder) -> Result<(), Allo
 }
 
 /// PATH_PAYMENT_STRICT_SEND with an empty path.
-#[tactic(auto, unfolding(xdr_tx::specs::Operations::path_payment_strict_send_op, xdr_entries::specs::Basic::asset, xdr_core::specs::Combinators::list, xdr_core::specs::Leaves::i64))]
+#[tactic(auto, unfolding(crate::proofs::Opened::of_paths))]
 fn write_strict_send(alloc: Global, builder: &mut Builder) -> Result<(), AllocError> {
     let op = PathPaymentStrictSendOp {
         send_asset: Asset::Native,

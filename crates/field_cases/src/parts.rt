@@ -6,7 +6,7 @@ ghost use Rattle.xdr_entries.specs.Entries.{offer_entry};
 use ledger_types::{AccountId, Asset, Hash, MuxedAccount, OfferEntry, Price};
 
 /// The account whose key is this byte over and over.
-#[tactic(auto, unfolding(xdr_entries::specs::Basic::account_id, xdr_core::specs::Combinators::constant, xdr_core::specs::Leaves::fixed))]
+#[tactic(auto, unfolding(crate::proofs::Opened::of_account_id))]
 pub fn account(byte: u8) -> AccountId
     ensures { spec.account_id.within result }
 {
@@ -41,7 +41,7 @@ pub fn usd() -> Asset
 }
 
 /// An offer of lumens for USD.
-#[tactic(auto, unfolding(xdr_entries::specs::Entries::offer_entry, xdr_entries::specs::Basic::asset, xdr_entries::specs::Basic::price, xdr_core::specs::Combinators::constant, xdr_core::specs::Leaves::i64, xdr_core::specs::Leaves::i32, xdr_core::specs::Leaves::u32))]
+#[tactic(auto, unfolding(crate::proofs::Opened::of_offer))]
 pub fn offer() -> OfferEntry
     ensures { offer_entry.within result }
 {

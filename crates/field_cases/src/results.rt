@@ -90,7 +90,7 @@ pub const CASES: [(&str, ResultCase); 14] = [
 ];
 
 /// Writes one of them.
-#[tactic(auto, unfolding(xdr_results::specs::Results::operation_result_tr, xdr_results::specs::Answers::manage_offer_result, xdr_results::specs::Results::inner_transaction_outcome, xdr_results::specs::Results::transaction_outcome, xdr_core::specs::Combinators::list))]
+#[tactic(auto, unfolding(crate::proofs::Opened::of_results))]
 pub fn write(alloc: Global, case: ResultCase, builder: &mut Builder) -> Result<(), AllocError> {
     match case {
         ResultCase::ClaimAtomV0 => write_first_atom(builder),
@@ -197,7 +197,7 @@ fn write_outer(outcome: TransactionOutcome, builder: &mut Builder) -> Result<(),
 }
 
 /// The result of an inner transaction that came too early.
-#[tactic(auto, unfolding(xdr_results::specs::Results::inner_transaction_result_pair, xdr_results::specs::Results::inner_transaction_result, xdr_results::specs::Results::inner_transaction_outcome, xdr_core::specs::Combinators::constant, xdr_core::specs::Leaves::i64))]
+#[tactic(auto, unfolding(crate::proofs::Opened::of_inner_result))]
 fn pair() -> InnerTransactionResultPair
     ensures { spec.inner_transaction_result_pair.within result }
 {

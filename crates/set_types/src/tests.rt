@@ -34,9 +34,9 @@ fn has_every_field(entry: &LedgerEntry) -> bool {
         && account.num_sub_entries == 1
         && account.inflation_dest == Some(AccountId([2; 32]))
         && account.flags == 8
-        && account.home_domain.as_slice() == b"example.org"
+        && account.home_domain.as_slice() == b"example.org".as_slice()
         && account.thresholds == [1, 0, 2, 3]
-        && account.signers.as_slice() == [SIGNER]
+        && account.signers.as_slice() == [SIGNER].as_slice()
 }
 
 fn entry(alloc: Global) -> Result<LedgerEntry, AllocError> {
@@ -62,7 +62,7 @@ fn signature_is_copied(alloc: Global) -> Result<bool, AllocError> {
         signature: ItemList::from_slice(alloc, &[5; 64])?,
     };
     let copy = signature.copy()?;
-    Ok(copy.hint == [1, 2, 3, 4] && copy.signature.as_slice() == [5; 64])
+    Ok(copy.hint == [1, 2, 3, 4] && copy.signature.as_slice() == [5; 64].as_slice())
 }
 
 #[test]

@@ -1,0 +1,6 @@
+pub mod Orders
+pub mod Counting
+pub mod Ranking
+pub mod Ranks
+pub mod Places
+pub mod Longer

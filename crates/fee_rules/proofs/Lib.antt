@@ -4,3 +4,4 @@ pub mod Ranking
 pub mod Ranks
 pub mod Places
 pub mod Longer
+pub mod Spelled

@@ -1,12 +1,12 @@
 -- Places in the set's list keep transactions, their turns and their hashes apart.
-use Rattle.std.proofs.Common.{◌≡◌, ℕ, ◌+◌, ◌<◌, ◌≤◌, zero, suc, Bool, true, false, cond, List, [], ◌∷◌, length, map, get_or}
+use Rattle.std.proofs.Common.{◌≡◌, ℕ, ◌+◌, ◌<◌, zero, suc, false, cond, List, [], ◌∷◌, length, map, get_or}
 use Rattle.std.proofs.Common.{refl, ap, ◌∙◌, sym, subst, arith}
-use Rattle.std.specs.List.{IsDistinct, count_by}
+use Rattle.std.specs.List.{IsDistinct}
 use Rattle.std.specs.List.Sorted.{IsPermutation}
 use Rattle.std.specs.declared.cmp.Ordering.{Ordering}
 use Rattle.std.specs.declared.cmp.Ordering.TheVariants.{Less, Equal, Greater}
 use Rattle.std.specs.Cmp.{nat_cmp_is}
-use Rattle.std.specs.Ordering.{is_lt, is_eq, eq_by_cmp, ordering_then, nat_cmp, int_cmp}
+use Rattle.std.specs.Ordering.{is_eq, eq_by_cmp, ordering_then, nat_cmp, int_cmp}
 use Rattle.std.proofs.lemmas.List.{get_or-map, length-map}
 use Rattle.std.proofs.lemmas.List.Sorted.{sum_by-IsPermutation, IsPermutation-map}
 use Rattle.std.proofs.lemmas.Map.Keys.{apart_from_distinct, IsDistinct-from_apart, IsDistinct-IsPermutation}
@@ -14,10 +14,9 @@ use Rattle.std.proofs.lemmas.Cmp.{eq_by_cmp_equiv, nat_cmp_total}
 use Rattle.ledger_types.specs.declared.ids.Hash.{Hash}
 use Rattle.ledger_types.specs.KeyOrder.{account_cmp, hash_cmp}
 use Rattle.op_types.specs.declared.transaction.TransactionEnvelope.{TransactionEnvelope}
-use Rattle.fee_rules.specs.declared.hashed.Hashed.{Hashed}
 use Rattle.fee_rules.specs.declared.queued.Queued.{Queued}
 use Rattle.fee_rules.specs.declared.turn.Turn.{Turn}
-use Rattle.fee_rules.specs.Queues.{queued_of, all_queued_from, queue_cmp, queued_cmp, is_ahead, queue_rank, has_place_of}
+use Rattle.fee_rules.specs.Queues.{all_queued_from, queue_cmp, queued_cmp, is_ahead, queue_rank, has_place_of}
 use Rattle.fee_rules.specs.Runs.{no_tx}
 use Rattle.fee_rules.specs.SetHash.{hashed_of, hashed_cmp}
 use Rattle.fee_rules.specs.Turns.{turn_cmp, turn_of, turns_of, mixed_hash}
@@ -65,12 +64,12 @@ apart_map {Y} cmp f txs differs apart =
     let same_length : length (map f txs) ≡ length txs = length-map txs f in
     IsDistinct-from_apart (eq_by_cmp cmp) (map f txs)
     (λ i j d h g.
-        let within : j < length txs = omega (arith, same_length, g) in
-        subst (λ (y : Y). eq_by_cmp cmp y (get_or (map f txs) j d) ≡ false)
-        (sym (get_or-map f txs i no_tx d (omega (arith, h, within))))
-        (subst (λ (y : Y). eq_by_cmp cmp (f (get_or txs i no_tx)) y ≡ false) (sym (get_or-map f txs j no_tx d within))
-        (differs (get_or txs i no_tx) (get_or txs j no_tx)
-        (apart_from_distinct has_place_of txs i j no_tx apart h within))))
+    let within : j < length txs = omega (arith, same_length, g) in
+    subst (λ (y : Y). eq_by_cmp cmp y (get_or (map f txs) j d) ≡ false)
+    (sym (get_or-map f txs i no_tx d (omega (arith, h, within))))
+    (subst (λ (y : Y). eq_by_cmp cmp (f (get_or txs i no_tx)) y ≡ false) (sym (get_or-map f txs j no_tx d within))
+    (differs (get_or txs i no_tx) (get_or txs j no_tx)
+    (apart_from_distinct has_place_of txs i j no_tx apart h within))))
 
 pub apart_turns : (set_hash : Hash) (txs : List Queued) → IsDistinct has_place_of txs
     → IsDistinct (eq_by_cmp turn_cmp) (turns_of set_hash txs)
@@ -130,7 +129,7 @@ apart_in_list envelopes =
     let long : length (all_queued_from 0 envelopes) ≡ length envelopes = all_long 0 envelopes in
     IsDistinct-from_apart has_place_of (all_queued_from 0 envelopes)
     (λ i j d h g.
-        let all = all_queued_from 0 envelopes in
-        let at_i : (get_or all i d).place ≡ i = from_apart 0 0 envelopes i d (omega (arith, long, h, g)) ∙ omega arith in
-        let at_j : (get_or all j d).place ≡ j = from_apart 0 0 envelopes j d (omega (arith, long, g)) ∙ omega arith in
-        lower_differs (get_or all i d).place (get_or all j d).place (omega (arith, at_i, at_j, h)) _ refl)
+    let all = all_queued_from 0 envelopes in
+    let at_i : (get_or all i d).place ≡ i = from_apart 0 0 envelopes i d (omega (arith, long, h, g)) ∙ omega arith in
+    let at_j : (get_or all j d).place ≡ j = from_apart 0 0 envelopes j d (omega (arith, long, g)) ∙ omega arith in
+    lower_differs (get_or all i d).place (get_or all j d).place (omega (arith, at_i, at_j, h)) _ refl)

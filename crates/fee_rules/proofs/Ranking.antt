@@ -1,21 +1,17 @@
 -- A sorted list without ties, of the elements of another, is that one by ranks.
-use Rattle.std.proofs.Common.{◌≡◌, ℕ, ◌+◌, ◌<◌, ◌≤◌, zero, suc, Bool, true, false, cond, List, [], ◌∷◌, ◌++◌, length}
-use Rattle.std.proofs.Common.{get_or, take, Contains, Option, Some, refl, ap, ◌∙◌, sym, subst, arith, nat_eq, eq-eqb}
-use Rattle.std.specs.List.{count_by, find, IsDistinct}
+use Rattle.std.proofs.Common.{◌≡◌, ℕ, ◌<◌, ◌≤◌, zero, suc, Bool, true, false, cond, List, [], ◌∷◌, ◌++◌, length}
+use Rattle.std.proofs.Common.{get_or, take, Contains, Some, refl, ap, ◌∙◌, sym, subst, arith, nat_eq, eq-eqb}
+use Rattle.std.specs.List.{find, IsDistinct}
 use Rattle.std.specs.List.Sorted.{IsPermutation, IsSorted}
 use Rattle.std.specs.declared.cmp.Ordering.{Ordering}
-use Rattle.std.specs.declared.cmp.Ordering.TheVariants.{Less, Equal, Greater}
-use Rattle.std.specs.Ordering.{is_lt, is_eq, eq_by_cmp, ordering_reverse}
+use Rattle.std.specs.Ordering.{eq_by_cmp}
 use Rattle.std.specs.Cmp.{IsTotalOrder}
 use Rattle.std.proofs.Common.{take_all, take-suc}
 use Rattle.std.proofs.lemmas.Bool.{eqb-true}
-use Rattle.std.proofs.lemmas.Cmp.{eq_by_cmp_equiv}
 use Rattle.std.proofs.lemmas.List.{get_or_default}
 use Rattle.std.proofs.lemmas.List.Elements.{Contains-get_or}
-use Rattle.std.proofs.lemmas.List.Sorted.{sorted_far, ranks_by, sum_by-IsPermutation, length_permutation}
+use Rattle.std.proofs.lemmas.List.Sorted.{length_permutation}
 use Rattle.std.proofs.lemmas.List.Sorted.{Contains-permutation, IsPermutation-sym}
-use Rattle.std.proofs.lemmas.List.Sums.{sum_by-cons}
-use Rattle.std.proofs.lemmas.Map.Keys.{apart_from_distinct, IsDistinct-IsPermutation}
 use Rattle.fee_rules.specs.Ranking.{rank_of, at_rank, at_most_one, first_ranked, ranked}
 use Rattle.fee_rules.proofs.Counting.{sorted_counts}
 
@@ -32,7 +28,12 @@ record Found {X : Type 0} (p : X → Bool) (xs : List X) (d : X) : Type 0 where
 here : {X : Type 0} (p : X → Bool) (x : X) (xs : List X) (d : X) → p x ≡ true → Found p (x ∷ xs) d
 here p x xs d q =
     record {
-      found = x; is = ap (λ b. cond b (Some x) (find p xs)) q; place = 0; below = omega arith; there = refl; passes = q;
+      found = x;
+      is = ap (λ b. cond b (Some x) (find p xs)) q;
+      place = 0;
+      below = omega arith;
+      there = refl;
+      passes = q;
     }
 
 later : {X : Type 0} (p : X → Bool) (x : X) (xs : List X) (d : X) → p x ≡ false → Found p xs d → Found p (x ∷ xs) d
@@ -61,7 +62,6 @@ find_some p (x ∷ xs) (suc i) d h e = choose p x xs d (p x) refl (λ q. find_so
 
 module _ {X : Type 0} {R : X → X → Ordering} (o : IsTotalOrder R) (xs ys : List X) (moved : IsPermutation xs ys)
     (sorted : IsSorted R ys) (apart : IsDistinct (eq_by_cmp R) xs) where
-
   -- what is found at a rank stands there in the sorted list
   stands : (k : ℕ) (d : X) → k < length ys → Found (λ x. nat_eq (rank_of R xs x) k) xs d
       → at_rank R xs k ≡ Some (get_or ys k d)
@@ -78,11 +78,11 @@ module _ {X : Type 0} {R : X → X → Ordering} (o : IsTotalOrder R) (xs ys : L
   at_each : (k : ℕ) (d : X) → k < length ys → at_rank R xs k ≡ Some (get_or ys k d)
   at_each k d within =
       let back : Contains xs (get_or ys k d) =
-          Contains-permutation ys xs (get_or ys k d) (IsPermutation-sym xs ys moved) (Contains-get_or ys k d within) in
+      Contains-permutation ys xs (get_or ys k d) (IsPermutation-sym xs ys moved) (Contains-get_or ys k d within) in
       let there : get_or xs back.0 d ≡ get_or ys k d = get_or_default xs back.0 d (get_or ys k d) back.1 ∙ back.2 in
       let counted : rank_of R xs (get_or ys k d) ≡ k = sorted_counts o xs ys moved sorted apart k d within in
       let passes : nat_eq (rank_of R xs (get_or xs back.0 d)) k ≡ true =
-          eq-eqb (rank_of R xs (get_or xs back.0 d)) k (ap (rank_of R xs) there ∙ counted) in
+      eq-eqb (rank_of R xs (get_or xs back.0 d)) k (ap (rank_of R xs) there ∙ counted) in
       stands k d within (find_some (λ x. nat_eq (rank_of R xs x) k) xs back.0 d back.1 passes)
 
   first_are : (k : ℕ) (d : X) → k ≤ length ys → first_ranked R xs k ≡ take k ys

@@ -1,6 +1,6 @@
 -- The rank in a queue, by the place where the run of its source begins.
 use Rattle.std.proofs.Common.{◌≡◌, ◌≢◌, ℕ, ◌+◌, ◌-◌, ◌<◌, ◌≤◌, Bool, true, false, ◌&&◌, List, length, get_or, refl, ap, ◌∙◌, sym, subst, arith, ◌⊎◌, inl, inr}
-use Rattle.std.specs.List.{count_by, IsDistinct}
+use Rattle.std.specs.List.{IsDistinct}
 use Rattle.std.specs.List.Sorted.{IsSorted}
 use Rattle.std.specs.declared.cmp.Ordering.{Ordering}
 use Rattle.std.specs.declared.cmp.Ordering.TheVariants.{Less, Equal, Greater}
@@ -89,8 +89,8 @@ rank_is txs start i d sorted apart le within same before =
     middle_counted (λ other. is_ahead other tx) d txs start i le (omega arith)
     (λ j h. ahead_apart (account_cmp (get_or txs j d).source tx.source) (queue_cmp (get_or txs j d) tx) (λ e. before j h (same_source _ _ e)))
     (λ j h g. ahead_true (account_cmp (get_or txs j d).source tx.source) (queue_cmp (get_or txs j d) tx)
-        (subst (λ s. account_cmp (get_or txs j d).source s ≡ Equal) (same j h g) (tied_source (get_or txs j d).source))
-        (must_be_less _ _ (queued_total.antisymm (get_or txs j d) tx) (far j i d (omega arith) within) (apart_from_distinct (eq_by_cmp queued_cmp) txs j i d apart g within)))
+    (subst (λ s. account_cmp (get_or txs j d).source s ≡ Equal) (same j h g) (tied_source (get_or txs j d).source))
+    (must_be_less _ _ (queued_total.antisymm (get_or txs j d) tx) (far j i d (omega arith) within) (apart_from_distinct (eq_by_cmp queued_cmp) txs j i d apart g within)))
     (λ j h g. ahead_false (account_cmp (get_or txs j d).source tx.source) (queue_cmp (get_or txs j d) tx) (far i j d h g))
 
 -- two places of one source with no other source between them

@@ -8,6 +8,8 @@ mod order;
 mod queued;
 mod set_digest;
 mod spelling;
+#[cfg(test)]
+mod tests;
 mod turn;
 
 pub use fees::{fee_charged, set_base_fee};

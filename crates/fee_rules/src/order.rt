@@ -1,9 +1,9 @@
 //! The order in which the transactions of a set are applied.
 
-ghost use Rattle.std.specs.Prelude.{◌≡◌, ◌<◌, ◌^◌, All, IfOk, length, map};
+ghost use Rattle.std.specs.Prelude.{◌≡◌, ◌<◌, ◌^◌, IfOk, length, map};
 ghost use Rattle.std.specs.List.{IsDistinct};
 ghost use Rattle.std.specs.List.Sorted.{IsPermutation, IsSorted};
-ghost use Rattle.xdr_tx.specs.Transactions.{transaction_envelope};
+ghost use Rattle.xdr_tx.specs.Transactions.{transaction_set};
 ghost use Rattle.fee_rules.specs.Queues.{has_place_of};
 ghost use Rattle.fee_rules.specs.Turns as spec;
 
@@ -50,10 +50,9 @@ fn places_in_order(
 
 /// The places of the transactions of a set, in the order in which they are applied: each source's transactions in the
 /// order of their sequence numbers, and among those that are equally far in their queues by the full hash xor the set's
-/// (TxSetFrame::sortForApply in stellar-core). The set has fewer than 2^32 transactions, and each has a spelling.
+/// (TxSetFrame::sortForApply in stellar-core). The set has a spelling: its lists and texts keep their bounds.
 pub fn apply_order(alloc: Global, set: &TransactionSet) -> Result<Vec<u32>, AllocError>
-    requires within { All (λ envelope. transaction_envelope.within envelope) set.now.txs }
-    requires few { length set.now.txs < 2 ^ 32 }
+    requires { transaction_set.within set.now }
     ensures { IfOk result (λ places. places.items ≡ spec.apply_order_of set.now) }
 {
     let queued = all_queued(alloc, set.txs.as_slice())?;

@@ -1,8 +1,8 @@
 //! The hash of a set.
 
-ghost use Rattle.std.specs.Prelude.{◌≡◌, ◌<◌, ◌^◌, All, IfOk, length, map};
+ghost use Rattle.std.specs.Prelude.{◌≡◌, All, IfOk, map};
 ghost use Rattle.std.specs.List.{IsDistinct};
-ghost use Rattle.xdr_tx.specs.Transactions.{transaction_envelope};
+ghost use Rattle.xdr_tx.specs.Transactions.{transaction_envelope, transaction_set};
 ghost use Rattle.fee_rules.specs.Queues.{has_place_of, all_queued as all_queued_of};
 ghost use Rattle.fee_rules.specs.SetHash as spec;
 
@@ -61,11 +61,10 @@ pub(crate) fn hash_of_queued(
 }
 
 /// The hash of a set: SHA-256 of the hash of the ledger before it and of the spellings of its envelopes in the order of
-/// their own hashes, without a count (TxSetFrame::getContentsHash in stellar-core). The set has fewer than 2^32
-/// transactions, and each has a spelling.
+/// their own hashes, without a count (TxSetFrame::getContentsHash in stellar-core). The set has a spelling: its lists and
+/// texts keep their bounds.
 pub fn set_hash(alloc: Global, set: &TransactionSet) -> Result<Hash, AllocError>
-    requires within { All (λ envelope. transaction_envelope.within envelope) set.now.txs }
-    requires few { length set.now.txs < 2 ^ 32 }
+    requires { transaction_set.within set.now }
     ensures { IfOk result (λ hash. hash ≡ spec.hash_of_set set.now) }
 {
     let queued = all_queued(alloc, set.txs.as_slice())?;

@@ -9,10 +9,7 @@ use xdr_core::Builder;
 use xdr_tx::write_transaction_envelope;
 
 /// The spelling of an envelope.
-pub(crate) fn spelling(
-    alloc: Global,
-    envelope: &TransactionEnvelope,
-) -> Result<Vec<u8>, AllocError>
+pub(crate) fn spelling(alloc: Global, envelope: &TransactionEnvelope) -> Result<Vec<u8>, AllocError>
     requires { transaction_envelope.within envelope.now }
     ensures { IfOk result (λ text. text.items ≡ transaction_envelope.spell envelope.now) }
 {

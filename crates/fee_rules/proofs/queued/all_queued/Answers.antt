@@ -1,4 +1,4 @@
-use Rattle.std.proofs.Common.{◌≡◌, sym}
+use Rattle.std.proofs.Common.{sym}
 use Rattle.fee_rules.proofs.Longer.{queued_more}
 use Rattle.fee_rules.proofs.queued.all_queued.Goals as goal
 

@@ -10,10 +10,12 @@ loop-i-preserved c =
     let i = c.loop-i.i in
     let mixed = bit_xor (slice_index c.args.a.now.0 i) (slice_index c.args.b.now.0 i) in
     let so_far = c.loop-i.invariant in
-    let long : length c.loop-i.bytes ≡ 32 = so_far.1 in
-    (take_more_set c.loop-i.bytes i mixed (omega (arith, long))
-    ∙ ap (λ (zs : List ℕ). zs ++ mixed ∷ []) so_far.0
-    ∙ sym (mixed_more c.args.a.now.0 c.args.b.now.0 i), length-set c.loop-i.bytes i mixed ∙ long)
+    let long : length c.loop-i.bytes ≡ 32 = so_far.1 in (
+      take_more_set c.loop-i.bytes i mixed (omega (arith, long))
+          ∙ ap (λ (zs : List ℕ). zs ++ mixed ∷ []) so_far.0
+          ∙ sym (mixed_more c.args.a.now.0 c.args.b.now.0 i),
+      length-set c.loop-i.bytes i mixed ∙ long,
+    )
 
 pub returns : goal.returns
 returns c =

@@ -1,4 +1,4 @@
-use Rattle.std.proofs.Common.{◌≡◌, ◌≤◌, ◌<◌, ◌-◌, ◌+◌, ℕ, List, [], ◌∷◌, ◌++◌, length, refl, sym, subst, arith}
+use Rattle.std.proofs.Common.{◌≤◌, ◌<◌, ◌-◌, ◌+◌, ℕ, List, [], ◌∷◌, ◌++◌, length, refl, sym, subst, arith}
 use Rattle.ledger_types.specs.declared.ids.Hash.{Hash}
 use Rattle.fee_rules.specs.declared.turn.Turn.{Turn}
 use Rattle.ledger_types.specs.KeyOrder.{account_cmp}
@@ -18,17 +18,17 @@ loop-i-preserved c =
     let i = c.loop-i.i in
     let within : i < length txs = omega arith in
     let made =
-        step set_hash txs c.loop-i.turns.items c.loop-i.start i (at txs c.loop-i.start) (at txs i)
-        (account_cmp (at txs c.loop-i.start).source (at txs i).source) c.requires.sorted c.requires.apart within refl
-        refl c.loop-i.invariant refl in
+    step set_hash txs c.loop-i.turns.items c.loop-i.start i (at txs c.loop-i.start) (at txs i)
+    (account_cmp (at txs c.loop-i.start).source (at txs i).source) c.requires.sorted c.requires.apart within refl
+    refl c.loop-i.invariant refl in
     subst (λ (ts : List Turn). SoFar set_hash txs ts c.run_start-start.result (i + 1)) (sym c.in_ok-push.ensures.items)
     (subst (λ (h : Hash). SoFar set_hash txs
-        (c.loop-i.turns.items
-        ++ record { queue_rank = i - c.run_start-start.result; mixed = h; place = (at txs i).place } ∷ [])
-        c.run_start-start.result (i + 1))
+    (c.loop-i.turns.items
+    ++ record { queue_rank = i - c.run_start-start.result; mixed = h; place = (at txs i).place } ∷ [])
+    c.run_start-start.result (i + 1))
     (sym c.mixed_hash.ensures)
     (subst (λ (n : ℕ). SoFar set_hash txs
-        (c.loop-i.turns.items
-        ++ record { queue_rank = i - n; mixed = mixed_hash (at txs i).full_hash set_hash; place = (at txs i).place } ∷ [])
-        n (i + 1))
+    (c.loop-i.turns.items
+    ++ record { queue_rank = i - n; mixed = mixed_hash (at txs i).full_hash set_hash; place = (at txs i).place } ∷ [])
+    n (i + 1))
     (sym c.run_start-start.ensures) made))

@@ -1,0 +1,7 @@
+pub mod Envelopes
+pub mod Ranking
+pub mod Queues
+pub mod Runs
+pub mod SetHash
+pub mod Turns
+pub mod Fees

@@ -1,0 +1,17 @@
+//! The order of a set's transactions, what they are charged, and the hash of a set.
+#![tactic(auto)]
+
+mod envelope;
+mod fees;
+mod hashed;
+mod order;
+mod queued;
+mod set_digest;
+mod spelling;
+#[cfg(test)]
+mod tests;
+mod turn;
+
+pub use fees::{fee_charged, set_base_fee};
+pub use order::apply_order;
+pub use set_digest::set_hash;

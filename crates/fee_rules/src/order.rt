@@ -1,0 +1,61 @@
+//! The order in which the transactions of a set are applied.
+
+ghost use Rattle.std.specs.Prelude.{◌≡◌, ◌<◌, ◌^◌, IfOk, length, map};
+ghost use Rattle.std.specs.List.{IsDistinct};
+ghost use Rattle.std.specs.List.Sorted.{IsPermutation, IsSorted};
+ghost use Rattle.xdr_tx.specs.Transactions.{transaction_set};
+ghost use Rattle.fee_rules.specs.Queues.{has_place_of};
+ghost use Rattle.fee_rules.specs.Turns as spec;
+
+use crate::queued::{Queued, all_queued};
+use crate::set_digest::hash_of_queued;
+use crate::turn::{Turn, turns_of};
+use ledger_types::Hash;
+use op_types::TransactionSet;
+use std::alloc::{AllocError, Global};
+
+/// The turns in their order.
+fn in_turn(turns: Vec<Turn>) -> Result<Vec<Turn>, AllocError>
+    ensures all { IfOk result (λ order. IsPermutation turns.items order.items) }
+    ensures in_turn { IfOk result (λ order. IsSorted spec.turn_cmp order.items) }
+{
+    let mut turns = turns;
+    turns.sort()?;
+    Ok(turns)
+}
+
+/// The places of turns.
+fn places_of(alloc: Global, turns: &[Turn]) -> Result<Vec<u32>, AllocError>
+    ensures { IfOk result (λ places. places.items ≡ map (λ turn. turn.place) turns.now) }
+{
+    turns.iter().map(|turn| turn.place).collect(alloc)
+}
+
+/// The places of transactions in the order in which they are applied, in a set with this hash.
+fn places_in_order(
+    alloc: Global,
+    set_hash: &Hash,
+    queued: Vec<Queued>,
+) -> Result<Vec<u32>, AllocError>
+    requires apart { IsDistinct has_place_of queued.items }
+    requires few { length queued.items < 2 ^ 32 }
+    ensures { IfOk result (λ places. places.items ≡ spec.places_in_order set_hash.now queued.items) }
+{
+    let mut queued = queued;
+    queued.sort()?;
+    let turns = turns_of(alloc, set_hash, queued.as_slice())?;
+    let order = in_turn(turns)?;
+    places_of(alloc, order.as_slice())
+}
+
+/// The places of the transactions of a set, in the order in which they are applied: each source's transactions in the
+/// order of their sequence numbers, and among those that are equally far in their queues by the full hash xor the set's
+/// (TxSetFrame::sortForApply in stellar-core). The set has a spelling: its lists and texts keep their bounds.
+pub fn apply_order(alloc: Global, set: &TransactionSet) -> Result<Vec<u32>, AllocError>
+    requires { transaction_set.within set.now }
+    ensures { IfOk result (λ places. places.items ≡ spec.apply_order_of set.now) }
+{
+    let queued = all_queued(alloc, set.txs.as_slice())?;
+    let set_hash = hash_of_queued(alloc, set, queued.as_slice())?;
+    places_in_order(alloc, &set_hash, queued)
+}

@@ -1,0 +1,15 @@
+pub mod Sponsorships
+pub mod EntryKeys
+pub mod OfferLiabilities
+pub mod Reserves
+pub mod Trades
+pub mod PoolShares
+pub mod Supply
+pub mod Books
+pub mod OfferIds
+pub mod Bounds
+pub mod Ranges
+pub mod Headers
+pub mod Needs
+pub mod Legal
+pub mod Owing

@@ -80,9 +80,7 @@ pub record IsAddable (id_pool next : ℕ) (ctx : Ctx) (owner : AccountId) (entry
   pub unsponsored : sponsor_of entry ≡ None
   pub legal : IsEntryLegal next entry
   pub wide : id_pool ≤ next
-  pub offers : (now : EntryMap) → ((id : ℤ) → total (offer_with id) now ≤ℤ pos 1)
-      → ((k : LedgerKey) (x : LedgerEntry) → get now k ≡ Some x → IsEntryLegal id_pool x)
-      → (id : ℤ) → (total (offer_with id) now +ℤ offer_with id entry) ≤ℤ pos 1
+  pub offers : (id : ℤ) → (total (offer_with id) m +ℤ offer_with id entry) ≤ℤ pos 1
   pub owner_stands : HasAccount m owner
   pub ready : IsSponsorReady ctx owner m
 
@@ -144,7 +142,8 @@ module _ (v : View) (id_pool next : ℕ) (owed : Owed) (sum : ℤ) (ctx : Ctx) (
   placed None is changed = legal_as v (IsEntryLegal next) _ (plus owed (beside_reserves (weighed v entry))) _ _ _
       (put_legal v (IsEntryLegal next) Charged sum now
       (legal_wider v id_pool next Charged sum now h.wide changed.legal) entry (changed.absent (key_of entry) h.free)
-      h.legal h.subentry.no_pool (h.offers now changed.legal.offers changed.legal.entries))
+      h.legal h.subentry.no_pool (λ id. subst (λ x. (x +ℤ offer_with id entry) ≤ℤ pos 1) (sym (changed.offers id))
+          (h.offers id)))
       (λ kind k. settled (owed kind k) _ _ _ _ _ _ (neg_in_book Subentries (key.Account owner) (pos n) kind k)
       (ap (λ o. weight v kind k (sponsored_entry o entry)) (sym is) ∙ weighs kind k)) refl
   placed (Some x) is changed = legal_as v (IsEntryLegal next) _ (plus owed (beside_reserves (weighed v entry))) _ _ _
@@ -153,7 +152,8 @@ module _ (v : View) (id_pool next : ℕ) (owed : Owed) (sum : ℤ) (ctx : Ctx) (
       (changed.absent (key_of entry) h.free)
       (legal_recorded next entry (Some x) (paid_by_other entry.body owner (Some x) h.subentry.owns
       (λ same. h.ready.other x is (cc))) h.legal)
-      h.subentry.no_pool (h.offers now changed.legal.offers changed.legal.entries))
+      h.subentry.no_pool (λ id. subst (λ x. (x +ℤ offer_with id entry) ≤ℤ pos 1) (sym (changed.offers id))
+          (h.offers id)))
       (λ kind k. settled (owed kind k) _ _ _ _ _ _ (neg_in_book Subentries (key.Account owner) (pos n) kind k)
       (ap (λ o. weight v kind k (sponsored_entry o entry)) (sym is) ∙ weighs kind k)) refl
 

@@ -108,7 +108,8 @@ module _ (id_pool : ℕ) (m : EntryMap) (entries : EachEntry (λ k e. IsEntryInR
   sold_passes k q x at some = by_entry (get m k) refl
     where
       by_line : (e : LedgerEntry) (b : LedgerEntryBody) → get m k ≡ Some e → e.body ≡ b → IsAuthorized (line_in b)
-      by_line e (body.TrustLine t) there is = λ none. some_stated (sells k x.body) (total (counted (view m) Selling k) m)
+      by_line e (body.TrustLine t) there is = λ none. some_stated (sells k x.body)
+          (total (counted (view m) Selling k) m)
           (stated_at Selling (get m k)) some (part_at_most (counted (view m) Selling k) m q x
           (λ r y has. counted_low id_pool (view m) Selling k y (entries r y has)) at) (selling k)
           (ap (stated_at Selling) there ∙ ap (stated Selling) is

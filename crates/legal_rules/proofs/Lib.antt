@@ -18,3 +18,8 @@ pub mod Adding
 pub mod PaidFor
 pub mod Removing
 pub mod Moving
+pub mod Paid
+pub mod Covered
+pub mod Paying
+pub mod Balances
+pub mod NewAccounts

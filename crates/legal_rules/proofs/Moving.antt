@@ -37,8 +37,10 @@ use Rattle.legal_rules.specs.Supply.{held}
 use Rattle.legal_rules.specs.Ranges.{IsPaidRightly}
 use Rattle.legal_rules.specs.Owing.{weight, Owed, plus, less, IsEntryLegal, IsLegalOwing}
 use Rattle.legal_rules.proofs.Adding.{room_of}
-use Rattle.legal_rules.proofs.Needed.{line_some}
-use Rattle.legal_rules.proofs.PaidFor.{AreReservesSettled, payer_has, owner_has}
+use Rattle.legal_rules.proofs.Needed.{paid_counts}
+use Rattle.legal_rules.proofs.Removing.{owns, no_account}
+use Rattle.legal_rules.specs.EntryLaws.{AreReservesSettled}
+use Rattle.legal_rules.proofs.PaidFor.{payer_has, owner_has}
 use Rattle.legal_rules.proofs.Payers.{HasRoom, IsBeside, ArePaying, AreChanged, exchanged, owner_changed}
 use Rattle.legal_rules.proofs.Payers.{other_payer_step}
 use Rattle.legal_rules.proofs.Sponsors.{paid_books, owner_books, payer_books, split_books, unowned_books}
@@ -164,3 +166,128 @@ module _ (v : View) (id_pool : ℕ) (owed : Owed) (sum : ℤ) (m : EntryMap) (le
       → map_after_moving_between ctx k owner n s t m ≡ Ok new
       → (m ≡ new) ⊎ ((((x : AccountId) → t ≡ Some x → HasRoom n m x)) × (map_with_sponsor k t now ≡ new))
   between ctx new payer done = by_tests ctx s new payer refl t refl done
+
+-- ---- by what is charged
+
+account_itself : (b : LedgerEntryBody) (id : AccountId) → charge_of b ≡ charge.Itself id
+    → (a : AccountEntry) × (b ≡ body.Account a) × (a.account_id ≡ id)
+account_itself (body.Account a) id is = (a, refl, let same : a.account_id ≡ id = cc in same)
+account_itself other id is = absurd (cc)
+
+module _ (v : View) (id_pool : ℕ) (owed : Owed) (sum : ℤ) (m : EntryMap) (legal : IsLegalOwing v id_pool owed sum m)
+    (settled : AreReservesSettled owed) (k : LedgerKey) (e : LedgerEntry) (there : get m k ≡ Some e) (ctx : Ctx)
+    (payer : Option AccountId) (stands : PayerStands payer m) (new : EntryMap) where
+  abbrev IsLegalNow : EntryMap → Type 0
+  IsLegalNow map = IsLegalOwing v id_pool owed sum map
+
+  others_stand : (owner : AccountId) (x : AccountId) → payer_other_than owner payer ≡ Some x → HasAccount m x
+  others_stand owner x is = stands x (other_is owner payer x is)
+
+  moved_subentry : (owner : AccountId) (n : ℕ) → charge_of e.body ≡ charge.Subentry owner n
+      → map_after_moving_owned ctx k owner n (sponsor_of e) payer m ≡ Ok new → IsLegalNow new
+  moved_subentry owner n is done =
+      let sub = subentry_of e.body owner n is in
+      let own = owns v id_pool owed sum m legal settled owner n k e there sub in
+      let t = payer_other_than owner payer in
+      elim (between v id_pool owed sum m legal settled owner n k e there sub.owns sub.times sub.some own.account
+      own.stands t (other_apart owner payer) ctx new (others_stand owner) done) [
+        | inl same ↦ subst IsLegalNow same legal
+        | inr moves ↦
+            let changed = paid_anew v id_pool owed sum m legal settled owner n k e there sub.owns sub.times sub.some
+            own.account own.stands t (other_apart owner payer) moves.0 in
+            let apart = no_account v id_pool owed sum m legal settled owner n k e there sub in
+            subst IsLegalNow moves.1 (moved_owned v id_pool owed sum m legal settled owner n k e there sub.owns
+                sub.times
+            sub.some own.account own.stands t (other_apart owner payer) e changed.legal
+            (changed.others k (λ x is. apart x) (λ x is. apart x) (apart owner) ∙ there) sub.owns sub.times refl)
+      ]
+
+  moved_account : (id : AccountId) → charge_of e.body ≡ charge.Itself id
+      → map_after_moving_owned ctx k id 2 (sponsor_of e) payer m ≡ Ok new → IsLegalNow new
+  moved_account id is done =
+      let own = account_itself e.body id is in
+      let a = own.0 in
+      let at : key.Account id ≡ k = sym (ap key.Account own.2) ∙ sym (ap key_of_body own.1) ∙ legal.keyed k e there in
+      let here : IsAccountEntry m id a e = record { there = ap (get m) at ∙ there; is = own.1 } in
+      let stood = account_stands m id a e here in
+      let owned = ap owner_in is in
+      let times = ap multiplicity_in is in
+      let t = payer_other_than id payer in
+      let two : 1 ≤ 2 = omega arith in
+      elim (between v id_pool owed sum m legal settled id 2 k e there owned times two a stood t (other_apart id payer)
+      ctx new (others_stand id) done) [
+        | inl same ↦ subst IsLegalNow same legal
+        | inr moves ↦
+            let changed = paid_anew v id_pool owed sum m legal settled id 2 k e there owned times two a stood t
+            (other_apart id payer) moves.0 in
+            let b = with_other_payer 2 (sponsor_of e) t a in
+            let same : b.account_id ≡ a.account_id = (other_payer_step id_pool 2 id (sponsor_of e) t a own.2
+            (owner_has v id_pool owed sum m legal settled k e there 2 times two id a owned stood)).move.id in
+            subst IsLegalNow moves.1 (moved_owned v id_pool owed sum m legal settled id 2 k e there owned times two a
+                stood
+            t (other_apart id payer) (with_body e b) changed.legal
+            (sym (ap (get (map_with_other_payer id 2 (sponsor_of e) t m)) at) ∙ changed.entry e here)
+            (ap Some (same ∙ own.2)) refl refl)
+      ]
+
+  settles_paid : (o ps pt qs qt : ℤ) → qs ≡ ps → qt ≡ pt → (((o +ℤ ps) +ℤ neg_ℤ pt) +ℤ (qt +ℤ neg_ℤ qs)) ≡ o
+  settles_paid o ps pt qs qt old now = omega (arith, ints)
+
+  balance_of : (b : LedgerEntryBody) (n : ℕ) → charge_of b ≡ charge.Payer n
+      → (c : ClaimableBalanceEntry) × (b ≡ body.ClaimableBalance c)
+  balance_of (body.ClaimableBalance c) n is = (c, refl)
+  balance_of other n is = absurd (cc)
+
+  key_beside : (c : ClaimableBalanceEntry) → e.body ≡ body.ClaimableBalance c → (x : AccountId) → k ≢ key.Account x
+  key_beside c is x same =
+      let its : key.ClaimableBalance c.balance_id ≡ key.Account x = sym (ap key_of_body is) ∙ legal.keyed k e there
+          ∙ same in
+      absurd (cc)
+
+  moved_balance : (n : ℕ) → charge_of e.body ≡ charge.Payer n → (o : Option AccountId) → payer ≡ o
+      → map_after_moving_balance ctx k n (sponsor_of e) o m ≡ Ok new → IsLegalNow new
+  moved_balance n is None to done = subst IsLegalNow (cc) legal
+  moved_balance n is (Some x) to done =
+      let c = balance_of e.body n is in
+      let s = sponsor_of e in
+      let range = (legal.entries k e there).range in
+      let times = ap multiplicity_in is in
+      let some : 1 ≤ n = subst (λ i. 1 ≤ i) times (paid_counts id_pool e.body s range.body range.paid
+      (subst (λ b. IsPaidRightly b s → s ≢ None) (sym c.1) (λ paid. paid) range.paid)) in
+      let now = map_after_exchange n s (Some x) m in
+      let after = map_with_sponsor k (Some x) now in
+      let over = payer_passed ctx m x n after new done in
+      let changed = exchanged v id_pool sum n s (Some x) owed m legal
+      (payer_has v id_pool owed sum m legal settled k e there n times some)
+      (λ y is. let same : x ≡ y = cc in subst (HasRoom n m) same (room_of m x n (stands x to) over)) in
+      let apart = key_beside c.0 c.1 in
+      let still : get now k ≡ Some e = changed.others k (λ y is. apart y) (λ y is. apart y) ∙ there in
+      let owned : owner_of e.body ≡ None = ap owner_in is in
+      subst IsLegalNow (done_by (payer_tests_at ctx m x n) after new done)
+      (legal_as v (IsEntryLegal id_pool) _ owed sum sum after
+      (recorded_legal v id_pool _ sum now k e (Some x) changed.legal still
+      (subst (λ b. IsPaidRightly b (Some x)) (sym c.1) (λ none. absurd (cc))))
+      (λ kind q. ap (λ y. ((owed kind q +ℤ payer_books n s kind q) +ℤ neg_ℤ (payer_books n (Some x) kind q)) +ℤ y)
+      (λ i. paid_books (times i) (owned i) (Some x) kind q +ℤ neg_ℤ (paid_books (times i) (owned i) s kind q))
+      ∙ settles_paid (owed kind q) (payer_books n s kind q) (payer_books n (Some x) kind q) _ _
+      (unowned_books n s kind q) (unowned_books n (Some x) kind q)) refl)
+
+  moved_charge : (c : Charge) → charge_of e.body ≡ c → map_after_moving_by ctx k c (sponsor_of e) payer m ≡ Ok new
+      → IsLegalNow new
+  moved_charge (charge.Itself id) is done = moved_account id is done
+  moved_charge (charge.Subentry owner n) is done = moved_subentry owner n is done
+  moved_charge (charge.Payer n) is done = moved_balance n is payer refl done
+  moved_charge charge.Nobody is done = subst IsLegalNow (cc) legal
+
+module _ (v : View) (id_pool : ℕ) (owed : Owed) (sum : ℤ) (m : EntryMap) (legal : IsLegalOwing v id_pool owed sum m)
+    (settled : AreReservesSettled owed) (k : LedgerKey) (ctx : Ctx) (payer : Option AccountId)
+    (stands : PayerStands payer m) (new : EntryMap) where
+  by_key : (o : Option LedgerEntry) → get m k ≡ o → map_after_moving_entry ctx k payer m o ≡ Ok new
+      → IsLegalOwing v id_pool owed sum new
+  by_key None there done = subst (IsLegalOwing v id_pool owed sum) (cc) legal
+  by_key (Some e) there done = moved_charge v id_pool owed sum m legal settled k e there ctx payer stands new
+      (charge_of e.body) refl done
+
+  -- What moves to another payer, or to its owner, leaves books and supply as they were.
+  pub moved : map_after_moving ctx k payer m ≡ Ok new → IsLegalOwing v id_pool owed sum new
+  moved done = by_key (get m k) refl done

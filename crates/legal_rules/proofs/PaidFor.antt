@@ -21,15 +21,9 @@ use Rattle.legal_rules.specs.EntryKeys.{is_key, for_account}
 use Rattle.legal_rules.specs.Reserves.{signer_sponsors_in, for_each}
 use Rattle.legal_rules.specs.Books.{Subentries, Sponsoring, Sponsored, View, counted}
 use Rattle.legal_rules.specs.Owing.{Owed, nothing_owed, IsLegalOwing}
+use Rattle.legal_rules.specs.EntryLaws.{AreReservesSettled}
 use Rattle.legal_rules.proofs.Lows.{natural_low}
 use Rattle.legal_rules.proofs.Standing.{StandsWith, counted_stands}
-
--- no book of reserves owes anything: more may be stated there than is counted, as for an entry that is out of the map
--- for a while
-pub record AreReservesSettled (owed : Owed) : Type 0 where
-  pub subentries : (k : LedgerKey) → owed Subentries k ≤ℤ pos 0
-  pub sponsored : (k : LedgerKey) → owed Sponsored k ≤ℤ pos 0
-  pub sponsoring : (k : LedgerKey) → owed Sponsoring k ≤ℤ pos 0
 
 pub nothing_settled : AreReservesSettled nothing_owed
 nothing_settled = record {

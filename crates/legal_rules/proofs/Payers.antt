@@ -20,6 +20,8 @@ use Rattle.sponsor_rules.specs.Paying.{with_less_paid, with_subentry, without_su
 use Rattle.sponsor_rules.proofs.Ids.{same_account, apart_accounts}
 use Rattle.sponsor_rules.proofs.Keeping.{with_count_keeps, at_most}
 use Rattle.legal_rules.specs.Books.{Kind, Subentries, Sponsoring, Sponsored, View}
+use Rattle.entry_sums.specs.Sums.{total}
+use Rattle.legal_rules.specs.OfferIds.{offer_with}
 use Rattle.legal_rules.specs.Owing.{Owed, nothing_owed, in_book, plus, less, IsEntryLegal, IsLegalOwing}
 use Rattle.legal_rules.proofs.Numbers.{plus_nothing}
 use Rattle.legal_rules.proofs.Steps.{IsAccountEntry, with_body, IsStep, no_step, steps, step_as, stepped, legal_as}
@@ -27,6 +29,7 @@ use Rattle.legal_rules.proofs.Steps.{same_id_at}
 use Rattle.legal_rules.proofs.AccountRanges.{MayBe, may_fall}
 use Rattle.legal_rules.proofs.Counting.{more_step, less_step, neg_in_book}
 use Rattle.legal_rules.proofs.Places.{kept_elsewhere, entry_after, account_after, account_elsewhere, absent_after}
+use Rattle.legal_rules.proofs.Places.{same_offers}
 use Rattle.legal_rules.proofs.Sponsors.{owner_books, payer_books}
 use Rattle.legal_rules.proofs.Bounded.{account_legal}
 use Rattle.legal_rules.proofs.Standing.{StandsWith}
@@ -102,6 +105,7 @@ module _ (v : View) (id_pool : ℕ) (sum : ℤ) where
     pub legal : IsLegalOwing v id_pool owed sum new
     pub others : (k : LedgerKey) → IsBeside s k → IsBeside t k → get new k ≡ get m k
     pub absent : (k : LedgerKey) → get m k ≡ None → get new k ≡ None
+    pub offers : (id : ℤ) → total (offer_with id) new ≡ total (offer_with id) m
 
   module _ (n : ℕ) where
     released : (s : Option AccountId) (owed : Owed) (m : EntryMap) → IsLegalOwing v id_pool owed sum m
@@ -111,6 +115,7 @@ module _ (v : View) (id_pool : ℕ) (sum : ℤ) where
       legal = legal_as v (IsEntryLegal id_pool) owed _ sum sum m legal (λ kind k. sym (plus_nothing _)) refl;
       others = λ k beside also. refl;
       absent = λ k none. none;
+      offers = λ id. refl;
     }
     released (Some x) owed m legal enough =
         let s = enough x refl in
@@ -124,6 +129,7 @@ module _ (v : View) (id_pool : ℕ) (sum : ℤ) where
           others = λ k beside also. kept_elsewhere m x (with_less count.Sponsoring n) s.account legal.keyed s.stands
               step.move.id k (beside x refl);
           absent = absent_after m x (with_less count.Sponsoring n) s.account legal.keyed s.stands step.move.id;
+          offers = same_offers m x (with_less count.Sponsoring n) s.account legal.keyed s.stands step.move.id;
         }
 
     charged : (t : Option AccountId) (owed : Owed) (m : EntryMap) → IsLegalOwing v id_pool owed sum m
@@ -133,6 +139,7 @@ module _ (v : View) (id_pool : ℕ) (sum : ℤ) where
       legal = legal_as v (IsEntryLegal id_pool) owed _ sum sum m legal (λ kind k. sym (plus_nothing _)) refl;
       others = λ k beside also. refl;
       absent = λ k none. none;
+      offers = λ id. refl;
     }
     charged (Some x) owed m legal room =
         let r = room x refl in
@@ -145,6 +152,7 @@ module _ (v : View) (id_pool : ℕ) (sum : ℤ) where
           others = λ k beside also. kept_elsewhere m x (with_more count.Sponsoring n) r.account legal.keyed r.stands
               step.move.id k (also x refl);
           absent = absent_after m x (with_more count.Sponsoring n) r.account legal.keyed r.stands step.move.id;
+          offers = same_offers m x (with_more count.Sponsoring n) r.account legal.keyed r.stands step.move.id;
         }
 
     -- who can pay still can after a payer paid less
@@ -202,6 +210,7 @@ module _ (v : View) (id_pool : ℕ) (sum : ℤ) where
           legal = second.legal;
           others = λ k beside also. second.others k (beside_none k) also ∙ first.others k beside (beside_none k);
           absent = λ k none. second.absent k (first.absent k none);
+          offers = λ id. second.offers id ∙ first.offers id;
         }
 
   -- a state after an account changed too
@@ -210,6 +219,7 @@ module _ (v : View) (id_pool : ℕ) (sum : ℤ) where
     pub legal : IsLegalOwing v id_pool owed sum new
     pub others : (k : LedgerKey) → IsBeside s k → IsBeside t k → k ≢ key.Account id → get new k ≡ get m k
     pub absent : (k : LedgerKey) → get m k ≡ None → get new k ≡ None
+    pub offers : (id : ℤ) → total (offer_with id) new ≡ total (offer_with id) m
     pub entry : (e : LedgerEntry) → IsAccountEntry m id a e → get new (key.Account id) ≡ Some (with_body e b)
 
   -- the owner changes after its payers, of which it is none
@@ -226,6 +236,7 @@ module _ (v : View) (id_pool : ℕ) (sum : ℤ) where
         others = λ k besides alsos apart. kept_elsewhere new id f a paying.legal.keyed now step.move.id k apart
             ∙ paying.others k besides alsos;
         absent = λ k none. absent_after new id f a paying.legal.keyed now step.move.id k (paying.absent k none);
+        offers = λ n. same_offers new id f a paying.legal.keyed now step.move.id n ∙ paying.offers n;
         entry = λ e here. entry_after new id f a paying.legal.keyed now step.move.id e
             (record { there = still ∙ here.there; is = here.is });
       }

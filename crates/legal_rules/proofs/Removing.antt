@@ -28,7 +28,8 @@ use Rattle.legal_rules.proofs.Steps.{legal_as, same_id_at}
 use Rattle.legal_rules.proofs.Putting.{erase_legal}
 use Rattle.legal_rules.proofs.Standing.{StandsWith, counted_stands}
 use Rattle.legal_rules.proofs.Payers.{IsBeside, beside_none, AreChanged, exchanged, owner_changed, no_subentry_step}
-use Rattle.legal_rules.proofs.PaidFor.{AreReservesSettled, payer_has, owner_has}
+use Rattle.legal_rules.specs.EntryLaws.{AreReservesSettled}
+use Rattle.legal_rules.proofs.PaidFor.{payer_has, owner_has}
 use Rattle.legal_rules.proofs.Sponsors.{paid_books, owner_books, payer_books, split_books}
 use Rattle.legal_rules.proofs.Subentries.{IsSubentry, subentry_weighs, paid_not_by_owner}
 
@@ -47,7 +48,7 @@ module _ (v : View) (id_pool : ℕ) (owed : Owed) (sum : ℤ) (m : EntryMap) (le
   s = sponsor_of e
 
   -- its owner stands, and counts it
-  owns : StandsWith count.SubEntries n m owner
+  pub owns : StandsWith count.SubEntries n m owner
   owns = counted_stands v id_pool owed sum m legal count.SubEntries owner n k e (settled.subentries (key.Account owner))
       there (subst (λ x. pos n ≤ℤ x) (λ i. for_account (key.Account owner) (sym sub.owns i) (sym sub.counts i))
       (at_itself (is_key (key.Account owner) (key.Account owner)) n (same_itself (key.Account owner)))) sub.some
@@ -81,7 +82,7 @@ module _ (v : View) (id_pool : ℕ) (owed : Owed) (sum : ℤ) (m : EntryMap) (le
       (no_subentry_step id_pool n owner s a same owns.enough (may_fall count.SubEntries n a bounded.few bounded.fits)
       (owner_has v id_pool owed sum m legal settled k e there n sub.times sub.some owner a sub.owns owns.stands))
 
-  no_account : (x : AccountId) → k ≢ key.Account x
+  pub no_account : (x : AccountId) → k ≢ key.Account x
   no_account x same = sub.no_account x (legal.keyed k e there ∙ same)
 
   -- What is removed takes from the books what it counted beside its reserve.

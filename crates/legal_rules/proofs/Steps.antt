@@ -48,6 +48,11 @@ unfolding account_at
 account_entry m id a h = let found = entry_of (get m (key.Account id)) a h in
     (found.0, record { there = found.1; is = found.2 })
 
+pub account_stands : (m : EntryMap) (id : AccountId) (a : AccountEntry) (e : LedgerEntry) → IsAccountEntry m id a e
+    → account_at m id ≡ Some a
+unfolding account_at
+account_stands m id a e here = ap account_of here.there ∙ ap (λ b. account_of (Some (record e { body = b }))) here.is
+
 abbrev pub with_body : LedgerEntry → AccountEntry → LedgerEntry
 with_body e b = record e { body = body.Account b }
 

@@ -13,3 +13,6 @@ pub mod Headers
 pub mod Needs
 pub mod Legal
 pub mod Owing
+pub mod Payments
+pub mod PaymentLaws
+pub mod EntryLaws

@@ -23,3 +23,5 @@ pub mod Covered
 pub mod Paying
 pub mod Balances
 pub mod NewAccounts
+pub mod Merging
+pub mod Kept

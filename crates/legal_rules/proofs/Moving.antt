@@ -47,7 +47,7 @@ use Rattle.legal_rules.proofs.Sponsors.{paid_books, owner_books, payer_books, sp
 use Rattle.legal_rules.proofs.Sponsors.{recorded_weighs}
 use Rattle.legal_rules.proofs.Steps.{IsReplaced, IsAccountEntry, with_body, account_entry, body_there, replace_legal}
 use Rattle.legal_rules.proofs.Steps.{legal_as}
-use Rattle.legal_rules.proofs.Steps.{same_id_at}
+use Rattle.legal_rules.proofs.Steps.{same_id_at, account_stands}
 use Rattle.legal_rules.proofs.Subentries.{IsSubentry, subentry_of, paid_by_other, paid_not_by_owner, legal_recorded}
 
 -- ---- the entry with another sponsor

@@ -23,5 +23,7 @@ pub mod Covered
 pub mod Paying
 pub mod Balances
 pub mod NewAccounts
+pub mod SignerOrder
+pub mod SignerEdits
 pub mod Merging
 pub mod Kept

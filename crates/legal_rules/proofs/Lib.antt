@@ -25,5 +25,6 @@ pub mod Balances
 pub mod NewAccounts
 pub mod SignerOrder
 pub mod SignerEdits
+pub mod SignersKept
 pub mod Merging
 pub mod Kept

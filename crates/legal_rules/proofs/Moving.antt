@@ -73,7 +73,7 @@ recorded_legal v id_pool owed sum m k e t legal there paid =
 
 -- ---- what has an owner
 
-other_apart : (owner : AccountId) (payer : Option AccountId) (x : AccountId) → payer_other_than owner payer ≡ Some x
+pub other_apart : (owner : AccountId) (payer : Option AccountId) (x : AccountId) → payer_other_than owner payer ≡ Some x
     → x ≢ owner
 other_apart owner None x is = absurd (cc)
 other_apart owner (Some payer) x is = elim (is_same_account payer owner) as (λ b. is_same_account payer owner ≡ b

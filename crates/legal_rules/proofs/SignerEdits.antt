@@ -29,7 +29,7 @@ use Rattle.legal_rules.specs.Books.{View, counted}
 use Rattle.legal_rules.specs.Ranges.{AreSignersInRange}
 use Rattle.legal_rules.specs.Owing.{weight, Owed, in_book, plus, less, IsEntryLegal}
 use Rattle.legal_rules.proofs.AccountRanges.{AreAlike, keeps_as}
-use Rattle.legal_rules.proofs.SignerOrder.{IsNewSigner, signers_with, signers_without, signers_moved}
+use Rattle.legal_rules.proofs.SignerOrder.{signers_with, signers_without, signers_moved}
 use Rattle.legal_rules.proofs.Sponsors.{paid_books}
 use Rattle.legal_rules.proofs.Steps.{with_body, IsMove, IsStep}
 

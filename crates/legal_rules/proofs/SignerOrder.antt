@@ -21,6 +21,7 @@ use Rattle.ledger_types.specs.KeyOrder.{signer_key_cmp}
 use Rattle.ledger_types.proofs.KeyOrdering.{signer_keys_total, signer_keys_exact}
 use Rattle.sponsor_rules.specs.SignerPlace.{place_for}
 use Rattle.legal_rules.specs.Ranges.{AreSignersInRange}
+use Rattle.legal_rules.specs.SignerLaws.{IsNewSigner}
 
 abbrev IsBelow : Signer → Signer → Type 0
 IsBelow x y = signer_key_cmp x.key y.key ≡ Less
@@ -119,11 +120,6 @@ all_inserted P xs n x all has = All-append P (take n xs) (x ∷ drop n xs) (All-
 all_removed : {X : Type 0} (P : X → Type 0) (xs : List X) (n : ℕ) → All P xs → All P (remove xs n)
 all_removed P xs n all = All-append P (take n xs) (drop (suc n) xs) (All-take P n xs all) (All-drop P (suc n) xs all)
 
--- a signer that an account may get: of another key than its own, and none that it has
-pub record IsNewSigner (id : AccountId) (signers : List Signer) (s : Signer) : Type 0 where
-  pub weight : (1 ≤ s.weight) × (s.weight ≤ 255)
-  pub other : s.key ≢ signer.Ed25519 id.0
-  pub new : All (λ x. x.key ≢ s.key) signers
 
 module _ (id : AccountId) (signers : List Signer) (sponsors : List (Option AccountId))
     (was : AreSignersInRange id signers sponsors) where

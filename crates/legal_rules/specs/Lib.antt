@@ -16,3 +16,4 @@ pub mod Owing
 pub mod Payments
 pub mod PaymentLaws
 pub mod EntryLaws
+pub mod SignerLaws

@@ -28,3 +28,4 @@ pub mod SignerEdits
 pub mod SignersKept
 pub mod Merging
 pub mod Kept
+pub mod Liable

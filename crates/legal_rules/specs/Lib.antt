@@ -17,3 +17,4 @@ pub mod Payments
 pub mod PaymentLaws
 pub mod EntryLaws
 pub mod SignerLaws
+pub mod Binding

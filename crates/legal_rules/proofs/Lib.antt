@@ -29,3 +29,4 @@ pub mod SignersKept
 pub mod Merging
 pub mod Kept
 pub mod Liable
+pub mod OffersKept

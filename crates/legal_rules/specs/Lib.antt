@@ -18,3 +18,4 @@ pub mod PaymentLaws
 pub mod EntryLaws
 pub mod SignerLaws
 pub mod Binding
+pub mod OfferLaws

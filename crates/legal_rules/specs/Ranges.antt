@@ -24,6 +24,7 @@ use Rattle.ledger_types.specs.KeyOrder.{asset_cmp, signer_key_cmp}
 use Rattle.valid_values.specs.Texts.{is_valid_text}
 use Rattle.valid_values.specs.Assets.{is_valid_code, is_valid_asset}
 use Rattle.valid_values.specs.Predicates.{is_valid_stored_predicate}
+use Rattle.hash_ids.specs.Ids.{pool_id_of}
 use Rattle.entry_slots.specs.AccountExtensions.{sponsorship_of}
 use Rattle.entry_slots.specs.LineExtensions.{use_count}
 use Rattle.entry_slots.specs.EntrySponsor.{sponsor_of}
@@ -44,8 +45,7 @@ pub record AreAccountFlags (flags : ℕ) : Type 0 where
 
 -- The signers of an account, and who is recorded as paying for each. A key of another kind with the bytes of the
 -- account's own key is not its own key.
-pub record AreSignersInRange (id : AccountId) (signers : List Signer)
-    (sponsors : List (Option AccountId)) : Type 0 where
+pub record AreSignersInRange (id : AccountId) (signers : List Signer) (sponsors : List (Option AccountId)) : Type 0 where
   pub rising : AllPairs (λ x y. signer_key_cmp x.key y.key ≡ Less) signers
   pub weights : All (λ s. (1 ≤ s.weight) × (s.weight ≤ 255)) signers
   pub others : All (λ s. s.key ≢ signer.Ed25519 id.0) signers
@@ -75,8 +75,7 @@ abbrev pub AreLineFlags : TrustLineAsset → ℕ → Type 0
 AreLineFlags (line.PoolShare pool) flags = flags ≡ 0
 AreLineFlags other flags = (flags ≤ 7) × (flags % 4 ≢ 3)
 
--- balance and liabilities are at least 0, what is to be sold is in the balance, and what is to be bought within the
--- limit
+-- balance and liabilities are at least 0, what is to be sold is in the balance, and what is to be bought within the limit
 pub record IsTrustLineInRange (t : TrustLineEntry) : Type 0 where
   pub range : IsLineInRange t
   pub limit : pos 1 ≤ℤ t.limit
@@ -128,6 +127,7 @@ pub record IsBalanceInRange (balance : ClaimableBalanceEntry) : Type 0 where
 pub record IsPoolInRange (p : LiquidityPoolEntry) : Type 0 where
   pub fee : p.params.fee ≡ pos 30
   pub assets : asset_cmp p.params.asset_a p.params.asset_b ≡ Less
+  pub id : p.pool_id ≡ pool_id_of p.params.asset_a p.params.asset_b
   pub reserve_a : pos 0 ≤ℤ p.reserve_a
   pub reserve_b : pos 0 ≤ℤ p.reserve_b
   pub shares : pos 0 ≤ℤ p.total_pool_shares

@@ -61,7 +61,7 @@ chosen : (b : Bool) (l : Liabilities) → is_nothing l ≡ b
 chosen true l h = nothing_is l h
 chosen false l h = refl
 
-stored : (l : Liabilities) (ext : Option AccountEntryExtensionV1) → liabilities_in (with_liabilities_in l ext) ≡ l
+pub stored : (l : Liabilities) (ext : Option AccountEntryExtensionV1) → liabilities_in (with_liabilities_in l ext) ≡ l
 stored l None = chosen (is_nothing l) l refl
 stored l (Some ext) = refl
 
@@ -80,7 +80,7 @@ line_chosen : (b : Bool) (l : Liabilities) → is_nothing l ≡ b
 line_chosen true l h = nothing_is l h
 line_chosen false l h = refl
 
-line_stored : (l : Liabilities) (ext : Option TrustLineEntryExtensionV1)
+pub line_stored : (l : Liabilities) (ext : Option TrustLineEntryExtensionV1)
     → line_liabilities_in (with_line_liabilities_in l ext) ≡ l
 line_stored l None = line_chosen (is_nothing l) l refl
 line_stored l (Some ext) = refl

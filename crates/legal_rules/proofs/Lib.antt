@@ -30,3 +30,4 @@ pub mod Merging
 pub mod Kept
 pub mod Liable
 pub mod OffersKept
+pub mod Releasing

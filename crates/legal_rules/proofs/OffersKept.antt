@@ -85,14 +85,14 @@ next_apart n seq offer is m entries few id = elim (is_eq (int_cmp offer.offer_id
 -- ---- what is bound
 
 -- what books owe once what an offer binds in a holder is bound
-abbrev unbound_if : Option LedgerKey → (selling buying : ℤ) → Owed
+abbrev pub unbound_if : Option LedgerKey → (selling buying : ℤ) → Owed
 unbound_if None selling buying = nothing_owed
 unbound_if (Some k) selling buying = unbound k selling buying
 
 plus_zero : (x : ℤ) → x ≡ (x +ℤ pos 0)
 plus_zero x = omega (arith, ints)
 
-binding_legal : (v : View) (id_pool : ℕ) (owed : Owed) (sum : ℤ) (m : EntryMap) (o : Option LedgerKey)
+pub binding_legal : (v : View) (id_pool : ℕ) (owed : Owed) (sum : ℤ) (m : EntryMap) (o : Option LedgerKey)
     (selling buying : ℤ) → IsLegalOwing v id_pool owed sum m → CanBind m o selling buying
     → IsLegalOwing v id_pool (plus owed (unbound_if o selling buying)) sum (binding o selling buying m)
 binding_legal v id_pool owed sum m None selling buying legal can =
@@ -110,7 +110,7 @@ binding_legal v id_pool owed sum m (Some (key.TrustLine id x)) selling buying le
 binding_legal v id_pool owed sum m (Some other) selling buying legal can = absurd can
 
 -- what books owe once wheat is bound for sale, and sheep for purchase
-abbrev traded : OfferEntry → (wheat sheep : ℤ) → Owed
+abbrev pub traded : OfferEntry → (wheat sheep : ℤ) → Owed
 traded o wheat sheep Selling k = neg_ℤ (for_key k (holder o.seller_id o.selling) wheat)
 traded o wheat sheep Buying k = neg_ℤ (for_key k (holder o.seller_id o.buying) sheep)
 traded o wheat sheep kind k = pos 0
@@ -138,7 +138,7 @@ nothing_sold None k n = refl
 nothing_sold (Some q) k n = elim (is_key q k) as
     (λ t. ◌≡◌ {A = ℤ} ((if t then pos 0 else pos 0) +ℤ pos 0) (pos 0)) [ true ↦ refl | false ↦ refl ]
 
-nothing_bought : (o : Option LedgerKey) (k : LedgerKey) (n : ℤ) → unbound_if o n (pos 0) Buying k ≡ pos 0
+pub nothing_bought : (o : Option LedgerKey) (k : LedgerKey) (n : ℤ) → unbound_if o n (pos 0) Buying k ≡ pos 0
 nothing_bought None k n = refl
 nothing_bought (Some q) k n = elim (is_key q k) as
     (λ t. ◌≡◌ {A = ℤ} (pos 0 +ℤ (if t then pos 0 else pos 0)) (pos 0)) [ true ↦ refl | false ↦ refl ]
@@ -278,7 +278,7 @@ stays x y is = omega (arith, ints)
 in_place : (c d : ℤ) → d ≡ (c +ℤ (neg_ℤ c +ℤ d))
 in_place c d = omega (arith, ints)
 
-abbrev with_offer_body : LedgerEntry → OfferEntry → LedgerEntry
+abbrev pub with_offer_body : LedgerEntry → OfferEntry → LedgerEntry
 with_offer_body e o = record e { body = body.Offer o }
 
 module _ (v : View) (e : LedgerEntry) (old new : OfferEntry) (same : new.seller_id ≡ old.seller_id) where

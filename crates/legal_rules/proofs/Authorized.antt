@@ -1,0 +1,150 @@
+-- Lines that carry neither flag of authorisation are bound by no offer, and the lines of offers carry one.
+use Rattle.std.proofs.Common.{◌≡◌, ◌≢◌, refl, sym, ap, subst, ◌∙◌, ℕ, ◌%◌, ◌≤◌, Bool, true, false, [], ◌∷◌, ◌++◌, All}
+use Rattle.std.proofs.Common.{Option, Some}
+use Rattle.std.proofs.Common.{None, arith}
+use Rattle.std.proofs.lemmas.Int.{ints}
+use Rattle.std.proofs.lemmas.List.Elements.{All-append, All-head, All-tail}
+use Rattle.std.specs.Prelude.{ℤ, pos, ◌≤ℤ◌, if◌then◌else◌}
+use Rattle.std.specs.FinMap.{get}
+use Rattle.ledger_types.specs.declared.trust_line.TrustLineEntry.{TrustLineEntry}
+use Rattle.ledger_types.specs.declared.entry.LedgerEntry.{LedgerEntry}
+use Rattle.ledger_types.specs.declared.entry.LedgerEntryBody.{LedgerEntryBody}
+use Rattle.ledger_types.specs.declared.entry.LedgerEntryBody.TheVariants as body
+use Rattle.ledger_types.specs.declared.key.LedgerKey.{LedgerKey}
+use Rattle.entry_map.specs.EntryMap.{EntryMap}
+use Rattle.entry_map.proofs.KeyMaps.{same_keys}
+use Rattle.entry_slots.specs.LineExtensions.{line_liabilities}
+use Rattle.entry_slots.specs.Lines.{line_in, line_of}
+use Rattle.entry_sums.specs.Sums.{total, EachEntry}
+use Rattle.entry_sums.proofs.Summing.{total_none, part_at_most}
+use Rattle.legal_rules.specs.EntryKeys.{is_key, for_key}
+use Rattle.legal_rules.specs.Trades.{holder, sells, buys}
+use Rattle.legal_rules.specs.Books.{Kind, Selling, Buying, counted, stated, stated_at}
+use Rattle.legal_rules.specs.Ranges.{IsBodyInRange, IsEntryInRange}
+use Rattle.legal_rules.specs.Needs.{keys_in}
+use Rattle.legal_rules.specs.Legal.{view, IsBooked, IsAuthorized, AreLinesAuthorized}
+use Rattle.legal_rules.specs.Owing.{IsBoundRightly}
+use Rattle.legal_rules.proofs.Lows.{counted_low}
+use Rattle.legal_rules.proofs.Needed.{for_itself, keys_all}
+
+-- ---- from lines to books
+
+-- no offer counts for a line that isn't authorised
+not_for : (k : LedgerKey) (o : Option LedgerKey) (n : ℤ) → ((named : LedgerKey) → o ≡ Some named → named ≡ k → ⊥)
+    → for_key k o n ≡ pos 0
+not_for k None n apart = refl
+not_for k (Some named) n apart = elim (is_key named k) as (λ t. is_key named k ≡ t → (if t then n else pos 0) ≡ pos 0) [
+  | true ↦ λ tied. absurd (apart named refl (same_keys named k tied))
+  | false ↦ λ h. refl
+] refl
+
+-- what holds of both holders of an offer
+first_passes : (P : LedgerKey → Type 0) (o p : Option LedgerKey) (k : LedgerKey) → All P (keys_in o ++ keys_in p)
+    → o ≡ Some k → P k
+first_passes P None p k all is = absurd (cc)
+first_passes P (Some named) p k all is = subst P (let same : named ≡ k = cc in same) (All-head P named (keys_in p) all)
+
+second_passes : (P : LedgerKey → Type 0) (o p : Option LedgerKey) (k : LedgerKey) → All P (keys_in o ++ keys_in p)
+    → p ≡ Some k → P k
+second_passes P o None k all is = absurd (cc)
+second_passes P None (Some named) k all is = subst P (let same : named ≡ k = cc in same) (All-head P named [] all)
+second_passes P (Some x) (Some named) k all is = subst P (let same : named ≡ k = cc in same)
+    (All-head P named [] (All-tail P x (named ∷ []) all))
+
+-- where offers' lines are authorised, none counts for a line that isn't
+module _ (m : EntryMap) (authorized : EachEntry (λ q x. AreLinesAuthorized m x.body) m) (k : LedgerKey)
+    (apart : IsAuthorized (line_of (get m k)) → ⊥) where
+  not_named : (named : LedgerKey) → IsAuthorized (line_of (get m named)) → named ≡ k → ⊥
+  not_named named passes same = apart (subst (λ q. IsAuthorized (line_of (get m q))) same passes)
+
+  abbrev Passes : LedgerKey → Type 0
+  Passes q = IsAuthorized (line_of (get m q))
+
+  not_sold : (b : LedgerEntryBody) → AreLinesAuthorized m b → sells k b ≡ pos 0
+  not_sold (body.Offer o) all = not_for k (holder o.seller_id o.selling) _ (λ named is same. not_named named
+      (first_passes Passes (holder o.seller_id o.selling) (holder o.seller_id o.buying) named all is) same)
+  not_sold other all = refl
+
+  not_bought : (b : LedgerEntryBody) → AreLinesAuthorized m b → buys k b ≡ pos 0
+  not_bought (body.Offer o) all = not_for k (holder o.seller_id o.buying) _ (λ named is same. not_named named
+      (second_passes Passes (holder o.seller_id o.selling) (holder o.seller_id o.buying) named all is) same)
+  not_bought other all = refl
+
+module _ (m : EntryMap) (authorized : EachEntry (λ q x. AreLinesAuthorized m x.body) m) (selling : IsBooked Selling m)
+    (buying : IsBooked Buying m) where
+  by_body : (k : LedgerKey) (e : LedgerEntry) (b : LedgerEntryBody) → get m k ≡ Some e → e.body ≡ b → IsBoundRightly b
+  by_body k e (body.TrustLine t) there is = λ none.
+      let apart : IsAuthorized (line_of (get m k)) → ⊥ = λ passes. subst (λ x. IsAuthorized (line_in x)) is
+      (subst (λ o. IsAuthorized (line_of o)) there passes) none in
+      (
+        sym (ap (stated_at Selling) there ∙ ap (stated Selling) is) ∙ selling k
+        ∙ total_none (counted (view m) Selling k) m (λ q x at. not_sold m authorized k apart x.body
+        (authorized q x at)),
+        sym (ap (stated_at Buying) there ∙ ap (stated Buying) is) ∙ buying k
+        ∙ total_none (counted (view m) Buying k) m (λ q x at. not_bought m authorized k apart x.body
+        (authorized q x at)),
+      )
+  by_body k e other there is = tt
+
+  pub bound_rightly : EachEntry (λ k e. IsBoundRightly e.body) m
+  bound_rightly k e there = by_body k e e.body there refl
+
+-- ---- from books to lines
+
+some_stated : (n all states : ℤ) → pos 1 ≤ℤ n → n ≤ℤ all → states ≡ all → states ≡ pos 0 → ⊥
+some_stated n all states some le same none = omega (arith, ints)
+
+natural_some : (n : ℕ) → 1 ≤ n → pos 1 ≤ℤ pos n
+natural_some n some = omega (arith, ints)
+
+module _ (id_pool : ℕ) (m : EntryMap) (entries : EachEntry (λ k e. IsEntryInRange id_pool e) m)
+    (bound : EachEntry (λ k e. IsBoundRightly e.body) m) (selling : IsBooked Selling m)
+        (buying : IsBooked Buying m) where
+  abbrev IsPassed : LedgerKey → Type 0
+  IsPassed q = IsAuthorized (line_of (get m q))
+
+  -- a line that something counts for in one of the two books
+  sold_passes : (k q : LedgerKey) (x : LedgerEntry) → get m q ≡ Some x → pos 1 ≤ℤ sells k x.body → IsPassed k
+  sold_passes k q x at some = by_entry (get m k) refl
+    where
+      by_line : (e : LedgerEntry) (b : LedgerEntryBody) → get m k ≡ Some e → e.body ≡ b → IsAuthorized (line_in b)
+      by_line e (body.TrustLine t) there is = λ none. some_stated (sells k x.body)
+          (total (counted (view m) Selling k) m)
+          (stated_at Selling (get m k)) some (part_at_most (counted (view m) Selling k) m q x
+          (λ r y has. counted_low id_pool (view m) Selling k y (entries r y has)) at) (selling k)
+          (ap (stated_at Selling) there ∙ ap (stated Selling) is
+          ∙ (subst IsBoundRightly is (bound k e there) none).0)
+      by_line e other there is = tt
+
+      by_entry : (o : Option LedgerEntry) → get m k ≡ o → IsAuthorized (line_of o)
+      by_entry None there = tt
+      by_entry (Some e) there = by_line e e.body there refl
+
+  bought_passes : (k q : LedgerKey) (x : LedgerEntry) → get m q ≡ Some x → pos 1 ≤ℤ buys k x.body → IsPassed k
+  bought_passes k q x at some = by_entry (get m k) refl
+    where
+      by_line : (e : LedgerEntry) (b : LedgerEntryBody) → get m k ≡ Some e → e.body ≡ b → IsAuthorized (line_in b)
+      by_line e (body.TrustLine t) there is = λ none. some_stated (buys k x.body) (total (counted (view m) Buying k) m)
+          (stated_at Buying (get m k)) some (part_at_most (counted (view m) Buying k) m q x
+          (λ r y has. counted_low id_pool (view m) Buying k y (entries r y has)) at) (buying k)
+          (ap (stated_at Buying) there ∙ ap (stated Buying) is
+          ∙ (subst IsBoundRightly is (bound k e there) none).1)
+      by_line e other there is = tt
+
+      by_entry : (o : Option LedgerEntry) → get m k ≡ o → IsAuthorized (line_of o)
+      by_entry None there = tt
+      by_entry (Some e) there = by_line e e.body there refl
+
+  by_offer : (b : LedgerEntryBody) → IsBodyInRange id_pool b → ((k : LedgerKey) → pos 1 ≤ℤ sells k b → IsPassed k)
+      → ((k : LedgerKey) → pos 1 ≤ℤ buys k b → IsPassed k) → AreLinesAuthorized m b
+  by_offer (body.Offer o) range sold bought = All-append IsPassed (keys_in (holder o.seller_id o.selling))
+      (keys_in (holder o.seller_id o.buying))
+      (keys_all IsPassed (holder o.seller_id o.selling) (λ k is. sold k
+      (for_itself k (holder o.seller_id o.selling) _ is (natural_some _ range.wheat))))
+      (keys_all IsPassed (holder o.seller_id o.buying) (λ k is. bought k
+      (for_itself k (holder o.seller_id o.buying) _ is (natural_some _ range.sheep))))
+  by_offer other range sold bought = tt
+
+  pub lines_authorized : EachEntry (λ k e. AreLinesAuthorized m e.body) m
+  lines_authorized q x at = by_offer x.body (entries q x at).body (λ k some. sold_passes k q x at some)
+      (λ k some. bought_passes k q x at some)

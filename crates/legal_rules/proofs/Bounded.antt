@@ -1,0 +1,27 @@
+-- An account that stands in a state is in range and within bounds.
+use Rattle.std.proofs.Common.{◌≡◌, subst, ℕ, ◌+◌, ◌≤◌}
+use Rattle.std.specs.Prelude.{ℤ}
+use Rattle.ledger_types.specs.declared.ids.AccountId.{AccountId}
+use Rattle.ledger_types.specs.declared.account.AccountEntry.{AccountEntry}
+use Rattle.ledger_types.specs.declared.key.LedgerKey.TheVariants as key
+use Rattle.std.proofs.Common.{Some}
+use Rattle.entry_map.specs.EntryMap.{EntryMap}
+use Rattle.entry_slots.specs.AccountExtensions.{num_sponsoring}
+use Rattle.entry_slots.specs.Accounts.{account_at}
+use Rattle.legal_rules.specs.Books.{View}
+use Rattle.legal_rules.specs.Ranges.{IsAccountInRange}
+use Rattle.legal_rules.specs.Owing.{Owed, IsEntryLegal, IsLegalOwing}
+use Rattle.legal_rules.proofs.Steps.{with_body, account_entry, body_there}
+
+pub record IsAccountLegal (a : AccountEntry) : Type 0 where
+  pub range : IsAccountInRange a
+  pub few : a.num_sub_entries ≤ 1000
+  pub fits : a.num_sub_entries + num_sponsoring a ≤ 4294967295
+
+pub account_legal : (v : View) (id_pool : ℕ) (owed : Owed) (sum : ℤ) (m : EntryMap) (id : AccountId) (a : AccountEntry)
+    → IsLegalOwing v id_pool owed sum m → account_at m id ≡ Some a → IsAccountLegal a
+account_legal v id_pool owed sum m id a legal stands =
+    let found = account_entry m id a stands in
+    let legal_entry : IsEntryLegal id_pool (with_body found.0 a) =
+    legal.entries (key.Account id) (with_body found.0 a) (body_there m id a found.0 found.1) in
+    record { range = legal_entry.range.body; few = legal_entry.few; fits = legal_entry.fits }

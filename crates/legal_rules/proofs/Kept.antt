@@ -1,0 +1,166 @@
+-- Entries that are added and removed, by sponsor_rules' definitions.
+use Rattle.std.proofs.Common.{◌≡◌, ◌≢◌, refl, sym, ap, subst, ◌∙◌, ℕ, Bool, true, false, List, Option, Some, None, Ok}
+use Rattle.std.proofs.Common.{arith}
+use Rattle.std.proofs.lemmas.Int.{ints}
+use Rattle.std.specs.Prelude.{ℤ, pos, neg_ℤ, ◌+ℤ◌, ◌-ℤ◌, ◌≤ℤ◌, if◌then◌else◌}
+use Rattle.std.specs.FinMap.{get}
+use Rattle.ledger_types.specs.declared.ids.AccountId.{AccountId}
+use Rattle.ledger_types.specs.declared.data_entry.DataEntry.{DataEntry}
+use Rattle.ledger_types.specs.declared.header.LedgerHeader.{LedgerHeader}
+use Rattle.ledger_types.specs.declared.entry.LedgerEntry.{LedgerEntry}
+use Rattle.ledger_types.specs.declared.entry.LedgerEntryBody.{LedgerEntryBody}
+use Rattle.ledger_types.specs.declared.entry.LedgerEntryBody.TheVariants as body
+use Rattle.ledger_types.specs.declared.key.LedgerKey.{LedgerKey}
+use Rattle.ledger_types.specs.declared.key.LedgerKey.TheVariants as key
+use Rattle.ledger_types.specs.Keys.{key_of_body}
+use Rattle.entry_map.specs.EntryMap.{EntryMap}
+use Rattle.entry_slots.specs.Accounts.{account_in}
+use Rattle.entry_slots.specs.EntrySponsor.{sponsor_of}
+use Rattle.sponsor_rules.specs.Adding.{map_after_adding, map_after_adding_by}
+use Rattle.sponsor_rules.specs.Payers.{payer_of}
+use Rattle.sponsor_rules.specs.Removing.{map_without_charge, map_after_removing_entry}
+use Rattle.entry_map.specs.EntryMap.{erase}
+use Rattle.legal_rules.specs.EntryKeys.{is_key}
+use Rattle.legal_rules.specs.Books.{Kind, Subentries, Sponsoring, Sponsored, View}
+use Rattle.legal_rules.specs.Supply.{held, held_in}
+use Rattle.legal_rules.specs.Legal.{view, pools_in, IsLegal}
+use Rattle.legal_rules.specs.Owing.{weighed, nothing_owed, plus, less, beside_reserves, IsEntryLegal, IsLegalOwing}
+use Rattle.legal_rules.specs.EntryLaws.{SubentryAdded, BalanceAdded, AccountAdded, SubentryRemoved, BalanceRemoved}
+use Rattle.legal_rules.specs.EntryLaws.{EntryMoved, new_data, AddingDataKeeps, RemovingDataKeeps, MovingKeeps}
+use Rattle.legal_rules.proofs.Adding.{subentry_added}
+use Rattle.legal_rules.proofs.Balances.{balance_added, balance_removed}
+use Rattle.legal_rules.proofs.NewAccounts.{account_added}
+use Rattle.legal_rules.proofs.Removing.{subentry_removed}
+use Rattle.legal_rules.proofs.Moving.{moved}
+use Rattle.legal_rules.proofs.Subentries.{subentry_of}
+use Rattle.legal_rules.proofs.PaidFor.{nothing_settled}
+use Rattle.legal_rules.proofs.Steps.{with_body, legal_as}
+use Rattle.legal_rules.proofs.Legality.{owing_nothing, legal_of}
+
+-- ---- within a transaction
+
+pub subentry_added_so : SubentryAdded
+subentry_added_so v id_pool next owed sum ctx owner n entry old new legal is fresh wide range stands ready done =
+    subentry_added v id_pool next owed sum ctx owner entry n old legal (record {
+      subentry = subentry_of entry.body owner n is;
+      free = fresh.free;
+      unsponsored = fresh.unsponsored;
+      legal = range;
+      wide = wide;
+      offers = fresh.id_free;
+      owner_stands = stands;
+      ready = ready;
+    }) new (sym (ap (λ c. map_after_adding_by ctx owner entry c (account_in entry.body) old) is) ∙ done)
+
+pub balance_added_so : BalanceAdded
+balance_added_so v id_pool owed sum ctx owner n entry old new legal is fresh range stands done =
+    balance_added v id_pool owed sum ctx entry (payer_of ctx owner) n old new legal is fresh.free range stands
+    (sym (ap (λ c. map_after_adding_by ctx owner entry c (account_in entry.body) old) is) ∙ done)
+
+pub account_added_so : AccountAdded
+account_added_so v id_pool owed sum ctx a entry old new legal is bare fresh range ready done =
+    let was : entry ≡ with_body entry a = λ i. record entry { body = is i } in
+    subst (λ (b : LedgerEntryBody). IsLegalOwing v id_pool owed (sum +ℤ held_in v.asset b) new) (sym is)
+    (account_added v id_pool owed sum ctx entry a old legal bare (ap (get old) (sym (ap key_of_body is)) ∙ fresh.free)
+    fresh.unsponsored (subst (IsEntryLegal id_pool) was range) ready new
+    (subst (λ x. map_after_adding ctx a.account_id x old ≡ Ok new) was done))
+
+pub subentry_removed_so : SubentryRemoved
+subentry_removed_so v id_pool owed sum owner n k entry m legal settled there is =
+    subst (IsLegalOwing v id_pool (plus owed (less (beside_reserves (weighed v entry))))
+    (sum +ℤ neg_ℤ (held v.asset entry)))
+    (sym (ap (λ c. erase (map_without_charge c (sponsor_of entry) m) k) is)
+    ∙ sym (ap (map_after_removing_entry k m) there))
+    (subentry_removed v id_pool owed sum m legal settled owner n k entry there (subentry_of entry.body owner n is))
+
+pub balance_removed_so : BalanceRemoved
+balance_removed_so v id_pool owed sum n k entry m legal settled there is =
+    subst (IsLegalOwing v id_pool owed (sum +ℤ neg_ℤ (held v.asset entry)))
+    (sym (ap (λ c. erase (map_without_charge c (sponsor_of entry) m) k) is)
+    ∙ sym (ap (map_after_removing_entry k m) there))
+    (balance_removed v id_pool owed sum m k entry n legal settled there is)
+
+pub entry_moved_so : EntryMoved
+entry_moved_so v id_pool owed sum ctx k payer old new legal settled stands done =
+    moved v id_pool owed sum old legal settled k ctx payer stands new done
+
+-- ---- whole changes
+
+pub moving_keeps : MovingKeeps
+moving_keeps h ctx k payer old new legal stands done =
+    legal_of h (pools_in old) new legal.header
+    (moved (view old) h.id_pool nothing_owed (h.total_coins -ℤ h.fee_pool) old
+        (owing_nothing h old legal) nothing_settled
+    k ctx payer stands new done)
+
+as_nothing : (t : ℤ) → t ≡ pos 0 → (pos 0 +ℤ t) ≡ pos 0
+as_nothing t none = omega (arith, ints)
+
+nothing_less : (t : Bool) → (pos 0 -ℤ (if t then pos 0 else pos 0)) ≡ pos 0
+nothing_less true = refl
+nothing_less false = refl
+
+-- data counts in no book beside its reserve
+data_settled : (v : View) (e : LedgerEntry) (d : DataEntry) (kind : Kind) (k : LedgerKey)
+    → beside_reserves (weighed v (record e { body = body.Data d })) kind k ≡ pos 0
+data_settled v e d Subentries k = refl
+data_settled v e d Sponsoring k = refl
+data_settled v e d Sponsored k = refl
+data_settled v e d kind k = nothing_less (is_key (key_of_body (body.Data d)) k)
+
+plus_zero : (x : ℤ) → (x +ℤ pos 0) ≡ x
+plus_zero x = omega (arith, ints)
+
+plus_none : (x : ℤ) → x ≤ℤ pos 1 → (x +ℤ pos 0) ≤ℤ pos 1
+plus_none x le = omega (arith, ints)
+
+pub adding_data_keeps : AddingDataKeeps
+adding_data_keeps h ctx seq d old new legal range free stands ready done =
+    let coins = h.total_coins -ℤ h.fee_pool in
+    let entry = new_data seq d in
+    legal_of h (pools_in old) new legal.header
+    (legal_as (view old) (IsEntryLegal h.id_pool) _ nothing_owed _ coins new
+    (subentry_added_so (view old) h.id_pool h.id_pool nothing_owed coins ctx d.account_id 1 entry old new
+    (owing_nothing h old legal) refl (record {
+      free = free;
+      unsponsored = refl;
+      id_free = λ id. plus_none _ (legal.offers id);
+    }) (omega arith) (record {
+      range = record { body = range; paid = λ some. absurd (some refl) };
+      bound = tt;
+      few = tt;
+      fits = tt;
+      filled = tt;
+    }) stands ready done)
+    (λ kind k. as_nothing _ (data_settled (view old) entry d kind k)) (plus_zero coins))
+
+none_taken : (x : ℤ) → x ≡ pos 0 → (pos 0 +ℤ neg_ℤ x) ≡ pos 0
+none_taken x none = omega (arith, ints)
+
+minus_zero : (x : ℤ) → (x +ℤ neg_ℤ (pos 0)) ≡ x
+minus_zero x = omega (arith, ints)
+
+module _ (h : LedgerHeader) (m : EntryMap) (legal : IsLegal h m) (id : AccountId) (name : List ℕ) where
+  abbrev its_key : LedgerKey
+  its_key = key.Data id name
+
+  by_body : (e : LedgerEntry) (b : LedgerEntryBody) → e.body ≡ b → get m its_key ≡ Some e → key_of_body b ≡ its_key
+      → IsLegal h (map_after_removing_entry its_key m (Some e))
+  by_body e (body.Data d) is there own =
+      let coins = h.total_coins -ℤ h.fee_pool in
+      let e' : LedgerEntry = record e { body = body.Data d } in
+      let was : e ≡ e' = λ i. record e { body = is i } in
+      let there' : get m its_key ≡ Some e' = there ∙ ap Some was in
+      subst (λ x. IsLegal h (map_after_removing_entry its_key m (Some x))) (sym was)
+      (legal_of h (pools_in m) _ legal.header (legal_as (view m) (IsEntryLegal h.id_pool) _ nothing_owed _ coins _
+      (subentry_removed (view m) h.id_pool nothing_owed coins m (owing_nothing h m legal) nothing_settled d.account_id 1
+      its_key e' there' (subentry_of (body.Data d) d.account_id 1 refl))
+      (λ kind k. none_taken _ (data_settled (view m) e d kind k)) (minus_zero coins)))
+  by_body e other is there own = absurd (cc)
+
+  by_entry : (o : Option LedgerEntry) → get m its_key ≡ o → IsLegal h (map_after_removing_entry its_key m o)
+  by_entry None there = legal
+  by_entry (Some e) there = by_body e e.body refl there (legal.keyed its_key e there)
+
+pub removing_data_keeps : RemovingDataKeeps
+removing_data_keeps h id name m legal = by_entry h m legal id name (get m (key.Data id name)) refl

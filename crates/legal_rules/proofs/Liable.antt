@@ -1,0 +1,296 @@
+-- An account or a line with other liabilities.
+use Rattle.std.proofs.Common.{◌≡◌, ◌≢◌, refl, sym, ap, subst, ◌∙◌, ℕ, ◌+◌, ◌%◌, ◌≤◌, Bool, true, false, ◌&&◌, Option}
+use Rattle.std.proofs.Common.{Some, None}
+use Rattle.std.proofs.Common.{arith}
+use Rattle.std.proofs.lemmas.Int.{ints}
+use Rattle.std.specs.Prelude.{ℤ, pos, neg_ℤ, ◌+ℤ◌, ◌-ℤ◌, ◌≤ℤ◌, if◌then◌else◌}
+use Rattle.std.specs.Ordering.{int_eq}
+use Rattle.std.specs.List.{count_by}
+use Rattle.std.specs.FinMap.{get}
+use Rattle.ledger_types.specs.declared.ids.AccountId.{AccountId}
+use Rattle.ledger_types.specs.declared.asset.TrustLineAsset.{TrustLineAsset}
+use Rattle.ledger_types.specs.declared.price.Liabilities.{Liabilities}
+use Rattle.ledger_types.specs.declared.account.AccountEntry.{AccountEntry}
+use Rattle.ledger_types.specs.declared.account.AccountEntryExtensionV1.{AccountEntryExtensionV1}
+use Rattle.ledger_types.specs.declared.trust_line.TrustLineEntry.{TrustLineEntry}
+use Rattle.ledger_types.specs.declared.trust_line.TrustLineEntryExtensionV1.{TrustLineEntryExtensionV1}
+use Rattle.ledger_types.specs.declared.entry.LedgerEntry.{LedgerEntry}
+use Rattle.ledger_types.specs.declared.entry.LedgerEntryBody.{LedgerEntryBody}
+use Rattle.ledger_types.specs.declared.entry.LedgerEntryBody.TheVariants as body
+use Rattle.ledger_types.specs.declared.key.LedgerKey.{LedgerKey}
+use Rattle.ledger_types.specs.declared.key.LedgerKey.TheVariants as key
+use Rattle.ledger_types.specs.Keys.{key_of_body}
+use Rattle.entry_map.specs.EntryMap.{EntryMap, put}
+use Rattle.entry_slots.specs.AccountExtensions.{no_liabilities, is_nothing, liabilities_in, with_liabilities_in}
+use Rattle.entry_slots.specs.AccountExtensions.{account_liabilities, second_in, sponsored_in, sponsoring_in}
+use Rattle.entry_slots.specs.AccountExtensions.{sponsorship_in, num_sponsoring, num_sponsored}
+use Rattle.entry_slots.specs.EntrySponsor.{sponsor_of}
+use Rattle.entry_slots.specs.LineExtensions.{line_liabilities, line_liabilities_in, with_line_liabilities_in}
+use Rattle.entry_slots.specs.LineExtensions.{line_second_in, use_count_in, use_count}
+use Rattle.entry_slots.specs.Lines.{line_in, line_of, line_at, with_line, with_line_in, with_line_of}
+use Rattle.reserve_rules.specs.Reserve.{IsInRange, IsLineInRange}
+use Rattle.sponsor_laws.specs.Sums.{is_there, signer_sponsors}
+use Rattle.legal_rules.specs.EntryKeys.{is_key, for_account}
+use Rattle.legal_rules.specs.Reserves.{is_for}
+use Rattle.legal_rules.specs.Books.{Kind, Subentries, Sponsoring, Sponsored, Selling, Buying, Uses, View, counted}
+use Rattle.legal_rules.specs.Supply.{held, of_line}
+use Rattle.legal_rules.specs.Binding.{risen, bound_account, bound_line}
+use Rattle.legal_rules.specs.Ranges.{AreSignersInRange}
+use Rattle.legal_rules.specs.Owing.{weight, Owed, in_book, plus, IsEntryLegal, IsLegalOwing}
+use Rattle.legal_rules.proofs.Numbers.{plus_nothing}
+use Rattle.legal_rules.proofs.Steps.{with_body, IsStep, replace_legal, legal_as}
+
+-- ---- what is stored
+
+int_same : (a b : ℤ) → int_eq a b ≡ true → a ≡ b
+int_same a b h = grind (arith, ints)
+
+both_true : (a b : Bool) → (a && b) ≡ true → (a ≡ true) × (b ≡ true)
+both_true true b h = (refl, h)
+both_true false b h = absurd (cc)
+
+nothing_is : (l : Liabilities) → is_nothing l ≡ true → no_liabilities ≡ l
+nothing_is l h =
+    let both = both_true (int_eq l.buying (pos 0)) (int_eq l.selling (pos 0)) h in
+    let buying = int_same l.buying (pos 0) both.0 in
+    let selling = int_same l.selling (pos 0) both.1 in
+    λ i. record { buying = sym buying i; selling = sym selling i }
+
+chosen : (b : Bool) (l : Liabilities) → is_nothing l ≡ b
+    → liabilities_in (if b then None else Some (record { liabilities = l; ext = None })) ≡ l
+chosen true l h = nothing_is l h
+chosen false l h = refl
+
+pub stored : (l : Liabilities) (ext : Option AccountEntryExtensionV1) → liabilities_in (with_liabilities_in l ext) ≡ l
+stored l None = chosen (is_nothing l) l refl
+stored l (Some ext) = refl
+
+second_of : (b : Bool) (l : Liabilities)
+    → second_in (if b then None else Some (record { liabilities = l; ext = None })) ≡ None
+second_of true l = refl
+second_of false l = refl
+
+same_second : (l : Liabilities) (ext : Option AccountEntryExtensionV1)
+    → second_in (with_liabilities_in l ext) ≡ second_in ext
+same_second l None = second_of (is_nothing l) l
+same_second l (Some ext) = refl
+
+line_chosen : (b : Bool) (l : Liabilities) → is_nothing l ≡ b
+    → line_liabilities_in (if b then None else Some (record { liabilities = l; ext = None })) ≡ l
+line_chosen true l h = nothing_is l h
+line_chosen false l h = refl
+
+pub line_stored : (l : Liabilities) (ext : Option TrustLineEntryExtensionV1)
+    → line_liabilities_in (with_line_liabilities_in l ext) ≡ l
+line_stored l None = line_chosen (is_nothing l) l refl
+line_stored l (Some ext) = refl
+
+line_second_of : (b : Bool) (l : Liabilities)
+    → line_second_in (if b then None else Some (record { liabilities = l; ext = None })) ≡ None
+line_second_of true l = refl
+line_second_of false l = refl
+
+same_line_second : (l : Liabilities) (ext : Option TrustLineEntryExtensionV1)
+    → line_second_in (with_line_liabilities_in l ext) ≡ line_second_in ext
+same_line_second l None = line_second_of (is_nothing l) l
+same_line_second l (Some ext) = refl
+
+-- ---- what books owe
+
+-- once selling and buying rose by these
+abbrev pub unbound : LedgerKey → (selling buying : ℤ) → Owed
+unbound k selling buying = plus (in_book Selling k (neg_ℤ selling)) (in_book Buying k (neg_ℤ buying))
+
+sells_more : (t : Bool) (c old more : ℤ) → (c -ℤ (if t then (old +ℤ more) else pos 0))
+    ≡ ((c -ℤ (if t then old else pos 0)) +ℤ ((if t then neg_ℤ more else pos 0) +ℤ pos 0))
+sells_more true c old more = omega (arith, ints)
+sells_more false c old more = omega (arith, ints)
+
+buys_more : (t : Bool) (c old more : ℤ) → (c -ℤ (if t then (old +ℤ more) else pos 0))
+    ≡ ((c -ℤ (if t then old else pos 0)) +ℤ (pos 0 +ℤ (if t then neg_ℤ more else pos 0)))
+buys_more true c old more = omega (arith, ints)
+buys_more false c old more = omega (arith, ints)
+
+module _ (selling buying : ℤ) (a : AccountEntry) where
+  abbrev b : AccountEntry
+  b = bound_account selling buying a
+
+  second : second_in b.ext ≡ second_in a.ext
+  second = same_second (risen selling buying (account_liabilities a)) a.ext
+
+  now : account_liabilities b ≡ risen selling buying (account_liabilities a)
+  now = stored (risen selling buying (account_liabilities a)) a.ext
+
+  same_sponsors : signer_sponsors b ≡ signer_sponsors a
+  same_sponsors = ap (λ o. (sponsorship_in a.signers o).signer_sponsoring_ids) second
+
+  abbrev its_key : LedgerKey
+  its_key = key.Account a.account_id
+
+  account_books : (v : View) (kind : Kind) (k : LedgerKey) (e : LedgerEntry) → weight v kind k (with_body e b)
+      ≡ (weight v kind k (with_body e a) +ℤ unbound its_key selling buying kind k)
+  account_books v Sponsored k e =
+      (λ i. for_account k (Some a.account_id) ((if is_there (sponsor_of e) then 2 else 0)
+      + count_by is_there (same_sponsors i)) -ℤ (if is_key its_key k then pos (sponsored_in (second i)) else pos 0))
+      ∙ sym (plus_nothing _)
+  account_books v Sponsoring k e =
+      (λ i. (for_account k (sponsor_of e) 2 +ℤ pos (count_by (is_for k) (same_sponsors i)))
+      -ℤ (if is_key its_key k then pos (sponsoring_in (second i)) else pos 0)) ∙ sym (plus_nothing _)
+  account_books v Selling k e =
+      (λ i. pos 0 -ℤ (if is_key its_key k then (now i).selling else pos 0))
+      ∙ sells_more (is_key its_key k) (pos 0) (account_liabilities a).selling selling
+  account_books v Buying k e =
+      (λ i. pos 0 -ℤ (if is_key its_key k then (now i).buying else pos 0))
+      ∙ buys_more (is_key its_key k) (pos 0) (account_liabilities a).buying buying
+  account_books v kind k e = sym (plus_nothing _)
+
+  -- an account with other liabilities, which are in their ranges
+  pub bound_step : (id_pool : ℕ) → IsInRange b → IsStep (IsEntryLegal id_pool) (unbound its_key selling buying) a b
+  bound_step id_pool range = record {
+    move = record { id = refl; books = account_books };
+    balance = refl;
+    keeps = λ e was. record {
+      range = record {
+        body = record {
+          range = range;
+          seq_num = was.range.body.seq_num;
+          greatest_seq_num = was.range.body.greatest_seq_num;
+          flags = was.range.body.flags;
+          home_domain = was.range.body.home_domain;
+          signers = subst (AreSignersInRange a.account_id a.signers) (sym same_sponsors) was.range.body.signers;
+        };
+        paid = was.range.paid;
+      };
+      bound = tt;
+      few = was.few;
+      fits = subst (λ o. a.num_sub_entries + sponsoring_in o ≤ 4294967295) (sym second) was.fits;
+      filled = tt;
+    };
+  }
+
+-- ---- lines
+
+pub record IsLineEntry (m : EntryMap) (id : AccountId) (asset : TrustLineAsset) (t : TrustLineEntry) (e : LedgerEntry)
+    : Type 0 where
+  pub there : get m (key.TrustLine id asset) ≡ Some e
+  pub is : e.body ≡ body.TrustLine t
+
+line_body : (b : LedgerEntryBody) (t : TrustLineEntry) → line_in b ≡ Some t → b ≡ body.TrustLine t
+line_body (body.TrustLine x) t h = let same : x ≡ t = cc in ap body.TrustLine same
+line_body other t h = absurd (cc)
+
+entry_of : (o : Option LedgerEntry) (t : TrustLineEntry) → line_of o ≡ Some t
+    → (e : LedgerEntry) × (o ≡ Some e) × (e.body ≡ body.TrustLine t)
+entry_of None t h = absurd (cc)
+entry_of (Some e) t h = (e, refl, line_body e.body t h)
+
+pub line_entry : (m : EntryMap) (id : AccountId) (asset : TrustLineAsset) (t : TrustLineEntry)
+    → line_at m id asset ≡ Some t → (e : LedgerEntry) × IsLineEntry m id asset t e
+unfolding line_at
+line_entry m id asset t h = let found = entry_of (get m (key.TrustLine id asset)) t h in
+    (found.0, record { there = found.1; is = found.2 })
+
+abbrev pub with_line_body : LedgerEntry → TrustLineEntry → LedgerEntry
+with_line_body e t = record e { body = body.TrustLine t }
+
+pub with_line_is : (m : EntryMap) (id : AccountId) (asset : TrustLineAsset) (f : TrustLineEntry → TrustLineEntry)
+    (t : TrustLineEntry) (e : LedgerEntry) → IsLineEntry m id asset t e
+    → with_line m id asset f ≡ put m (with_line_body e (f t))
+unfolding with_line
+with_line_is m id asset f t e here = ap (with_line_of m f) here.there ∙ ap (with_line_in m e f) here.is
+
+-- a line that stands in another's place
+pub record IsLineMove (more : Owed) (t u : TrustLineEntry) : Type 0 where
+  pub id : u.account_id ≡ t.account_id
+  pub asset : u.asset ≡ t.asset
+  pub books : (v : View) (kind : Kind) (k : LedgerKey) (e : LedgerEntry)
+      → weight v kind k (with_line_body e u) ≡ (weight v kind k (with_line_body e t) +ℤ more kind k)
+
+-- A line that stands is changed.
+pub with_line_legal : (v : View) (id_pool : ℕ) (owed more : Owed) (sum : ℤ) (m : EntryMap) (id : AccountId)
+    (asset : TrustLineAsset) (f : TrustLineEntry → TrustLineEntry) (t : TrustLineEntry)
+        → IsLegalOwing v id_pool owed sum m
+    → line_at m id asset ≡ Some t → IsLineMove more t (f t)
+    → ((e : LedgerEntry) → IsEntryLegal id_pool (with_line_body e t) → IsEntryLegal id_pool (with_line_body e (f t)))
+    → IsLegalOwing v id_pool (plus owed more) (sum +ℤ (of_line v.asset (f t).asset (f t).balance
+    -ℤ of_line v.asset t.asset t.balance)) (with_line m id asset f)
+with_line_legal v id_pool owed more sum m id asset f t legal stands move keeps =
+    let found = line_entry m id asset t stands in
+    let there : get m (key.TrustLine id asset) ≡ Some (with_line_body found.0 t) =
+    found.1.there ∙ ap Some (λ i. record found.0 { body = found.1.is i }) in
+    subst (IsLegalOwing v id_pool (plus owed more) (sum +ℤ (of_line v.asset (f t).asset (f t).balance
+    -ℤ of_line v.asset t.asset t.balance))) (sym (with_line_is m id asset f t found.0 found.1))
+    (replace_legal v (IsEntryLegal id_pool) owed more sum m (key.TrustLine id asset) (with_line_body found.0 t)
+    (with_line_body found.0 (f t)) there legal
+    (record {
+      own = λ i. key.TrustLine (move.id i) (move.asset i);
+      params = refl;
+      offers = λ n. refl;
+      books = λ kind k. move.books v kind k found.0;
+    }) (keeps found.0 (legal.entries _ _ there)))
+
+module _ (selling buying : ℤ) (t : TrustLineEntry) where
+  abbrev u : TrustLineEntry
+  u = bound_line selling buying t
+
+  line_now : line_liabilities u ≡ risen selling buying (line_liabilities t)
+  line_now = line_stored (risen selling buying (line_liabilities t)) t.ext
+
+  same_use_count : use_count u ≡ use_count t
+  same_use_count = ap use_count_in (same_line_second (risen selling buying (line_liabilities t)) t.ext)
+
+  abbrev line_key : LedgerKey
+  line_key = key.TrustLine t.account_id t.asset
+
+  line_books : (v : View) (kind : Kind) (k : LedgerKey) (e : LedgerEntry) → weight v kind k (with_line_body e u)
+      ≡ (weight v kind k (with_line_body e t) +ℤ unbound line_key selling buying kind k)
+  line_books v Selling k e =
+      (λ i. pos 0 -ℤ (if is_key line_key k then (line_now i).selling else pos 0))
+      ∙ sells_more (is_key line_key k) (pos 0) (line_liabilities t).selling selling
+  line_books v Buying k e =
+      (λ i. pos 0 -ℤ (if is_key line_key k then (line_now i).buying else pos 0))
+      ∙ buys_more (is_key line_key k) (pos 0) (line_liabilities t).buying buying
+  line_books v Uses k e =
+      (λ i. counted v Uses k (with_line_body e t) -ℤ (if is_key line_key k then same_use_count i else pos 0))
+      ∙ sym (plus_nothing _)
+  line_books v kind k e = sym (plus_nothing _)
+
+  pub bound_line_move : IsLineMove (unbound line_key selling buying) t u
+  bound_line_move = record { id = refl; asset = refl; books = line_books }
+
+  pub bound_line_keeps : (id_pool : ℕ) → IsLineInRange u → t.flags % 4 ≢ 0 → (e : LedgerEntry)
+      → IsEntryLegal id_pool (with_line_body e t) → IsEntryLegal id_pool (with_line_body e u)
+  bound_line_keeps id_pool range authorized e was = record {
+    range = record {
+      body = record {
+        range = range;
+        limit = was.range.body.limit;
+        greatest = was.range.body.greatest;
+        held = was.range.body.held;
+        flags = was.range.body.flags;
+        uses = subst (λ n. pos 0 ≤ℤ n) (sym same_use_count) was.range.body.uses;
+      };
+      paid = was.range.paid;
+    };
+    bound = λ none. absurd (authorized none);
+    few = tt;
+    fits = tt;
+    filled = tt;
+  }
+
+kept_sum : (sum n : ℤ) → (sum +ℤ (n -ℤ n)) ≡ sum
+kept_sum sum n = omega (arith, ints)
+
+-- A line's liabilities rise by these, or fall.
+pub bound_line_legal : (v : View) (id_pool : ℕ) (owed : Owed) (sum : ℤ) (m : EntryMap) (id : AccountId)
+    (asset : TrustLineAsset) (selling buying : ℤ) (t : TrustLineEntry) → IsLegalOwing v id_pool owed sum m
+    → line_at m id asset ≡ Some t → IsLineInRange (bound_line selling buying t) → t.flags % 4 ≢ 0
+    → key.TrustLine t.account_id t.asset ≡ key.TrustLine id asset
+    → IsLegalOwing v id_pool (plus owed (unbound (key.TrustLine id asset) selling buying)) sum
+    (with_line m id asset (bound_line selling buying))
+bound_line_legal v id_pool owed sum m id asset selling buying t legal stands range authorized same =
+    legal_as v (IsEntryLegal id_pool) _ _ _ sum _
+    (with_line_legal v id_pool owed _ sum m id asset (bound_line selling buying) t legal stands
+    (bound_line_move selling buying t) (bound_line_keeps selling buying t id_pool range authorized))
+    (λ kind k. ap (λ q. owed kind k +ℤ unbound q selling buying kind k) same)
+    (kept_sum sum (of_line v.asset t.asset t.balance))

@@ -1,0 +1,125 @@
+-- What the sponsor of an entry adds to what it counts.
+use Rattle.std.proofs.Common.{◌≡◌, refl, sym, ap, ◌∙◌, ℕ, ◌+◌, Bool, true, false, Option, Some, None, arith}
+use Rattle.std.proofs.lemmas.Int.{ints}
+use Rattle.std.specs.Prelude.{ℤ, pos, neg_ℤ, ◌+ℤ◌, ◌-ℤ◌, if◌then◌else◌}
+use Rattle.std.specs.List.{count_by}
+use Rattle.ledger_types.specs.declared.ids.AccountId.{AccountId}
+use Rattle.ledger_types.specs.declared.entry.LedgerEntry.{LedgerEntry}
+use Rattle.ledger_types.specs.declared.entry.LedgerEntryExtensionV1.{LedgerEntryExtensionV1}
+use Rattle.ledger_types.specs.declared.key.LedgerKey.{LedgerKey}
+use Rattle.ledger_types.specs.declared.key.LedgerKey.TheVariants as key
+use Rattle.ledger_types.specs.Keys.{key_of}
+use Rattle.entry_slots.specs.EntrySponsor.{sponsor_in, sponsor_of, with_sponsor}
+use Rattle.entry_slots.proofs.RecordedSponsor.{recorded_sponsor}
+use Rattle.sponsor_rules.specs.Charge.{multiplicity, owner_of}
+use Rattle.sponsor_laws.specs.Sums.{is_there}
+use Rattle.legal_rules.specs.EntryKeys.{is_key, for_account}
+use Rattle.legal_rules.specs.Reserves.{signer_sponsors_in, for_each}
+use Rattle.legal_rules.specs.Books.{Kind, Sponsoring, Sponsored, View, stated}
+use Rattle.legal_rules.specs.Owing.{weight, Owed, nothing_owed, in_book, plus, less}
+use Rattle.legal_rules.proofs.Numbers.{plus_nothing}
+
+-- ---- what books owe for what is paid
+
+-- for n reserves of an owner, if somebody pays them
+abbrev pub paid_books : ℕ → (owner payer : Option AccountId) → Owed
+paid_books n owner None kind k = pos 0
+paid_books n owner (Some x) Sponsored k = for_account k owner n
+paid_books n owner (Some x) Sponsoring k = for_account k (Some x) n
+paid_books n owner (Some x) kind k = pos 0
+
+-- of that the owner's part
+abbrev pub owner_books : ℕ → AccountId → Option AccountId → Owed
+owner_books n id None = nothing_owed
+owner_books n id (Some x) = in_book Sponsored (key.Account id) (pos n)
+
+-- and the payer's
+abbrev pub payer_books : ℕ → Option AccountId → Owed
+payer_books n None = nothing_owed
+payer_books n (Some x) = in_book Sponsoring (key.Account x) (pos n)
+
+nothing_plus : (x : ℤ) → x ≡ (pos 0 +ℤ x)
+nothing_plus x = omega (arith, ints)
+
+pub split_books : (n : ℕ) (id : AccountId) (o : Option AccountId) (kind : Kind) (k : LedgerKey)
+    → paid_books n (Some id) o kind k ≡ plus (owner_books n id o) (payer_books n o) kind k
+split_books n id None kind k = refl
+split_books n id (Some x) Sponsored k = sym (plus_nothing _)
+split_books n id (Some x) Sponsoring k = nothing_plus _
+split_books n id (Some x) kind k = refl
+
+pub unowned_books : (n : ℕ) (o : Option AccountId) (kind : Kind) (k : LedgerKey)
+    → paid_books n None o kind k ≡ payer_books n o kind k
+unowned_books n None kind k = refl
+unowned_books n (Some x) Sponsored k = refl
+unowned_books n (Some x) Sponsoring k = refl
+unowned_books n (Some x) kind k = refl
+
+-- ---- an entry and its sponsor
+
+-- the same entry without a sponsor
+abbrev pub unsponsored : LedgerEntry → LedgerEntry
+unsponsored e = record e { ext = None }
+
+more_if : (t : Bool) (a b : ℕ) (s : ℤ) → ((if t then pos (a + b) else pos 0) -ℤ s)
+    ≡ (((if t then pos (0 + b) else pos 0) -ℤ s) +ℤ (if t then pos a else pos 0))
+more_if true a b s = omega (arith, ints)
+more_if false a b s = omega (arith, ints)
+
+more_for : (k : LedgerKey) (o : Option AccountId) (a b : ℕ) (s : ℤ)
+    → (for_account k o (a + b) -ℤ s) ≡ ((for_account k o (0 + b) -ℤ s) +ℤ for_account k o a)
+more_for k None a b s = omega (arith, ints)
+more_for k (Some id) a b s = more_if (is_key (key.Account id) k) a b s
+
+more_by : (x y s : ℤ) → ((x +ℤ y) -ℤ s) ≡ (((pos 0 +ℤ y) -ℤ s) +ℤ x)
+more_by x y s = omega (arith, ints)
+
+module _ (v : View) (e : LedgerEntry) where
+  abbrev states : Kind → LedgerKey → ℤ
+  states kind k = if is_key (key_of e) k then stated kind e.body else pos 0
+
+  abbrev signed : ℕ
+  signed = count_by is_there (signer_sponsors_in e.body)
+
+  abbrev IsWeighed : Option AccountId → Kind → LedgerKey → Type 0
+  IsWeighed o kind k = weight v kind k e
+      ≡ (weight v kind k (unsponsored e) +ℤ paid_books (multiplicity e.body) (owner_of e.body) o kind k)
+
+  by_sponsor : (o : Option AccountId) → sponsor_of e ≡ o → (kind : Kind) (k : LedgerKey) → IsWeighed o kind k
+  by_sponsor None is Sponsored k =
+      (λ i. for_account k (owner_of e.body) ((if is_there (is i) then multiplicity e.body else 0) + signed)
+      -ℤ states Sponsored k) ∙ sym (plus_nothing _)
+  by_sponsor None is Sponsoring k =
+      (λ i. (for_account k (is i) (multiplicity e.body) +ℤ for_each k (signer_sponsors_in e.body))
+      -ℤ states Sponsoring k) ∙ sym (plus_nothing _)
+  by_sponsor None is kind k = sym (plus_nothing _)
+  by_sponsor (Some x) is Sponsored k =
+      (λ i. for_account k (owner_of e.body) ((if is_there (is i) then multiplicity e.body else 0) + signed)
+      -ℤ states Sponsored k) ∙ more_for k (owner_of e.body) (multiplicity e.body) signed (states Sponsored k)
+  by_sponsor (Some x) is Sponsoring k =
+      (λ i. (for_account k (is i) (multiplicity e.body) +ℤ for_each k (signer_sponsors_in e.body))
+      -ℤ states Sponsoring k) ∙ more_by (for_account k (Some x) (multiplicity e.body))
+      (for_each k (signer_sponsors_in e.body)) (states Sponsoring k)
+  by_sponsor (Some x) is kind k = sym (plus_nothing _)
+
+  pub sponsor_weighs : (kind : Kind) (k : LedgerKey) → IsWeighed (sponsor_of e) kind k
+  sponsor_weighs kind k = by_sponsor (sponsor_of e) refl kind k
+
+-- ---- another sponsor
+
+pub recorded : (s : Option AccountId) (e : LedgerEntry) → sponsor_of (with_sponsor s e) ≡ s
+recorded s e = recorded_sponsor s e.ext
+
+changed : (w u new p q : ℤ) → w ≡ (u +ℤ p) → new ≡ (u +ℤ q) → new ≡ (w +ℤ (q +ℤ neg_ℤ p))
+changed w u new p q is now = omega (arith, ints)
+
+pub recorded_weighs : (v : View) (e : LedgerEntry) (t : Option AccountId) (kind : Kind) (k : LedgerKey)
+    → weight v kind k (with_sponsor t e) ≡ (weight v kind k e
+    +ℤ plus (paid_books (multiplicity e.body) (owner_of e.body) t)
+    (less (paid_books (multiplicity e.body) (owner_of e.body) (sponsor_of e))) kind k)
+recorded_weighs v e t kind k = changed (weight v kind k e) (weight v kind k (unsponsored e)) _
+    (paid_books (multiplicity e.body) (owner_of e.body) (sponsor_of e) kind k)
+    (paid_books (multiplicity e.body) (owner_of e.body) t kind k)
+    (sponsor_weighs v e kind k)
+    (sponsor_weighs v (with_sponsor t e) kind k ∙ ap (λ o. weight v kind k (unsponsored e)
+    +ℤ paid_books (multiplicity e.body) (owner_of e.body) o kind k) (recorded t e))

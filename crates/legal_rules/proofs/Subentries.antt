@@ -1,0 +1,199 @@
+-- Lines, offers and data: what they count for their owners and payers.
+use Rattle.std.proofs.Common.{◌≡◌, ◌≢◌, refl, sym, ap, subst, ◌∙◌, ℕ, ◌+◌, ◌≤◌, Bool, true, false, [], Option, Some}
+use Rattle.std.proofs.Common.{None, arith}
+use Rattle.std.proofs.lemmas.Int.{ints}
+use Rattle.std.specs.Prelude.{ℤ, pos, neg_ℤ, ◌+ℤ◌, ◌-ℤ◌, ◌≤ℤ◌, if◌then◌else◌}
+use Rattle.std.specs.List.{count_by}
+use Rattle.ledger_types.specs.declared.ids.AccountId.{AccountId}
+use Rattle.ledger_types.specs.declared.asset.TrustLineAsset.{TrustLineAsset}
+use Rattle.ledger_types.specs.declared.asset.TrustLineAsset.TheVariants as line
+use Rattle.ledger_types.specs.declared.trust_line.TrustLineEntry.{TrustLineEntry}
+use Rattle.ledger_types.specs.declared.offer.OfferEntry.{OfferEntry}
+use Rattle.ledger_types.specs.declared.data_entry.DataEntry.{DataEntry}
+use Rattle.ledger_types.specs.declared.entry.LedgerEntry.{LedgerEntry}
+use Rattle.ledger_types.specs.declared.entry.LedgerEntryBody.{LedgerEntryBody}
+use Rattle.ledger_types.specs.declared.entry.LedgerEntryBody.TheVariants as body
+use Rattle.ledger_types.specs.declared.key.LedgerKey.{LedgerKey}
+use Rattle.ledger_types.specs.declared.key.LedgerKey.TheVariants as key
+use Rattle.ledger_types.specs.Keys.{key_of, key_of_body}
+use Rattle.entry_slots.specs.EntrySponsor.{sponsor_of, with_sponsor}
+use Rattle.sponsor_rules.specs.Adding.{sponsored_entry}
+use Rattle.sponsor_rules.specs.Charge.{line_multiplicity, multiplicity, owner_of, charge_of}
+use Rattle.sponsor_rules.specs.declared.charge.Charge.TheVariants as charge
+use Rattle.sponsor_rules.specs.declared.count.Count.{Count}
+use Rattle.sponsor_rules.specs.declared.count.Count.TheVariants as count
+use Rattle.sponsor_laws.specs.Sums.{is_there}
+use Rattle.legal_rules.specs.EntryKeys.{is_key, for_account}
+use Rattle.legal_rules.specs.Reserves.{subentries_in, signer_sponsors_in, for_each}
+use Rattle.legal_rules.specs.Books.{Kind, Subentries, Sponsoring, Sponsored, View, counted, stated}
+use Rattle.legal_rules.specs.Ranges.{IsPaidRightly}
+use Rattle.legal_rules.specs.Owing.{weight, weighed, Owed, in_book, plus, beside_reserves, IsEntryLegal, IsBoundRightly}
+use Rattle.legal_rules.specs.Bounds.{AreSubentriesFew, DoReservesFit, IsFilledOrEmpty}
+use Rattle.legal_rules.specs.Ranges.{IsBodyInRange}
+use Rattle.legal_rules.proofs.Numbers.{plus_nothing}
+use Rattle.legal_rules.proofs.Needed.{line_some}
+use Rattle.legal_rules.proofs.Putting.{IsNoPool}
+use Rattle.legal_rules.proofs.Sponsors.{unsponsored, paid_books, sponsor_weighs, recorded, recorded_weighs}
+use Rattle.legal_rules.proofs.Standing.{book_of}
+
+-- ---- what such an entry counts
+
+-- a body that charges n reserves as a subentry of its owner
+pub record IsSubentry (b : LedgerEntryBody) (owner : AccountId) (n : ℕ) : Type 0 where
+  pub charges : charge_of b ≡ charge.Subentry owner n
+  pub owns : owner_of b ≡ Some owner
+  pub counts : subentries_in b ≡ n
+  pub times : multiplicity b ≡ n
+  pub unsigned : signer_sponsors_in b ≡ []
+  pub states : (which : Count) → stated (book_of which) b ≡ pos 0
+  pub some : 1 ≤ n
+  pub no_account : (id : AccountId) → key_of_body b ≢ key.Account id
+  pub no_pool : IsNoPool (key_of_body b)
+
+line_states : (t : TrustLineEntry) (which : Count) → stated (book_of which) (body.TrustLine t) ≡ pos 0
+line_states t count.SubEntries = refl
+line_states t count.Sponsoring = refl
+line_states t count.Sponsored = refl
+
+offer_states : (o : OfferEntry) (which : Count) → stated (book_of which) (body.Offer o) ≡ pos 0
+offer_states o count.SubEntries = refl
+offer_states o count.Sponsoring = refl
+offer_states o count.Sponsored = refl
+
+data_states : (d : DataEntry) (which : Count) → stated (book_of which) (body.Data d) ≡ pos 0
+data_states d count.SubEntries = refl
+data_states d count.Sponsoring = refl
+data_states d count.Sponsored = refl
+
+-- by what it charges
+pub subentry_of : (b : LedgerEntryBody) (owner : AccountId) (n : ℕ) → charge_of b ≡ charge.Subentry owner n
+    → IsSubentry b owner n
+subentry_of (body.TrustLine t) owner n is =
+    let owners : t.account_id ≡ owner = cc in
+    let times : line_multiplicity t.asset ≡ n = cc in
+    record {
+      charges = is;
+      owns = ap Some owners;
+      counts = times;
+      times = times;
+      unsigned = refl;
+      states = line_states t;
+      some = subst (λ x. 1 ≤ x) times (line_some t.asset);
+      no_account = λ id same. absurd (cc);
+      no_pool = λ id same. absurd (cc);
+    }
+subentry_of (body.Offer o) owner n is =
+    let owners : o.seller_id ≡ owner = cc in
+    let times : 1 ≡ n = cc in
+    record {
+      charges = is;
+      owns = ap Some owners;
+      counts = times;
+      times = times;
+      unsigned = refl;
+      states = offer_states o;
+      some = omega arith;
+      no_account = λ id same. absurd (cc);
+      no_pool = λ id same. absurd (cc);
+    }
+subentry_of (body.Data d) owner n is =
+    let owners : d.account_id ≡ owner = cc in
+    let times : 1 ≡ n = cc in
+    record {
+      charges = is;
+      owns = ap Some owners;
+      counts = times;
+      times = times;
+      unsigned = refl;
+      states = data_states d;
+      some = omega arith;
+      no_account = λ id same. absurd (cc);
+      no_pool = λ id same. absurd (cc);
+    }
+subentry_of other owner n is = absurd (cc)
+
+states_nothing : (t : Bool) (x states : ℤ) → states ≡ pos 0 → (x -ℤ (if t then states else pos 0)) ≡ x
+states_nothing true x states none = omega (arith, ints)
+states_nothing false x states none = omega (arith, ints)
+
+nothing_for : (t : Bool) → ◌≡◌ {A = ℤ} (if t then pos (0 + 0) else pos 0) (pos 0)
+nothing_for true = refl
+nothing_for false = refl
+
+grouped : (w u p s b : ℤ) → w ≡ (u +ℤ p) → u ≡ (s +ℤ b) → w ≡ ((s +ℤ p) +ℤ b)
+grouped w u p s b is also = omega (arith, ints)
+
+nothing_plus : (x : ℤ) → x ≡ (pos 0 +ℤ x)
+nothing_plus x = omega (arith, ints)
+
+module _ (v : View) (e : LedgerEntry) (owner : AccountId) (n : ℕ) (s : IsSubentry e.body owner n) where
+  -- without its sponsor it counts as a subentry alone, beside what it counts in no book of reserves
+  alone : (kind : Kind) (k : LedgerKey) → weight v kind k (unsponsored e)
+      ≡ (in_book Subentries (key.Account owner) (pos n) kind k +ℤ beside_reserves (weighed v e) kind k)
+  alone Subentries k =
+      states_nothing (is_key (key_of e) k) (counted v Subentries k e) (stated Subentries e.body)
+          (s.states count.SubEntries)
+      ∙ (λ i. for_account k (s.owns i) (s.counts i)) ∙ sym (plus_nothing _)
+  alone Sponsored k =
+      states_nothing (is_key (key_of e) k) (counted v Sponsored k (unsponsored e)) (stated Sponsored e.body)
+      (s.states count.Sponsored)
+      ∙ (λ i. for_account k (s.owns i) (0 + count_by is_there (s.unsigned i)))
+      ∙ nothing_for (is_key (key.Account owner) k)
+  alone Sponsoring k =
+      states_nothing (is_key (key_of e) k) (counted v Sponsoring k (unsponsored e)) (stated Sponsoring e.body)
+      (s.states count.Sponsoring)
+      ∙ (λ i. pos 0 +ℤ for_each k (s.unsigned i))
+  alone kind k = nothing_plus _
+
+  -- in all books
+  pub subentry_weighs : (kind : Kind) (k : LedgerKey) → weight v kind k e
+      ≡ ((in_book Subentries (key.Account owner) (pos n) kind k +ℤ paid_books n (Some owner) (sponsor_of e) kind k)
+      +ℤ beside_reserves (weighed v e) kind k)
+  subentry_weighs kind k = grouped _ (weight v kind k (unsponsored e)) (paid_books n (Some owner) (sponsor_of e) kind k)
+      (in_book Subentries (key.Account owner) (pos n) kind k) (beside_reserves (weighed v e) kind k)
+      (sponsor_weighs v e kind k ∙ (λ i. weight v kind k (unsponsored e)
+      +ℤ paid_books (s.times i) (s.owns i) (sponsor_of e) kind k)) (alone kind k)
+
+-- ---- an entry whose sponsor is another one
+
+pub paid_by_other : (b : LedgerEntryBody) (owner : AccountId) (s : Option AccountId) → owner_of b ≡ Some owner
+    → s ≢ Some owner → IsPaidRightly b s
+paid_by_other (body.ClaimableBalance balance) owner s is apart = absurd (cc)
+paid_by_other (body.LiquidityPool pool) owner s is apart = absurd (cc)
+paid_by_other (body.Account a) owner s is apart = λ some same. apart (same ∙ is)
+paid_by_other (body.TrustLine t) owner s is apart = λ some same. apart (same ∙ is)
+paid_by_other (body.Offer o) owner s is apart = λ some same. apart (same ∙ is)
+paid_by_other (body.Data d) owner s is apart = λ some same. apart (same ∙ is)
+
+-- an owned entry's sponsor is none or another account
+pub paid_not_by_owner : (b : LedgerEntryBody) (owner x : AccountId) → owner_of b ≡ Some owner
+    → IsPaidRightly b (Some x) → x ≢ owner
+paid_not_by_owner (body.ClaimableBalance balance) owner x is paid same = absurd (cc)
+paid_not_by_owner (body.LiquidityPool pool) owner x is paid same = absurd (cc)
+paid_not_by_owner (body.Account a) owner x is paid same = paid (λ none. absurd (cc)) (ap Some same ∙ sym is)
+paid_not_by_owner (body.TrustLine t) owner x is paid same = paid (λ none. absurd (cc)) (ap Some same ∙ sym is)
+paid_not_by_owner (body.Offer o) owner x is paid same = paid (λ none. absurd (cc)) (ap Some same ∙ sym is)
+paid_not_by_owner (body.Data d) owner x is paid same = paid (λ none. absurd (cc)) (ap Some same ∙ sym is)
+
+pub legal_recorded : (id_pool : ℕ) (e : LedgerEntry) (s : Option AccountId) → IsPaidRightly e.body s
+    → IsEntryLegal id_pool e → IsEntryLegal id_pool (with_sponsor s e)
+legal_recorded id_pool e s paid was = record {
+  range = record { body = was.range.body; paid = subst (IsPaidRightly e.body) (sym (recorded s e)) paid };
+  bound = was.bound;
+  few = was.few;
+  fits = was.fits;
+  filled = was.filled;
+}
+
+taken_out : (w x p : ℤ) → w ≡ (x +ℤ (p +ℤ neg_ℤ (pos 0))) → w ≡ (x +ℤ p)
+taken_out w x p is = omega (arith, ints)
+
+-- an entry that gets its first sponsor, if it gets one
+pub sponsored_weighs : (v : View) (e : LedgerEntry) (t : Option AccountId) → sponsor_of e ≡ None
+    → (kind : Kind) (k : LedgerKey) → weight v kind k (sponsored_entry t e)
+    ≡ (weight v kind k e +ℤ paid_books (multiplicity e.body) (owner_of e.body) t kind k)
+sponsored_weighs v e None none kind k = sym (plus_nothing _)
+sponsored_weighs v e (Some x) none kind k = taken_out _ (weight v kind k e)
+    (paid_books (multiplicity e.body) (owner_of e.body) (Some x) kind k) (recorded_weighs v e (Some x) kind k
+    ∙ (λ i. weight v kind k e +ℤ (paid_books (multiplicity e.body) (owner_of e.body) (Some x) kind k
+    +ℤ neg_ℤ (paid_books (multiplicity e.body) (owner_of e.body) (none i) kind k))))

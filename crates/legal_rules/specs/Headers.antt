@@ -1,0 +1,24 @@
+-- The ranges of a header (LedgerHeader in Stellar-ledger.x) of protocol 18.
+use Rattle.std.specs.Prelude.{◌≡◌, ℕ, ◌*◌, ◌^◌, ◌≤◌, pos, ◌≤ℤ◌, Option, Some, None}
+use Rattle.ledger_types.specs.declared.header.LedgerHeader.{LedgerHeader}
+use Rattle.ledger_types.specs.declared.header.LedgerHeaderExtensionV1.{LedgerHeaderExtensionV1}
+
+abbrev pub header_flags_in : Option LedgerHeaderExtensionV1 → ℕ
+header_flags_in None = 0
+header_flags_in (Some ext) = ext.flags
+
+-- which pool operations are disabled (CAP-0038)
+abbrev pub header_flags : LedgerHeader → ℕ
+header_flags h = header_flags_in h.ext
+
+-- No ledger draws 2^32 ids.
+pub record IsHeaderInRange (h : LedgerHeader) : Type 0 where
+  pub version : h.ledger_version ≡ 18
+  pub seq_low : 1 ≤ h.ledger_seq
+  pub seq_high : h.ledger_seq ≤ 2147483647
+  pub base_fee : 1 ≤ h.base_fee
+  pub base_reserve : 1 ≤ h.base_reserve
+  pub total_coins : pos 0 ≤ℤ h.total_coins
+  pub fee_pool : pos 0 ≤ℤ h.fee_pool
+  pub id_pool : h.id_pool ≤ h.ledger_seq * 2 ^ 32
+  pub flags : header_flags h ≤ 7

@@ -1,0 +1,42 @@
+-- That lumens which move, fees and sequence numbers keep a state legal.
+use Rattle.std.specs.Prelude.{◌≡◌, ℤ, pos, neg_ℤ, ◌≤ℤ◌, Some, Ok}
+use Rattle.ledger_types.specs.declared.ids.AccountId.{AccountId}
+use Rattle.ledger_types.specs.declared.asset.Asset.{Asset}
+use Rattle.ledger_types.specs.declared.account.AccountEntry.{AccountEntry}
+use Rattle.ledger_types.specs.declared.header.LedgerHeader.{LedgerHeader}
+use Rattle.entry_map.specs.EntryMap.{EntryMap}
+use Rattle.entry_slots.specs.Accounts.{account_at}
+use Rattle.reserve_rules.specs.Reserve.{greatest_i64, room}
+use Rattle.entry_sums.specs.Sums.{total}
+use Rattle.legal_rules.specs.Supply.{held}
+use Rattle.legal_rules.specs.Legal.{IsLegal}
+use Rattle.legal_rules.specs.Payments.{with_paid, with_seq_num, with_fee, paying}
+
+abbrev pub FeesKeep : Type 0
+FeesKeep =
+    (h : LedgerHeader) (m : EntryMap) (id : AccountId) (a : AccountEntry) (fee : ℤ) → IsLegal h m
+    → account_at m id ≡ Some a → pos 0 ≤ℤ fee → fee ≤ℤ a.balance
+    → IsLegal (with_fee fee h) (with_paid id (neg_ℤ fee) m)
+
+abbrev pub SeqNumsKeep : Type 0
+SeqNumsKeep =
+    (h : LedgerHeader) (m : EntryMap) (id : AccountId) (a : AccountEntry) (n : ℤ) → IsLegal h m
+    → account_at m id ≡ Some a → pos 0 ≤ℤ n → n ≤ℤ greatest_i64 → IsLegal h (with_seq_num id n m)
+
+abbrev pub MovesKeep : Type 0
+MovesKeep =
+    (h : LedgerHeader) (m : EntryMap) (to from : AccountId) (a b : AccountEntry) (amount : ℤ) → IsLegal h m
+    → pos 0 ≤ℤ amount → account_at m to ≡ Some a → amount ≤ℤ room a
+    → account_at (with_paid to amount m) from ≡ Some b → amount ≤ℤ b.balance
+    → IsLegal h (with_paid from (neg_ℤ amount) (with_paid to amount m))
+
+abbrev pub PaymentsKeep : Type 0
+PaymentsKeep =
+    (h : LedgerHeader) (source destination : AccountId) (amount : ℤ) (old new : EntryMap) → IsLegal h old
+    → paying h.base_reserve source destination amount old ≡ Ok new → IsLegal h new
+
+-- the supply of each asset stays
+abbrev pub PaymentsConserve : Type 0
+PaymentsConserve =
+    (x : Asset) (h : LedgerHeader) (source destination : AccountId) (amount : ℤ) (old new : EntryMap) → IsLegal h old
+    → paying h.base_reserve source destination amount old ≡ Ok new → total (held x) new ≡ total (held x) old

@@ -1,0 +1,12 @@
+-- Open sponsorships, and whose entries they may pay for (CAP-0033).
+use Rattle.std.specs.Prelude.{◌≡◌, ◌≢◌, Some}
+use Rattle.ledger_types.specs.declared.ids.AccountId.{AccountId}
+use Rattle.entry_map.specs.EntryMap.{EntryMap}
+use Rattle.entry_slots.specs.Accounts.{HasAccount}
+use Rattle.sponsor_rules.specs.declared.context.Ctx.{Ctx}
+use Rattle.sponsor_rules.specs.Payers.{open_sponsor}
+
+-- an account's open sponsor stands, and is another account
+pub record IsSponsorReady (ctx : Ctx) (owner : AccountId) (m : EntryMap) : Type 0 where
+  pub stands : (sponsor : AccountId) → open_sponsor ctx owner ≡ Some sponsor → HasAccount m sponsor
+  pub other : (sponsor : AccountId) → open_sponsor ctx owner ≡ Some sponsor → sponsor ≢ owner

@@ -1,0 +1,4 @@
+//! Laws of lumens.
+
+/// Nothing.
+pub fn nothing() {}

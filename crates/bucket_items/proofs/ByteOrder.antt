@@ -75,7 +75,7 @@ top_digit n c hc =
     ∙ ap (λ (x : ℕ). x * c + n % c) (sym (div-add-mod' (n / c) 256))
     ∙ ap (λ (x : ℕ). x + n % c)
     (add-mul (n / c / 256 * 256) (n / c % 256) c
-      ∙ ap (λ (x : ℕ). x + n / c % 256 * c) (mul_assoc (n / c / 256) 256 c))
+    ∙ ap (λ (x : ℕ). x + n / c % 256 * c) (mul_assoc (n / c / 256) 256 c))
     ∙ add_assoc (n / c / 256 * (256 * c)) (n / c % 256 * c) (n % c) in
     ap (λ (x : ℕ). x % (256 * c)) split
     ∙ mul-add-mod_self_right (n / c / 256) (256 * c) (n / c % 256 * c + n % c)

@@ -91,8 +91,7 @@ unfolding ledger_entry
 entry_holds_key e =
     let b = body_holds_key e.body in
     let seq : List ℕ = u32.spell e.last_modified_ledger_seq in
-    let ext : List ℕ = (extension_of (pos 1) ledger_entry_extension_v1).spell e.ext in
-    (
+    let ext : List ℕ = (extension_of (pos 1) ledger_entry_extension_v1).spell e.ext in (
       b.0 ++ ext,
       ap (λ (t : List ℕ). seq ++ (t ++ ext)) b.1
           ∙ ap (λ (t : List ℕ). seq ++ t) (append_assoc (ledger_key.spell (key_of e)) b.0 ext),

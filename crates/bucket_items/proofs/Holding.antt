@@ -17,7 +17,8 @@ use Rattle.ledger_types.specs.Keys.{key_of}
 use Rattle.xdr_entries.specs.Keys.{ledger_key, bucket_entry}
 use Rattle.xdr_entries.specs.Entries.{ledger_entry}
 use Rattle.xdr_entries.proofs.KeyLaws.{ledger_key_laws}
-use Rattle.bucket_items.specs.Item.{IsItemText}
+use Rattle.bucket_items.specs.declared.item.BucketEntryType.TheVariants as mark
+use Rattle.bucket_items.specs.Item.{item_type, item_key_text, IsItemText}
 use Rattle.bucket_items.proofs.EntryKeys.{entry_holds_key, entry_key_within, entry_key_sized}
 
 -- behind n bytes of a text stands a key's spelling
@@ -40,7 +41,7 @@ held_behind text front n k tail e len within sized = record {
   sized = sized;
 }
 
-i32_len : (v : ℤ) → length (i32.spell v) ≡ 4
+pub i32_len : (v : ℤ) → length (i32.spell v) ≡ 4
 unfolding i32
 i32_len v = wide4.len (cast_unsigned w32 v)
 
@@ -54,8 +55,8 @@ entry_behind text mark e h within sized =
     let b = entry_holds_key e in
     let seq : List ℕ = u32.spell e.last_modified_ledger_seq in
     held_behind text (i32.spell mark ++ seq) 8 (key_of e) b.0 (
-      h ∙ ap (λ (t : List ℕ). i32.spell mark ++ t) b.1
-          ∙ sym (append_assoc (i32.spell mark) seq (ledger_key.spell (key_of e) ++ b.0))
+    h ∙ ap (λ (t : List ℕ). i32.spell mark ++ t) b.1
+    ∙ sym (append_assoc (i32.spell mark) seq (ledger_key.spell (key_of e) ++ b.0))
     ) (omega (arith, length-append (i32.spell mark) seq, i32_len mark, u32_len e.last_modified_ledger_seq))
     (entry_key_within e within) (entry_key_sized e sized)
 
@@ -67,12 +68,15 @@ pub init_holds : (text : List ℕ) (e : LedgerEntry) → IsItemText text (bucket
 unfolding bucket_entry
 init_holds text e h = entry_behind text (pos 2) e h.spelled h.within h.sized
 
-pub dead_holds : (text : List ℕ) (k : LedgerKey) → IsItemText text (bucket.Dead k) → HoldsKey text 4 k
+pub dead_holds : (text : List ℕ) (k : LedgerKey) → IsItemText text (bucket.Dead k)
+    → (4 ≤ length text) × (drop 4 text ≡ ledger_key.spell k)
 unfolding bucket_entry
 dead_holds text k h =
-    held_behind text (i32.spell (pos 1)) 4 k []
-    (h.spelled ∙ ap (λ (t : List ℕ). i32.spell (pos 1) ++ t) (sym (append-nil (ledger_key.spell k))))
-    (i32_len (pos 1)) h.within h.sized
+    let len = i32_len (pos 1) in (
+      subst (λ (t : List ℕ). 4 ≤ length t) (sym h.spelled)
+          (omega (arith, len, length-append (i32.spell (pos 1)) (ledger_key.spell k))),
+      ap (drop 4) h.spelled ∙ drop_front 4 (i32.spell (pos 1)) (ledger_key.spell k) len,
+    )
 
 -- ---- a key at the front of a text
 
@@ -107,3 +111,37 @@ pub front_no_fault : {A : Type 0} (text : List ℕ) (k : LedgerKey) (tail : List
     → text ≡ ledger_key.spell k ++ tail → ledger_key.within k → ledger_key.sized k → p ≡ start_of text
     → ledger_key.read p ≡ Err f → A
 front_no_fault text k tail f p e within sized a r = absurd (cc (front_is_read text k tail e within sized, a, r))
+
+-- ---- the key of an item of a type
+
+-- what is the key's spelling wherever the text begins with one
+abbrev pub FrontKey : List ℕ → List ℕ → Type 0
+FrontKey text front = (k : LedgerKey) (tail : List ℕ) → text ≡ ledger_key.spell k ++ tail → ledger_key.within k
+    → ledger_key.sized k → front ≡ ledger_key.spell k
+
+key_held : (text rest front : List ℕ) (n : ℕ) (k : LedgerKey) → HoldsKey text n k
+    → (n ≤ length text → rest ≡ drop n text) → FrontKey rest front → front ≡ ledger_key.spell k
+key_held text rest front n k h behind front_is = front_is k h.tail (behind h.room ∙ h.parts) h.within h.sized
+
+pub live_key : (text rest front : List ℕ) (e : BucketEntry) → IsItemText text e → item_type e ≡ mark.Live
+    → (8 ≤ length text → rest ≡ drop 8 text) → FrontKey rest front → front ≡ item_key_text e
+live_key text rest front (bucket.Meta version) h t behind front_is = absurd (cc (t))
+live_key text rest front (bucket.Live e) h t behind front_is =
+    key_held text rest front 8 (key_of e) (live_holds text e h) behind front_is
+live_key text rest front (bucket.Dead gone) h t behind front_is = absurd (cc (t))
+live_key text rest front (bucket.Init e) h t behind front_is = absurd (cc (t))
+
+pub init_key : (text rest front : List ℕ) (e : BucketEntry) → IsItemText text e → item_type e ≡ mark.Init
+    → (8 ≤ length text → rest ≡ drop 8 text) → FrontKey rest front → front ≡ item_key_text e
+init_key text rest front (bucket.Meta version) h t behind front_is = absurd (cc (t))
+init_key text rest front (bucket.Live e) h t behind front_is = absurd (cc (t))
+init_key text rest front (bucket.Dead gone) h t behind front_is = absurd (cc (t))
+init_key text rest front (bucket.Init e) h t behind front_is =
+    key_held text rest front 8 (key_of e) (init_holds text e h) behind front_is
+
+pub dead_key : (text rest : List ℕ) (e : BucketEntry) → IsItemText text e → item_type e ≡ mark.Dead
+    → (4 ≤ length text → rest ≡ drop 4 text) → rest ≡ item_key_text e
+dead_key text rest (bucket.Meta version) h t behind = absurd (cc (t))
+dead_key text rest (bucket.Live e) h t behind = absurd (cc (t))
+dead_key text rest (bucket.Dead gone) h t behind = let d = dead_holds text gone h in behind d.0 ∙ d.1
+dead_key text rest (bucket.Init e) h t behind = absurd (cc (t))

@@ -2,18 +2,23 @@
 use Rattle.std.proofs.Common.{◌≡◌, ℕ, ◌+◌, ℤ, pos, negsuc, List, [], ◌∷◌, ◌++◌, length, Some, Result, Ok, Err, refl, sym}
 use Rattle.std.proofs.Common.{ap, subst, ◌∙◌}
 use Rattle.std.proofs.lemmas.List.{append-nil}
+use Rattle.std.specs.Prelude.{Option, None, IsSomeAnd}
+use Rattle.std.proofs.Common.{to_z, of_z, w32}
+use Rattle.std.proofs.Math.Facts.{to_z-of_z}
 use Rattle.xdr_core.specs.declared.fault.XdrFault.{XdrFault}
 use Rattle.xdr_core.specs.Place.{Place, Reading, start_of, ◌>>=◌}
 use Rattle.xdr_core.specs.Format.{IsBytes}
 use Rattle.xdr_core.specs.Leaves.{i32, mark}
 use Rattle.xdr_core.proofs.Steps.{bind_ok}
-use Rattle.xdr_core.proofs.LeafLaws.{i32_lawful, i32_within, i32_sized}
+use Rattle.xdr_core.proofs.LeafLaws.{i32_lawful, i32_within}
+use Rattle.xdr_core.proofs.Discriminants.{discriminant_fits as numeral_fits}
 use Rattle.ledger_types.specs.declared.bucket.BucketEntry.{BucketEntry}
 use Rattle.ledger_types.specs.declared.bucket.BucketEntry.TheVariants as bucket
 use Rattle.xdr_entries.specs.Keys.{bucket_entry}
 use Rattle.xdr_entries.proofs.KeyLaws.{bucket_entry_laws}
-use Rattle.bucket_items.specs.Item.{item_type, type_with, IsItemText, ended_by, ended, whole_at}
-use Rattle.bucket_items.specs.MarkedItem.{max_item_len, behind_mark, item_in, item_at}
+use Rattle.bucket_items.specs.declared.item.BucketItem.{BucketItem}
+use Rattle.bucket_items.specs.Item.{item_type, type_with, IsItemText, Shows, ended_by, ended, whole_at}
+use Rattle.bucket_items.specs.MarkedItem.{max_item_len, behind_mark, item_in, item_at, TakesItem}
 
 -- ---- an item that is all that is ahead
 
@@ -44,10 +49,10 @@ discriminant (bucket.Dead gone) = pos 1
 discriminant (bucket.Init entry) = pos 2
 
 discriminant_fits : (e : BucketEntry) → i32.sized (discriminant e)
-discriminant_fits (bucket.Meta version) = i32_sized (negsuc 0) tt
-discriminant_fits (bucket.Live entry) = i32_sized (pos 0) tt
-discriminant_fits (bucket.Dead gone) = i32_sized (pos 1) tt
-discriminant_fits (bucket.Init entry) = i32_sized (pos 2) tt
+discriminant_fits (bucket.Meta version) = numeral_fits (negsuc 0) tt
+discriminant_fits (bucket.Live entry) = numeral_fits (pos 0) tt
+discriminant_fits (bucket.Dead gone) = numeral_fits (pos 1) tt
+discriminant_fits (bucket.Init entry) = numeral_fits (pos 2) tt
 
 pub type_of_discriminant : (e : BucketEntry) → type_with (discriminant e) ≡ Some (item_type e)
 type_of_discriminant (bucket.Meta version) = refl
@@ -66,12 +71,18 @@ discriminant_is_read : (text : List ℕ) (e : BucketEntry) → IsItemText text e
     → (q : Place) × (i32.read (start_of text) ≡ Ok (discriminant e, q))
 discriminant_is_read text e h =
     let b = begins e in
-    let v = discriminant e in
-    (
+    let v = discriminant e in (
       record { at = 0 + length (i32.spell v); rest = b.0 },
       ap (λ (t : List ℕ). i32.read (start_of t)) (h.spelled ∙ b.1)
           ∙ i32_lawful.again 0 v b.0 (i32_within v) (discriminant_fits e),
     )
+
+-- a number that was read keeps its value
+pub number_stays : (text : List ℕ) (p q : Place) (v : ℤ) → IsBytes text → p ≡ start_of text
+    → i32.read p ≡ Ok (v, q) → to_z w32 (of_z w32 v) ≡ v
+unfolding i32
+number_stays text p q v fits a r =
+    to_z-of_z {w = w32} {z = v} (i32_lawful.takes p q v (subst (λ (x : Place). IsBytes x.rest) (sym a) fits) r).sized
 
 -- what was read at the front is the type's discriminant
 pub type_is_read : (text : List ℕ) (e : BucketEntry) (p q : Place) (v : ℤ) → IsItemText text e → p ≡ start_of text
@@ -118,3 +129,14 @@ item_says p e q h =
     let entry : w.0 ≡ e = ap (λ (y : BucketEntry × Place). y.0) same in
     let end : m.0.1 ≡ q = ap (λ (y : BucketEntry × Place). y.1) same in
     (m.0.0, m.1 ∙ ap (λ (x : Place). Ok (m.0.0, x)) end, w.1 ∙ ap Ok entry)
+
+-- ---- an item that was shown
+
+pub shown_itself : (item : BucketItem) (text : List ℕ) (e : BucketEntry) → Shows item text e
+    → Shows item item.bytes.now e
+shown_itself item text e h = subst (λ (t : List ℕ). Shows item t e) (sym h.bytes) h
+
+pub takes_shown : (r : Option BucketItem) (new : Place) (e : BucketEntry) (q : Place) (text : List ℕ) → new ≡ q
+    → IsSomeAnd r (λ item. Shows item text e) → TakesItem r new e q
+takes_shown None new e q text at h = absurd h
+takes_shown (Some item) new e q text at h = (at, shown_itself item text e h)

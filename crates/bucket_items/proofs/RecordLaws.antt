@@ -33,7 +33,7 @@ record_is_read at e rest h =
     let p : Place = record { at = at; rest = record_of e ++ rest } in
     ap (λ (r : Reading XdrFault (List ℕ)). r >>= item_in p)
     (mark_is_read max_item_len at (bucket_entry.spell e) rest (omega arith) h.short)
-    ∙ ap (λ (r : Result BucketEntry XdrFault). r >>= λ e. Ok (e, behind_record at e rest)) (whole_is_read (at + 4) e h)
+    ∙ ap (λ (r : Result BucketEntry XdrFault). r >>= λ x. Ok (x, behind_record at e rest)) (whole_is_read (at + 4) e h)
 
 -- what was read as an item is its record
 pub record TakesRecord (p q : Place) (e : BucketEntry) : Type 0 where
@@ -41,6 +41,7 @@ pub record TakesRecord (p q : Place) (e : BucketEntry) : Type 0 where
   pub taken : Takes p q (record_of e)
 
 pub record_is_taken : (p q : Place) (e : BucketEntry) → IsBytes p.rest → item_at p ≡ Ok (e, q) → TakesRecord p q e
+unfolding mark
 record_is_taken p q e fits h =
     let says = item_says p e q h in
     let text = says.0 in

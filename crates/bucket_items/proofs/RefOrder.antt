@@ -17,6 +17,11 @@ use Rattle.bucket_items.specs.contracts.key_ref.KeyRefOrd.TheImpl as refs
 
 pub refs_compared : (a b : KeyRef) → (refs.cmp-value).it a b ≡ key_cmp (key_seen a) (key_seen b)
 refs_compared (here.TrustLine a l) (here.TrustLine b m) = ap (ordering_then (account_cmp a b)) (lines_compared l m)
+refs_compared (here.Account a) (here.Account b) = refl
+refs_compared (here.Offer a n) (here.Offer b m) = refl
+refs_compared (here.Data a n) (here.Data b m) = refl
+refs_compared (here.ClaimableBalance a) (here.ClaimableBalance b) = refl
+refs_compared (here.LiquidityPool a) (here.LiquidityPool b) = refl
 refs_compared a b = refl
 
 -- where reading a key's text ends

@@ -49,7 +49,11 @@ pub fn compare_with(key: &LedgerKey, text: &[u8]) -> Ordering
 fn kind_byte(text: &[u8]) -> u8
     ensures { result ≡ slice_index text.now 3 }
 {
-    if text.len() > KIND_PLACE { text[KIND_PLACE] } else { 0 }
+    if text.len() > KIND_PLACE {
+        text[KIND_PLACE]
+    } else {
+        0
+    }
 }
 
 /// Whether two keys stand to each other as the bytes of their texts do: they aren't two offers, nor two names.

@@ -83,6 +83,8 @@ fn shown(text: &[u8]) -> Option<BucketItem<'_>>
     ensures { (p : Place) (e : AnItem)
         → p.rest ≡ text.now → item.whole_at p ≡ Ok e → IsSomeAnd result (λ shown. item.Shows shown text.now e) }
 {
-    let mark = type_in(text)?;
-    Some(item_of(text, mark))
+    match type_in(text) {
+        Some(mark) => Some(item_of(text, mark)),
+        None => None,
+    }
 }

@@ -19,15 +19,12 @@ const POOL_LINE: &[u8] =
 const OFFER_BELOW_ZERO: &[u8] =
     b"\0\0\0\x02\0\0\0\0AAAAAAAAAAAAAAAAAAAAAAAAAAAAAAAA\xff\xff\xff\xff\xff\xff\xff\xff";
 
-const OFFER: &[u8] =
-    b"\0\0\0\x02\0\0\0\0AAAAAAAAAAAAAAAAAAAAAAAAAAAAAAAA\0\0\0\0\0\0\0\x01";
+const OFFER: &[u8] = b"\0\0\0\x02\0\0\0\0AAAAAAAAAAAAAAAAAAAAAAAAAAAAAAAA\0\0\0\0\0\0\0\x01";
 
 // A name's length stands before its bytes: "aa" stands before "b".
-const LONGER_NAME: &[u8] =
-    b"\0\0\0\x03\0\0\0\0AAAAAAAAAAAAAAAAAAAAAAAAAAAAAAAA\0\0\0\x02aa\0\0";
+const LONGER_NAME: &[u8] = b"\0\0\0\x03\0\0\0\0AAAAAAAAAAAAAAAAAAAAAAAAAAAAAAAA\0\0\0\x02aa\0\0";
 
-const SHORTER_NAME: &[u8] =
-    b"\0\0\0\x03\0\0\0\0AAAAAAAAAAAAAAAAAAAAAAAAAAAAAAAA\0\0\0\x01b\0\0\0";
+const SHORTER_NAME: &[u8] = b"\0\0\0\x03\0\0\0\0AAAAAAAAAAAAAAAAAAAAAAAAAAAAAAAA\0\0\0\x01b\0\0\0";
 
 const BALANCE: &[u8] = b"\0\0\0\x04\0\0\0\0BBBBBBBBBBBBBBBBBBBBBBBBBBBBBBBB";
 
@@ -49,10 +46,7 @@ const RISING: [&[u8]; 10] = [
 /// Whether each key is above the one before it, as both orders tell.
 fn all_rise() -> bool {
     RISING.iter().zip(RISING.iter().skip(1)).all(|(a, b)| {
-        order(a, b).is_lt()
-            && order(b, a).is_gt()
-            && compare(a, b).is_lt()
-            && compare(b, a).is_gt()
+        order(a, b).is_lt() && order(b, a).is_gt() && compare(a, b).is_lt() && compare(b, a).is_gt()
     })
 }
 
@@ -148,7 +142,10 @@ fn faults_of_items_have_their_places(rt: HostRuntime) {
         fault_of(alloc, b"\x80\0\0"),
         fault_of(alloc, b"\0\0\0\x0c\xff\xff\xff\xff\0\0\0\x12\0\0\0\0"),
         fault_of(alloc, b"\x80\0\0\x08\xff\xff\xff\xff\0\0\0\x12\0\0\0\0"),
-        fault_of(alloc, b"\x80\0\0\x10\xff\xff\xff\xff\0\0\0\x12\0\0\0\0\0\0\0\0"),
+        fault_of(
+            alloc,
+            b"\x80\0\0\x10\xff\xff\xff\xff\0\0\0\x12\0\0\0\0\0\0\0\0",
+        ),
         fault_of(alloc, b"\x80\0\0\x0c\0\0\0\x03\0\0\0\x12\0\0\0\0"),
         fault_of(alloc, b"\x80\0\0\x0c\xff\xff\xff\xff\0\0\0\x12\0\0\0\x01"),
     ];

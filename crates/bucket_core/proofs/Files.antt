@@ -23,8 +23,7 @@ use Rattle.bucket_core.proofs.Sound.{Stands, stands_from, fits_placed}
 file_of_items : (bytes : List ℕ) (items : List BucketEntry) → Stands Nothing bytes items
     → (bytes ≡ file_of (contents_with items)) × HasFile (contents_with items)
 file_of_items bytes items h =
-    let same = items_of_contents items h.fit in
-    (
+    let same = items_of_contents items h.fit in (
       h.records ∙ sym (ap (flat_map record_of) same),
       record {
         keyed = contents_are_keyed items h.fit;
@@ -71,7 +70,7 @@ pub nothing_in_no_bytes : contents_of [] ≡ None
 unfolding contents_of
 nothing_in_no_bytes = ap contents_with (no_items (start_of []) refl)
 
-nothing_has_file : HasFile None
+pub nothing_has_file : HasFile None
 nothing_has_file = record { keyed = λ k c f. absurd (cc (f)); spelled = All-nil IsSpellable }
 
 pub no_bytes_are_file : IsFile []
@@ -96,3 +95,13 @@ items_of_file bytes h =
     ap (λ (t : List ℕ). items_ahead (start_of t)) h.is
     ∙ items_of_row 0 (items_of (contents_of bytes))
     (recursion_from_All IsSpellable (items_of (contents_of bytes)) h.has.spelled)
+
+-- ---- bytes that are a file
+
+pub contents_known : (bytes : List ℕ) (c : Contents) → HasFile c → bytes ≡ file_of c → contents_of bytes ≡ c
+contents_known bytes c h e = ap contents_of e ∙ contents_of_file c h
+
+pub bytes_known : (bytes : List ℕ) (c : Contents) → HasFile c → bytes ≡ file_of c → IsFile bytes
+bytes_known bytes c h e =
+    let same = contents_known bytes c h e in
+    record { is = e ∙ ap file_of (sym same); has = subst HasFile (sym same) h }

@@ -68,22 +68,22 @@ shown_meta item text (bucket.Init e) h is = absurd (cc (h.mark, is))
 -- ---- what was said of an item's place
 
 -- a first fault was told
-pub told : {T : Type 0} (first : Option BucketFault) (wrong : BucketFault) → first ≡ Some wrong
+pub told : (T : Type 0) (first : Option BucketFault) (wrong : BucketFault) → first ≡ Some wrong
     → JudgedBy {T = T} first (Err wrong)
-told first (fault.Xdr at kind) h = h
-told first (fault.NoMeta at) h = h
-told first (fault.SecondMeta at) h = h
-told first (fault.Order at) h = h
-told first fault.NoMemory h = tt
+told T first (fault.Xdr at kind) h = h
+told T first (fault.NoMeta at) h = h
+told T first (fault.SecondMeta at) h = h
+told T first (fault.Order at) h = h
+told T first fault.NoMemory h = tt
 
 -- the same of another first fault that is equal
-pub retold : {A B : Type 0} (first second : Option BucketFault) (wrong : BucketFault) → first ≡ second
+pub retold : (A B : Type 0) (first second : Option BucketFault) (wrong : BucketFault) → first ≡ second
     → JudgedBy {T = A} second (Err wrong) → JudgedBy {T = B} first (Err wrong)
-retold first second (fault.Xdr at kind) e h = e ∙ h
-retold first second (fault.NoMeta at) e h = e ∙ h
-retold first second (fault.SecondMeta at) e h = e ∙ h
-retold first second (fault.Order at) e h = e ∙ h
-retold first second fault.NoMemory e h = tt
+retold A B first second (fault.Xdr at kind) e h = e ∙ h
+retold A B first second (fault.NoMeta at) e h = e ∙ h
+retold A B first second (fault.SecondMeta at) e h = e ∙ h
+retold A B first second (fault.Order at) e h = e ∙ h
+retold A B first second fault.NoMemory e h = tt
 
 -- ---- the next item
 
@@ -101,9 +101,9 @@ judged_next b old new e at (Ok next) a h p =
     }
 judged_next b old new e at (Err wrong) a h p =
     let place = ap (λ (n : ℕ). place_fault n b (key_in e)) (sym a) ∙ p in
-    told (fault_from b old) wrong (
-      fault_goes_on b old new e h
-          ∙ ap (λ (f : Option BucketFault). option_or f (fault_from (behind b (key_in e)) new)) place
+    told Known (fault_from b old) wrong (
+    fault_goes_on b old new e h
+    ∙ ap (λ (f : Option BucketFault). option_or f (fault_from (behind b (key_in e)) new)) place
     )
 
 -- it was not read
@@ -111,7 +111,7 @@ pub read_failed : (b : Before) (old : Place) (d : ReadFault) (wrong : BucketFaul
     → (old.rest ≡ [] → ⊥) → IfSome (cause_of d) (λ f. item_at old ≡ Err f)
     → JudgedBy {T = Known} (fault_from b old) (Err wrong)
 read_failed b old (read.Xdr f) wrong is some h =
-    told (fault_from b old) wrong (fault_of_item b old f some h ∙ ap Some (sym is))
+    told Known (fault_from b old) wrong (fault_of_item b old f some h ∙ ap Some (sym is))
 read_failed b old read.NoMemory wrong is some h =
     subst (λ (w : BucketFault). JudgedBy {T = Known} (fault_from b old) (Err w)) (sym is) tt
 
@@ -124,4 +124,4 @@ still_none bytes known next old new h g = record { before = g.after; known = g.k
 pub first_told : (bytes : List ℕ) (known : Known) (old new : Place) (wrong : BucketFault)
     (h : NoneYet bytes known old) → NextJudged h.before old (Err wrong) new
     → JudgedBy {T = Unit {0}} (first_fault bytes) (Err wrong)
-first_told bytes known old new wrong h g = retold (first_fault bytes) (fault_from h.before old) wrong h.same g
+first_told bytes known old new wrong h g = retold Known (Unit {0}) (first_fault bytes) (fault_from h.before old) wrong h.same g

@@ -44,7 +44,7 @@ equal Greater p = absurd (cc)
 pub same_key : (k m : LedgerKey) → eq_by_cmp key_cmp k m ≡ true → k ≡ m
 same_key k m e = keys_exact k m (equal (key_cmp k m) e)
 
-is_less : (o : Ordering) → o ≡ Less → T (is_lt o)
+pub is_less : (o : Ordering) → o ≡ Less → T (is_lt o)
 is_less o e = subst (λ (r : Ordering). T (is_lt r)) (sym e) tt
 
 -- ---- order
@@ -61,7 +61,7 @@ below k m (e ∷ es) lt h =
 
 -- ---- found in a list
 
-found_below : (k m : LedgerKey) (es : List Pair) → key_cmp k m ≡ Equal → T (below_all key_cmp m es)
+pub found_below : (k m : LedgerKey) (es : List Pair) → key_cmp k m ≡ Equal → T (below_all key_cmp m es)
     → find key_cmp k es ≡ None
 found_below k m [] e h = refl
 found_below k m (x ∷ es) e h =

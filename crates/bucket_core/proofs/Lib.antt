@@ -5,3 +5,4 @@ pub mod Sound
 pub mod Files
 pub mod Judging
 pub mod Walking
+pub mod Texts

@@ -108,7 +108,7 @@ items_of_contents [] h = refl
 items_of_contents (bucket.Meta version ∷ items) h =
     ap (λ (es : List BucketEntry). bucket.Meta version ∷ es)
     (ap (map item_of) (entries-from_sorted key_cmp (changes_in items) (sorted_behind_meta items h.1))
-      ∙ items_again items (no_metas items h.1))
+    ∙ items_again items (no_metas items h.1))
 items_of_contents (bucket.Live e ∷ items) h = absurd h.0
 items_of_contents (bucket.Dead gone ∷ items) h = absurd h.0
 items_of_contents (bucket.Init e ∷ items) h = absurd h.0

@@ -64,7 +64,7 @@ neither (Some w) y h = absurd (cc)
 
 stands_item : (n : ℕ) (b : Before) (p : Place) → IsBytes p.rest
     → ((c : Before) (q : Place) → IsBytes q.rest → length q.rest < length p.rest → fault_within n c q ≡ None
-      → Stands c q.rest (items_within n q))
+    → Stands c q.rest (items_within n q))
     → (r : Answer) → item_at p ≡ r → item_fault p.at b (λ c q. fault_within n c q) r ≡ None
     → Stands b p.rest (item_then (λ q. items_within n q) r)
 stands_item n b p fits step (Ok x) e h =
@@ -86,7 +86,7 @@ stands_at_end n b p le (Err f) e = record { records = no_bytes p.rest le; spelle
 
 stands_ahead : (n : ℕ) (b : Before) (p : Place) → IsBytes p.rest
     → ((c : Before) (q : Place) → IsBytes q.rest → length q.rest < length p.rest → fault_within n c q ≡ None
-      → Stands c q.rest (items_within n q))
+    → Stands c q.rest (items_within n q))
     → (rest : List ℕ) → p.rest ≡ rest
     → unless_at_end rest (item_fault p.at b (λ c q. fault_within n c q) (item_at p)) ≡ None
     → Stands b p.rest (items_within (suc n) p)

@@ -3,8 +3,8 @@
 ghost use Rattle.std.specs.Prelude.{◌≡◌, ℕ, None, Some, IfOk, MatchResult, option_map};
 ghost use Rattle.ledger_types.specs.declared.bucket.BucketEntry.TheVariants as item;
 ghost use Rattle.bucket_items.specs.Item.{IsItemText};
-ghost use Rattle.bucket_core.specs.Bucket.{change_at, version_of};
-ghost use Rattle.bucket_core.specs.File as file;
+ghost use Rattle.bucket_core.specs.Bucket.{Contents, change_at, version_of};
+ghost use Rattle.bucket_core.specs.File.{HasFile, file_of, item_of, items_of};
 ghost use Rattle.bucket_core.specs.Faults.{first_fault, JudgedBy};
 ghost use Rattle.bucket_core.specs.Hash.{file_hash};
 
@@ -45,33 +45,48 @@ impl Bucket {
     pub fn empty(alloc: Global) -> Result<Arc<Bucket>, AllocError>
         ensures { IfOk result (λ bucket. bucket.value ≡ None) }
     {
-        let bucket = Bucket {
-            bytes: Vec::new(alloc),
-        };
-        Ok(Arc::new(alloc, bucket)?)
+        let bytes = Vec::new(alloc);
+        let bucket = shared(alloc, Bucket { bytes })?;
+        Ok(bucket)
     }
 
     /// The bucket whose file this is, or the first fault of the bytes in reading order.
     pub fn read(bytes: Vec<u8>) -> Result<Arc<Bucket>, BucketFault>
-        ensures file { IfOk result (λ bucket. file.file_of bucket.value ≡ bytes.items) }
+        ensures file { IfOk result (λ bucket. file_of bucket.value ≡ bytes.items) }
         ensures fault { JudgedBy (first_fault bytes.items) result }
     {
         let alloc = *bytes.allocator();
         judge(alloc, bytes.as_slice())?;
-        let bucket = Arc::new(alloc, Bucket { bytes }).map_err(AllocError::from)?;
+        let bucket = shared(alloc, Bucket { bytes })?;
         Ok(bucket)
+    }
+
+    /// The bucket of a file that is known to be one: it isn't read.
+    pub fn of_file(file: Vec<u8>) -> Result<Arc<Bucket>, AllocError>
+        requires { (contents : Contents) × HasFile contents × (file.items ≡ file_of contents) }
+        ensures { (contents : Contents) → HasFile contents → file.items ≡ file_of contents
+            → IfOk result (λ bucket. bucket.value ≡ contents) }
+    {
+        let alloc = *file.allocator();
+        let bucket = shared(alloc, Bucket { bytes: file })?;
+        Ok(bucket)
+    }
+
+    /// Where the bucket takes its memory.
+    pub fn allocator(&self) -> Global {
+        *self.bytes.allocator()
     }
 
     /// The file.
     pub fn bytes(&self) -> &[u8]
-        ensures { result.now ≡ file.file_of self.now }
+        ensures { result.now ≡ file_of self.now }
     {
         self.bytes.as_slice()
     }
 
     /// The hash of the file, SHA-256 (FIPS 180-4), or zeros where the bucket is empty.
     pub fn hash(&self) -> Hash
-        ensures { result ≡ file_hash (file.file_of self.now) }
+        ensures { result ≡ file_hash (file_of self.now) }
     {
         hash_of_file(self.bytes())
     }
@@ -90,17 +105,25 @@ impl Bucket {
     /// goes over the file up to the item.
     pub fn find(&self, key: &LedgerKey) -> Result<Option<BucketEntry>, AllocError>
         ensures { IfOk result
-            (λ found. found ≡ option_map (λ change. file.item_of (key.now, change)) (change_at self.now key.now)) }
+            (λ found. found ≡ option_map (λ change. item_of (key.now, change)) (change_at self.now key.now)) }
     {
         find_ahead(*self.bytes.allocator(), self.cursor(), key)
     }
 
     /// The items of the file from the first one on.
     pub fn cursor(&self) -> BucketCursor<'_>
-        ensures { result ≡ file.items_of self.now }
+        ensures items { result ≡ items_of self.now }
+        ensures file { HasFile self.now }
     {
         BucketCursor::new(self.bytes.as_slice())
     }
+}
+
+/// A bucket that has several owners.
+fn shared(alloc: Global, bucket: Bucket) -> Result<Arc<Bucket>, AllocError>
+    ensures { IfOk result (λ shared. shared.value ≡ bucket) }
+{
+    Ok(Arc::new(alloc, bucket)?)
 }
 
 /// The hash of a file.

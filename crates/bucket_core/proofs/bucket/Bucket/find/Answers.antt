@@ -1,0 +1,17 @@
+use Rattle.std.proofs.Common.{◌≡◌, Option, ap, ◌∙◌}
+use Rattle.std.specs.Option.{option_map}
+use Rattle.std.proofs.lemmas.Result.{IfOk-weaker}
+use Rattle.ledger_types.specs.declared.bucket.BucketEntry.{BucketEntry}
+use Rattle.bucket_core.specs.Bucket.{change_at}
+use Rattle.bucket_core.specs.File.{item_of}
+use Rattle.bucket_core.specs.Find.{item_under}
+use Rattle.bucket_core.proofs.Walking.{item_of_change}
+use Rattle.bucket_core.proofs.bucket.Bucket.find.Goals as goal
+
+pub returns : goal.returns
+returns c =
+    let key = c.args.key.now in
+    IfOk-weaker c.find_ahead.result (λ found. found ≡ item_under key c.cursor.result)
+    (λ found. found ≡ option_map (λ change. item_of (key, change)) (change_at c.args.self.now key))
+    (λ found is. is ∙ ap (item_under key) c.cursor.ensures.items
+    ∙ item_of_change key c.args.self.now c.cursor.ensures.file.keyed) c.find_ahead.ensures

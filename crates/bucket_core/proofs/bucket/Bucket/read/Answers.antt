@@ -1,0 +1,18 @@
+use Rattle.std.proofs.Common.{◌≡◌, List, ℕ, ap, sym, subst, ◌∙◌, None}
+use Rattle.xdr_core.specs.Format.{IsBytes}
+use Rattle.bucket_core.specs.Faults.{first_fault}
+use Rattle.bucket_core.specs.File.{file_of}
+use Rattle.bucket_core.specs.Reading.{IsFile}
+use Rattle.bucket_core.proofs.Files.{no_fault_is_file}
+use Rattle.bucket_core.proofs.bucket.Bucket.read.Goals as goal
+
+pub invariant_of-shared : goal.invariant_of-shared
+invariant_of-shared c =
+    subst IsFile c.as_slice.ensures.value
+    (no_fault_is_file c.as_slice.result.now c.in_ok-judge.ensures.bytes c.in_ok-judge.ensures.fault)
+
+pub returns-clause-file : goal.returns-clause-file
+returns-clause-file c =
+    let is = subst IsFile c.as_slice.ensures.value
+    (no_fault_is_file c.as_slice.result.now c.in_ok-judge.ensures.bytes c.in_ok-judge.ensures.fault) in
+    ap file_of c.in_ok-bucket.ensures ∙ sym is.is

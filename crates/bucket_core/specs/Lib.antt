@@ -1,0 +1,11 @@
+pub mod Bucket
+pub mod File
+pub mod Fault
+pub mod Faults
+pub mod Reading
+pub mod Hash
+pub mod Cursor
+pub mod Code
+pub mod ItemKey
+pub mod Judge
+pub mod Find

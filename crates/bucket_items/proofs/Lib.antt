@@ -1,0 +1,8 @@
+pub mod ByteOrder
+pub mod OrderLaws
+pub mod KeyBytes
+pub mod RefOrder
+pub mod EntryKeys
+pub mod Holding
+pub mod Marking
+pub mod RecordLaws

@@ -1,0 +1,4 @@
+pub mod KeyRef
+pub mod KeyText
+pub mod Item
+pub mod MarkedItem

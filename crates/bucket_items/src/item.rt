@@ -1,0 +1,96 @@
+//! An item of a bucket's file, and its key, where they stand there.
+
+ghost use Rattle.std.specs.Prelude.{◌≡◌, ◌≤◌, ◌++◌, ℕ, List, length, drop};
+ghost use Rattle.ledger_types.specs.declared.bucket.BucketEntry.{BucketEntry as AnItem};
+ghost use Rattle.ledger_types.specs.declared.key.LedgerKey.{LedgerKey};
+ghost use Rattle.xdr_core.specs.Place.{Place};
+ghost use Rattle.xdr_entries.specs.Keys.{ledger_key};
+ghost use Rattle.bucket_items.specs.Item as spec;
+
+use crate::key_ref::read_key_ref;
+use ledger_types::BucketEntry;
+use xdr_core::Cursor;
+
+/// What an item says of its key (BucketEntryType in Stellar-ledger.x; CAP-0020).
+#[derive(Clone, Copy, Debug, PartialEq, Eq)]
+pub enum BucketEntryType {
+    /// METAENTRY, -1: the bucket's own item, which has no key.
+    Meta,
+    /// LIVEENTRY, 0: an entry that was made or changed.
+    Live,
+    /// DEADENTRY, 1: an entry that is gone.
+    Dead,
+    /// INITENTRY, 2: an entry that was made.
+    Init,
+}
+
+/// An item of a bucket's file where it stands.
+#[derive(Clone, Copy)]
+pub struct BucketItem<'a> {
+    /// What the item says of its key.
+    pub mark: BucketEntryType,
+    /// The spelling of the key (LedgerKey), one piece of `bytes`. It is empty for META.
+    pub key: &'a [u8],
+    /// The spelling of the item (BucketEntry), without its record mark.
+    pub bytes: &'a [u8],
+}
+
+/// What an item says of its key.
+pub(crate) fn type_of(entry: &BucketEntry) -> BucketEntryType
+    ensures { result ≡ spec.item_type entry.now }
+{
+    match entry {
+        BucketEntry::Meta { .. } => BucketEntryType::Meta,
+        BucketEntry::Live(_) => BucketEntryType::Live,
+        BucketEntry::Dead(_) => BucketEntryType::Dead,
+        BucketEntry::Init(_) => BucketEntryType::Init,
+    }
+}
+
+/// What stands behind the first `n` bytes of a text, or the text where it has fewer.
+fn behind(text: &[u8], n: usize) -> &[u8]
+    ensures { n ≤ length text.now → result.now ≡ drop n text.now }
+{
+    if text.len() < n {
+        return text;
+    }
+    text.split_at(n).1
+}
+
+/// The key with whose spelling a text begins, or the text where it begins with none.
+fn front_key(text: &[u8]) -> &[u8]
+    ensures { (k : LedgerKey) (tail : List ℕ)
+        → text.now ≡ ledger_key.spell k ++ tail → ledger_key.within k → ledger_key.sized k
+        → result.now ≡ ledger_key.spell k }
+{
+    let mut ahead = Cursor::new(text);
+    match read_key_ref(&mut ahead) {
+        Ok(_) => text.split_at(ahead.at()).0,
+        Err(_) => text,
+    }
+}
+
+/// Where the key of an item of this type stands in the item's text: behind the discriminant, and in an entry behind the
+/// number of its last change too.
+fn key_in(text: &[u8], mark: BucketEntryType) -> &[u8]
+    ensures { (e : AnItem) → spec.IsItemText text.now e → spec.item_type e ≡ mark → result.now ≡ spec.item_key_text e }
+{
+    match mark {
+        BucketEntryType::Meta => text.split_at(0).0,
+        BucketEntryType::Live => front_key(behind(text, 8)),
+        BucketEntryType::Dead => behind(text, 4),
+        BucketEntryType::Init => front_key(behind(text, 8)),
+    }
+}
+
+/// The item of this type that is the whole of a text.
+pub(crate) fn item_of(text: &[u8], mark: BucketEntryType) -> BucketItem<'_>
+    ensures { (p : Place) (e : AnItem)
+        → p.rest ≡ text.now → spec.whole_at p ≡ Ok e → spec.item_type e ≡ mark → spec.Shows result text.now e }
+{
+    BucketItem {
+        mark,
+        key: key_in(text, mark),
+        bytes: text,
+    }
+}

@@ -1,0 +1,14 @@
+//! The items of a bucket's file where they stand there, and their keys in order, without memory for any of them.
+#![tactic(auto)]
+
+mod item;
+mod key_ref;
+mod key_text;
+mod marked_item;
+#[cfg(test)]
+mod tests;
+
+pub use item::{BucketEntryType, BucketItem};
+pub use key_ref::{KeyRef, read_key_ref};
+pub use key_text::{compare, compare_with, order};
+pub use marked_item::{next_item, read_marked_item};

@@ -1,0 +1,90 @@
+//! The items of a bucket's file, one behind another, each behind its record mark.
+
+ghost use Rattle.std.specs.Prelude.{◌≡◌, [], IsSomeAnd};
+ghost use Rattle.ledger_types.specs.declared.bucket.BucketEntry.{BucketEntry as AnItem};
+ghost use Rattle.xdr_core.specs.Place.{Place};
+ghost use Rattle.bucket_items.specs.Item as item;
+ghost use Rattle.bucket_items.specs.MarkedItem as spec;
+
+use crate::item::{BucketEntryType, BucketItem, item_of, type_of};
+use ledger_types::BucketEntry;
+use std::alloc::Global;
+use xdr_core::{Cursor, ReadFault};
+use xdr_entries::read_bucket_entry;
+
+/// The greatest length of an item.
+const MAX_ITEM_LEN: u32 = 2_147_483_647;
+
+/// Reads an item that is all that is ahead.
+fn read_to_end(alloc: Global, whole: &Cursor<'_>) -> Result<BucketEntry, ReadFault>
+    ensures { spec.ReadsWhole result whole.now }
+{
+    let mut ahead = whole.fork();
+    let entry = read_bucket_entry(alloc, &mut ahead)?;
+    ahead.end()?;
+    Ok(entry)
+}
+
+/// Reads the next item behind its mark, where it stands. The places of faults are those of the whole text, and an item
+/// that is too short for its fields is so at its own end.
+pub fn read_marked_item<'a>(
+    alloc: Global,
+    cursor: &mut Cursor<'a>,
+) -> Result<BucketItem<'a>, ReadFault>
+    ensures { spec.ReadsItem result cursor.old cursor.new }
+{
+    let mut ahead = cursor.fork();
+    let text = ahead.mark(MAX_ITEM_LEN)?;
+    let inner = cursor.fork().marked(MAX_ITEM_LEN)?;
+    let entry = read_to_end(alloc, &inner)?;
+    *cursor = ahead;
+    Ok(item_of(text, type_of(&entry)))
+}
+
+/// The type of an item with this discriminant.
+fn type_with(discriminant: i32) -> Option<BucketEntryType>
+    ensures { result ≡ item.type_with discriminant }
+{
+    match discriminant {
+        -1 => Some(BucketEntryType::Meta),
+        0 => Some(BucketEntryType::Live),
+        1 => Some(BucketEntryType::Dead),
+        2 => Some(BucketEntryType::Init),
+        _ => None,
+    }
+}
+
+/// What the item that is the whole of a text says of its key, by its discriminant.
+fn type_in(text: &[u8]) -> Option<BucketEntryType>
+    ensures { (p : Place) (e : AnItem) → p.rest ≡ text.now → item.whole_at p ≡ Ok e → result ≡ Some (item.item_type e) }
+{
+    let mut ahead = Cursor::new(text);
+    match ahead.i32() {
+        Ok(discriminant) => type_with(discriminant),
+        Err(_) => None,
+    }
+}
+
+/// The next item of a text that was read before, where it stands; `None` at the text's end. It takes no memory, and
+/// judges no more of the text than it needs.
+pub fn next_item<'a>(cursor: &mut Cursor<'a>) -> Option<BucketItem<'a>>
+    ensures item { (e : AnItem) (q : Place)
+        → spec.item_at cursor.old ≡ Ok (e, q) → spec.TakesItem result cursor.new e q }
+    ensures end { cursor.old.rest ≡ [] → (result ≡ None) × (cursor.new ≡ cursor.old) }
+{
+    match cursor.mark(MAX_ITEM_LEN) {
+        Ok(text) => shown(text),
+        Err(_) => None,
+    }
+}
+
+/// The item that is the whole of a text.
+fn shown(text: &[u8]) -> Option<BucketItem<'_>>
+    ensures { (p : Place) (e : AnItem)
+        → p.rest ≡ text.now → item.whole_at p ≡ Ok e → IsSomeAnd result (λ shown. item.Shows shown text.now e) }
+{
+    match type_in(text) {
+        Some(mark) => Some(item_of(text, mark)),
+        None => None,
+    }
+}

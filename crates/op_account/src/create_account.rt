@@ -1,8 +1,10 @@
 //! CREATE_ACCOUNT.
 
-ghost use Rattle.std.specs.Prelude.{◌≡◌, ◌≤ℤ◌, ◌<◌, pos, IfOk};
+ghost use Rattle.std.specs.Prelude.{◌≡◌, ◌≤ℤ◌, ◌<◌, pos, false, IfOk};
 ghost use Rattle.entry_slots.specs.Accounts.{HasAccount};
-ghost use Rattle.sponsor_rules.specs.Payers.{IsReadyAccount};
+ghost use Rattle.entry_map.specs.EntryMap.{EntryMap as AMap};
+ghost use Rattle.sponsor_rules.specs.Adding.{AreReady};
+ghost use Rattle.sponsor_rules.specs.Payers.{is_same_account};
 ghost use Rattle.op_form.specs.Done.{Makes};
 ghost use Rattle.op_form.specs.Premises.{AccountsAreInRange};
 ghost use Rattle.op_account.specs.CreateAccount as spec;
@@ -51,6 +53,7 @@ fn add_and_pay<B: Base>(
 ) -> Result<OperationResult, AllocError>
     requires seq { ctx.now.seq < 2147483647 }
     requires amount { pos 0 ≤ℤ op.now.starting_balance }
+    requires apart { is_same_account op.now.destination ctx.now.op_source ≡ false }
     requires source { HasAccount entries.old.current ctx.now.op_source }
     requires in_range { AccountsAreInRange entries.old.current }
     ensures { IfOk result (λ r.
@@ -76,10 +79,9 @@ fn add_and_pay<B: Base>(
 
 /// The new account's entry.
 fn new_entry(op: &CreateAccountOp, ctx: &Ctx) -> LedgerEntry
-    requires seq { ctx.now.seq < 2147483647 }
-    requires amount { pos 0 ≤ℤ op.now.starting_balance }
+    requires { ctx.now.seq < 2147483647 }
     ensures value { result ≡ spec.new_entry ctx.now op.now }
-    ensures ready { IsReadyAccount (spec.new_account ctx.now op.now) }
+    ensures ready { (m : AMap) → AreReady op.now.destination result.body m }
 {
     let alloc = ctx.sponsorships.allocator();
     LedgerEntry {

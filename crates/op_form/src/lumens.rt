@@ -4,6 +4,7 @@ ghost use Rattle.std.specs.Prelude.{◌≡◌, ◌+ℤ◌, ◌-ℤ◌, ◌≤ℤ
 ghost use Rattle.entry_map.specs.Undo.{with_current};
 ghost use Rattle.entry_slots.specs.Accounts as accounts;
 ghost use Rattle.reserve_rules.specs.Reserve.{greatest_i64};
+ghost use Rattle.sponsor_rules.specs.Keeping as keeping;
 ghost use Rattle.op_form.specs.Lumens as spec;
 ghost use Rattle.op_form.specs.Premises.{IsInRangeAt};
 
@@ -24,8 +25,9 @@ pub fn debit<B: Base>(
 ) -> Result<bool, AllocError>
     requires amount { pos 0 ≤ℤ amount }
     requires range { IsInRangeAt entries.old.current id.now }
-    ensures { IfOk result (λ paid.
+    ensures given { IfOk result (λ paid.
         spec.Gives paid entries.old entries.new (spec.map_after_debit ctx.now id.now amount entries.old.current)) }
+    ensures others { OnOk result (keeping.ChangesAtMost (Some id.now) entries.old.current entries.new.current) }
 {
     let Some(slot) = load_account(entries, id)? else {
         return Ok(false);
@@ -46,12 +48,14 @@ fn store_less<B: Base>(
     amount: i64,
 ) -> Result<(), AllocError>
     requires loaded { Some slot ≡ accounts.account_slot_at entries.old.current id.now }
+    requires named { slot.account.account_id ≡ id.now }
     requires amount { pos 0 ≤ℤ amount }
     requires balance { pos 0 ≤ℤ slot.account.balance }
-    ensures { OnOk result (
+    ensures stored { OnOk result (
         entries.new ≡
         with_current entries.old (
         accounts.with_account entries.old.current id.now (spec.with_less_lumens amount))) }
+    ensures others { OnOk result (keeping.ChangesAtMost (Some id.now) entries.old.current entries.new.current) }
 {
     let mut slot = slot;
     slot.account.balance = less(slot.account.balance, amount);
@@ -76,8 +80,9 @@ pub fn credit<B: Base>(
 ) -> Result<bool, AllocError>
     requires amount { pos 0 ≤ℤ amount }
     requires range { IsInRangeAt entries.old.current id.now }
-    ensures { IfOk result (λ taken.
+    ensures taken { IfOk result (λ taken.
         spec.Gives taken entries.old entries.new (spec.map_after_credit id.now amount entries.old.current)) }
+    ensures others { OnOk result (keeping.ChangesAtMost (Some id.now) entries.old.current entries.new.current) }
 {
     let Some(slot) = load_account(entries, id)? else {
         return Ok(false);
@@ -100,14 +105,16 @@ fn store_more<B: Base>(
     room: i64,
 ) -> Result<(), AllocError>
     requires loaded { Some slot ≡ accounts.account_slot_at entries.old.current id.now }
+    requires named { slot.account.account_id ≡ id.now }
     requires amount { pos 0 ≤ℤ amount }
     requires balance { pos 0 ≤ℤ slot.account.balance }
     requires fits { (slot.account.balance +ℤ room) ≤ℤ greatest_i64 }
     requires room { amount ≤ℤ room }
-    ensures { OnOk result (
+    ensures stored { OnOk result (
         entries.new ≡
         with_current entries.old (
         accounts.with_account entries.old.current id.now (spec.with_more_lumens amount))) }
+    ensures others { OnOk result (keeping.ChangesAtMost (Some id.now) entries.old.current entries.new.current) }
 {
     let mut slot = slot;
     slot.account.balance = more(slot.account.balance, amount, room);

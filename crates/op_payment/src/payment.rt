@@ -1,6 +1,8 @@
 //! PAYMENT of lumens.
 
-ghost use Rattle.std.specs.Prelude.{◌<ℤ◌, pos, IfOk};
+ghost use Rattle.std.specs.Prelude.{◌≡◌, ◌<ℤ◌, pos, false, IfOk};
+ghost use Rattle.ledger_types.specs.Ids.{account_of};
+ghost use Rattle.sponsor_rules.specs.Payers.{is_same_account};
 ghost use Rattle.op_form.specs.Done.{Makes};
 ghost use Rattle.op_form.specs.Premises.{AccountsAreInRange};
 ghost use Rattle.op_payment.specs.Payment as spec;
@@ -65,6 +67,7 @@ fn take_and_give<B: Base>(
     entries: &mut Entries<'_, B>,
 ) -> Result<OperationResult, AllocError>
     requires amount { pos 0 <ℤ op.now.amount }
+    requires apart { is_same_account (account_of op.now.destination) ctx.now.op_source ≡ false }
     requires in_range { AccountsAreInRange entries.old.current }
     ensures { IfOk result (λ r.
         Makes r ctx.now entries.old entries.new (spec.taken_and_given ctx.now op.now entries.old.current)) }

@@ -5,7 +5,7 @@ use Rattle.op_types.specs.declared.operation_result.OperationResult.{OperationRe
 use Rattle.op_types.specs.declared.operation_result.OperationResult.TheVariants.{Inner}
 use Rattle.op_types.specs.declared.operation_result.OperationResultTr.TheVariants as tr
 use Rattle.op_types.specs.declared.sponsor_results.EndSponsoringFutureReservesResult.{EndSponsoringFutureReservesResult}
-use Rattle.op_types.specs.declared.sponsor_results.EndSponsoringFutureReservesResult.TheVariants as «end»
+use Rattle.op_types.specs.declared.sponsor_results.EndSponsoringFutureReservesResult.TheVariants as end
 use Rattle.entry_map.specs.EntryMap.{EntryMap}
 use Rattle.sponsor_rules.specs.declared.context.Ctx.{Ctx}
 use Rattle.sponsor_rules.specs.Payers.{is_same_account}
@@ -25,5 +25,5 @@ without_sponsorship place ctx = record ctx { sponsorships = remove ctx.sponsorsh
 -- the source pays itself from now on for what it adds
 abbrev pub end_sponsoring : Ctx → EntryMap → Attempt
 end_sponsoring ctx m =
-    after_some (place_of_sponsorship ctx) (answer «end».NotSponsored)
-    (λ place. success (without_sponsorship place ctx) (answer «end».Success) m [])
+    after_some (place_of_sponsorship ctx) (answer end.NotSponsored)
+    (λ place. success (without_sponsorship place ctx) (answer end.Success) m [])

@@ -1,9 +1,11 @@
 //! MANAGE_DATA.
 
 ghost use Rattle.std.specs.Prelude.{◌≡◌, ◌<◌, Some, IfOk, OnOk};
-ghost use Rattle.ledger_types.specs.declared.data_entry.DataEntry.{DataEntry as AnEntry};
+ghost use Rattle.entry_map.specs.EntryMap.{EntryMap as AMap};
 ghost use Rattle.entry_map.specs.Undo.{with_current};
 ghost use Rattle.entry_slots.specs.DataEntries as data_entries;
+ghost use Rattle.sponsor_rules.specs.Adding.{AreReady};
+ghost use Rattle.sponsor_rules.specs.Payers.{IsReady};
 ghost use Rattle.op_form.specs.Done.{Makes};
 ghost use Rattle.op_form.specs.Premises.{AccountsAreReady};
 ghost use Rattle.op_options.specs.ManageData as spec;
@@ -136,7 +138,9 @@ fn new_data(
     value: &ItemList<u8>,
 ) -> Result<LedgerEntry, AllocError>
     requires { ctx.now.seq < 2147483647 }
-    ensures { IfOk result (λ entry. entry ≡ spec.new_data ctx.now name.now value.now) }
+    ensures value { IfOk result (λ entry. entry ≡ spec.new_data ctx.now name.now value.now) }
+    ensures ready { IfOk result (λ entry.
+        (m : AMap) → IsReady m ctx.now.op_source → AreReady ctx.now.op_source entry.body m) }
 {
     Ok(LedgerEntry {
         last_modified_ledger_seq: ctx.seq + 1,

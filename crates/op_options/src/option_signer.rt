@@ -58,7 +58,7 @@ fn add_new_signer<B: Base>(
     account: &AccountEntry,
     signer: Signer,
 ) -> Result<Option<OperationResult>, AllocError>
-    requires ready { AccountsAreReady entries.old.current }
+    requires { AccountsAreReady entries.old.current }
     ensures { IfOk result (λ refusal.
         IsStep refusal entries.old entries.new (
         spec.map_after_new_signer ctx.now signer account.now entries.old.current)) }

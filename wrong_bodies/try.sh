@@ -5,8 +5,8 @@
 #     wrong_bodies/try.sh            all of them
 #     wrong_bodies/try.sh CRATE..    those of these crates
 #
-# They are tried on a clone of the last commit, which is left behind in no case. It prints a line for each, and last how
-# many were refused and which were not. The status is 0 where each was refused.
+# They are tried on a clone of the last commit, which is left behind in no case, a crate at a time. It prints a line for
+# each, and last how many were refused and which were not. The status is 0 where each was refused.
 set -euo pipefail
 
 top=$(cd "$(dirname "$0")/.." && pwd)
@@ -19,14 +19,15 @@ if [ $# -eq 0 ]; then
     set -- $(cd wrong_bodies && ls -d */ | tr -d /)
 fi
 wanted=0
+: > "$clone/log"
 for crate in "$@"; do
     mkdir -p "crates/$crate/must-fail"
     rm -f "crates/$crate/must-fail/"*.edit
     cp "wrong_bodies/$crate/"*.edit "crates/$crate/must-fail/"
     wanted=$((wanted + $(ls "wrong_bodies/$crate/"*.edit | wc -l)))
+    rt must-fail "$crate" 2>&1 | tee -a "$clone/log" | grep 'must-fail .*\.edit' || true
 done
 
-rt must-fail "$@" 2>&1 | tee "$clone/log" || true
 refused=$(grep -c ': refused, as it must be' "$clone/log" || true)
 echo
 echo "wrong bodies: $wanted, refused: $refused"

@@ -4,3 +4,4 @@ pub mod Lists
 pub mod Under
 pub mod KnownKeys
 pub mod Batches
+pub mod NumberedOffers

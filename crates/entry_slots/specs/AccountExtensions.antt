@@ -49,7 +49,7 @@ abbrev pub sponsored_in : Option AccountEntryExtensionV2 → ℕ
 sponsored_in None = 0
 sponsored_in (Some ext) = ext.num_sponsored
 
--- how many reserves an account pays for others
+-- how many reserves an account pays as a sponsor, of claimable balances that it makes too
 abbrev pub num_sponsoring : AccountEntry → ℕ
 num_sponsoring account = sponsoring_in (second_in account.ext)
 
@@ -73,6 +73,7 @@ sponsorship_in signers (Some ext) = ext
 abbrev pub sponsorship_of : AccountEntry → AccountEntryExtensionV2
 sponsorship_of account = sponsorship_in account.signers (second_in account.ext)
 
+-- An account that says something else of sponsorship. Both extensions are added, so it is for what isn't zeros alone.
 abbrev pub with_sponsorship : AccountEntryExtensionV2 → AccountEntry → AccountEntry
 with_sponsorship sponsorship account =
     record account { ext = Some (record { liabilities = account_liabilities account; ext = Some sponsorship }) }

@@ -63,7 +63,7 @@ pub fn num_sponsored(account: &AccountEntry) -> u32
     }
 }
 
-/// How many reserves an account pays for others.
+/// How many reserves an account pays as a sponsor, of claimable balances that it makes too.
 pub fn num_sponsoring(account: &AccountEntry) -> u32
     ensures { result ≡ spec.num_sponsoring account.now }
 {

@@ -1,11 +1,11 @@
-//! Who pays an entry's reserve in its owner's place.
+//! Who is recorded as paying an entry's reserve.
 
 ghost use Rattle.std.specs.Prelude.{◌≡◌};
 ghost use Rattle.entry_slots.specs.EntrySponsor as spec;
 
 use ledger_types::{AccountId, LedgerEntry, LedgerEntryExtensionV1};
 
-/// Who pays the entry's reserve in its owner's place, if somebody does.
+/// Who is recorded as paying the entry's reserve, if somebody is (sponsoringID of LedgerEntryExtensionV1, CAP-0033).
 pub fn sponsor_in(ext: &Option<LedgerEntryExtensionV1>) -> Option<AccountId>
     ensures { result ≡ spec.sponsor_in ext.now }
 {
@@ -15,11 +15,13 @@ pub fn sponsor_in(ext: &Option<LedgerEntryExtensionV1>) -> Option<AccountId>
     }
 }
 
-/// Records a sponsor, or that there is none.
+/// Records a sponsor, or that there is none. The extension is added for a sponsor, and never dropped.
 pub fn set_sponsor(entry: &mut LedgerEntry, sponsor: Option<AccountId>)
     ensures { entry.new ≡ spec.with_sponsor sponsor entry.old }
 {
-    entry.ext = Some(LedgerEntryExtensionV1 {
-        sponsoring_id: sponsor,
-    });
+    if sponsor.is_some() || entry.ext.is_some() {
+        entry.ext = Some(LedgerEntryExtensionV1 {
+            sponsoring_id: sponsor,
+        });
+    }
 }

@@ -63,7 +63,7 @@ fn accounts(alloc: Global, entries: ItemList<LedgerEntry>) -> Result<Vec<Account
 }
 
 /// Applies the set of an input, and answers its results.
-#[tactic(auto, unfolding(set_outcome::specs::Outcome::results_text, set_outcome::specs::Outcome::results_of, set_rules::specs::Conditions::is_valid_input))]
+#[tactic(auto, unfolding(crate::proofs::Opened::of_results))]
 fn answer_input(alloc: Global, network: &str, input: SetInput) -> Result<Answer, AllocError>
     requires { length input.tx_set.txs < 2 ^ 32 }
     ensures { IfOk result (λ answer. Tells (judged network.now [] (Ok input)) answer.status answer.text.items) }

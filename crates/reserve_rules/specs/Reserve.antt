@@ -12,7 +12,7 @@ greatest_i64 = pos 9223372036854775807
 
 -- ---- accounts
 
--- two reserves, one for each subentry and each reserve paid for others, less those that others pay
+-- two reserves, one for each subentry and each reserve paid as a sponsor, less those that others pay
 abbrev pub min_balance : AccountEntry → ℕ → ℤ
 min_balance account base_reserve =
     (pos (2 + account.num_sub_entries + num_sponsoring account) -ℤ pos (num_sponsored account)) *ℤ pos base_reserve

@@ -42,24 +42,35 @@ fn words<R: Files + AllocGlobal>(rt: &R, folder: &str, case: u32) -> io::Result<
     Ok(words)
 }
 
-/// What a case shows: that all is as its files have it, or what differs first.
+/// That all is as the files of a case have it, or what differs first.
+fn compared<R: Files + AllocGlobal>(
+    rt: &R,
+    folder: &str,
+    case: u32,
+    status: u8,
+    out: &[u8],
+    err: &[u8],
+) -> io::Result<&'static str> {
+    if text(rt, folder, case, "status")?.trim().parse() != Ok(status) {
+        return Ok("another status");
+    }
+    if out != file(rt, folder, case, "out")?.as_slice() {
+        return Ok("other output");
+    }
+    if err != file(rt, folder, case, "err")?.as_slice() {
+        return Ok("other text on standard error");
+    }
+    Ok("as expected")
+}
+
+/// What a case shows.
 fn outcome<R: Files + AllocGlobal>(rt: &R, folder: &str, case: u32) -> io::Result<&'static str> {
     let words = words(rt, folder, case)?;
     let mut input = MemSource::new(file(rt, folder, case, "in")?, PIECE, Vec::new(rt.alloc()));
     let mut out = MemSink::new(rt.alloc(), PIECE, Vec::new(rt.alloc()));
     let mut err = MemSink::new(rt.alloc(), PIECE, Vec::new(rt.alloc()));
     let status = run_program(rt.alloc(), words.as_slice(), &mut input, &mut out, &mut err);
-    let wanted = text(rt, folder, case, "status")?;
-    if wanted.trim().parse() != Ok(status) {
-        return Ok("another status");
-    }
-    if out.bytes() != file(rt, folder, case, "out")?.as_slice() {
-        return Ok("other output");
-    }
-    if err.bytes() != file(rt, folder, case, "err")?.as_slice() {
-        return Ok("other text on standard error");
-    }
-    Ok("as expected")
+    compared(rt, folder, case, status, out.bytes(), err.bytes())
 }
 
 fn main(rt: HostRuntime) -> io::Result<()> {

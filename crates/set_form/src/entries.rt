@@ -10,7 +10,7 @@ ghost use Rattle.set_form.specs.Grammar.{account_entry as account_format, ledger
 use crate::arms::{read_arm, refused};
 use crate::fault::FormFault;
 use item_list::ItemList;
-use ledger_types::{AccountId, Hash};
+use ledger_types::{AccountId, Hash, MAX_HOME_DOMAIN_LEN, MAX_SIGNERS};
 use set_types::{AccountEntry, LedgerEntry, Signer, SignerKey};
 use std::alloc::Global;
 use xdr_core::{Cursor, Decode, XdrKind, read_list, read_option};
@@ -26,12 +26,6 @@ const OTHER_ENTRIES: [i32; 5] = [1, 2, 3, 4, 5];
 
 /// ACCOUNT, the built entry.
 const ACCOUNT: i32 = 0;
-
-/// The most bytes of a home domain (string32 in Stellar-ledger-entries.x).
-const MAX_HOME_DOMAIN_LEN: u32 = 32;
-
-/// The most signers of an account (MAX_SIGNERS in Stellar-ledger-entries.x).
-const MAX_SIGNERS: u32 = 20;
 
 /// Reads an account's id.
 #[tactic(auto, unfolding(crate::specs::Grammar::account_id))]

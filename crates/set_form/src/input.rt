@@ -19,7 +19,7 @@ use xdr_core::{Cursor, read_list};
 const MAGIC: i32 = 0x534C5431;
 
 /// One transaction set, with the accounts that it meets.
-#[derive(Debug, Drop)]
+#[derive(Drop)]
 pub struct SetInput {
     /// The number of the ledger that is being closed.
     pub ledger_seq: u32,

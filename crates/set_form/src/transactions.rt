@@ -129,7 +129,7 @@ pub fn read_transaction_set(
 }
 
 /// Writes a transaction, field by field.
-#[tactic(auto, unfolding(crate::specs::Grammar::transaction, crate::specs::Grammar::muxed_account, crate::specs::Grammar::operation, xdr_core::specs::Combinators::constant))]
+#[tactic(auto, unfolding(crate::proofs::Opened::of_a_transaction))]
 fn write_fields(tx: &Transaction, builder: &mut Builder) -> Result<(), AllocError>
     ensures { OnOk result (builder.new ≡ transaction_format.onto builder.old tx.now) }
 {

@@ -1,5 +1,5 @@
 /// The fees and reserves of the ledger that is being closed.
-#[derive(Clone, Copy, Debug, PartialEq, Eq)]
+#[derive(Clone, Copy)]
 pub struct Terms {
     /// The least fee of an operation, in stroops.
     pub base_fee: u32,

@@ -8,7 +8,7 @@ use std::alloc::AllocError;
 
 /// What a signature of a signer shows: the key that made it, or that it is the text with a hash. Keys are ordered
 /// by their arm and then by their bytes.
-#[derive(Clone, Copy, Debug, PartialEq, Eq, PartialOrd, Ord)]
+#[derive(Clone, Copy, PartialEq, Eq, PartialOrd, Ord)]
 pub enum SignerKey {
     /// An Ed25519 public key.
     Ed25519([u8; 32]),
@@ -17,7 +17,7 @@ pub enum SignerKey {
 }
 
 /// A key that may sign for an account.
-#[derive(Clone, Copy, Debug, PartialEq, Eq)]
+#[derive(Clone, Copy, PartialEq, Eq)]
 pub struct Signer {
     pub key: SignerKey,
     /// 1 to 255 in a valid account. What is above 255 counts as 255.
@@ -25,7 +25,7 @@ pub struct Signer {
 }
 
 /// An account.
-#[derive(Debug, Drop)]
+#[derive(Drop)]
 pub struct AccountEntry {
     pub account_id: AccountId,
     /// In stroops, of which a lumen has 10,000,000. At least 0 in a valid account.
@@ -67,7 +67,7 @@ impl AccountEntry {
 }
 
 /// An entry of the ledger. The only type of entry so far is the account.
-#[derive(Debug, Drop)]
+#[derive(Drop)]
 pub struct LedgerEntry {
     /// The ledger in which the entry was last changed.
     pub last_modified_ledger_seq: u32,

@@ -3,7 +3,7 @@
 use ledger_types::Hash;
 
 /// What a BUMP_SEQUENCE operation answers.
-#[derive(Clone, Copy, Debug, PartialEq, Eq)]
+#[derive(Clone, Copy)]
 pub enum BumpSequenceResult {
     /// BUMP_SEQUENCE_SUCCESS, 0.
     Success,
@@ -12,7 +12,7 @@ pub enum BumpSequenceResult {
 }
 
 /// What an operation answers.
-#[derive(Clone, Copy, Debug, PartialEq, Eq)]
+#[derive(Clone, Copy)]
 pub enum OperationResult {
     /// opINNER, 0, of a BUMP_SEQUENCE operation, 11.
     BumpSequence(BumpSequenceResult),
@@ -21,7 +21,7 @@ pub enum OperationResult {
 }
 
 /// How a transaction ended, with the result of its one operation where its checks passed.
-#[derive(Clone, Copy, Debug, PartialEq, Eq)]
+#[derive(Clone, Copy)]
 pub enum TransactionOutcome {
     /// txSUCCESS, 0.
     Success(OperationResult),
@@ -42,7 +42,7 @@ pub enum TransactionOutcome {
 }
 
 /// What a transaction answers.
-#[derive(Clone, Copy, Debug, PartialEq, Eq)]
+#[derive(Clone, Copy)]
 pub struct TransactionResult {
     /// In stroops.
     pub fee_charged: i64,
@@ -50,7 +50,7 @@ pub struct TransactionResult {
 }
 
 /// A transaction's result beside its hash.
-#[derive(Clone, Copy, Debug, PartialEq, Eq)]
+#[derive(Clone, Copy)]
 pub struct TransactionResultPair {
     pub transaction_hash: Hash,
     pub result: TransactionResult,

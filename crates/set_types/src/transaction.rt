@@ -7,7 +7,7 @@ use ledger_types::{AccountId, Hash};
 use std::alloc::AllocError;
 
 /// A signature, with a hint of who made it.
-#[derive(Debug, Drop)]
+#[derive(Drop)]
 pub struct DecoratedSignature {
     /// The last four bytes of the signer's key.
     pub hint: [u8; 4],
@@ -28,13 +28,13 @@ impl DecoratedSignature {
 }
 
 /// Raises the source's sequence number to `bump_to`, where that is above it.
-#[derive(Clone, Copy, Debug, PartialEq, Eq)]
+#[derive(Clone, Copy)]
 pub struct BumpSequenceOp {
     pub bump_to: i64,
 }
 
 /// A transaction.
-#[derive(Debug, Drop)]
+#[derive(Drop)]
 pub struct Transaction {
     pub source_account: AccountId,
     /// The bid: the most that the transaction pays, in stroops.
@@ -45,7 +45,7 @@ pub struct Transaction {
 }
 
 /// A transaction with its signatures.
-#[derive(Debug, Drop)]
+#[derive(Drop)]
 pub struct TransactionEnvelope {
     pub tx: Transaction,
     /// At most 20.
@@ -53,7 +53,7 @@ pub struct TransactionEnvelope {
 }
 
 /// The transactions that close one ledger.
-#[derive(Debug, Drop)]
+#[derive(Drop)]
 pub struct TransactionSet {
     pub previous_ledger_hash: Hash,
     pub txs: ItemList<TransactionEnvelope>,

@@ -10,8 +10,8 @@ use crate::held::HeldSignature;
 use crate::matching::matches_key;
 use ledger_types::Signer;
 
-/// The most signers that an account has.
-pub const MAX_SIGNERS: usize = 20;
+/// The most signers of an account, as the length of a table.
+pub const MAX_SIGNERS: usize = ledger_types::MAX_SIGNERS as usize;
 
 /// Where the first signer stands that has not counted and that the signature matches.
 fn first_place(

@@ -25,7 +25,7 @@ pub const OTHER: AccountId = AccountId([3; 32]);
 /// An account that is added.
 pub const NEW: AccountId = AccountId([4; 32]);
 
-/// What an account has: its balance in stroops, its subentries, and the reserves that it pays for others.
+/// What an account has: its balance in stroops, its subentries, and the reserves that it pays as a sponsor.
 #[derive(Clone, Copy, Debug)]
 pub struct Means {
     pub balance: i64,
@@ -57,7 +57,7 @@ pub fn account(alloc: Global, account_id: AccountId, means: Means) -> LedgerEntr
     }))
 }
 
-/// What an account says of the reserves that it pays for others, where it pays any.
+/// What an account says of the reserves that it pays as a sponsor, where it pays any.
 fn sponsoring(alloc: Global, num_sponsoring: u32) -> Option<AccountEntryExtensionV1> {
     if num_sponsoring == 0 {
         return None;
@@ -113,7 +113,7 @@ fn ctx(sponsorships: ItemList<Sponsorship>) -> Ctx {
     }
 }
 
-/// Nobody pays for others.
+/// Nobody sponsors anything.
 pub fn alone(alloc: Global) -> Ctx {
     ctx(ItemList::new(alloc))
 }
@@ -133,7 +133,7 @@ pub fn sponsored(alloc: Global) -> Result<Ctx, AllocError> {
     Ok(ctx(ItemList::from_slice(alloc, sponsorships.as_slice())?))
 }
 
-/// The subentries of an account, the reserves that it pays for others, and those of its own that others pay.
+/// The subentries of an account, the reserves that it pays as a sponsor, and those of its own that others pay.
 pub type Counts = (u32, u32, u32);
 
 pub fn counts_of(entries: &Entries<'_, MapBase>, id: &AccountId) -> Result<Counts, AllocError> {

@@ -16,6 +16,7 @@ use Rattle.sponsor_rules.specs.declared.count.Count.{Count}
 use Rattle.sponsor_rules.specs.declared.count.Count.TheVariants.{SubEntries, Sponsoring, Sponsored}
 use Rattle.entry_slots.specs.Accounts.{HasAccount}
 use Rattle.entry_slots.specs.EntrySponsor.{sponsor_of, with_sponsor}
+use Rattle.entry_slots.proofs.RecordedSponsor.{recorded_sponsor}
 use Rattle.entry_slots.specs.Tests.{unless_first}
 use Rattle.sponsor_rules.specs.Charge.{charge_of, line_multiplicity, multiplicity, owner_of}
 use Rattle.sponsor_rules.specs.Counting.{count_in}
@@ -65,6 +66,7 @@ module _ (old : EntryMap) (h : IsEven old) (k : LedgerKey) (e : LedgerEntry) (th
   moved_to p q m s shifted balanced stands no_subs fits =
       let now = entry_after p q old m k e shifted there in
       let e' = with_sponsor s now.0 in
+      let recorded : sponsor_of e' ≡ s = recorded_sponsor s now.0.ext in
       let its_key : key_of e' ≡ k = same_key p q e.body now.0.body now.2.bodies ∙ h.own k e there in
       let is_put : map_with_recorded m s (get m k) ≡ put m e' = ap (map_with_recorded m s) now.1 in
       subst IsEven (sym is_put) (placed p q old m e' h shifted (record {
@@ -74,10 +76,10 @@ module _ (old : EntryMap) (h : IsEven old) (k : LedgerKey) (e : LedgerEntry) (th
             let before = counted_split count id e in
             let after = counted_split count id e' in
             let own = same_own_part p q count id e.body now.0.body now.2.bodies in
-            let pays : share count id (multiplicity now.0.body) (owner_of now.0.body) s
+            let pays : share count id (multiplicity now.0.body) (owner_of now.0.body) (sponsor_of e')
             ≡ share count id (multiplicity e.body) (owner_of e.body) s =
             λ i. share count id (same_multiplicity p q e.body now.0.body now.2.bodies i)
-            (same_owner p q e.body now.0.body now.2.bodies i) s in
+            (same_owner p q e.body now.0.body now.2.bodies i) (recorded i) in
             let is = balanced count id in
             omega arith;
         sums = λ account count is.
@@ -91,7 +93,7 @@ module _ (old : EntryMap) (h : IsEven old) (k : LedgerKey) (e : LedgerEntry) (th
             ∙ sym (ap length was.2.parts.signers));
         names = λ id names. stands_put m e' id (stands_after p q old m id shifted (elim names [
           | inl owns ↦ h.names k e id there (names_before p q e now.0 id now.2 (inl owns))
-          | inr (inl pays) ↦ stands id pays
+          | inr (inl pays) ↦ stands id (sym recorded ∙ pays)
           | inr (inr n) ↦ h.names k e id there (names_before p q e now.0 id now.2
               (inr (inr (record { account = n.account; is = n.is; sponsor = n.sponsor }))))
         ]));

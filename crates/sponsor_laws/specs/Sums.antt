@@ -1,5 +1,5 @@
 -- The counts of accounts as sums over all entries of a ledger: the subentries of each account, the reserves that it
--- pays for others, and those of its own that others pay.
+-- pays as a sponsor, and those of its own that others pay.
 use Rattle.std.specs.Prelude.{◌≡◌, ◌≢◌, ℕ, ◌+◌, ◌≤◌, Bool, true, false, List, length, Contains, Option, Some, None}
 use Rattle.std.specs.Prelude.{if◌then◌else◌}
 use Rattle.std.specs.FinMap.{get, entries}
@@ -77,7 +77,7 @@ total count id m = sum_by (λ pair. counted_for count id pair.1) (entries m)
 -- ---- what holds of a ledger's entries
 
 -- Each entry stands under its key; each count of an account is the sum over all entries; an account has at most 1000
--- subentries, and these and the reserves that it pays for others fit 32 bits together; owners and sponsors stand.
+-- subentries, and these and the reserves that it pays as a sponsor fit 32 bits together; owners and sponsors stand.
 pub record AreCounted (m : EntryMap) : Type 0 where
   pub keyed : IsKeyed m
   pub sums : (id : AccountId) (account : AccountEntry) (count : Count) → account_at m id ≡ Some account

@@ -2,7 +2,7 @@
 
 ghost use Rattle.sponsor_laws.specs.Laws.{ZeroSponsorsNothing, SponsoredAtMost};
 
-/// An account whose count of reserves that it pays for others is 0 is the sponsor of no entry and of no signer, where
+/// An account whose count of reserves that it pays as a sponsor is 0 is the sponsor of no entry and of no signer, where
 /// claimable balances have claimants and pools have no sponsor.
 pub fn zero_sponsors_nothing()
     ensures { ZeroSponsorsNothing }

@@ -49,7 +49,7 @@ payer_other_than owner (Some payer) = if is_same_account payer owner then None e
 abbrev pub is_full : Option AccountEntry → ℕ → Bool
 is_full owner k = nat_lt 1000 (count_if SubEntries owner + k)
 
--- with k reserves more, an account's subentries and the reserves that it pays for others would not fit 32 bits
+-- with k reserves more, an account's subentries and the reserves that it pays as a sponsor would not fit 32 bits
 -- together
 abbrev pub is_over : Option AccountEntry → ℕ → Bool
 is_over payer k = nat_lt 4294967295 (count_if SubEntries payer + count_if Sponsoring payer + k)

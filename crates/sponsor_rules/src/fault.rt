@@ -11,7 +11,7 @@ use std::alloc::AllocError;
 pub enum AddFault {
     /// The owner would have more than 1000 subentries.
     TooManySubentries,
-    /// The subentries of the payer or of the owner, and the reserves that it pays for others, would not fit 32 bits
+    /// The subentries of the payer or of the owner, and the reserves that it pays as a sponsor, would not fit 32 bits
     /// together.
     TooManySponsoring,
     /// The payer cannot spend the reserve.

@@ -6,3 +6,4 @@ pub mod Charging
 pub mod Applying
 pub mod Written
 pub mod Checking
+pub mod Opened

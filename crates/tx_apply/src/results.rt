@@ -51,7 +51,7 @@ fn write_operations(outcome: TransactionOutcome, builder: &mut Builder) -> Resul
 }
 
 /// Writes what a transaction answered.
-#[tactic(auto, unfolding(set_rules::specs::Results::spell_result, xdr_core::specs::Leaves::i32, xdr_core::specs::Leaves::i64))]
+#[tactic(auto, unfolding(crate::proofs::Opened::of_a_result))]
 fn write_result(end: &TransactionResult, builder: &mut Builder) -> Result<(), AllocError>
     ensures { OnOk result (builder.new ≡ builder.old ++ spell_result end.now) }
 {

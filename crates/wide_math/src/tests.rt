@@ -3,6 +3,14 @@
 use super::*;
 use std::cmp::Ordering;
 
+/// Whether a product of two numbers that may be asked for is divided so, rounded down and rounded up.
+fn product_is_divided(a: i64, b: i64, c: i64, down: Option<i64>, up: Option<i64>) -> bool {
+    if a < 0 || b < 0 || c < 1 {
+        return false;
+    }
+    mul_div(a, b, c, Round::Down) == down && mul_div(a, b, c, Round::Up) == up
+}
+
 #[test]
 fn products_of_two_numbers_are_divided_and_rounded_either_way(rt: HostRuntime) {
     for (a, b, c, down, up) in [
@@ -28,10 +36,21 @@ fn products_of_two_numbers_are_divided_and_rounded_either_way(rt: HostRuntime) {
         ),
         (i64::MAX, i64::MAX, 9_223_372_036_854_775_806, None, None),
     ] {
-        assert!(rt; 0 <= a && 0 <= b && 1 <= c);
-        assert_eq!(rt; mul_div(a, b, c, Round::Down), down, "{a} * {b} / {c}");
-        assert_eq!(rt; mul_div(a, b, c, Round::Up), up, "{a} * {b} / {c}");
+        assert!(rt; product_is_divided(a, b, c, down, up));
     }
+}
+
+/// Whether a product of three numbers that may be asked for is divided so, rounded down and rounded up.
+fn scaled_product_is_divided(
+    (a, b, k): (i64, i64, u32),
+    d: u128,
+    down: Option<i64>,
+    up: Option<i64>,
+) -> bool {
+    if a < 0 || b < 0 || k > 10_000 || d < 1 || d >= 1_267_650_600_228_229_401_496_703_205_376 {
+        return false;
+    }
+    scaled_div(a, b, k, d, Round::Down) == down && scaled_div(a, b, k, d, Round::Up) == up
 }
 
 #[test]
@@ -82,19 +101,13 @@ fn products_of_three_numbers_are_divided_and_rounded_either_way(rt: HostRuntime)
             None,
         ),
     ] {
-        assert!(rt; 0 <= a && 0 <= b && k <= 10_000);
-        assert!(rt; 1 <= d && d < 1_267_650_600_228_229_401_496_703_205_376);
-        assert_eq!(rt;
-            scaled_div(a, b, k, d, Round::Down),
-            down,
-            "{a} * {b} * {k} / {d}"
-        );
-        assert_eq!(rt;
-            scaled_div(a, b, k, d, Round::Up),
-            up,
-            "{a} * {b} * {k} / {d}"
-        );
+        assert!(rt; scaled_product_is_divided((a, b, k), d, down, up));
     }
+}
+
+/// Whether a number that may be asked for has this root.
+fn is_root(v: u128, root: u64) -> bool {
+    v < 85_070_591_730_234_615_865_843_651_857_942_052_864 && isqrt(v) == root
 }
 
 #[test]
@@ -117,9 +130,16 @@ fn root_steps_at_each_square(rt: HostRuntime) {
             9_223_372_036_854_775_807,
         ),
     ] {
-        assert!(rt; v < 85_070_591_730_234_615_865_843_651_857_942_052_864);
-        assert_eq!(rt; isqrt(v), root, "the root of {v}");
+        assert!(rt; is_root(v, root));
     }
+}
+
+/// Whether two fractions that may be asked for stand so.
+fn are_ordered(a: (i32, i32), b: (i32, i32), order: Ordering) -> bool {
+    if a.0 < 1 || a.1 < 1 || b.0 < 1 || b.1 < 1 {
+        return false;
+    }
+    frac_cmp(a, b) == order
 }
 
 #[test]
@@ -141,7 +161,6 @@ fn fractions_are_ordered_by_value(rt: HostRuntime) {
         ),
         ((2_147_483_647, 2_147_483_647), (1, 1), Ordering::Equal),
     ] {
-        assert!(rt; 1 <= a.0 && 1 <= a.1 && 1 <= b.0 && 1 <= b.1);
-        assert_eq!(rt; frac_cmp(a, b), order, "{a:?} against {b:?}");
+        assert!(rt; are_ordered(a, b, order));
     }
 }

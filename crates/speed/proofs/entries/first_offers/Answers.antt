@@ -1,42 +1,11 @@
-use Rattle.std.proofs.Common.{◌≡◌, ℕ, zero, suc, ◌≤◌, refl, sym, ap, subst, ◌∙◌, arith, Bool, true, false, ◌||◌, []}
-use Rattle.std.proofs.Common.{◌∷◌, pos}
-use Rattle.std.specs.List.{IsDistinct, list_any}
+use Rattle.std.proofs.Common.{sym, subst}
+use Rattle.std.specs.List.{IsDistinct}
 use Rattle.std.specs.Ordering.{eq_by_cmp}
-use Rattle.std.specs.Cmp.{eq_by_cmp_equiv}
-use Rattle.std.proofs.lemmas.List.Folds.{list_any-append}
-use Rattle.std.proofs.lemmas.Map.Keys.{IsDistinct-push}
-use Rattle.ledger_types.specs.declared.ids.AccountId.{AccountId}
-use Rattle.ledger_types.specs.declared.key.LedgerKey.TheVariants.{Offer}
 use Rattle.ledger_types.specs.KeyOrder.{key_cmp}
-use Rattle.ledger_types.proofs.KeyOrdering.{keys_total}
-use Rattle.entry_map.proofs.KeyMaps.{same_keys}
-use Rattle.speed.proofs.entries.first_offers.Invariants.{numbered}
+use Rattle.entry_map.proofs.NumberedOffers.{numbered_distinct}
 use Rattle.speed.proofs.entries.first_offers.Goals as goal
-
-other_number : (seller : AccountId) (n m : ℕ) → suc n ≤ m → (b : Bool)
-    → eq_by_cmp key_cmp (Offer seller (pos m)) (Offer seller (pos n)) ≡ b → b ≡ false
-other_number seller n m later true e =
-    let same : Offer seller (pos m) ≡ Offer seller (pos n) = same_keys _ _ e in let equal : m
-    ≡ n = cc same in absurd (omega (arith, equal, later))
-other_number seller n m later false e = refl
-
-apart : (seller : AccountId) (n m : ℕ) → n ≤ m
-    → list_any (eq_by_cmp key_cmp (Offer seller (pos m))) (numbered seller n) ≡ false
-apart seller zero m h = refl
-apart seller (suc n) m h =
-    list_any-append (eq_by_cmp key_cmp (Offer seller (pos m))) (numbered seller n) (Offer seller (pos n) ∷ [])
-    ∙ ap (λ b. b || (eq_by_cmp key_cmp (Offer seller (pos m)) (Offer seller (pos n)) || false))
-    (apart seller n m (omega (arith, h)))
-    ∙ ap (λ b. b || false) (other_number seller n m h _ refl)
-
-distinct : (seller : AccountId) (n : ℕ) → IsDistinct (eq_by_cmp key_cmp) (numbered seller n)
-unfolding IsDistinct
-distinct seller zero = tt
-distinct seller (suc n) =
-    IsDistinct-push (eq_by_cmp_equiv keys_total) (numbered seller n) (Offer seller (pos n)) (distinct seller n)
-    (apart seller n n (omega arith))
 
 pub returns : goal.returns
 returns c =
     subst (IsDistinct (eq_by_cmp key_cmp)) (sym c.loop-number.invariant)
-    (distinct c.args.seller_id c.loop-number.number)
+    (numbered_distinct c.args.seller_id c.loop-number.number)

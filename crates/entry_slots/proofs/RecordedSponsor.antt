@@ -1,0 +1,12 @@
+-- What an entry says of its sponsor once one is recorded.
+use Rattle.std.proofs.Common.{◌≡◌, refl, Option, Some, None}
+use Rattle.ledger_types.specs.declared.ids.AccountId.{AccountId}
+use Rattle.ledger_types.specs.declared.entry.LedgerEntryExtensionV1.{LedgerEntryExtensionV1}
+use Rattle.entry_slots.specs.EntrySponsor.{sponsor_in, with_sponsor_in}
+
+-- the sponsor that was recorded, or none
+pub recorded_sponsor : (sponsor : Option AccountId) (ext : Option LedgerEntryExtensionV1)
+    → sponsor_in (with_sponsor_in sponsor ext) ≡ sponsor
+recorded_sponsor None None = refl
+recorded_sponsor None (Some ext) = refl
+recorded_sponsor (Some id) ext = refl

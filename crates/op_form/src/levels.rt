@@ -7,7 +7,7 @@ use ledger_types::AccountEntry;
 use op_types::{OperationBody, SetOptionsOp};
 
 /// A threshold of an account (ThresholdLevel in stellar-core).
-#[derive(Clone, Copy, Debug, PartialEq, Eq)]
+#[derive(Clone, Copy)]
 pub enum ThresholdLevel {
     Low,
     Medium,

@@ -1,6 +1,7 @@
 //! Lumens that accounts give and take.
 
 ghost use Rattle.std.specs.Prelude.{◌≡◌, ◌+ℤ◌, ◌-ℤ◌, ◌≤ℤ◌, pos, Some, IfOk, OnOk};
+ghost use Rattle.entry_map.specs.EntryMap.{put};
 ghost use Rattle.entry_map.specs.Undo.{with_current};
 ghost use Rattle.entry_slots.specs.Accounts as accounts;
 ghost use Rattle.reserve_rules.specs.Reserve.{greatest_i64};
@@ -59,7 +60,7 @@ fn store_less<B: Base>(
 {
     let mut slot = slot;
     slot.account.balance = less(slot.account.balance, amount);
-    store_account(entries, slot)
+    store_beside(entries, id, slot)
 }
 
 /// A balance less an amount.
@@ -118,7 +119,7 @@ fn store_more<B: Base>(
 {
     let mut slot = slot;
     slot.account.balance = more(slot.account.balance, amount, room);
-    store_account(entries, slot)
+    store_beside(entries, id, slot)
 }
 
 /// A balance and an amount that it has room for.
@@ -130,4 +131,18 @@ fn more(balance: i64, amount: i64, room: i64) -> i64
     ensures { result ≡ balance +ℤ amount }
 {
     balance + amount
+}
+
+/// Stores an account. No other account changes.
+fn store_beside<B: Base>(
+    entries: &mut Entries<'_, B>,
+    id: &AccountId,
+    slot: AccountSlot,
+) -> Result<(), AllocError>
+    requires { slot.account.account_id ≡ id.now }
+    ensures stored { OnOk result (
+        entries.new ≡ with_current entries.old (put entries.old.current (accounts.entry_of_account slot))) }
+    ensures others { OnOk result (keeping.ChangesAtMost (Some id.now) entries.old.current entries.new.current) }
+{
+    store_account(entries, slot)
 }

@@ -8,7 +8,7 @@ use Rattle.op_types.specs.declared.operation_result.OperationResult.TheVariants.
 use Rattle.op_types.specs.declared.operation_result.OperationResultTr.TheVariants as tr
 use Rattle.op_types.specs.declared.payment_ops.PaymentOp.{PaymentOp}
 use Rattle.op_types.specs.declared.payment_results.PaymentResult.{PaymentResult}
-use Rattle.op_types.specs.declared.payment_results.PaymentResult.TheVariants as payment
+use Rattle.op_types.specs.declared.payment_results.PaymentResult.TheVariants as pay
 use Rattle.entry_map.specs.EntryMap.{EntryMap}
 use Rattle.entry_slots.specs.Accounts.{account_at}
 use Rattle.entry_slots.specs.Tests.{Tests}
@@ -24,12 +24,12 @@ answer code = Inner (tr.Payment code)
 
 -- Lumens are a valid asset.
 abbrev pub amount_tests : PaymentOp → Tests OperationResult
-amount_tests payment_op = (int_le payment_op.amount (pos 0), answer payment.Malformed) ∷ []
+amount_tests payment_op = (int_le payment_op.amount (pos 0), answer pay.Malformed) ∷ []
 
 -- Lumens have no issuer.
 abbrev pub destination_tests : PaymentOp → EntryMap → Tests OperationResult
 destination_tests payment_op m =
-    (not (is_some (account_at m (account_of payment_op.destination))), answer payment.NoDestination) ∷ []
+    (not (is_some (account_at m (account_of payment_op.destination))), answer pay.NoDestination) ∷ []
 
 abbrev pub payment_move : Ctx → PaymentOp → Move
 payment_move ctx payment_op =
@@ -41,13 +41,13 @@ payment_move ctx payment_op =
     }
 
 abbrev pub paid : Ctx → PaymentOp → EntryMap → Attempt
-paid ctx payment_op m = success ctx (answer payment.Success) m (payment_move ctx payment_op ∷ [])
+paid ctx payment_op m = success ctx (answer pay.Success) m (payment_move ctx payment_op ∷ [])
 
 -- the destination takes the amount, and then the source gives it
 abbrev pub taken_and_given : Ctx → PaymentOp → EntryMap → Attempt
 taken_and_given ctx payment_op m =
-    after_some (map_after_credit (account_of payment_op.destination) payment_op.amount m) (answer payment.LineFull)
-    (λ taken. after_some (map_after_debit ctx ctx.op_source payment_op.amount taken) (answer payment.Underfunded)
+    after_some (map_after_credit (account_of payment_op.destination) payment_op.amount m) (answer pay.LineFull)
+    (λ taken. after_some (map_after_debit ctx ctx.op_source payment_op.amount taken) (answer pay.Underfunded)
     (λ given. paid ctx payment_op given))
 
 -- who pays himself changes nothing, whatever he has

@@ -26,4 +26,5 @@ pub use fault::AddFault;
 pub use moving::move_entry;
 pub use payers::open_sponsor;
 pub use removing::remove_entry;
+pub use signer_place::{FoundSigner, found_signer};
 pub use signers::{add_signer, move_signer, remove_preauth, remove_signer};

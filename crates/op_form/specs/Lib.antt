@@ -1,0 +1,9 @@
+pub mod Done
+pub mod Steps
+pub mod Faults
+pub mod Premises
+pub mod Lumens
+pub mod Sequences
+pub mod Sponsorships
+pub mod Levels
+pub mod DefaultResults

@@ -1,0 +1,16 @@
+//! Which accounts stand.
+
+ghost use Rattle.std.specs.Prelude.{◌≡◌, IfOk, is_some};
+ghost use Rattle.entry_slots.specs.Accounts.{account_at};
+
+use entry_map::{Base, Entries};
+use entry_slots::load_account;
+use ledger_types::AccountId;
+use std::alloc::AllocError;
+
+/// Whether the account with this id stands.
+pub fn stands<B: Base>(entries: &Entries<'_, B>, id: &AccountId) -> Result<bool, AllocError>
+    ensures { IfOk result (λ stands. stands ≡ is_some (account_at entries.now.current id.now)) }
+{
+    Ok(load_account(entries, id)?.is_some())
+}

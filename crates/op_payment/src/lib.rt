@@ -1,0 +1,7 @@
+//! PAYMENT of lumens.
+#![tactic(auto)]
+
+mod operations;
+mod payment;
+
+pub use operations::apply;

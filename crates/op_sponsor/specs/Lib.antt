@@ -1,0 +1,4 @@
+pub mod BeginSponsoringFutureReserves
+pub mod EndSponsoringFutureReserves
+pub mod RevokeSponsorship
+pub mod Operations

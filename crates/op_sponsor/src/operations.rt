@@ -1,0 +1,34 @@
+//! The operations of this crate, by their types.
+
+ghost use Rattle.std.specs.Prelude.{IfOk};
+ghost use Rattle.op_form.specs.Done.{Does};
+ghost use Rattle.op_form.specs.Premises as premises;
+ghost use Rattle.op_sponsor.specs.Operations as spec;
+
+use crate::begin_sponsoring_future_reserves::begin_sponsoring;
+use crate::end_sponsoring_future_reserves::end_sponsoring;
+use crate::revoke_sponsorship::revoke_sponsorship;
+use entry_map::{Base, Entries};
+use op_types::{Operation, OperationBody, OperationResult};
+use sponsor_rules::Ctx;
+use std::alloc::AllocError;
+
+/// Applies an operation of `ctx.op_source`: it answers the result, and changes the entries and the open sponsorships.
+/// Where the operation fails, nothing has changed. Operations of other types are not supported here.
+#[tactic(auto, unfolding(crate::specs::Operations::sponsor_operation))]
+pub fn apply<B: Base>(
+    op: &Operation,
+    ctx: &mut Ctx,
+    entries: &mut Entries<'_, B>,
+) -> Result<OperationResult, AllocError>
+    requires { premises.AccountsAreReady entries.old.current }
+    ensures { IfOk result (λ r.
+        Does r ctx.new entries.old entries.new (spec.sponsor_operation ctx.old op.now.body entries.old.current)) }
+{
+    match &op.body {
+        OperationBody::BeginSponsoringFutureReserves(op) => begin_sponsoring(op, ctx, entries),
+        OperationBody::EndSponsoringFutureReserves => Ok(end_sponsoring(ctx, entries)),
+        OperationBody::RevokeSponsorship(op) => revoke_sponsorship(op, ctx, entries),
+        _ => Ok(OperationResult::NotSupported),
+    }
+}

@@ -77,7 +77,7 @@ erase_part : (f : Weight) (m : EntryMap) (k : LedgerKey) (o : Option LedgerEntry
 erase_part f m k None none = ap (λ n. total f n +ℤ pos 0) (same_without m k none) ∙ plus_nothing (total f m)
 erase_part f m k (Some e) there = erase_sums (total f (erase m k)) (f e) (total f m) (part f (get (erase m k) k))
     (ap (λ n. total f n +ℤ part f (get (erase m k) k)) (sym (put_back m k e there)) ∙ total_insert f (erase m k) k e)
-        (ap (part f) (erase_there m k))
+    (ap (part f) (erase_there m k))
 
 pub total_erase : EraseTakes
 total_erase f m k = erase_part f m k (get m k) refl

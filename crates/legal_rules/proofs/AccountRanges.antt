@@ -90,13 +90,28 @@ MayBe count.Sponsored n a = Unit {0}
 
 alike : (which : Count) (n : ℕ) (a : AccountEntry) → AreAlike a (with_new_count which n a)
 alike count.SubEntries n a = record {
-  id = refl; balance = refl; liabilities = refl; seq_num = refl; flags = refl; home_domain = refl;
+  id = refl;
+  balance = refl;
+  liabilities = refl;
+  seq_num = refl;
+  flags = refl;
+  home_domain = refl;
 }
 alike count.Sponsoring n a = record {
-  id = refl; balance = refl; liabilities = refl; seq_num = refl; flags = refl; home_domain = refl;
+  id = refl;
+  balance = refl;
+  liabilities = refl;
+  seq_num = refl;
+  flags = refl;
+  home_domain = refl;
 }
 alike count.Sponsored n a = record {
-  id = refl; balance = refl; liabilities = refl; seq_num = refl; flags = refl; home_domain = refl;
+  id = refl;
+  balance = refl;
+  liabilities = refl;
+  seq_num = refl;
+  flags = refl;
+  home_domain = refl;
 }
 
 pub new_count_keeps : (id_pool n : ℕ) (a : AccountEntry) (which : Count) → MayBe which n a

@@ -75,14 +75,13 @@ module _ (m : EntryMap) (authorized : EachEntry (λ q x. AreLinesAuthorized m x.
   by_body : (k : LedgerKey) (e : LedgerEntry) (b : LedgerEntryBody) → get m k ≡ Some e → e.body ≡ b → IsBoundRightly b
   by_body k e (body.TrustLine t) there is = λ none.
       let apart : IsAuthorized (line_of (get m k)) → ⊥ = λ passes. subst (λ x. IsAuthorized (line_in x)) is
-      (subst (λ o. IsAuthorized (line_of o)) there passes) none in
-      (
+      (subst (λ o. IsAuthorized (line_of o)) there passes) none in (
         sym (ap (stated_at Selling) there ∙ ap (stated Selling) is) ∙ selling k
-        ∙ total_none (counted (view m) Selling k) m (λ q x at. not_sold m authorized k apart x.body
-        (authorized q x at)),
+            ∙ total_none (counted (view m) Selling k) m (λ q x at. not_sold m authorized k apart x.body
+            (authorized q x at)),
         sym (ap (stated_at Buying) there ∙ ap (stated Buying) is) ∙ buying k
-        ∙ total_none (counted (view m) Buying k) m (λ q x at. not_bought m authorized k apart x.body
-        (authorized q x at)),
+            ∙ total_none (counted (view m) Buying k) m (λ q x at. not_bought m authorized k apart x.body
+            (authorized q x at)),
       )
   by_body k e other there is = tt
 
@@ -99,7 +98,7 @@ natural_some n some = omega (arith, ints)
 
 module _ (id_pool : ℕ) (m : EntryMap) (entries : EachEntry (λ k e. IsEntryInRange id_pool e) m)
     (bound : EachEntry (λ k e. IsBoundRightly e.body) m) (selling : IsBooked Selling m)
-        (buying : IsBooked Buying m) where
+    (buying : IsBooked Buying m) where
   abbrev IsPassed : LedgerKey → Type 0
   IsPassed q = IsAuthorized (line_of (get m q))
 

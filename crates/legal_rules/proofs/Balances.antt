@@ -105,7 +105,7 @@ apart_plus a b new old none same le = omega (arith, ints)
 
 pub balance_added : (v : View) (id_pool : ℕ) (owed : Owed) (sum : ℤ) (ctx : Ctx) (entry : LedgerEntry)
     (payer : AccountId) (n : ℕ) (m new : EntryMap) → IsLegalOwing v id_pool owed sum m
-        → charge_of entry.body ≡ charge.Payer n
+    → charge_of entry.body ≡ charge.Payer n
     → get m (key_of entry) ≡ None → IsBodyInRange id_pool entry.body → HasAccount m payer
     → map_after_adding_balance ctx entry payer n m ≡ Ok new
     → IsLegalOwing v id_pool owed (sum +ℤ held v.asset entry) new

@@ -108,23 +108,23 @@ unfolding with_count
 count_moves which n a = elim (nat_eq n (count_in which a)) as (λ b. nat_eq n (count_in which a) ≡ b
     → IsMove (in_book (book_of which) (key.Account a.account_id) (pos (count_in which a) -ℤ pos n)) a
     (if b then a else with_new_count which n a)) [
-  | true ↦ λ same. record {
-    id = refl;
-    books = λ v kind k e. sym (ap (λ x. weight v kind k (with_body e a) +ℤ x)
-        (nothing_in_book (book_of which) (key.Account a.account_id) _
-        (no_difference n (count_in which a) (eqb-true _ _ same)) kind k) ∙ plus_nothing _);
-  }
-  | false ↦ λ h. record { id = same_id which n a; books = new_count_moves n a which }
-] refl
+      | true ↦ λ same. record {
+        id = refl;
+        books = λ v kind k e. sym (ap (λ x. weight v kind k (with_body e a) +ℤ x)
+            (nothing_in_book (book_of which) (key.Account a.account_id) _
+            (no_difference n (count_in which a) (eqb-true _ _ same)) kind k) ∙ plus_nothing _);
+      }
+      | false ↦ λ h. record { id = same_id which n a; books = new_count_moves n a which }
+    ] refl
 
 count_keeps : (id_pool : ℕ) (which : Count) (n : ℕ) (a : AccountEntry) → MayBe which n a
     → KeepsRange (IsEntryLegal id_pool) a (with_count which n a)
 unfolding with_count
 count_keeps id_pool which n a may = elim (nat_eq n (count_in which a)) as
     (λ b. KeepsRange (IsEntryLegal id_pool) a (if b then a else with_new_count which n a)) [
-  | true ↦ λ e was. was
-  | false ↦ new_count_keeps id_pool n a which may
-]
+      | true ↦ λ e was. was
+      | false ↦ new_count_keeps id_pool n a which may
+    ]
 
 -- its book owes what the count fell by
 count_step : (id_pool : ℕ) (which : Count) (n : ℕ) (a : AccountEntry) → MayBe which n a

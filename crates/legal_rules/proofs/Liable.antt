@@ -209,7 +209,7 @@ pub record IsLineMove (more : Owed) (t u : TrustLineEntry) : Type 0 where
 -- A line that stands is changed.
 pub with_line_legal : (v : View) (id_pool : ℕ) (owed more : Owed) (sum : ℤ) (m : EntryMap) (id : AccountId)
     (asset : TrustLineAsset) (f : TrustLineEntry → TrustLineEntry) (t : TrustLineEntry)
-        → IsLegalOwing v id_pool owed sum m
+    → IsLegalOwing v id_pool owed sum m
     → line_at m id asset ≡ Some t → IsLineMove more t (f t)
     → ((e : LedgerEntry) → IsEntryLegal id_pool (with_line_body e t) → IsEntryLegal id_pool (with_line_body e (f t)))
     → IsLegalOwing v id_pool (plus owed more) (sum +ℤ (of_line v.asset (f t).asset (f t).balance

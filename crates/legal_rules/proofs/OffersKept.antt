@@ -57,9 +57,9 @@ too_late x id n same high later = omega (arith, ints)
 no_later : (n : ℕ) (id : ℤ) (b : LedgerEntryBody) → IsBodyInRange n b → pos (n + 1) ≤ℤ id → offer_with_in id b ≡ pos 0
 no_later n id (body.Offer o) range later = elim (is_eq (int_cmp o.offer_id id)) as
     (λ t. is_eq (int_cmp o.offer_id id) ≡ t → (if t then pos 1 else pos 0) ≡ pos 0) [
-  | true ↦ λ h. absurd (too_late o.offer_id id n (same_int _ _ h) range.id_high later)
-  | false ↦ λ h. refl
-] refl
+      | true ↦ λ h. absurd (too_late o.offer_id id n (same_int _ _ h) range.id_high later)
+      | false ↦ λ h. refl
+    ] refl
 no_later n id other range later = refl
 
 first_with : (sum one : ℤ) → sum ≡ pos 0 → one ≤ℤ pos 1 → (sum +ℤ one) ≤ℤ pos 1
@@ -76,11 +76,11 @@ next_apart : (n : ℕ) (seq : ℕ) (offer : OfferEntry) → offer.offer_id ≡ p
     → (id : ℤ) → (total (offer_with id) m +ℤ offer_with id (new_offer seq offer)) ≤ℤ pos 1
 next_apart n seq offer is m entries few id = elim (is_eq (int_cmp offer.offer_id id)) as
     (λ t. is_eq (int_cmp offer.offer_id id) ≡ t → (total (offer_with id) m +ℤ (if t then pos 1 else pos 0)) ≤ℤ pos 1) [
-  | true ↦ λ h. first_with _ (pos 1) (total_none (offer_with id) m (λ k e there.
-      no_later n id e.body (entries k e there).range.body (at_last offer.offer_id id n (same_int _ _ h) is)))
-      (omega (arith, ints))
-  | false ↦ λ h. other_with _ (pos 0) (few id) refl
-] refl
+      | true ↦ λ h. first_with _ (pos 1) (total_none (offer_with id) m (λ k e there.
+          no_later n id e.body (entries k e there).range.body (at_last offer.offer_id id n (same_int _ _ h) is)))
+          (omega (arith, ints))
+      | false ↦ λ h. other_with _ (pos 0) (few id) refl
+    ] refl
 
 -- ---- what is bound
 
@@ -300,7 +300,7 @@ module _ (v : View) (e : LedgerEntry) (old new : OfferEntry) (same : new.seller_
       (counted v Sponsoring k (with_offer_body e old)) (pos 0) (pos 0) (stays _ _ refl)
   offer_moves Selling k = moved_so (at_new k) (at_old k) (sells k (body.Offer new)) (sells k (body.Offer old))
       (sells k (body.Offer old)) (sells k (body.Offer new))
-          (in_place (sells k (body.Offer old)) (sells k (body.Offer new)))
+      (in_place (sells k (body.Offer old)) (sells k (body.Offer new)))
   offer_moves Buying k = moved_so (at_new k) (at_old k) (buys k (body.Offer new)) (buys k (body.Offer old))
       (buys k (body.Offer old)) (buys k (body.Offer new)) (in_place (buys k (body.Offer old)) (buys k (body.Offer new)))
   offer_moves kind k = moved_so (at_new k) (at_old k) (pos 0) (pos 0) (pos 0) (pos 0) refl
@@ -324,7 +324,7 @@ offer_changed v id_pool owed sum old new m legal stands seller id range =
     (sym (with_offer_is m old.seller_id old.offer_id (λ o. new) old found.0 found.1))
     (legal_as v (IsEntryLegal id_pool) _ _ _ sum _
     (replace_legal v (IsEntryLegal id_pool) owed (plus (less (trade_books old)) (trade_books new)) sum m k e0 e1
-        there0 legal
+    there0 legal
     (record {
       own = λ i. key.Offer (seller i) (id i);
       params = refl;

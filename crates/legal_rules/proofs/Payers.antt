@@ -45,7 +45,7 @@ module _ (id_pool n : ℕ) (id : AccountId) where
   more_paid_step None a same = no_step (IsEntryLegal id_pool) a
   more_paid_step (Some x) a same = step_as (IsEntryLegal id_pool) _ _ a (with_more count.Sponsored n a)
       (more_step id_pool count.Sponsored n a id same tt)
-          (λ kind k. neg_in_book Sponsored (key.Account id) (pos n) kind k)
+      (λ kind k. neg_in_book Sponsored (key.Account id) (pos n) kind k)
 
   less_paid_step : (s : Option AccountId) (a : AccountEntry) → a.account_id ≡ id
       → ((x : AccountId) → s ≡ Some x → n ≤ num_sponsored a) → IsOwnStep (owner_books n id s) a (with_less_paid n s a)
@@ -180,7 +180,7 @@ module _ (v : View) (id_pool : ℕ) (sum : ℤ) where
                     let pays = at_most count.Sponsoring count.Sponsoring n s.account in
                     let was : s.account.num_sub_entries + num_sponsoring s.account + n ≤ 4294967295 =
                     subst (λ (a : AccountEntry). a.num_sub_entries + num_sponsoring a + n ≤ 4294967295) accounts
-                        r.fits in
+                    r.fits in
                     omega arith);
               }
           | false ↦ λ is. record {

@@ -95,5 +95,5 @@ module _ (v : View) (id_pool : ℕ) (owed : Owed) (sum : ℤ) (m : EntryMap) (le
       (λ id same. sub.no_pool id (legal.keyed k e there ∙ same)))
       (λ kind q. settles (owed kind q) (payer_books n s kind q) (owner_books n owner s kind q)
       (in_book Subentries (key.Account owner) (pos n) kind q) (beside_reserves (weighed v e) kind q)
-          (weight v kind q e) _
+      (weight v kind q e) _
       (subentry_weighs v e owner n sub kind q) (split_books n owner s kind q)) refl

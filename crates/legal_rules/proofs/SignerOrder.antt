@@ -120,7 +120,6 @@ all_inserted P xs n x all has = All-append P (take n xs) (x ∷ drop n xs) (All-
 all_removed : {X : Type 0} (P : X → Type 0) (xs : List X) (n : ℕ) → All P xs → All P (remove xs n)
 all_removed P xs n all = All-append P (take n xs) (drop (suc n) xs) (All-take P n xs all) (All-drop P (suc n) xs all)
 
-
 module _ (id : AccountId) (signers : List Signer) (sponsors : List (Option AccountId))
     (was : AreSignersInRange id signers sponsors) where
   pub signers_with : (s : Signer) (sponsor : Option AccountId) → IsNewSigner id signers s → sponsor ≢ Some id

@@ -138,7 +138,7 @@ module _ (v : View) (id_pool : ℕ) (owed : Owed) (sum : ℤ) (m : EntryMap) (le
       (signers_with b.account_id b.signers (signer_sponsors b) was s t fresh_now apart)) in
       let both = steps (IsEntryLegal id_pool) _ _ a b c first (step_as (IsEntryLegal id_pool) _
       (plus (in_book Subentries (key.Account id) (pos 1))
-          (plus (paid_books 1 (Some id) t) (less (paid_books 1 (Some id) None))))
+      (plus (paid_books 1 (Some id) t) (less (paid_books 1 (Some id) None))))
       b c second (λ kind k i. plus (in_book Subentries (key.Account (named i)) (pos 1))
       (plus (paid_books 1 (Some (named i)) t) (less (paid_books 1 (Some (named i)) None))) kind k)) in
       let changed = owner_changed v id_pool sum _ _ None t id a (with_counted_signer s t) m (map_after_charging 1 t m)
@@ -180,7 +180,7 @@ module _ (v : View) (id_pool : ℕ) (owed : Owed) (sum : ℤ) (m : EntryMap) (le
   one_of p passes =
       let has = items in
       let le = get_or-le-sum_by (λ (o : Option AccountId). cond (p o) 1 0) (signer_sponsors a) place None
-          (omega arith) in
+      (omega arith) in
       let one : ◌≡◌ {A = ℕ} (cond (p (get_or (signer_sponsors a) place None)) 1 0) 1 =
       ap (λ o. cond (p o) 1 0) (sym (sponsor_at_place a place)) ∙ ap (λ t. cond t 1 0) passes in
       omega arith
@@ -203,7 +203,7 @@ module _ (v : View) (id_pool : ℕ) (owed : Owed) (sum : ℤ) (m : EntryMap) (le
       let has = counted_stands v id_pool owed sum m legal count.Sponsored id 1 (key.Account id) (with_body e a)
       (settled.sponsored (key.Account id)) there
       (for_own id (Some a.account_id) ((if is_there (sponsor_of e) then 2 else 0) + count_by is_there
-          (signer_sponsors a))
+      (signer_sponsors a))
       (ap Some its_id) (omega arith)) (omega arith) in
       let also = has.stands in
       let accounts : has.account ≡ a = cc in
@@ -298,7 +298,7 @@ module _ (v : View) (id_pool : ℕ) (owed : Owed) (sum : ℤ) (m : EntryMap) (le
       (plus (paid_books 1 (Some (named i)) t) (less (paid_books 1 (Some (named i)) (gone i)))) kind k)) in
       let beside : IsBeside t (key.Account id) = λ x is here. apart x is (ids here) in
       let changed = owner_changed v id_pool sum _ _ s t id a (with_moved_signer place s t) m
-          (map_after_exchange 1 s t m)
+      (map_after_exchange 1 s t m)
       (exchanged v id_pool sum 1 s t owed m legal counts_sponsoring room) stands paid_by_other beside both in
       legal_as v (IsEntryLegal id_pool) _ owed sum sum _ changed.legal
       (λ kind k. settles_moved (owed kind k) (payer_books 1 s kind k) (payer_books 1 t kind k)
@@ -312,7 +312,7 @@ module _ (v : View) (id_pool : ℕ) (owed : Owed) (sum : ℤ) (m : EntryMap) (le
   -- a signer that had nobody and gets nobody stays; else it passed the tests
   moved_by : (ctx : Ctx) (t : Option AccountId) (new : EntryMap) → ((x : AccountId) → t ≡ Some x → x ≢ id)
       → ((x : AccountId) → t ≡ Some x → HasAccount m x) → (o : Option AccountId) → s ≡ o → (u : Option AccountId)
-          → t ≡ u
+      → t ≡ u
       → map_after_moving_signer_between ctx id place o u m ≡ Ok new → IsLegalOwing v id_pool owed sum new
   moved_by ctx t new apart stand None old None to done = subst (IsLegalOwing v id_pool owed sum) (cc) legal
   moved_by ctx t new apart stand None old (Some x) to done =
@@ -330,7 +330,7 @@ module _ (v : View) (id_pool : ℕ) (owed : Owed) (sum : ℤ) (m : EntryMap) (le
       (moved_to t apart (λ x is. absurd (cc)))
   moved_by ctx t new apart stand (Some y) old (Some x) to done =
       let after = with_account (map_after_exchange 1 (Some y) (Some x) m) id
-          (with_moved_signer place (Some y) (Some x)) in
+      (with_moved_signer place (Some y) (Some x)) in
       let over = payer_passed ctx m x 1 after new done in
       subst (IsLegalOwing v id_pool owed sum)
       ((λ i. with_account (map_after_exchange 1 (old i) (to i) m) id (with_moved_signer place (old i) (to i)))

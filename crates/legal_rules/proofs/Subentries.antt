@@ -132,7 +132,7 @@ module _ (v : View) (e : LedgerEntry) (owner : AccountId) (n : ℕ) (s : IsSuben
       ≡ (in_book Subentries (key.Account owner) (pos n) kind k +ℤ beside_reserves (weighed v e) kind k)
   alone Subentries k =
       states_nothing (is_key (key_of e) k) (counted v Subentries k e) (stated Subentries e.body)
-          (s.states count.SubEntries)
+      (s.states count.SubEntries)
       ∙ (λ i. for_account k (s.owns i) (s.counts i)) ∙ sym (plus_nothing _)
   alone Sponsored k =
       states_nothing (is_key (key_of e) k) (counted v Sponsored k (unsponsored e)) (stated Sponsored e.body)

@@ -50,9 +50,10 @@ new_entry ctx create_op =
 -- ---- the operation
 
 abbrev pub start_tests : Ctx → CreateAccountOp → EntryMap → Tests OperationResult
-start_tests ctx create_op m =
-    (int_lt create_op.starting_balance (pos 0) || is_same_account create_op.destination ctx.op_source,
-    answer create.Malformed)
+start_tests ctx create_op m = (
+  int_lt create_op.starting_balance (pos 0) || is_same_account create_op.destination ctx.op_source,
+  answer create.Malformed,
+)
     ∷ (is_some (account_at m create_op.destination), answer create.AlreadyExist)
     ∷ []
 

@@ -59,29 +59,63 @@ fn default_answer(alloc: Global, body: &OperationBody) -> OperationResultTr
     ensures { result ≡ spec.default_answer body.now }
 {
     match body {
-        OperationBody::CreateAccount(_) => OperationResultTr::CreateAccount(CreateAccountResult::Success),
+        OperationBody::CreateAccount(_) => OperationResultTr::CreateAccount(
+            CreateAccountResult::Success,
+        ),
         OperationBody::Payment(_) => OperationResultTr::Payment(PaymentResult::Success),
-        OperationBody::PathPaymentStrictReceive(_) => OperationResultTr::PathPaymentStrictReceive(PathPaymentStrictReceiveResult::Success(no_path(alloc))),
+        OperationBody::PathPaymentStrictReceive(_) => OperationResultTr::PathPaymentStrictReceive(
+            PathPaymentStrictReceiveResult::Success(no_path(alloc)),
+        ),
         OperationBody::ManageSellOffer(_) => OperationResultTr::ManageSellOffer(no_offer(alloc)),
-        OperationBody::CreatePassiveSellOffer(_) => OperationResultTr::CreatePassiveSellOffer(no_offer(alloc)),
+        OperationBody::CreatePassiveSellOffer(_) => OperationResultTr::CreatePassiveSellOffer(
+            no_offer(alloc),
+        ),
         OperationBody::SetOptions(_) => OperationResultTr::SetOptions(SetOptionsResult::Success),
         OperationBody::ChangeTrust(_) => OperationResultTr::ChangeTrust(ChangeTrustResult::Success),
         OperationBody::AllowTrust(_) => OperationResultTr::AllowTrust(AllowTrustResult::Success),
-        OperationBody::AccountMerge(_) => OperationResultTr::AccountMerge(AccountMergeResult::Success(0)),
-        OperationBody::Inflation => OperationResultTr::Inflation(InflationResult::Success(ItemList::new(alloc))),
+        OperationBody::AccountMerge(_) => OperationResultTr::AccountMerge(
+            AccountMergeResult::Success(0),
+        ),
+        OperationBody::Inflation => OperationResultTr::Inflation(InflationResult::Success(
+            ItemList::new(alloc),
+        )),
         OperationBody::ManageData(_) => OperationResultTr::ManageData(ManageDataResult::Success),
-        OperationBody::BumpSequence(_) => OperationResultTr::BumpSequence(BumpSequenceResult::Success),
+        OperationBody::BumpSequence(_) => OperationResultTr::BumpSequence(
+            BumpSequenceResult::Success,
+        ),
         OperationBody::ManageBuyOffer(_) => OperationResultTr::ManageBuyOffer(no_offer(alloc)),
-        OperationBody::PathPaymentStrictSend(_) => OperationResultTr::PathPaymentStrictSend(PathPaymentStrictSendResult::Success(no_path(alloc))),
-        OperationBody::CreateClaimableBalance(_) => OperationResultTr::CreateClaimableBalance(CreateClaimableBalanceResult::Success(NO_BALANCE)),
-        OperationBody::ClaimClaimableBalance(_) => OperationResultTr::ClaimClaimableBalance(ClaimClaimableBalanceResult::Success),
-        OperationBody::BeginSponsoringFutureReserves(_) => OperationResultTr::BeginSponsoringFutureReserves(BeginSponsoringFutureReservesResult::Success),
-        OperationBody::EndSponsoringFutureReserves => OperationResultTr::EndSponsoringFutureReserves(EndSponsoringFutureReservesResult::Success),
-        OperationBody::RevokeSponsorship(_) => OperationResultTr::RevokeSponsorship(RevokeSponsorshipResult::Success),
+        OperationBody::PathPaymentStrictSend(_) => OperationResultTr::PathPaymentStrictSend(
+            PathPaymentStrictSendResult::Success(no_path(alloc)),
+        ),
+        OperationBody::CreateClaimableBalance(_) => OperationResultTr::CreateClaimableBalance(
+            CreateClaimableBalanceResult::Success(NO_BALANCE),
+        ),
+        OperationBody::ClaimClaimableBalance(_) => OperationResultTr::ClaimClaimableBalance(
+            ClaimClaimableBalanceResult::Success,
+        ),
+        OperationBody::BeginSponsoringFutureReserves(_) =>
+            OperationResultTr::BeginSponsoringFutureReserves(
+                BeginSponsoringFutureReservesResult::Success,
+            ),
+        OperationBody::EndSponsoringFutureReserves =>
+            OperationResultTr::EndSponsoringFutureReserves(
+                EndSponsoringFutureReservesResult::Success,
+            ),
+        OperationBody::RevokeSponsorship(_) => OperationResultTr::RevokeSponsorship(
+            RevokeSponsorshipResult::Success,
+        ),
         OperationBody::Clawback(_) => OperationResultTr::Clawback(ClawbackResult::Success),
-        OperationBody::ClawbackClaimableBalance(_) => OperationResultTr::ClawbackClaimableBalance(ClawbackClaimableBalanceResult::Success),
-        OperationBody::SetTrustLineFlags(_) => OperationResultTr::SetTrustLineFlags(SetTrustLineFlagsResult::Success),
-        OperationBody::LiquidityPoolDeposit(_) => OperationResultTr::LiquidityPoolDeposit(LiquidityPoolDepositResult::Success),
-        OperationBody::LiquidityPoolWithdraw(_) => OperationResultTr::LiquidityPoolWithdraw(LiquidityPoolWithdrawResult::Success),
+        OperationBody::ClawbackClaimableBalance(_) => OperationResultTr::ClawbackClaimableBalance(
+            ClawbackClaimableBalanceResult::Success,
+        ),
+        OperationBody::SetTrustLineFlags(_) => OperationResultTr::SetTrustLineFlags(
+            SetTrustLineFlagsResult::Success,
+        ),
+        OperationBody::LiquidityPoolDeposit(_) => OperationResultTr::LiquidityPoolDeposit(
+            LiquidityPoolDepositResult::Success,
+        ),
+        OperationBody::LiquidityPoolWithdraw(_) => OperationResultTr::LiquidityPoolWithdraw(
+            LiquidityPoolWithdrawResult::Success,
+        ),
     }
 }

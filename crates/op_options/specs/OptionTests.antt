@@ -78,10 +78,14 @@ new_flags set_op flags =
     bit_or (bit_xor flags (bit_and flags (flags_in set_op.clear_flags))) (flags_in set_op.set_flags)
 
 abbrev pub source_tests : SetOptionsOp → AccountEntry → Tests OperationResult
-source_tests set_op account =
-    (not (nat_eq (bit_and account.flags 4) 0)
-    && (not (nat_eq (flags_in set_op.clear_flags) 0) || not (nat_eq (flags_in set_op.set_flags) 0)),
-    answer set.CantChange)
-    ∷ (not (nat_eq (bit_and (new_flags set_op account.flags) 8) 0)
-    && nat_eq (bit_and (new_flags set_op account.flags) 2) 0, answer set.AuthRevocableRequired)
+source_tests set_op account = (
+  not (nat_eq (bit_and account.flags 4) 0)
+      && (not (nat_eq (flags_in set_op.clear_flags) 0) || not (nat_eq (flags_in set_op.set_flags) 0)),
+  answer set.CantChange,
+)
+    ∷ (
+      not (nat_eq (bit_and (new_flags set_op account.flags) 8) 0)
+          && nat_eq (bit_and (new_flags set_op account.flags) 2) 0,
+      answer set.AuthRevocableRequired,
+    )
     ∷ []

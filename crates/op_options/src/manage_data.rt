@@ -132,11 +132,7 @@ fn add<B: Base>(
 }
 
 /// The entry of new data.
-fn new_data(
-    ctx: &Ctx,
-    name: &ItemList<u8>,
-    value: &ItemList<u8>,
-) -> Result<LedgerEntry, AllocError>
+fn new_data(ctx: &Ctx, name: &ItemList<u8>, value: &ItemList<u8>) -> Result<LedgerEntry, AllocError>
     requires { ctx.now.seq < 2147483647 }
     ensures value { IfOk result (λ entry. entry ≡ spec.new_data ctx.now name.now value.now) }
     ensures ready { IfOk result (λ entry.

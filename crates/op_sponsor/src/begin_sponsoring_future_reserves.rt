@@ -55,10 +55,7 @@ fn refusal(op: &BeginSponsoringFutureReservesOp, ctx: &Ctx) -> Option<OperationR
 }
 
 /// Opens the sponsorship.
-fn open_sponsorship(
-    op: &BeginSponsoringFutureReservesOp,
-    ctx: &mut Ctx,
-) -> Result<(), AllocError>
+fn open_sponsorship(op: &BeginSponsoringFutureReservesOp, ctx: &mut Ctx) -> Result<(), AllocError>
     ensures { OnOk result (ctx.new ≡ spec.with_sponsorship_opened op.now ctx.old) }
 {
     let sponsor = ctx.op_source;

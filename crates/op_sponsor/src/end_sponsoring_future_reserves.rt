@@ -11,8 +11,7 @@ use sponsor_rules::Ctx;
 /// END_SPONSORING_FUTURE_RESERVES: the source pays itself from now on for what it adds. The entries stay. It takes no
 /// memory.
 pub fn end_sponsoring<B: Base>(ctx: &mut Ctx, _entries: &Entries<'_, B>) -> OperationResult
-    ensures {
-        Does result ctx.new _entries.now _entries.now (
+    ensures { Does result ctx.new _entries.now _entries.now (
         done_of ctx.old _entries.now.current (spec.end_sponsoring ctx.old _entries.now.current)) }
 {
     match place_of_sponsorship(ctx) {

@@ -123,7 +123,11 @@ fn is_balance(body: &LedgerEntryBody) -> bool
 fn entry_refusal(ctx: &Ctx, entry: &LedgerEntry) -> Option<OperationResult>
     ensures { result ≡ first_fault (spec.entry_tests ctx.now entry.now) }
 {
-    if !is_payer(&ctx.op_source, &sponsor_in(&entry.ext), &owner_of(&entry.body)) {
+    if !is_payer(
+        &ctx.op_source,
+        &sponsor_in(&entry.ext),
+        &owner_of(&entry.body),
+    ) {
         return Some(answer(RevokeSponsorshipResult::NotSponsor));
     }
     if is_balance(&entry.body) && open_sponsor(ctx, &ctx.op_source).is_none() {

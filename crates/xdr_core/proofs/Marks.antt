@@ -100,8 +100,7 @@ marked_at max p q v e =
     let left : length n.0.1.rest ≡ length p.rest - 4 =
     ap (λ (x : List ℕ). length x) ahead ∙ length-drop 4 p.rest in
     let behind : length q.rest ≡ length n.0.1.rest - n.0.0 =
-    ap (λ (x : List ℕ × Place). length x.1.rest) (sym b.1) ∙ length-drop n.0.0 n.0.1.rest in
-    (
+    ap (λ (x : List ℕ × Place). length x.1.rest) (sym b.1) ∙ length-drop n.0.0 n.0.1.rest in (
       omega arith,
       ap (λ (k : ℕ). take k (drop 4 p.rest)) len ∙ ap (λ (x : List ℕ). take n.0.0 x) (sym ahead) ∙ value,
       omega arith,

@@ -16,11 +16,11 @@ debit-requires-clause-range g c =
     let id = c.args.ctx.now.op_source in
     let was = c.requires.source.0 in
     let same_map : c.args.entries.now.current ≡ c.child.new.self.current =
-        ap (λ (u : Undo). u.current) (sym c.in_ok-child.ensures) in
+    ap (λ (u : Undo). u.current) (sym c.in_ok-child.ensures) in
     let stands : account_at c.child.new.self.current id ≡ Some was =
-        subst (λ (m : EntryMap). account_at m id ≡ Some was) same_map c.requires.source.1 in
+    subst (λ (m : EntryMap). account_at m id ≡ Some was) same_map c.requires.source.1 in
     let named : key_of c.new_entry.result ≡ key.Account c.args.op.now.destination =
-        ap key_of c.new_entry.ensures.value in
+    ap key_of c.new_entry.ensures.value in
     let apart : c.args.op.now.destination ≢ id = apart_accounts c.args.op.now.destination id c.requires.apart in
     range_kept _ id was (c.in-Ok.ensures.means.kept id was (λ same. apart (cc (same, named))) stands)
     (c.requires.in_range.in_range id was c.requires.source.1)

@@ -54,7 +54,8 @@ pub apart_sorted : (txs sorted : List Queued) → IsPermutation txs sorted → I
 apart_sorted txs sorted moved apart =
     let after = IsDistinct-IsPermutation has_place_of places_flip txs sorted moved apart in
     IsDistinct-from_apart (eq_by_cmp queued_cmp) sorted
-    (λ i j d h g. queued_apart (get_or sorted i d) (get_or sorted j d) (apart_from_distinct has_place_of sorted i j d after h g))
+    (λ i j d h g. queued_apart (get_or sorted i d) (get_or sorted j d)
+    (apart_from_distinct has_place_of sorted i j d after h g))
 
 -- what is made of each is apart where what they are made of is
 apart_map : {Y : Type 0} (cmp : Y → Y → Ordering) (f : Queued → Y) (txs : List Queued)

@@ -98,4 +98,5 @@ pub sorted_is_ranked : {X : Type 0} {R : X → X → Ordering} (o : IsTotalOrder
     → IsSorted R ys → IsDistinct (eq_by_cmp R) xs → X → ranked R xs ≡ ys
 sorted_is_ranked {R} o xs ys moved sorted apart d =
     let same : length ys ≡ length xs = length_permutation xs ys moved in
-    first_are o xs ys moved sorted apart (length xs) d (omega (arith, same)) ∙ take_all (length xs) ys (omega (arith, same))
+    first_are o xs ys moved sorted apart (length xs) d (omega (arith, same))
+    ∙ take_all (length xs) ys (omega (arith, same))

@@ -1,5 +1,6 @@
 -- The rank in a queue, by the place where the run of its source begins.
-use Rattle.std.proofs.Common.{◌≡◌, ◌≢◌, ℕ, ◌+◌, ◌-◌, ◌<◌, ◌≤◌, Bool, true, false, ◌&&◌, List, length, get_or, refl, ap, ◌∙◌, sym, subst, arith, ◌⊎◌, inl, inr}
+use Rattle.std.proofs.Common.{◌≡◌, ◌≢◌, ℕ, ◌+◌, ◌-◌, ◌<◌, ◌≤◌, Bool, true, false, ◌&&◌, List, length, get_or, refl, ap}
+use Rattle.std.proofs.Common.{◌∙◌, sym, subst, arith, ◌⊎◌, inl, inr}
 use Rattle.std.specs.List.{IsDistinct}
 use Rattle.std.specs.List.Sorted.{IsSorted}
 use Rattle.std.specs.declared.cmp.Ordering.{Ordering}
@@ -80,35 +81,47 @@ differs a b r e h = λ s. not_equal r h (sym e ∙ subst (λ x. account_cmp a x 
 -- ---- ranks
 
 -- the rank is how far the run of its source has come
-pub rank_is : (txs : List Queued) (start i : ℕ) (d : Queued) → IsSorted queued_cmp txs → IsDistinct (eq_by_cmp queued_cmp) txs → start ≤ i → i < length txs
-    → ((j : ℕ) → start ≤ j → j < i → (get_or txs j d).source ≡ (get_or txs i d).source) → ((j : ℕ) → j < start → (get_or txs j d).source ≢ (get_or txs i d).source)
+pub rank_is : (txs : List Queued) (start i : ℕ) (d : Queued) → IsSorted queued_cmp txs
+    → IsDistinct (eq_by_cmp queued_cmp) txs → start ≤ i → i < length txs
+    → ((j : ℕ) → start ≤ j → j < i → (get_or txs j d).source ≡ (get_or txs i d).source)
+    → ((j : ℕ) → j < start → (get_or txs j d).source ≢ (get_or txs i d).source)
     → queue_rank txs (get_or txs i d) ≡ i - start
 rank_is txs start i d sorted apart le within same before =
     let tx = get_or txs i d in
     let far = sorted_far (λ x y. is_lt (queued_cmp x y)) (ranks_by queued_total (λ x. x)) txs sorted in
     middle_counted (λ other. is_ahead other tx) d txs start i le (omega arith)
-    (λ j h. ahead_apart (account_cmp (get_or txs j d).source tx.source) (queue_cmp (get_or txs j d) tx) (λ e. before j h (same_source _ _ e)))
+    (λ j h. ahead_apart (account_cmp (get_or txs j d).source tx.source) (queue_cmp (get_or txs j d) tx)
+    (λ e. before j h (same_source _ _ e)))
     (λ j h g. ahead_true (account_cmp (get_or txs j d).source tx.source) (queue_cmp (get_or txs j d) tx)
     (subst (λ s. account_cmp (get_or txs j d).source s ≡ Equal) (same j h g) (tied_source (get_or txs j d).source))
-    (must_be_less _ _ (queued_total.antisymm (get_or txs j d) tx) (far j i d (omega arith) within) (apart_from_distinct (eq_by_cmp queued_cmp) txs j i d apart g within)))
-    (λ j h g. ahead_false (account_cmp (get_or txs j d).source tx.source) (queue_cmp (get_or txs j d) tx) (far i j d h g))
+    (must_be_less _ _ (queued_total.antisymm (get_or txs j d) tx) (far j i d (omega arith) within)
+    (apart_from_distinct (eq_by_cmp queued_cmp) txs j i d apart g within)))
+    (λ j h g. ahead_false (account_cmp (get_or txs j d).source tx.source) (queue_cmp (get_or txs j d) tx)
+    (far i j d h g))
 
 -- two places of one source with no other source between them
-sandwiched : (txs : List Queued) (j start i : ℕ) → IsSorted queued_cmp txs → j ≤ start → start ≤ i → i < length txs → (at txs j).source ≡ (at txs i).source
+sandwiched : (txs : List Queued) (j start i : ℕ) → IsSorted queued_cmp txs → j ≤ start → start ≤ i → i < length txs
+    → (at txs j).source ≡ (at txs i).source
     → (at txs start).source ≡ (at txs i).source
 sandwiched txs j start i sorted low high within e =
     let far = sorted_far (λ x y. is_lt (queued_cmp x y)) (ranks_by queued_total (λ x. x)) txs sorted in
     let a = (at txs start).source in
     let b = (at txs i).source in
-    let first : is_lt (account_cmp a (at txs j).source) ≡ false = source_first _ (queue_cmp (at txs start) (at txs j)) (far j start no_tx low (omega arith)) in
-    let second : is_lt (account_cmp b a) ≡ false = source_first _ (queue_cmp (at txs i) (at txs start)) (far start i no_tx high within) in
-    same_source a b (neither_less (account_cmp a b) (account_cmp b a) (bytes_total.antisymm a.0 b.0) (subst (λ s. is_lt (account_cmp a s) ≡ false) e first) second)
+    let first : is_lt (account_cmp a (at txs j).source)
+        ≡ false = source_first _ (queue_cmp (at txs start) (at txs j)) (far j start no_tx low (omega arith)) in
+    let second : is_lt (account_cmp b a)
+        ≡ false = source_first _ (queue_cmp (at txs i) (at txs start)) (far start i no_tx high within) in
+    same_source a b (neither_less (account_cmp a b) (account_cmp b a) (bytes_total.antisymm a.0 b.0)
+    (subst (λ s. is_lt (account_cmp a s) ≡ false) e first) second)
 
 -- where another source begins at i, no earlier place has its source
-earlier : (txs : List Queued) (start i : ℕ) → IsSorted queued_cmp txs → start ≤ i → i < length txs → IsRun txs start i → (at txs start).source ≢ (at txs i).source
-    → (j : ℕ) → j < i → ((leb start j ≡ true) × (start ≤ j)) ⊎ ((leb start j ≡ false) × (j < start)) → (at txs j).source ≢ (at txs i).source
+earlier : (txs : List Queued) (start i : ℕ) → IsSorted queued_cmp txs → start ≤ i → i < length txs → IsRun txs start i
+    → (at txs start).source ≢ (at txs i).source
+    → (j : ℕ) → j < i → ((leb start j ≡ true) × (start ≤ j)) ⊎ ((leb start j ≡ false) × (j < start))
+    → (at txs j).source ≢ (at txs i).source
 earlier txs start i sorted le within run differ j h (inl g) = λ e. differ (sym (run.same j g.1 h) ∙ e)
-earlier txs start i sorted le within run differ j h (inr g) = λ e. differ (sandwiched txs j start i sorted (omega (arith, g.1)) le within e)
+earlier txs start i sorted le within run differ j h (inr g) = λ e. differ
+    (sandwiched txs j start i sorted (omega (arith, g.1)) le within e)
 
 -- ---- one turn more
 
@@ -117,62 +130,89 @@ pub record SoFar (set_hash : Hash) (txs : List Queued) (turns : List Turn) (star
   pub low : start ≤ i
   pub run : IsRun txs start i
 
-one_more : (set_hash : Hash) (txs : List Queued) (turns : List Turn) (start i : ℕ) (tx : Queued) → IsSorted queued_cmp txs → IsDistinct (eq_by_cmp queued_cmp) txs → i < length txs → tx ≡ at txs i → start ≤ i
-    → ((j : ℕ) → start ≤ j → j < i → (at txs j).source ≡ (at txs i).source) → ((j : ℕ) → j < start → (at txs j).source ≢ (at txs i).source) → turns ≡ map (turn_of set_hash txs) (take i txs)
-    → turns ++ record { queue_rank = i - start; mixed = mixed_hash tx.full_hash set_hash; place = tx.place } ∷ [] ≡ map (turn_of set_hash txs) (take (i + 1) txs)
+one_more : (set_hash : Hash) (txs : List Queued) (turns : List Turn) (start i : ℕ) (tx : Queued)
+    → IsSorted queued_cmp txs → IsDistinct (eq_by_cmp queued_cmp) txs → i < length txs → tx ≡ at txs i → start ≤ i
+    → ((j : ℕ) → start ≤ j → j < i → (at txs j).source ≡ (at txs i).source)
+    → ((j : ℕ) → j < start → (at txs j).source ≢ (at txs i).source) → turns ≡ map (turn_of set_hash txs) (take i txs)
+    → turns ++ record { queue_rank = i - start; mixed = mixed_hash tx.full_hash set_hash; place = tx.place } ∷ []
+    ≡ map (turn_of set_hash txs) (take (i + 1) txs)
 one_more set_hash txs turns start i tx sorted apart within there le same before done =
     let rank : queue_rank txs (at txs i) ≡ i - start = rank_is txs start i no_tx sorted apart le within same before in
     let next : suc i ≡ i + 1 = omega arith in
-    let turn : record { queue_rank = i - start; mixed = mixed_hash tx.full_hash set_hash; place = tx.place } ≡ turn_of set_hash txs (at txs i) = λ k. record { queue_rank = sym rank k; mixed = mixed_hash (there k).full_hash set_hash; place = (there k).place } in
-    ap (λ ts. ts ++ record { queue_rank = i - start; mixed = mixed_hash tx.full_hash set_hash; place = tx.place } ∷ []) done
+    let turn : record { queue_rank = i - start; mixed = mixed_hash tx.full_hash set_hash; place = tx.place }
+        ≡ turn_of set_hash txs
+        (at txs i) = λ k. record
+        { queue_rank = sym rank k; mixed = mixed_hash (there k).full_hash set_hash; place = (there k).place } in
+    ap (λ ts. ts ++ record { queue_rank = i - start; mixed = mixed_hash tx.full_hash set_hash; place = tx.place } ∷ [])
+    done
     ∙ ap (λ (t : Turn). map (turn_of set_hash txs) (take i txs) ++ t ∷ []) turn
     ∙ sym (map-append (turn_of set_hash txs) (take i txs) (at txs i ∷ []))
     ∙ ap (map (turn_of set_hash txs)) (sym (take-suc txs i no_tx within))
     ∙ ap (λ n. map (turn_of set_hash txs) (take n txs)) next
 
-same_there : (txs : List Queued) (start i : ℕ) → IsRun txs start i → (at txs start).source ≡ (at txs i).source → (j : ℕ) → start ≤ j → j < i → (at txs j).source ≡ (at txs i).source
+same_there : (txs : List Queued) (start i : ℕ) → IsRun txs start i → (at txs start).source ≡ (at txs i).source → (j : ℕ)
+    → start ≤ j → j < i → (at txs j).source ≡ (at txs i).source
 same_there txs start i run e j h g = run.same j h g ∙ e
 
-longer : (txs : List Queued) (start i : ℕ) → IsRun txs start i → (at txs start).source ≡ (at txs i).source → (j : ℕ) → start ≤ j → j < i + 1
+longer : (txs : List Queued) (start i : ℕ) → IsRun txs start i → (at txs start).source ≡ (at txs i).source → (j : ℕ)
+    → start ≤ j → j < i + 1
     → ((leb i j ≡ true) × (i ≤ j)) ⊎ ((leb i j ≡ false) × (j < i)) → (at txs j).source ≡ (at txs start).source
-longer txs start i run e j h g (inl t) = let last : j ≡ i = omega (arith, t.1) in ap (λ k. (at txs k).source) last ∙ sym e
+longer txs start i run e j h g (inl t) = let last : j ≡ i = omega (arith, t.1) in ap (λ k. (at txs k).source) last
+    ∙ sym e
 longer txs start i run e j h g (inr t) = run.same j h t.1
 
 alone : (txs : List Queued) (i j : ℕ) → i ≤ j → j < i + 1 → (at txs j).source ≡ (at txs i).source
 alone txs i j h g = let last : j ≡ i = omega arith in ap (λ k. (at txs k).source) last
 
-step_by : (set_hash : Hash) (txs : List Queued) (turns : List Turn) (start i : ℕ) (first tx : Queued) (r : Ordering) → IsSorted queued_cmp txs → IsDistinct (eq_by_cmp queued_cmp) txs → i < length txs
-    → first ≡ at txs start → tx ≡ at txs i → SoFar set_hash txs turns start i → account_cmp first.source tx.source ≡ r → is_eq r ≡ true
-    → SoFar set_hash txs (turns ++ record { queue_rank = i - start; mixed = mixed_hash tx.full_hash set_hash; place = tx.place } ∷ []) start (i + 1)
+step_by : (set_hash : Hash) (txs : List Queued) (turns : List Turn) (start i : ℕ) (first tx : Queued) (r : Ordering)
+    → IsSorted queued_cmp txs → IsDistinct (eq_by_cmp queued_cmp) txs → i < length txs
+    → first ≡ at txs start → tx ≡ at txs i → SoFar set_hash txs turns start i → account_cmp first.source tx.source ≡ r
+    → is_eq r ≡ true
+    → SoFar set_hash txs (turns
+    ++ record { queue_rank = i - start; mixed = mixed_hash tx.full_hash set_hash; place = tx.place } ∷ []) start (i + 1)
 step_by set_hash txs turns start i first tx r sorted apart within at_start at_i far e is =
     let equal : account_cmp first.source tx.source ≡ Equal = e ∙ only_equal r is in
-    let one : (at txs start).source ≡ (at txs i).source = ap (λ (q : Queued). q.source) (sym at_start) ∙ same_source first.source tx.source equal ∙ ap (λ (q : Queued). q.source) at_i in
+    let one : (at txs start).source ≡ (at txs i).source = ap (λ (q : Queued). q.source) (sym at_start)
+        ∙ same_source first.source tx.source equal ∙ ap (λ (q : Queued). q.source) at_i in
     record {
-      done = one_more set_hash txs turns start i tx sorted apart within at_i far.low (same_there txs start i far.run one) (λ j h. λ s. far.run.before j h (s ∙ sym one)) far.done;
+      done = one_more set_hash txs turns start i tx sorted apart within at_i far.low
+          (same_there txs start i far.run one) (λ j h. λ s. far.run.before j h (s ∙ sym one)) far.done;
       low = (let low = far.low in omega arith);
       run = record { same = λ j h g. longer txs start i far.run one j h g (leb_tells i j); before = far.run.before };
     }
 
-step_fresh : (set_hash : Hash) (txs : List Queued) (turns : List Turn) (start i : ℕ) (first tx : Queued) (r : Ordering) → IsSorted queued_cmp txs → IsDistinct (eq_by_cmp queued_cmp) txs → i < length txs
-    → first ≡ at txs start → tx ≡ at txs i → SoFar set_hash txs turns start i → account_cmp first.source tx.source ≡ r → is_eq r ≡ false
-    → SoFar set_hash txs (turns ++ record { queue_rank = i - i; mixed = mixed_hash tx.full_hash set_hash; place = tx.place } ∷ []) i (i + 1)
+step_fresh : (set_hash : Hash) (txs : List Queued) (turns : List Turn) (start i : ℕ) (first tx : Queued) (r : Ordering)
+    → IsSorted queued_cmp txs → IsDistinct (eq_by_cmp queued_cmp) txs → i < length txs
+    → first ≡ at txs start → tx ≡ at txs i → SoFar set_hash txs turns start i → account_cmp first.source tx.source ≡ r
+    → is_eq r ≡ false
+    → SoFar set_hash txs (turns
+    ++ record { queue_rank = i - i; mixed = mixed_hash tx.full_hash set_hash; place = tx.place } ∷ []) i (i + 1)
 step_fresh set_hash txs turns start i first tx r sorted apart within at_start at_i far e is =
     let other : first.source ≢ tx.source = differs first.source tx.source r e is in
-    let apart_there : (at txs start).source ≢ (at txs i).source = λ s. other (ap (λ (q : Queued). q.source) at_start ∙ s ∙ ap (λ (q : Queued). q.source) (sym at_i)) in
-    let before = λ (j : ℕ) (h : j < i). earlier txs start i sorted far.low within far.run apart_there j h (leb_tells start j) in
+    let apart_there : (at txs start).source ≢ (at txs i).source = λ s. other
+        (ap (λ (q : Queued). q.source) at_start ∙ s ∙ ap (λ (q : Queued). q.source) (sym at_i)) in
+    let before = λ (j : ℕ) (h : j < i). earlier txs start i sorted far.low within far.run apart_there j h
+        (leb_tells start j) in
     record {
-      done = one_more set_hash txs turns i i tx sorted apart within at_i (omega arith) (λ j h g. absurd (omega arith)) before far.done;
+      done = one_more set_hash txs turns i i tx sorted apart within at_i (omega arith)
+          (λ j h g. absurd (omega arith)) before far.done;
       low = omega arith;
       run = record { same = λ j h g. alone txs i j h g; before = before };
     }
 
 -- the invariant after one turn more
-pub step : (set_hash : Hash) (txs : List Queued) (turns : List Turn) (start i : ℕ) (first tx : Queued) (r : Ordering) → IsSorted queued_cmp txs → IsDistinct (eq_by_cmp queued_cmp) txs → i < length txs
+pub step : (set_hash : Hash) (txs : List Queued) (turns : List Turn) (start i : ℕ) (first tx : Queued) (r : Ordering)
+    → IsSorted queued_cmp txs → IsDistinct (eq_by_cmp queued_cmp) txs → i < length txs
     → first ≡ at txs start → tx ≡ at txs i → SoFar set_hash txs turns start i → account_cmp first.source tx.source ≡ r
-    → SoFar set_hash txs (turns ++ record { queue_rank = i - cond (is_eq r) start i; mixed = mixed_hash tx.full_hash set_hash; place = tx.place } ∷ []) (cond (is_eq r) start i) (i + 1)
-step set_hash txs turns start i first tx Less sorted apart within at_start at_i far e = step_fresh set_hash txs turns start i first tx Less sorted apart within at_start at_i far e refl
-step set_hash txs turns start i first tx Equal sorted apart within at_start at_i far e = step_by set_hash txs turns start i first tx Equal sorted apart within at_start at_i far e refl
-step set_hash txs turns start i first tx Greater sorted apart within at_start at_i far e = step_fresh set_hash txs turns start i first tx Greater sorted apart within at_start at_i far e refl
+    → SoFar set_hash txs (turns
+    ++ record { queue_rank = i - cond (is_eq r) start i; mixed = mixed_hash tx.full_hash set_hash; place = tx.place } ∷
+    []) (cond (is_eq r) start i) (i + 1)
+step set_hash txs turns start i first tx Less sorted apart within at_start at_i far e = step_fresh set_hash txs turns
+    start i first tx Less sorted apart within at_start at_i far e refl
+step set_hash txs turns start i first tx Equal sorted apart within at_start at_i far e = step_by set_hash txs turns
+    start i first tx Equal sorted apart within at_start at_i far e refl
+step set_hash txs turns start i first tx Greater sorted apart within at_start at_i far e = step_fresh set_hash txs turns
+    start i first tx Greater sorted apart within at_start at_i far e refl
 
 pub next_low : (b : Bool) (start i : ℕ) → start ≤ i → cond b start i ≤ i
 next_low true start i h = h

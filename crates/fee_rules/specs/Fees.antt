@@ -1,5 +1,6 @@
 -- What a set charges (TxSetFrame::getBaseFee and TransactionFrame::getFee in stellar-core).
-use Rattle.std.specs.Prelude.{ℕ, ◌+◌, ◌-◌, ◌*◌, ◌/◌, min, max, nat_lt, nat_eq, ℤ, List, [], ◌∷◌, Bool, Option, Some, None}
+use Rattle.std.specs.Prelude.{ℕ, ◌+◌, ◌-◌, ◌*◌, ◌/◌, min, max, nat_lt, nat_eq, ℤ, List, [], ◌∷◌, Bool, Option, Some}
+use Rattle.std.specs.Prelude.{None}
 use Rattle.std.specs.Prelude.{if◌then◌else◌}
 use Rattle.std.specs.List.{sum_by}
 use Rattle.ledger_types.specs.declared.header.LedgerHeader.{LedgerHeader}

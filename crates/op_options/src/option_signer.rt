@@ -11,14 +11,11 @@ ghost use Rattle.op_options.specs.OptionSigner as spec;
 use crate::option_tests::answer;
 use entry_map::{Base, Entries};
 use entry_slots::{AccountSlot, load_account, store_account};
-use ledger_types::{AccountEntry, AccountId, Signer};
+use ledger_types::{AccountEntry, AccountId, MAX_SIGNERS, Signer};
 use op_form::fault_result;
 use op_types::{OperationResult, SetOptionsResult};
 use sponsor_rules::{AddFault, Ctx, add_signer, found_signer, remove_signer};
 use std::alloc::AllocError;
-
-/// An account has no more signers.
-const MAX_SIGNERS: usize = 20;
 
 /// Adds the signer that is given to the source, gives it its weight, or removes it where the weight is 0. It answers
 /// why the operation fails, and nothing has changed, or nothing.
@@ -63,7 +60,7 @@ fn add_new_signer<B: Base>(
         IsStep refusal entries.old entries.new (
         spec.map_after_new_signer ctx.now signer account.now entries.old.current)) }
 {
-    if MAX_SIGNERS <= account.signers.len() {
+    if MAX_SIGNERS as usize <= account.signers.len() {
         return Ok(Some(answer(SetOptionsResult::TooManySigners)));
     }
     match add_signer(entries, ctx, &ctx.op_source, signer) {

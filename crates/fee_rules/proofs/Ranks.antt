@@ -108,9 +108,9 @@ sandwiched txs j start i sorted low high within e =
     let a = (at txs start).source in
     let b = (at txs i).source in
     let first : is_lt (account_cmp a (at txs j).source)
-        ≡ false = source_first _ (queue_cmp (at txs start) (at txs j)) (far j start no_tx low (omega arith)) in
+    ≡ false = source_first _ (queue_cmp (at txs start) (at txs j)) (far j start no_tx low (omega arith)) in
     let second : is_lt (account_cmp b a)
-        ≡ false = source_first _ (queue_cmp (at txs i) (at txs start)) (far start i no_tx high within) in
+    ≡ false = source_first _ (queue_cmp (at txs i) (at txs start)) (far start i no_tx high within) in
     same_source a b (neither_less (account_cmp a b) (account_cmp b a) (bytes_total.antisymm a.0 b.0)
     (subst (λ s. is_lt (account_cmp a s) ≡ false) e first) second)
 
@@ -140,9 +140,9 @@ one_more set_hash txs turns start i tx sorted apart within there le same before 
     let rank : queue_rank txs (at txs i) ≡ i - start = rank_is txs start i no_tx sorted apart le within same before in
     let next : suc i ≡ i + 1 = omega arith in
     let turn : record { queue_rank = i - start; mixed = mixed_hash tx.full_hash set_hash; place = tx.place }
-        ≡ turn_of set_hash txs
-        (at txs i) = λ k. record
-        { queue_rank = sym rank k; mixed = mixed_hash (there k).full_hash set_hash; place = (there k).place } in
+    ≡ turn_of set_hash txs
+    (at txs i) = λ k. record
+    { queue_rank = sym rank k; mixed = mixed_hash (there k).full_hash set_hash; place = (there k).place } in
     ap (λ ts. ts ++ record { queue_rank = i - start; mixed = mixed_hash tx.full_hash set_hash; place = tx.place } ∷ [])
     done
     ∙ ap (λ (t : Turn). map (turn_of set_hash txs) (take i txs) ++ t ∷ []) turn
@@ -173,7 +173,7 @@ step_by : (set_hash : Hash) (txs : List Queued) (turns : List Turn) (start i : �
 step_by set_hash txs turns start i first tx r sorted apart within at_start at_i far e is =
     let equal : account_cmp first.source tx.source ≡ Equal = e ∙ only_equal r is in
     let one : (at txs start).source ≡ (at txs i).source = ap (λ (q : Queued). q.source) (sym at_start)
-        ∙ same_source first.source tx.source equal ∙ ap (λ (q : Queued). q.source) at_i in
+    ∙ same_source first.source tx.source equal ∙ ap (λ (q : Queued). q.source) at_i in
     record {
       done = one_more set_hash txs turns start i tx sorted apart within at_i far.low
           (same_there txs start i far.run one) (λ j h. λ s. far.run.before j h (s ∙ sym one)) far.done;
@@ -190,9 +190,9 @@ step_fresh : (set_hash : Hash) (txs : List Queued) (turns : List Turn) (start i 
 step_fresh set_hash txs turns start i first tx r sorted apart within at_start at_i far e is =
     let other : first.source ≢ tx.source = differs first.source tx.source r e is in
     let apart_there : (at txs start).source ≢ (at txs i).source = λ s. other
-        (ap (λ (q : Queued). q.source) at_start ∙ s ∙ ap (λ (q : Queued). q.source) (sym at_i)) in
+    (ap (λ (q : Queued). q.source) at_start ∙ s ∙ ap (λ (q : Queued). q.source) (sym at_i)) in
     let before = λ (j : ℕ) (h : j < i). earlier txs start i sorted far.low within far.run apart_there j h
-        (leb_tells start j) in
+    (leb_tells start j) in
     record {
       done = one_more set_hash txs turns i i tx sorted apart within at_i (omega arith)
           (λ j h g. absurd (omega arith)) before far.done;

@@ -14,8 +14,8 @@ returns g c =
     let id = c.args.id.now in
     let slot = c.in-Some.slot in
     let named : slot.account.account_id ≡ id =
-        subst (λ (o : Option AccountSlot). IfSome o (λ s. s.account.account_id ≡ id)) c.in-Some.is
-        c.in_ok-slot.ensures.keyed in
+    subst (λ (o : Option AccountSlot). IfSome o (λ s. s.account.account_id ≡ id)) c.in-Some.is
+    c.in_ok-slot.ensures.keyed in
     let loaded : IsLoaded m id (Some slot) = record {
       slot_is = sym c.in-Some.is ∙ c.in_ok-slot.ensures.slot;
       account_is = c.in_ok-slot.ensures.account ∙ ap account_of_slot c.in-Some.is;

@@ -42,7 +42,7 @@ use Rattle.legal_rules.proofs.Steps.{with_body, IsStep, replace_legal, legal_as}
 
 -- ---- what is stored
 
-int_same : (a b : ℤ) → int_eq a b ≡ true → a ≡ b
+pub int_same : (a b : ℤ) → int_eq a b ≡ true → a ≡ b
 int_same a b h = grind (arith, ints)
 
 both_true : (a b : Bool) → (a && b) ≡ true → (a ≡ true) × (b ≡ true)

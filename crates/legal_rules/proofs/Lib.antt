@@ -31,3 +31,4 @@ pub mod Kept
 pub mod Liable
 pub mod OffersKept
 pub mod Releasing
+pub mod Changed

@@ -19,3 +19,5 @@ pub mod EntryLaws
 pub mod SignerLaws
 pub mod Binding
 pub mod OfferLaws
+pub mod ChangeLaws
+pub mod PoolLaws

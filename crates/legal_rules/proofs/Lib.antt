@@ -32,3 +32,6 @@ pub mod Liable
 pub mod OffersKept
 pub mod Releasing
 pub mod Changed
+pub mod PoolsKept
+pub mod Given
+pub mod First

@@ -21,3 +21,5 @@ pub mod Binding
 pub mod OfferLaws
 pub mod ChangeLaws
 pub mod PoolLaws
+pub mod Consequences
+pub mod FirstStates

@@ -1,5 +1,5 @@
 -- A line, an offer or data that is added.
-use Rattle.std.proofs.Common.{◌≡◌, ◌≢◌, refl, sym, ap, subst, ◌∙◌, ℕ, ◌+◌, ◌≤◌, false, Option, Some, None, Ok, arith}
+use Rattle.std.proofs.Common.{◌≡◌, refl, sym, ap, subst, ◌∙◌, ℕ, ◌+◌, ◌≤◌, false, Option, Some, None, Ok, arith}
 use Rattle.std.proofs.lemmas.Int.{ints}
 use borrow.Author.Tests.{ltb-false}
 use Rattle.std.specs.Prelude.{ℤ, pos, neg_ℤ, ◌+ℤ◌, ◌≤ℤ◌}
@@ -11,8 +11,7 @@ use Rattle.ledger_types.specs.declared.key.LedgerKey.{LedgerKey}
 use Rattle.ledger_types.specs.declared.key.LedgerKey.TheVariants as key
 use Rattle.ledger_types.specs.Keys.{key_of}
 use Rattle.entry_map.specs.EntryMap.{EntryMap, put}
-use Rattle.entry_slots.specs.Accounts.{account_at, with_account, HasAccount}
-use Rattle.entry_slots.specs.AccountExtensions.{num_sponsoring}
+use Rattle.entry_slots.specs.Accounts.{account_at, HasAccount}
 use Rattle.entry_slots.specs.EntrySponsor.{sponsor_of, with_sponsor}
 use Rattle.sponsor_rules.specs.declared.context.Ctx.{Ctx}
 use Rattle.sponsor_rules.specs.declared.count.Count.TheVariants as count
@@ -33,7 +32,7 @@ use Rattle.legal_rules.proofs.AccountRanges.{MayBe}
 use Rattle.legal_rules.proofs.Counting.{neg_in_book}
 use Rattle.legal_rules.proofs.Steps.{legal_as, same_id_at}
 use Rattle.legal_rules.proofs.Putting.{put_legal, legal_wider}
-use Rattle.legal_rules.proofs.Payers.{HasRoom, IsBeside, beside_none, ArePaying, AreChanged, exchanged, owner_changed}
+use Rattle.legal_rules.proofs.Payers.{HasRoom, IsBeside, beside_none, AreChanged, exchanged, owner_changed}
 use Rattle.legal_rules.proofs.Payers.{subentry_step}
 use Rattle.legal_rules.proofs.Sponsors.{paid_books, owner_books, payer_books, split_books}
 use Rattle.legal_rules.proofs.Subentries.{IsSubentry, subentry_weighs, sponsored_weighs, paid_by_other, legal_recorded}
@@ -45,7 +44,7 @@ pub subentries_may : (a : AccountEntry) (n : ℕ) → is_full (Some a) n ≡ fal
 subentries_may a n full over =
     let few = ltb-false 1000 (count_if count.SubEntries (Some a) + n) full in
     let fits = ltb-false 4294967295 (count_if count.SubEntries (Some a) + count_if count.Sponsoring (Some a) + n) over
-        in
+    in
     (omega arith, omega arith)
 
 pub room_of : (m : EntryMap) (id : AccountId) (n : ℕ) → HasAccount m id → is_over (account_at m id) n ≡ false
@@ -121,7 +120,7 @@ module _ (v : View) (id_pool next : ℕ) (owed : Owed) (sum : ℤ) (ctx : Ctx) (
 
   weighs : (kind : Kind) (k : LedgerKey) → weight v kind k (sponsored_entry t entry)
       ≡ ((in_book Subentries (key.Account owner) (pos n) kind k +ℤ plus (owner_books n owner t)
-          (payer_books n t) kind k)
+      (payer_books n t) kind k)
       +ℤ beside_reserves (weighed v entry) kind k)
   weighs kind k = joined _ (weight v kind k entry) (paid_books n (Some owner) t kind k)
       (in_book Subentries (key.Account owner) (pos n) kind k) (beside_reserves (weighed v entry) kind k)
@@ -143,7 +142,7 @@ module _ (v : View) (id_pool next : ℕ) (owed : Owed) (sum : ℤ) (ctx : Ctx) (
       (put_legal v (IsEntryLegal next) Charged sum now
       (legal_wider v id_pool next Charged sum now h.wide changed.legal) entry (changed.absent (key_of entry) h.free)
       h.legal h.subentry.no_pool (λ id. subst (λ x. (x +ℤ offer_with id entry) ≤ℤ pos 1) (sym (changed.offers id))
-          (h.offers id)))
+      (h.offers id)))
       (λ kind k. settled (owed kind k) _ _ _ _ _ _ (neg_in_book Subentries (key.Account owner) (pos n) kind k)
       (ap (λ o. weight v kind k (sponsored_entry o entry)) (sym is) ∙ weighs kind k)) refl
   placed (Some x) is changed = legal_as v (IsEntryLegal next) _ (plus owed (beside_reserves (weighed v entry))) _ _ _
@@ -153,7 +152,7 @@ module _ (v : View) (id_pool next : ℕ) (owed : Owed) (sum : ℤ) (ctx : Ctx) (
       (legal_recorded next entry (Some x) (paid_by_other entry.body owner (Some x) h.subentry.owns
       (λ same. h.ready.other x is (cc))) h.legal)
       h.subentry.no_pool (λ id. subst (λ x. (x +ℤ offer_with id entry) ≤ℤ pos 1) (sym (changed.offers id))
-          (h.offers id)))
+      (h.offers id)))
       (λ kind k. settled (owed kind k) _ _ _ _ _ _ (neg_in_book Subentries (key.Account owner) (pos n) kind k)
       (ap (λ o. weight v kind k (sponsored_entry o entry)) (sym is) ∙ weighs kind k)) refl
 

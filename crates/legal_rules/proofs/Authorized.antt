@@ -1,25 +1,23 @@
 -- Lines that carry neither flag of authorisation are bound by no offer, and the lines of offers carry one.
-use Rattle.std.proofs.Common.{◌≡◌, ◌≢◌, refl, sym, ap, subst, ◌∙◌, ℕ, ◌%◌, ◌≤◌, Bool, true, false, [], ◌∷◌, ◌++◌, All}
+use Rattle.std.proofs.Common.{◌≡◌, refl, sym, ap, subst, ◌∙◌, ℕ, ◌≤◌, true, false, [], ◌∷◌, ◌++◌, All}
 use Rattle.std.proofs.Common.{Option, Some}
 use Rattle.std.proofs.Common.{None, arith}
 use Rattle.std.proofs.lemmas.Int.{ints}
 use Rattle.std.proofs.lemmas.List.Elements.{All-append, All-head, All-tail}
 use Rattle.std.specs.Prelude.{ℤ, pos, ◌≤ℤ◌, if◌then◌else◌}
 use Rattle.std.specs.FinMap.{get}
-use Rattle.ledger_types.specs.declared.trust_line.TrustLineEntry.{TrustLineEntry}
 use Rattle.ledger_types.specs.declared.entry.LedgerEntry.{LedgerEntry}
 use Rattle.ledger_types.specs.declared.entry.LedgerEntryBody.{LedgerEntryBody}
 use Rattle.ledger_types.specs.declared.entry.LedgerEntryBody.TheVariants as body
 use Rattle.ledger_types.specs.declared.key.LedgerKey.{LedgerKey}
 use Rattle.entry_map.specs.EntryMap.{EntryMap}
 use Rattle.entry_map.proofs.KeyMaps.{same_keys}
-use Rattle.entry_slots.specs.LineExtensions.{line_liabilities}
 use Rattle.entry_slots.specs.Lines.{line_in, line_of}
 use Rattle.entry_sums.specs.Sums.{total, EachEntry}
 use Rattle.entry_sums.proofs.Summing.{total_none, part_at_most}
 use Rattle.legal_rules.specs.EntryKeys.{is_key, for_key}
 use Rattle.legal_rules.specs.Trades.{holder, sells, buys}
-use Rattle.legal_rules.specs.Books.{Kind, Selling, Buying, counted, stated, stated_at}
+use Rattle.legal_rules.specs.Books.{Selling, Buying, counted, stated, stated_at}
 use Rattle.legal_rules.specs.Ranges.{IsBodyInRange, IsEntryInRange}
 use Rattle.legal_rules.specs.Needs.{keys_in}
 use Rattle.legal_rules.specs.Legal.{view, IsBooked, IsAuthorized, AreLinesAuthorized}
@@ -75,14 +73,13 @@ module _ (m : EntryMap) (authorized : EachEntry (λ q x. AreLinesAuthorized m x.
   by_body : (k : LedgerKey) (e : LedgerEntry) (b : LedgerEntryBody) → get m k ≡ Some e → e.body ≡ b → IsBoundRightly b
   by_body k e (body.TrustLine t) there is = λ none.
       let apart : IsAuthorized (line_of (get m k)) → ⊥ = λ passes. subst (λ x. IsAuthorized (line_in x)) is
-      (subst (λ o. IsAuthorized (line_of o)) there passes) none in
-      (
+      (subst (λ o. IsAuthorized (line_of o)) there passes) none in (
         sym (ap (stated_at Selling) there ∙ ap (stated Selling) is) ∙ selling k
-        ∙ total_none (counted (view m) Selling k) m (λ q x at. not_sold m authorized k apart x.body
-        (authorized q x at)),
+            ∙ total_none (counted (view m) Selling k) m (λ q x at. not_sold m authorized k apart x.body
+            (authorized q x at)),
         sym (ap (stated_at Buying) there ∙ ap (stated Buying) is) ∙ buying k
-        ∙ total_none (counted (view m) Buying k) m (λ q x at. not_bought m authorized k apart x.body
-        (authorized q x at)),
+            ∙ total_none (counted (view m) Buying k) m (λ q x at. not_bought m authorized k apart x.body
+            (authorized q x at)),
       )
   by_body k e other there is = tt
 
@@ -99,7 +96,7 @@ natural_some n some = omega (arith, ints)
 
 module _ (id_pool : ℕ) (m : EntryMap) (entries : EachEntry (λ k e. IsEntryInRange id_pool e) m)
     (bound : EachEntry (λ k e. IsBoundRightly e.body) m) (selling : IsBooked Selling m)
-        (buying : IsBooked Buying m) where
+    (buying : IsBooked Buying m) where
   abbrev IsPassed : LedgerKey → Type 0
   IsPassed q = IsAuthorized (line_of (get m q))
 

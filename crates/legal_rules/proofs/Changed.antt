@@ -1,14 +1,12 @@
 -- One account, one line or one pool that is changed in its place.
-use Rattle.std.proofs.Common.{◌≡◌, ◌≢◌, refl, sym, ap, subst, ◌∙◌, ℕ, ◌+◌, ◌≤◌, Bool, true, false, length, Option}
+use Rattle.std.proofs.Common.{◌≡◌, ◌≢◌, refl, sym, ap, subst, ◌∙◌, ℕ, ◌+◌, ◌≤◌, Bool, true, false, Option}
 use Rattle.std.proofs.Common.{Some, None, arith}
 use Rattle.std.proofs.lemmas.Int.{ints}
-use Rattle.std.specs.Prelude.{ℤ, pos, neg_ℤ, ◌+ℤ◌, ◌-ℤ◌, ◌≤ℤ◌, if◌then◌else◌}
+use Rattle.std.specs.Prelude.{ℤ, pos, ◌+ℤ◌, ◌-ℤ◌, ◌≤ℤ◌, if◌then◌else◌}
 use Rattle.std.specs.Ordering.{int_eq}
 use Rattle.std.specs.List.{count_by}
 use Rattle.std.specs.FinMap.{get}
-use Rattle.ledger_types.specs.declared.ids.AccountId.{AccountId}
 use Rattle.ledger_types.specs.declared.ids.Hash.{Hash}
-use Rattle.ledger_types.specs.declared.asset.TrustLineAsset.{TrustLineAsset}
 use Rattle.ledger_types.specs.declared.price.Liabilities.{Liabilities}
 use Rattle.ledger_types.specs.declared.account.AccountEntry.{AccountEntry}
 use Rattle.ledger_types.specs.declared.trust_line.TrustLineEntry.{TrustLineEntry}
@@ -22,25 +20,23 @@ use Rattle.ledger_types.specs.declared.key.LedgerKey.{LedgerKey}
 use Rattle.ledger_types.specs.declared.key.LedgerKey.TheVariants as key
 use Rattle.ledger_types.specs.Keys.{key_of_body}
 use Rattle.entry_map.specs.EntryMap.{EntryMap, put}
-use Rattle.entry_slots.specs.AccountExtensions.{num_sponsoring, num_sponsored}
 use Rattle.entry_slots.specs.EntrySponsor.{sponsor_of}
 use Rattle.entry_slots.specs.LineExtensions.{line_liabilities, line_liabilities_in, line_second_in, use_count_in}
 use Rattle.entry_slots.specs.LineExtensions.{use_count}
 use Rattle.entry_slots.specs.LineExtensions.{with_use_count, with_use_count_in, with_use_count_of}
 use Rattle.entry_slots.specs.AccountExtensions.{no_liabilities}
 use Rattle.entry_slots.specs.Pools.{pool_in, pool_of, pool_at, with_pool, with_pool_in, with_pool_of}
-use Rattle.reserve_rules.specs.Reserve.{IsLineInRange}
-use Rattle.sponsor_laws.specs.Sums.{is_there, signer_sponsors}
+use Rattle.sponsor_laws.specs.Sums.{is_there}
 use Rattle.legal_rules.specs.EntryKeys.{is_key, for_key, for_account}
 use Rattle.legal_rules.specs.Reserves.{is_for}
 use Rattle.legal_rules.specs.PoolShares.{pool_named, uses_by}
 use Rattle.legal_rules.specs.Books.{Kind, Subentries, Sponsoring, Sponsored, Selling, Buying, Shares, ShareLines, Uses}
 use Rattle.legal_rules.specs.Books.{View, counted}
-use Rattle.legal_rules.specs.Supply.{held, of_line}
+use Rattle.legal_rules.specs.Supply.{of_line}
 use Rattle.legal_rules.specs.ChangeLaws.{KeepsBooks, AccountChanged, KeepsLineBooks, in_shares, LineChanged}
 use Rattle.legal_rules.specs.ChangeLaws.{UsesCounted}
 use Rattle.legal_rules.specs.ChangeLaws.{KeepsParams, PoolChanged}
-use Rattle.legal_rules.specs.Owing.{weight, Owed, nothing_owed, in_book, plus, IsBoundRightly, IsEntryLegal}
+use Rattle.legal_rules.specs.Owing.{weight, Owed, nothing_owed, in_book, plus, IsEntryLegal}
 use Rattle.legal_rules.specs.Owing.{IsLegalOwing}
 use Rattle.legal_rules.proofs.Numbers.{plus_nothing}
 use Rattle.legal_rules.proofs.Liable.{int_same, IsLineMove, with_line_body, with_line_legal, line_entry}
@@ -172,7 +168,7 @@ counted_in n (Some ext) = counted_of n ext.ext
 
 first_bound : (b : Bool) (n : ℤ) → line_liabilities_in (if b then None
     else Some (record { liabilities = no_liabilities; ext = Some (record { liquidity_pool_use_count = n }) }))
-        ≡ no_liabilities
+    ≡ no_liabilities
 first_bound true n = refl
 first_bound false n = refl
 
@@ -228,8 +224,10 @@ module _ (n : ℤ) (t : TrustLineEntry) where
           };
           paid = was.range.paid;
         };
-        bound = λ none. (ap (λ (l : Liabilities). l.selling) now ∙ (was.bound none).0,
-          ap (λ (l : Liabilities). l.buying) now ∙ (was.bound none).1);
+        bound = λ none. (
+          ap (λ (l : Liabilities). l.selling) now ∙ (was.bound none).0,
+          ap (λ (l : Liabilities). l.buying) now ∙ (was.bound none).1,
+        );
         few = tt;
         fits = tt;
         filled = tt;
@@ -295,7 +293,7 @@ module _ (p q : LiquidityPoolEntry) (h : KeepsParams p q) where
   abbrev Fallen : Owed
   Fallen = plus (in_book Shares (key.LiquidityPool p.pool_id) (p.total_pool_shares -ℤ q.total_pool_shares))
       (in_book ShareLines (key.LiquidityPool p.pool_id) (p.pool_shares_trust_line_count -ℤ
-          q.pool_shares_trust_line_count))
+      q.pool_shares_trust_line_count))
 
   pool_books : (v : View) (e : LedgerEntry) (kind : Kind) (k : LedgerKey)
       → weight v kind k (with_pool_body e q) ≡ (weight v kind k (with_pool_body e p) +ℤ Fallen kind k)
@@ -303,7 +301,7 @@ module _ (p q : LiquidityPoolEntry) (h : KeepsParams p q) where
       ∙ states_less (is_key (key.LiquidityPool p.pool_id) k) p.total_pool_shares q.total_pool_shares
   pool_books v e ShareLines k = (λ i. pos 0 -ℤ (if ours k i then q.pool_shares_trust_line_count else pos 0))
       ∙ counts_less (is_key (key.LiquidityPool p.pool_id) k) p.pool_shares_trust_line_count
-          q.pool_shares_trust_line_count
+      q.pool_shares_trust_line_count
   pool_books v e Subentries k = (λ i. pos 0 -ℤ (if ours k i then pos 0 else pos 0)) ∙ sym (plus_nothing _)
   pool_books v e Sponsored k = (λ i. pos 0 -ℤ (if ours k i then pos 0 else pos 0)) ∙ sym (plus_nothing _)
   pool_books v e Sponsoring k = (λ i. counted v Sponsoring k (with_pool_body e p) -ℤ
@@ -318,7 +316,7 @@ pool_changed v id_pool owed sum m id f p legal stands keeps range filled =
     let found = pool_entry m id p stands in
     let e0 = with_pool_body found.0 p in
     let there : get m (key.LiquidityPool id) ≡ Some e0 = found.1.there
-        ∙ ap Some (λ i. record found.0 { body = found.1.is i }) in
+    ∙ ap Some (λ i. record found.0 { body = found.1.is i }) in
     let was = legal.entries (key.LiquidityPool id) e0 there in
     let same : key.LiquidityPool p.pool_id ≡ key.LiquidityPool id = legal.keyed (key.LiquidityPool id) e0 there in
     legal_as v (IsEntryLegal id_pool) _ _ _ _ _

@@ -1,17 +1,15 @@
 -- A count of an account that is set, raised or lowered.
-use Rattle.std.proofs.Common.{◌≡◌, refl, sym, ap, subst, ◌∙◌, ℕ, ◌+◌, ◌-◌, ◌≤◌, Bool, true, false, List, Option, Some}
-use Rattle.std.proofs.Common.{None, nat_eq, arith}
+use Rattle.std.proofs.Common.{◌≡◌, refl, sym, ap, ◌∙◌, ℕ, ◌+◌, ◌-◌, ◌≤◌, Bool, true, false}
+use Rattle.std.proofs.Common.{nat_eq, arith}
 use borrow.Author.Tests.{eqb-true}
 use Rattle.std.proofs.lemmas.Int.{ints}
 use Rattle.std.specs.Prelude.{ℤ, pos, neg_ℤ, ◌+ℤ◌, ◌-ℤ◌, if◌then◌else◌}
 use Rattle.ledger_types.specs.declared.ids.AccountId.{AccountId}
-use Rattle.ledger_types.specs.declared.signer.Signer.{Signer}
 use Rattle.ledger_types.specs.declared.account.AccountEntry.{AccountEntry}
-use Rattle.ledger_types.specs.declared.account.AccountEntryExtensionV2.{AccountEntryExtensionV2}
 use Rattle.ledger_types.specs.declared.entry.LedgerEntry.{LedgerEntry}
 use Rattle.ledger_types.specs.declared.key.LedgerKey.{LedgerKey}
 use Rattle.ledger_types.specs.declared.key.LedgerKey.TheVariants as key
-use Rattle.entry_slots.specs.AccountExtensions.{second_in, sponsored_in, sponsoring_in, sponsorship_in, num_sponsoring}
+use Rattle.entry_slots.specs.AccountExtensions.{second_in, num_sponsoring}
 use Rattle.entry_slots.specs.AccountExtensions.{num_sponsored}
 use Rattle.sponsor_rules.specs.declared.count.Count.{Count}
 use Rattle.sponsor_rules.specs.declared.count.Count.TheVariants as count
@@ -108,23 +106,23 @@ unfolding with_count
 count_moves which n a = elim (nat_eq n (count_in which a)) as (λ b. nat_eq n (count_in which a) ≡ b
     → IsMove (in_book (book_of which) (key.Account a.account_id) (pos (count_in which a) -ℤ pos n)) a
     (if b then a else with_new_count which n a)) [
-  | true ↦ λ same. record {
-    id = refl;
-    books = λ v kind k e. sym (ap (λ x. weight v kind k (with_body e a) +ℤ x)
-        (nothing_in_book (book_of which) (key.Account a.account_id) _
-        (no_difference n (count_in which a) (eqb-true _ _ same)) kind k) ∙ plus_nothing _);
-  }
-  | false ↦ λ h. record { id = same_id which n a; books = new_count_moves n a which }
-] refl
+      | true ↦ λ same. record {
+        id = refl;
+        books = λ v kind k e. sym (ap (λ x. weight v kind k (with_body e a) +ℤ x)
+            (nothing_in_book (book_of which) (key.Account a.account_id) _
+            (no_difference n (count_in which a) (eqb-true _ _ same)) kind k) ∙ plus_nothing _);
+      }
+      | false ↦ λ h. record { id = same_id which n a; books = new_count_moves n a which }
+    ] refl
 
 count_keeps : (id_pool : ℕ) (which : Count) (n : ℕ) (a : AccountEntry) → MayBe which n a
     → KeepsRange (IsEntryLegal id_pool) a (with_count which n a)
 unfolding with_count
 count_keeps id_pool which n a may = elim (nat_eq n (count_in which a)) as
     (λ b. KeepsRange (IsEntryLegal id_pool) a (if b then a else with_new_count which n a)) [
-  | true ↦ λ e was. was
-  | false ↦ new_count_keeps id_pool n a which may
-]
+      | true ↦ λ e was. was
+      | false ↦ new_count_keeps id_pool n a which may
+    ]
 
 -- its book owes what the count fell by
 count_step : (id_pool : ℕ) (which : Count) (n : ℕ) (a : AccountEntry) → MayBe which n a

@@ -79,8 +79,8 @@ two_low false = omega (arith, ints)
 sponsored_few : (id_pool : ℕ) (v : View) (k : LedgerKey) (e : LedgerEntry) (b : LedgerEntryBody) → e.body ≡ b
     → IsEntryLegal id_pool e
     → for_account k (owner_of b) ((if is_there (sponsor_of e) then multiplicity b else 0) + count_by is_there
-        (signer_sponsors_in b)) ≤ℤ (for_account k (owner_of b) (subentries_in b) +ℤ
-        (if is_key (key_of_body b) k then pos 2 else pos 0))
+    (signer_sponsors_in b)) ≤ℤ (for_account k (owner_of b) (subentries_in b) +ℤ
+    (if is_key (key_of_body b) k then pos 2 else pos 0))
 sponsored_few id_pool v k e (body.Account a) is range = both_or_none (is_key (key.Account a.account_id) k) _ _
     (few_for_account id_pool k e a is range)
 sponsored_few id_pool v k e (body.ClaimableBalance balance) is range = low_sum _
@@ -116,7 +116,7 @@ pub sponsored_at_most : (v : View) (id_pool : ℕ) (owed : Owed) (lumens : ℤ) 
 sponsored_at_most v id_pool owed lumens m k legal none = stated_few (stated_at Sponsored (get m k))
     (stated_at Subentries (get m k)) _ _ _ _ (owed Subentries k) (owed Sponsored k)
     (total_at_most (counted v Sponsored k) (λ e. counted v Subentries k e +ℤ own_two k e) m
-        (λ q e there. sponsored_few id_pool v k e e.body refl (legal.entries q e there)))
+    (λ q e there. sponsored_few id_pool v k e e.body refl (legal.entries q e there)))
     (total_plus (λ e. counted v Subentries k e +ℤ own_two k e) (counted v Subentries k) (own_two k) m (λ e. refl))
     (total_two m k legal.keyed)
     (total_of v (IsEntryLegal id_pool) owed lumens m legal Sponsored k)
@@ -147,17 +147,17 @@ spendable balance least selling amount low also le = omega (arith, ints)
 pub not_above_balance : (v : View) (id_pool : ℕ) (owed : Owed) (lumens : ℤ) (m : EntryMap) (id : AccountId)
     (a : AccountEntry) (base_reserve : ℕ) (amount : ℤ) → IsLegalOwing v id_pool owed lumens m
     → owed Subentries (key.Account id) ≤ℤ owed Sponsored (key.Account id) → account_at m id ≡ Some a
-        → amount ≤ℤ available a base_reserve → amount ≤ℤ a.balance
+    → amount ≤ℤ available a base_reserve → amount ≤ℤ a.balance
 not_above_balance v id_pool owed lumens m id a base_reserve amount legal none stands le =
     let found = account_entry m id a stands in
     let range : IsAccountInRange a = subst (IsBodyInRange id_pool) found.1.is
-        (legal.entries (key.Account id) found.0 found.1.there).range.body in
+    (legal.entries (key.Account id) found.0 found.1.there).range.body in
     let few = sponsored_at_most v id_pool owed lumens m (key.Account id) legal none in
     let sponsored = account_states m id a Sponsored stands in
     let subs = account_states m id a Subentries stands in
     spendable a.balance (min_balance a base_reserve) (account_liabilities a).selling amount
     (minimum_low a.num_sub_entries (num_sponsoring a) (num_sponsored a) base_reserve
-        (few_of _ _ _ _ sponsored subs few)) range.range.selling le
+    (few_of _ _ _ _ sponsored subs few)) range.range.selling le
   where
     few_of : (stated_sponsored stated_subs sponsored subs : ℤ) → stated_sponsored ≡ sponsored → stated_subs ≡ subs
         → stated_sponsored ≤ℤ (stated_subs +ℤ pos 2) → sponsored ≤ℤ (subs +ℤ pos 2)

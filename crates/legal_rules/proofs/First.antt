@@ -1,5 +1,5 @@
 -- The first states of ledgers.
-use Rattle.std.proofs.Common.{◌≡◌, ◌≢◌, refl, sym, ap, subst, ◌∙◌, ℕ, ◌+◌, ◌≤◌, Bool, true, false, cond, List, [], ◌∷◌}
+use Rattle.std.proofs.Common.{◌≡◌, refl, sym, ap, subst, ◌∙◌, ℕ, ◌+◌, ◌≤◌, Bool, true, false, cond, List, [], ◌∷◌}
 use Rattle.std.proofs.Common.{length, map}
 use Rattle.std.proofs.Common.{Option, Some, None, arith}
 use Rattle.std.proofs.lemmas.Int.{ints}
@@ -17,14 +17,13 @@ use Rattle.ledger_types.specs.declared.key.LedgerKey.{LedgerKey}
 use Rattle.ledger_types.specs.declared.key.LedgerKey.TheVariants as key
 use Rattle.ledger_types.specs.Keys.{key_of}
 use Rattle.ledger_types.specs.KeyOrder.{key_cmp}
-use Rattle.entry_map.specs.EntryMap.{EntryMap, put}
+use Rattle.entry_map.specs.EntryMap.{put}
 use Rattle.entry_map.proofs.KeyMaps.{same_itself}
-use Rattle.entry_slots.specs.AccountExtensions.{account_liabilities}
 use Rattle.sponsor_laws.specs.Sums.{is_there}
 use Rattle.entry_sums.specs.Sums.{Weight, total, part, EachEntry}
 use Rattle.entry_sums.proofs.Lookups.{put_each, put_there}
 use Rattle.entry_sums.proofs.Summing.{total_put, total_none}
-use Rattle.legal_rules.specs.EntryKeys.{is_key, for_account}
+use Rattle.legal_rules.specs.EntryKeys.{is_key}
 use Rattle.legal_rules.specs.Reserves.{is_for}
 use Rattle.legal_rules.specs.Books.{Kind, Subentries, Sponsoring, Sponsored, Selling, Buying, View, counted, stated_at}
 use Rattle.legal_rules.specs.Supply.{held}
@@ -32,8 +31,8 @@ use Rattle.legal_rules.specs.OfferIds.{offer_with, offer_with_in}
 use Rattle.legal_rules.specs.FirstStates.{IsPlainAccount, PlainStatesAreLegal, new_account, GenesisIsLegal}
 use Rattle.legal_rules.specs.FirstStates.{LoneAccounts}
 use Rattle.legal_rules.specs.Ranges.{IsAccountInRange}
-use Rattle.legal_rules.specs.Legal.{view, pools_in, IsBooked, IsLegal}
-use Rattle.legal_rules.specs.Owing.{weight, nothing_owed, IsEntryLegal}
+use Rattle.legal_rules.specs.Legal.{view, pools_in, IsBooked}
+use Rattle.legal_rules.specs.Owing.{weight, IsEntryLegal}
 use Rattle.legal_rules.proofs.Legality.{legal_of}
 use Rattle.legal_rules.proofs.Numbers.{taken_off}
 
@@ -81,8 +80,11 @@ module _ (v : View) (e : LedgerEntry) (p : IsPlainAccount e) where
 
   is_plain : e ≡ plain
   is_plain = (λ i. record e { body = p.is i; ext = p.unsponsored i })
-      ∙ (λ i. record e { body = body.Account (record a { num_sub_entries = p.subentries i; ext = p.unbound i }); ext =
-          None })
+      ∙ (λ i. record e {
+        body = body.Account (record a { num_sub_entries = p.subentries i; ext = p.unbound i });
+        ext =
+            None;
+      })
 
   pub weighs_nothing : (kind : Kind) (k : LedgerKey) → weight v kind k e ≡ pos 0
   weighs_nothing kind k = ap (weight v kind k) is_plain ∙ plain_weighs kind k
@@ -131,7 +133,7 @@ one_only new none old one is nothing zero = omega (arith, ints)
 one_total : (f : Weight) (e : LedgerEntry) → total f (put empty e) ≡ f e
 one_total f e = one_only (total f (put empty e)) (part f (get empty (key_of e))) (total f empty) (f e)
     (total_put f empty e) (ap (part f) (get-empty key_cmp (key_of e)))
-        (total_none f empty (nobody (λ k x. f x ≡ pos 0)))
+    (total_none f empty (nobody (λ k x. f x ≡ pos 0)))
 
 pub genesis_is_legal : GenesisIsLegal
 genesis_is_legal h seq root header range subs unsigned bare coins =

@@ -1,7 +1,7 @@
 -- What legality gives.
-use Rattle.std.proofs.Common.{◌≡◌, ◌≢◌, refl, sym, ap, subst, ◌∙◌, ℕ, ◌+◌, ◌<◌, ◌≤◌, Bool, true, false, cond, List, []}
+use Rattle.std.proofs.Common.{◌≡◌, ◌≢◌, refl, sym, ap, subst, ◌∙◌, ℕ, ◌≤◌, Bool, true, false, cond, List, []}
 use Rattle.std.proofs.Common.{◌∷◌, length}
-use Rattle.std.proofs.Common.{get_or, All, Contains, Option, Some, None, arith}
+use Rattle.std.proofs.Common.{get_or, All, Option, Some, None, arith}
 use Rattle.std.proofs.lemmas.Int.{ints}
 use Rattle.std.proofs.lemmas.List.Elements.{All-head, All-tail}
 use Rattle.std.proofs.lemmas.List.Sums.{get_or-le-sum_by}
@@ -12,33 +12,30 @@ use Rattle.std.specs.FinMap.{get}
 use Rattle.ledger_types.specs.declared.ids.AccountId.{AccountId}
 use Rattle.ledger_types.specs.declared.account.AccountEntry.{AccountEntry}
 use Rattle.ledger_types.specs.declared.header.LedgerHeader.{LedgerHeader}
-use Rattle.ledger_types.specs.declared.entry.LedgerEntry.{LedgerEntry}
-use Rattle.ledger_types.specs.declared.key.LedgerKey.{LedgerKey}
 use Rattle.ledger_types.specs.declared.key.LedgerKey.TheVariants as key
 use Rattle.entry_map.specs.EntryMap.{EntryMap}
 use Rattle.entry_map.proofs.KeyMaps.{same_itself}
 use Rattle.entry_slots.specs.Accounts.{account_at, HasAccount}
 use Rattle.entry_slots.specs.AccountExtensions.{num_sponsoring, num_sponsored}
 use Rattle.entry_slots.specs.EntrySponsor.{sponsor_of}
-use Rattle.sponsor_rules.specs.declared.context.Ctx.{Ctx}
 use Rattle.sponsor_rules.specs.declared.context.Sponsorship.{Sponsorship}
 use Rattle.sponsor_rules.specs.Charge.{multiplicity}
 use Rattle.sponsor_rules.specs.Payers.{is_same_account, open_sponsor}
 use Rattle.sponsor_rules.proofs.Ids.{same_account}
-use Rattle.sponsor_laws.specs.Sums.{signer_sponsors, SponsorsNothing}
+use Rattle.sponsor_laws.specs.Sums.{signer_sponsors}
 use Rattle.legal_rules.specs.EntryKeys.{is_key, for_account}
 use Rattle.legal_rules.specs.Reserves.{is_for}
-use Rattle.legal_rules.specs.Books.{Kind, Subentries, Sponsoring, Sponsored, counted, stated_at}
+use Rattle.legal_rules.specs.Books.{Subentries, Sponsoring, Sponsored, counted, stated_at}
 use Rattle.legal_rules.specs.Consequences.{AccountsInRange, AccountsReady, MinBalancesLow, SignersFew}
 use Rattle.legal_rules.specs.Consequences.{IdleSponsorsNothing, SponsorsReady, LegalOwesNothing}
 use Rattle.legal_rules.specs.Legal.{view, IsLegal}
-use Rattle.legal_rules.specs.Owing.{nothing_owed, IsEntryLegal}
+use Rattle.legal_rules.specs.Owing.{nothing_owed}
 use Rattle.legal_rules.proofs.Bounded.{account_legal, IsAccountLegal}
 use Rattle.legal_rules.proofs.Covered.{sponsored_at_most, account_states, minimum_low}
 use Rattle.legal_rules.proofs.Legality.{owing_nothing}
-use Rattle.legal_rules.proofs.Lows.{natural_low, for_account_low}
+use Rattle.legal_rules.proofs.Lows.{for_account_low}
 use Rattle.legal_rules.proofs.Merging.{nothing_counts}
-use Rattle.legal_rules.proofs.Needed.{for_own, paid_counts}
+use Rattle.legal_rules.proofs.Needed.{paid_counts}
 use Rattle.legal_rules.proofs.PaidFor.{counts_sponsoring}
 use Rattle.legal_rules.proofs.Standing.{counted_stated}
 use Rattle.legal_rules.proofs.Steps.{account_entry, body_there, same_id_at, with_body}
@@ -87,12 +84,11 @@ pub signers_few : SignersFew
 signers_few h m id a legal stands =
     let found = account_entry m id a stands in
     let there = body_there m id a found.0 found.1 in
-    let named = same_id_at m id a legal.keyed stands in
-    (
+    let named = same_id_at m id a legal.keyed stands in (
       natural_le (length a.signers) a.num_sub_entries (stated_at Subentries (get m (key.Account id)))
           (counted_stated (view m) h.id_pool nothing_owed (h.total_coins -ℤ h.fee_pool) m (owing_nothing h m legal)
           Subentries (key.Account id) (key.Account id) (with_body found.0 a) (pos (length a.signers))
-              (omega (arith, ints))
+          (omega (arith, ints))
           there (all_of (is_key (key.Account a.account_id) (key.Account id)) (length a.signers)
           (ap (λ i. is_key (key.Account i) (key.Account id)) named ∙ same_itself (key.Account id))))
           (account_states m id a Subentries stands),
@@ -142,11 +138,11 @@ found_in : (test : Sponsorship → Bool) (P : Sponsorship → Type 0) (xs : List
 found_in test P [] x is all = absurd (cc)
 found_in test P (y ∷ ys) x is all = elim (test y) as (λ b. test y ≡ b → cond b (Some y) (find test ys) ≡ Some x
     → (test x ≡ true) × P x) [
-  | true ↦ λ h at.
-      let same : y ≡ x = cc in
-      (ap test (sym same) ∙ h, subst P same (All-head P y ys all))
-  | false ↦ λ h later. found_in test P ys x later (All-tail P y ys all)
-] refl is
+      | true ↦ λ h at.
+          let same : y ≡ x = cc in
+          (ap test (sym same) ∙ h, subst P same (All-head P y ys all))
+      | false ↦ λ h later. found_in test P ys x later (All-tail P y ys all)
+    ] refl is
 
 of_found : (o : Option Sponsorship) (x : AccountId) → option_map (λ s. s.sponsor) o ≡ Some x
     → (s : Sponsorship) × (o ≡ Some s) × (s.sponsor ≡ x)
@@ -164,7 +160,7 @@ sponsors_ready ctx m owner sound = record {
   other = λ x is same.
       let found = of_found (find (λ s. is_same_account s.sponsored owner) ctx.sponsorships) x is in
       let has = found_in (λ s. is_same_account s.sponsored owner)
-          (λ s. s.sponsor ≢ s.sponsored) ctx.sponsorships found.0
+      (λ s. s.sponsor ≢ s.sponsored) ctx.sponsorships found.0
       found.1 sound.other in
       has.1 (found.2 ∙ same ∙ sym (same_account found.0.sponsored owner has.0));
 }

@@ -1,5 +1,5 @@
 -- Entries that are added and removed, by sponsor_rules' definitions.
-use Rattle.std.proofs.Common.{◌≡◌, ◌≢◌, refl, sym, ap, subst, ◌∙◌, ℕ, Bool, true, false, List, Option, Some, None, Ok}
+use Rattle.std.proofs.Common.{◌≡◌, refl, sym, ap, subst, ◌∙◌, ℕ, Bool, true, false, List, Option, Some, None, Ok}
 use Rattle.std.proofs.Common.{arith}
 use Rattle.std.proofs.lemmas.Int.{ints}
 use Rattle.std.specs.Prelude.{ℤ, pos, neg_ℤ, ◌+ℤ◌, ◌-ℤ◌, ◌≤ℤ◌, if◌then◌else◌}
@@ -90,7 +90,7 @@ pub moving_keeps : MovingKeeps
 moving_keeps h ctx k payer old new legal stands done =
     legal_of h (pools_in old) new legal.header
     (moved (view old) h.id_pool nothing_owed (h.total_coins -ℤ h.fee_pool) old
-        (owing_nothing h old legal) nothing_settled
+    (owing_nothing h old legal) nothing_settled
     k ctx payer stands new done)
 
 as_nothing : (t : ℤ) → t ≡ pos 0 → (pos 0 +ℤ t) ≡ pos 0

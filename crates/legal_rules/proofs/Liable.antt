@@ -19,11 +19,10 @@ use Rattle.ledger_types.specs.declared.entry.LedgerEntryBody.{LedgerEntryBody}
 use Rattle.ledger_types.specs.declared.entry.LedgerEntryBody.TheVariants as body
 use Rattle.ledger_types.specs.declared.key.LedgerKey.{LedgerKey}
 use Rattle.ledger_types.specs.declared.key.LedgerKey.TheVariants as key
-use Rattle.ledger_types.specs.Keys.{key_of_body}
 use Rattle.entry_map.specs.EntryMap.{EntryMap, put}
 use Rattle.entry_slots.specs.AccountExtensions.{no_liabilities, is_nothing, liabilities_in, with_liabilities_in}
 use Rattle.entry_slots.specs.AccountExtensions.{account_liabilities, second_in, sponsored_in, sponsoring_in}
-use Rattle.entry_slots.specs.AccountExtensions.{sponsorship_in, num_sponsoring, num_sponsored}
+use Rattle.entry_slots.specs.AccountExtensions.{sponsorship_in}
 use Rattle.entry_slots.specs.EntrySponsor.{sponsor_of}
 use Rattle.entry_slots.specs.LineExtensions.{line_liabilities, line_liabilities_in, with_line_liabilities_in}
 use Rattle.entry_slots.specs.LineExtensions.{line_second_in, use_count_in, use_count}
@@ -32,8 +31,8 @@ use Rattle.reserve_rules.specs.Reserve.{IsInRange, IsLineInRange}
 use Rattle.sponsor_laws.specs.Sums.{is_there, signer_sponsors}
 use Rattle.legal_rules.specs.EntryKeys.{is_key, for_account}
 use Rattle.legal_rules.specs.Reserves.{is_for}
-use Rattle.legal_rules.specs.Books.{Kind, Subentries, Sponsoring, Sponsored, Selling, Buying, Uses, View, counted}
-use Rattle.legal_rules.specs.Supply.{held, of_line}
+use Rattle.legal_rules.specs.Books.{Kind, Sponsoring, Sponsored, Selling, Buying, Uses, View, counted}
+use Rattle.legal_rules.specs.Supply.{of_line}
 use Rattle.legal_rules.specs.Binding.{risen, bound_account, bound_line}
 use Rattle.legal_rules.specs.Ranges.{AreSignersInRange}
 use Rattle.legal_rules.specs.Owing.{weight, Owed, in_book, plus, IsEntryLegal, IsLegalOwing}
@@ -209,7 +208,7 @@ pub record IsLineMove (more : Owed) (t u : TrustLineEntry) : Type 0 where
 -- A line that stands is changed.
 pub with_line_legal : (v : View) (id_pool : ℕ) (owed more : Owed) (sum : ℤ) (m : EntryMap) (id : AccountId)
     (asset : TrustLineAsset) (f : TrustLineEntry → TrustLineEntry) (t : TrustLineEntry)
-        → IsLegalOwing v id_pool owed sum m
+    → IsLegalOwing v id_pool owed sum m
     → line_at m id asset ≡ Some t → IsLineMove more t (f t)
     → ((e : LedgerEntry) → IsEntryLegal id_pool (with_line_body e t) → IsEntryLegal id_pool (with_line_body e (f t)))
     → IsLegalOwing v id_pool (plus owed more) (sum +ℤ (of_line v.asset (f t).asset (f t).balance

@@ -72,7 +72,7 @@ module _ (v : View) (id_pool : ℕ) (lumens : ℤ) (m : EntryMap)
   nothing_counts kind k none q x there = is_zero (counted v kind k x) (total (counted v kind k) m) (pos 0) _
       (counted_low id_pool v kind k x (legal.entries q x there).range)
       (part_at_most (counted v kind k) m q x (λ r y at. counted_low id_pool v kind k y (legal.entries r y at).range)
-          there)
+      there)
       (total_of v (IsEntryLegal id_pool) nothing_owed lumens m legal kind k) refl none
 
   settles : (counts states all : ℤ) → all ≡ (pos 0 +ℤ states) → all ≡ counts → (counts -ℤ states) ≡ pos 0
@@ -161,7 +161,7 @@ by_payer (Some sponsor) q = turned (for_account q (Some sponsor) 2)
 module _ (v : View) (id_pool : ℕ) (lumens : ℤ) (m : EntryMap) (legal : IsLegalOwing v id_pool nothing_owed lumens m)
     (x : LedgerEntry) (a : AccountEntry)
     (there : get m (key.Account a.account_id) ≡ Some (with_body x a)) (subs : a.num_sub_entries ≡ 0)
-        (pays : num_sponsoring a ≡ 0) where
+    (pays : num_sponsoring a ≡ 0) where
   abbrev e : LedgerEntry
   e = with_body x a
 
@@ -185,7 +185,7 @@ module _ (v : View) (id_pool : ℕ) (lumens : ℤ) (m : EntryMap) (legal : IsLeg
   sponsored_settled : (counted v Sponsored its_key e -ℤ pos (num_sponsored a)) ≡ pos 0
   sponsored_settled = alone_settled v id_pool lumens m legal Sponsored its_key e there
       (λ q y at apart. sponsored_for_none a.account_id v y y.body (λ same. apart (sym (legal.keyed q y at) ∙ same))
-          (no_subentries q y at) (sponsored_in_entry y))
+      (no_subentries q y at) (sponsored_in_entry y))
 
   selling_none : (account_liabilities a).selling ≡ pos 0
   selling_none = states_none _ (alone_settled v id_pool lumens m legal Selling its_key e there
@@ -228,7 +228,7 @@ settled_with w p is = omega (arith, ints)
 module _ (v : View) (id_pool : ℕ) (lumens : ℤ) (m : EntryMap) (legal : IsLegalOwing v id_pool nothing_owed lumens m)
     (x : LedgerEntry) (a : AccountEntry)
     (there : get m (key.Account a.account_id) ≡ Some (with_body x a)) (subs : a.num_sub_entries ≡ 0)
-        (pays : num_sponsoring a ≡ 0) where
+    (pays : num_sponsoring a ≡ 0) where
   abbrev IsLegalNow : EntryMap → Type 0
   IsLegalNow new = IsLegalOwing v id_pool nothing_owed (lumens +ℤ neg_ℤ (lumens_of v.asset a.balance)) new
 
@@ -247,26 +247,26 @@ module _ (v : View) (id_pool : ℕ) (lumens : ℤ) (m : EntryMap) (legal : IsLeg
       let now = map_after_releasing 2 s m in
       let changed = exchanged v id_pool lumens 2 s None nothing_owed m legal
       (payer_has v id_pool nothing_owed lumens m legal nothing_settled k e1 there 2 refl (omega arith))
-          (λ y no. absurd (cc)) in
+      (λ y no. absurd (cc)) in
       let still : get now k ≡ Some e1 = changed.others k (λ y is. apart y is) (beside_none k) ∙ there in
       legal_as v (IsEntryLegal id_pool) _ nothing_owed _ _ (erase now k)
       (erase_legal v (IsEntryLegal id_pool) _ lumens now changed.legal k e1 still (λ q same. absurd (cc)))
       (λ kind q. settled_with (weight v kind q e1) (payer_books 2 s kind q)
-          (weighs v id_pool lumens m legal x a there subs pays kind q)) refl
+      (weighs v id_pool lumens m legal x a there subs pays kind q)) refl
 
 pub removed_account : (v : View) (id_pool : ℕ) (lumens : ℤ) (m : EntryMap) (id : AccountId) (a : AccountEntry)
     → IsLegalOwing v id_pool nothing_owed lumens m → account_at m id ≡ Some a
     → a.num_sub_entries ≡ 0 → num_sponsoring a ≡ 0 → IsLegalOwing v id_pool nothing_owed
-        (lumens +ℤ neg_ℤ (lumens_of v.asset a.balance)) (map_after_removing (key.Account id) m)
+    (lumens +ℤ neg_ℤ (lumens_of v.asset a.balance)) (map_after_removing (key.Account id) m)
 removed_account v id_pool lumens m id a legal stands subs pays =
     let found = account_entry m id a stands in
     let same = same_id_at m id a legal.keyed stands in
     let there : get m (key.Account a.account_id) ≡ Some (with_body found.0 a) = ap (λ i. get m (key.Account i)) same
-        ∙ body_there m id a found.0 found.1 in
+    ∙ body_there m id a found.0 found.1 in
     subst (IsLegalOwing v id_pool nothing_owed (lumens +ℤ neg_ℤ (lumens_of v.asset a.balance)))
     (ap (λ i. erase (map_after_releasing 2 (sponsor_of found.0) m) (key.Account i)) same
     ∙ ap (λ b. erase (map_without_charge (charge_of b) (sponsor_of found.0) m) (key.Account id)) (sym found.1.is)
-        ∙ ap (map_after_removing_entry (key.Account id) m) (sym found.1.there))
+    ∙ ap (map_after_removing_entry (key.Account id) m) (sym found.1.there))
     (without v id_pool lumens m legal found.0 a there subs pays)
 
 pub merges_keep : MergesKeep
@@ -275,13 +275,13 @@ merges_keep h m id destination a b legal stands subs pays there room =
     let start = owing_nothing h m legal in
     let removed = removed_account (view m) h.id_pool coins m id a start stands subs pays in
     let low = credit_low b.balance a.balance (account_legal (view m) h.id_pool nothing_owed (coins +ℤ neg_ℤ a.balance)
-        (map_after_removing (key.Account id) m) destination b removed there).range.range.balance
+    (map_after_removing (key.Account id) m) destination b removed there).range.range.balance
     (account_legal (view m) h.id_pool nothing_owed coins m id a start stands).range.range.balance in
     legal_of h (pools_in m) _ legal.header (legal_as (view m)
-        (IsEntryLegal h.id_pool) nothing_owed nothing_owed _ coins _
+    (IsEntryLegal h.id_pool) nothing_owed nothing_owed _ coins _
     (paid_legal (view m) h.id_pool nothing_owed (coins +ℤ neg_ℤ a.balance)
-        (map_after_removing (key.Account id) m) destination a.balance b removed there low room) (λ kind k. refl)
-        (back_again coins a.balance))
+    (map_after_removing (key.Account id) m) destination a.balance b removed there low room) (λ kind k. refl)
+    (back_again coins a.balance))
   where
     credit_low : (balance amount : ℤ) → pos 0 ≤ℤ balance → pos 0 ≤ℤ amount → pos 0 ≤ℤ (balance +ℤ amount)
     credit_low balance amount low also = omega (arith, ints)

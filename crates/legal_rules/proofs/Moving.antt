@@ -1,9 +1,9 @@
 -- An entry that moves to another payer, or to its owner.
 use Rattle.std.proofs.Common.{◌≡◌, ◌≢◌, ◌⊎◌, inl, inr, refl, sym, ap, subst, ◌∙◌, ℕ, ◌≤◌, true, false, Option, Some}
 use Rattle.std.proofs.Common.{None, Ok}
-use Rattle.std.proofs.Common.{length, arith}
+use Rattle.std.proofs.Common.{arith}
 use Rattle.std.proofs.lemmas.Int.{ints}
-use Rattle.std.specs.Prelude.{ℤ, pos, neg_ℤ, ◌+ℤ◌, ◌-ℤ◌, if◌then◌else◌}
+use Rattle.std.specs.Prelude.{ℤ, neg_ℤ, ◌+ℤ◌, ◌-ℤ◌, if◌then◌else◌}
 use Rattle.std.specs.FinMap.{get}
 use Rattle.ledger_types.specs.declared.ids.AccountId.{AccountId}
 use Rattle.ledger_types.specs.declared.account.AccountEntry.{AccountEntry}
@@ -13,11 +13,10 @@ use Rattle.ledger_types.specs.declared.entry.LedgerEntryBody.{LedgerEntryBody}
 use Rattle.ledger_types.specs.declared.entry.LedgerEntryBody.TheVariants as body
 use Rattle.ledger_types.specs.declared.key.LedgerKey.{LedgerKey}
 use Rattle.ledger_types.specs.declared.key.LedgerKey.TheVariants as key
-use Rattle.ledger_types.specs.Keys.{key_of, key_of_body}
-use Rattle.entry_map.specs.EntryMap.{EntryMap, put}
-use Rattle.entry_slots.specs.Accounts.{account_of, account_at, HasAccount}
+use Rattle.ledger_types.specs.Keys.{key_of_body}
+use Rattle.entry_map.specs.EntryMap.{EntryMap}
+use Rattle.entry_slots.specs.Accounts.{account_at, HasAccount}
 use Rattle.entry_slots.specs.EntrySponsor.{sponsor_of, with_sponsor}
-use Rattle.entry_slots.specs.Tests.{unless_first}
 use Rattle.sponsor_rules.specs.declared.charge.Charge.{Charge}
 use Rattle.sponsor_rules.specs.declared.charge.Charge.TheVariants as charge
 use Rattle.sponsor_rules.specs.declared.context.Ctx.{Ctx}
@@ -32,23 +31,23 @@ use Rattle.sponsor_rules.proofs.Ids.{apart_accounts}
 use Rattle.sponsor_laws.specs.Laws.{PayerStands}
 use Rattle.sponsor_laws.proofs.Bounds.{done_by, payer_passed}
 use Rattle.sponsor_laws.proofs.Moving.{other_is}
-use Rattle.legal_rules.specs.Books.{Kind, View}
+use Rattle.legal_rules.specs.Books.{View}
 use Rattle.legal_rules.specs.Supply.{held}
 use Rattle.legal_rules.specs.Ranges.{IsPaidRightly}
-use Rattle.legal_rules.specs.Owing.{weight, Owed, plus, less, IsEntryLegal, IsLegalOwing}
+use Rattle.legal_rules.specs.Owing.{Owed, plus, less, IsEntryLegal, IsLegalOwing}
 use Rattle.legal_rules.proofs.Adding.{room_of}
 use Rattle.legal_rules.proofs.Needed.{paid_counts}
 use Rattle.legal_rules.proofs.Removing.{owns, no_account}
 use Rattle.legal_rules.specs.EntryLaws.{AreReservesSettled}
 use Rattle.legal_rules.proofs.PaidFor.{payer_has, owner_has}
-use Rattle.legal_rules.proofs.Payers.{HasRoom, IsBeside, ArePaying, AreChanged, exchanged, owner_changed}
+use Rattle.legal_rules.proofs.Payers.{HasRoom, IsBeside, AreChanged, exchanged, owner_changed}
 use Rattle.legal_rules.proofs.Payers.{other_payer_step}
 use Rattle.legal_rules.proofs.Sponsors.{paid_books, owner_books, payer_books, split_books, unowned_books}
 use Rattle.legal_rules.proofs.Sponsors.{recorded_weighs}
-use Rattle.legal_rules.proofs.Steps.{IsReplaced, IsAccountEntry, with_body, account_entry, body_there, replace_legal}
+use Rattle.legal_rules.proofs.Steps.{IsAccountEntry, with_body, replace_legal}
 use Rattle.legal_rules.proofs.Steps.{legal_as}
 use Rattle.legal_rules.proofs.Steps.{same_id_at, account_stands}
-use Rattle.legal_rules.proofs.Subentries.{IsSubentry, subentry_of, paid_by_other, paid_not_by_owner, legal_recorded}
+use Rattle.legal_rules.proofs.Subentries.{subentry_of, paid_by_other, paid_not_by_owner, legal_recorded}
 
 -- ---- the entry with another sponsor
 
@@ -78,9 +77,9 @@ pub other_apart : (owner : AccountId) (payer : Option AccountId) (x : AccountId)
 other_apart owner None x is = absurd (cc)
 other_apart owner (Some payer) x is = elim (is_same_account payer owner) as (λ b. is_same_account payer owner ≡ b
     → (if b then None else Some payer) ≡ Some x → x ≢ owner) [
-  | true ↦ λ h none. absurd (cc)
-  | false ↦ λ h some. let same : payer ≡ x = cc in subst (λ y. y ≢ owner) same (apart_accounts payer owner h)
-] refl is
+      | true ↦ λ h none. absurd (cc)
+      | false ↦ λ h some. let same : payer ≡ x = cc in subst (λ y. y ≢ owner) same (apart_accounts payer owner h)
+    ] refl is
 
 settles : (o ps pt os ot qs qt : ℤ) → qt ≡ (ot +ℤ pt) → qs ≡ (os +ℤ ps)
     → ((((o +ℤ ps) +ℤ neg_ℤ pt) +ℤ (os +ℤ neg_ℤ ot)) +ℤ (qt +ℤ neg_ℤ qs)) ≡ o
@@ -117,7 +116,7 @@ module _ (v : View) (id_pool : ℕ) (owed : Owed) (sum : ℤ) (m : EntryMap) (le
       owner_changed v id_pool sum (plus (plus owed (payer_books n s)) (less (payer_books n t))) _ s t owner a
       (with_other_payer n s t) m (map_after_exchange n s t m)
       (exchanged v id_pool sum n s t owed m legal (payer_has v id_pool owed sum m legal settled k e there n times
-          some) room)
+      some) room)
       stands beside_old beside_new
       (other_payer_step id_pool n owner s t a (same_id_at m owner a legal.keyed stands)
       (owner_has v id_pool owed sum m legal settled k e there n times some owner a own stands))
@@ -145,21 +144,21 @@ module _ (v : View) (id_pool : ℕ) (owed : Owed) (sum : ℤ) (m : EntryMap) (le
       inr (
         (λ y is. let same : x ≡ y = cc in subst (HasRoom n m) same (room_of m x n (payer x to) over)),
         (λ i. map_with_sponsor k (to i) (map_with_other_payer owner n (old i) (to i) m))
-        ∙ done_by (payer_tests_at ctx m x n) after new done,
+            ∙ done_by (payer_tests_at ctx m x n) after new done,
       )
   by_tests ctx (Some y) new payer old None to done = inr (
-        (λ x is. absurd (cc)),
-        (λ i. map_with_sponsor k (to i) (map_with_other_payer owner n (old i) (to i) m))
+    (λ x is. absurd (cc)),
+    (λ i. map_with_sponsor k (to i) (map_with_other_payer owner n (old i) (to i) m))
         ∙ done_by (move_tests_at ctx m owner None n)
         (map_with_sponsor k None (map_with_other_payer owner n (Some y) None m)) new done,
-      )
+  )
   by_tests ctx (Some y) new payer old (Some x) to done =
       let after = map_with_sponsor k (Some x) (map_with_other_payer owner n (Some y) (Some x) m) in
       let over = payer_passed ctx m x n after new done in
       inr (
         (λ z is. let same : x ≡ z = cc in subst (HasRoom n m) same (room_of m x n (payer x to) over)),
         (λ i. map_with_sponsor k (to i) (map_with_other_payer owner n (old i) (to i) m))
-        ∙ done_by (payer_tests_at ctx m x n) after new done,
+            ∙ done_by (payer_tests_at ctx m x n) after new done,
       )
 
   pub between : (ctx : Ctx) (new : EntryMap) → ((x : AccountId) → t ≡ Some x → HasAccount m x)
@@ -197,7 +196,7 @@ module _ (v : View) (id_pool : ℕ) (owed : Owed) (sum : ℤ) (m : EntryMap) (le
             own.account own.stands t (other_apart owner payer) moves.0 in
             let apart = no_account v id_pool owed sum m legal settled owner n k e there sub in
             subst IsLegalNow moves.1 (moved_owned v id_pool owed sum m legal settled owner n k e there sub.owns
-                sub.times
+            sub.times
             sub.some own.account own.stands t (other_apart owner payer) e changed.legal
             (changed.others k (λ x is. apart x) (λ x is. apart x) (apart owner) ∙ there) sub.owns sub.times refl)
       ]
@@ -224,7 +223,7 @@ module _ (v : View) (id_pool : ℕ) (owed : Owed) (sum : ℤ) (m : EntryMap) (le
             let same : b.account_id ≡ a.account_id = (other_payer_step id_pool 2 id (sponsor_of e) t a own.2
             (owner_has v id_pool owed sum m legal settled k e there 2 times two id a owned stood)).move.id in
             subst IsLegalNow moves.1 (moved_owned v id_pool owed sum m legal settled id 2 k e there owned times two a
-                stood
+            stood
             t (other_apart id payer) (with_body e b) changed.legal
             (sym (ap (get (map_with_other_payer id 2 (sponsor_of e) t m)) at) ∙ changed.entry e here)
             (ap Some (same ∙ own.2)) refl refl)
@@ -241,7 +240,7 @@ module _ (v : View) (id_pool : ℕ) (owed : Owed) (sum : ℤ) (m : EntryMap) (le
   key_beside : (c : ClaimableBalanceEntry) → e.body ≡ body.ClaimableBalance c → (x : AccountId) → k ≢ key.Account x
   key_beside c is x same =
       let its : key.ClaimableBalance c.balance_id ≡ key.Account x = sym (ap key_of_body is) ∙ legal.keyed k e there
-          ∙ same in
+      ∙ same in
       absurd (cc)
 
   moved_balance : (n : ℕ) → charge_of e.body ≡ charge.Payer n → (o : Option AccountId) → payer ≡ o

@@ -1,5 +1,5 @@
 -- Offers that are added and changed, with what they bind.
-use Rattle.std.proofs.Common.{◌≡◌, ◌≢◌, refl, sym, ap, subst, ◌∙◌, ℕ, ◌+◌, ◌%◌, ◌≤◌, Bool, true, false, Option, Some}
+use Rattle.std.proofs.Common.{◌≡◌, ◌≢◌, refl, sym, ap, subst, ◌∙◌, ℕ, ◌+◌, Bool, true, false, Option, Some}
 use Rattle.std.proofs.Common.{None, arith}
 use Rattle.std.proofs.lemmas.Int.{ints}
 use Rattle.std.specs.Prelude.{ℤ, pos, neg_ℤ, ◌+ℤ◌, ◌-ℤ◌, ◌≤ℤ◌, if◌then◌else◌}
@@ -7,10 +7,6 @@ use Rattle.std.specs.Ordering.{is_eq, int_cmp}
 use Rattle.std.specs.Cmp.{Equal-is}
 use Rattle.std.specs.FinMap.{get, int_cmp-IsAntisymmetric}
 use Rattle.ledger_types.specs.declared.ids.AccountId.{AccountId}
-use Rattle.ledger_types.specs.declared.account.AccountEntry.{AccountEntry}
-use Rattle.ledger_types.specs.declared.asset.Asset.{Asset}
-use Rattle.ledger_types.specs.declared.asset.Asset.TheVariants as asset
-use Rattle.ledger_types.specs.declared.asset.TrustLineAsset.TheVariants as line
 use Rattle.ledger_types.specs.declared.offer.OfferEntry.{OfferEntry}
 use Rattle.ledger_types.specs.declared.header.LedgerHeader.{LedgerHeader}
 use Rattle.ledger_types.specs.declared.entry.LedgerEntry.{LedgerEntry}
@@ -20,9 +16,7 @@ use Rattle.ledger_types.specs.declared.key.LedgerKey.{LedgerKey}
 use Rattle.ledger_types.specs.declared.key.LedgerKey.TheVariants as key
 use Rattle.ledger_types.specs.Keys.{key_of_body}
 use Rattle.entry_map.specs.EntryMap.{EntryMap}
-use Rattle.entry_slots.specs.Accounts.{account_at}
 use Rattle.entry_slots.specs.EntrySponsor.{sponsor_of}
-use Rattle.entry_slots.specs.Lines.{line_at}
 use Rattle.entry_slots.specs.Offers.{offer_in, offer_of, offer_at, with_offer, with_offer_in, with_offer_of}
 use Rattle.entry_sums.specs.Sums.{total, EachEntry}
 use Rattle.entry_sums.proofs.Summing.{total_none}
@@ -32,9 +26,9 @@ use Rattle.legal_rules.specs.Reserves.{sponsored_in_entry}
 use Rattle.legal_rules.specs.Trades.{holder, sells, buys}
 use Rattle.legal_rules.specs.Books.{Kind, Subentries, Sponsoring, Sponsored, Selling, Buying, View, counted}
 use Rattle.legal_rules.specs.OfferIds.{offer_with, offer_with_in}
-use Rattle.legal_rules.specs.Ranges.{IsBodyInRange, IsOfferInRange}
+use Rattle.legal_rules.specs.Ranges.{IsBodyInRange}
 use Rattle.legal_rules.specs.Headers.{IsHeaderInRange}
-use Rattle.legal_rules.specs.Binding.{binding, acquiring, releasing, bound_account, bound_line, CanBind, CanBindBoth}
+use Rattle.legal_rules.specs.Binding.{binding, acquiring, bound_account, CanBind, CanBindBoth}
 use Rattle.legal_rules.specs.OfferLaws.{trade_books, LiabilitiesAcquired, OfferChanged, new_offer, with_next_id}
 use Rattle.legal_rules.specs.OfferLaws.{NewOffersKeep, IsIdLeft}
 use Rattle.legal_rules.specs.Legal.{view, pools_in}
@@ -57,9 +51,9 @@ too_late x id n same high later = omega (arith, ints)
 no_later : (n : ℕ) (id : ℤ) (b : LedgerEntryBody) → IsBodyInRange n b → pos (n + 1) ≤ℤ id → offer_with_in id b ≡ pos 0
 no_later n id (body.Offer o) range later = elim (is_eq (int_cmp o.offer_id id)) as
     (λ t. is_eq (int_cmp o.offer_id id) ≡ t → (if t then pos 1 else pos 0) ≡ pos 0) [
-  | true ↦ λ h. absurd (too_late o.offer_id id n (same_int _ _ h) range.id_high later)
-  | false ↦ λ h. refl
-] refl
+      | true ↦ λ h. absurd (too_late o.offer_id id n (same_int _ _ h) range.id_high later)
+      | false ↦ λ h. refl
+    ] refl
 no_later n id other range later = refl
 
 first_with : (sum one : ℤ) → sum ≡ pos 0 → one ≤ℤ pos 1 → (sum +ℤ one) ≤ℤ pos 1
@@ -76,11 +70,11 @@ next_apart : (n : ℕ) (seq : ℕ) (offer : OfferEntry) → offer.offer_id ≡ p
     → (id : ℤ) → (total (offer_with id) m +ℤ offer_with id (new_offer seq offer)) ≤ℤ pos 1
 next_apart n seq offer is m entries few id = elim (is_eq (int_cmp offer.offer_id id)) as
     (λ t. is_eq (int_cmp offer.offer_id id) ≡ t → (total (offer_with id) m +ℤ (if t then pos 1 else pos 0)) ≤ℤ pos 1) [
-  | true ↦ λ h. first_with _ (pos 1) (total_none (offer_with id) m (λ k e there.
-      no_later n id e.body (entries k e there).range.body (at_last offer.offer_id id n (same_int _ _ h) is)))
-      (omega (arith, ints))
-  | false ↦ λ h. other_with _ (pos 0) (few id) refl
-] refl
+      | true ↦ λ h. first_with _ (pos 1) (total_none (offer_with id) m (λ k e there.
+          no_later n id e.body (entries k e there).range.body (at_last offer.offer_id id n (same_int _ _ h) is)))
+          (omega (arith, ints))
+      | false ↦ λ h. other_with _ (pos 0) (few id) refl
+    ] refl
 
 -- ---- what is bound
 
@@ -300,7 +294,7 @@ module _ (v : View) (e : LedgerEntry) (old new : OfferEntry) (same : new.seller_
       (counted v Sponsoring k (with_offer_body e old)) (pos 0) (pos 0) (stays _ _ refl)
   offer_moves Selling k = moved_so (at_new k) (at_old k) (sells k (body.Offer new)) (sells k (body.Offer old))
       (sells k (body.Offer old)) (sells k (body.Offer new))
-          (in_place (sells k (body.Offer old)) (sells k (body.Offer new)))
+      (in_place (sells k (body.Offer old)) (sells k (body.Offer new)))
   offer_moves Buying k = moved_so (at_new k) (at_old k) (buys k (body.Offer new)) (buys k (body.Offer old))
       (buys k (body.Offer old)) (buys k (body.Offer new)) (in_place (buys k (body.Offer old)) (buys k (body.Offer new)))
   offer_moves kind k = moved_so (at_new k) (at_old k) (pos 0) (pos 0) (pos 0) (pos 0) refl
@@ -324,7 +318,7 @@ offer_changed v id_pool owed sum old new m legal stands seller id range =
     (sym (with_offer_is m old.seller_id old.offer_id (λ o. new) old found.0 found.1))
     (legal_as v (IsEntryLegal id_pool) _ _ _ sum _
     (replace_legal v (IsEntryLegal id_pool) owed (plus (less (trade_books old)) (trade_books new)) sum m k e0 e1
-        there0 legal
+    there0 legal
     (record {
       own = λ i. key.Offer (seller i) (id i);
       params = refl;

@@ -1,5 +1,5 @@
 -- Lumens that are paid, charged or moved, and another sequence number.
-use Rattle.std.proofs.Common.{Bool, true, false, ◌≡◌, refl, sym, subst, ◌∙◌, ℕ, Some, arith}
+use Rattle.std.proofs.Common.{Bool, true, false, ◌≡◌, refl, sym, ◌∙◌, ℕ, Some, arith}
 use Rattle.std.proofs.lemmas.Int.{ints}
 use Rattle.std.specs.Prelude.{ℤ, pos, neg_ℤ, ◌+ℤ◌, ◌-ℤ◌, ◌≤ℤ◌, if◌then◌else◌}
 use Rattle.std.specs.Ordering.{is_eq}
@@ -38,8 +38,13 @@ paid_move delta a = record { id = refl; books = λ v kind k e. paid_unmoved delt
 
 paid_range : (delta : ℤ) (a : AccountEntry) → IsInRange a → pos 0 ≤ℤ (a.balance +ℤ delta) → delta ≤ℤ room a
     → IsInRange (paid delta a)
-paid_range delta a range low le = record { balance = low; buying = range.buying; selling = range.selling; fits =
-    fits_room a.balance (account_liabilities a).buying delta greatest_i64 le }
+paid_range delta a range low le = record {
+  balance = low;
+  buying = range.buying;
+  selling = range.selling;
+  fits =
+      fits_room a.balance (account_liabilities a).buying delta greatest_i64 le;
+}
   where
     fits_room : (balance buying delta greatest : ℤ) → delta ≤ℤ (greatest -ℤ balance -ℤ buying)
         → ((balance +ℤ delta) +ℤ buying) ≤ℤ greatest
@@ -75,12 +80,12 @@ paid_sum false lumens balance delta = omega (arith, ints)
 pub paid_legal : (v : View) (id_pool : ℕ) (owed : Owed) (lumens : ℤ) (m : EntryMap) (id : AccountId) (delta : ℤ)
     (a : AccountEntry) → IsLegalOwing v id_pool owed lumens m
     → account_at m id ≡ Some a → pos 0 ≤ℤ (a.balance +ℤ delta) → delta ≤ℤ room a
-        → IsLegalOwing v id_pool owed (lumens +ℤ lumens_of v.asset delta) (with_paid id delta m)
+    → IsLegalOwing v id_pool owed (lumens +ℤ lumens_of v.asset delta) (with_paid id delta m)
 paid_legal v id_pool owed lumens m id delta a legal stands low le =
     let range = paid_range delta a (account_legal v id_pool owed lumens m id a legal stands).range.range low le in
     legal_as v (IsEntryLegal id_pool) (λ kind k. owed kind k +ℤ nothing_owed kind k) owed _ _ (with_paid id delta m)
     (with_account_legal v (IsEntryLegal id_pool) owed nothing_owed lumens m id (paid delta) a legal stands
-        (paid_move delta a) (paid_keeps id_pool delta a range))
+    (paid_move delta a) (paid_keeps id_pool delta a range))
     (λ kind k. plus_nothing (owed kind k)) (paid_sum (is_eq (asset_cmp v.asset asset.Native)) lumens a.balance delta)
 
 -- ---- fees
@@ -95,11 +100,11 @@ debit_room balance buying greatest fee low fits = omega (arith, ints)
 pub debit_legal : (v : View) (id_pool : ℕ) (owed : Owed) (lumens : ℤ) (m : EntryMap) (id : AccountId) (amount : ℤ)
     (a : AccountEntry) → IsLegalOwing v id_pool owed lumens m
     → account_at m id ≡ Some a → pos 0 ≤ℤ amount → amount ≤ℤ a.balance
-        → IsLegalOwing v id_pool owed (lumens +ℤ lumens_of v.asset (neg_ℤ amount)) (with_paid id (neg_ℤ amount) m)
+    → IsLegalOwing v id_pool owed (lumens +ℤ lumens_of v.asset (neg_ℤ amount)) (with_paid id (neg_ℤ amount) m)
 debit_legal v id_pool owed lumens m id amount a legal stands low le =
     let range = (account_legal v id_pool owed lumens m id a legal stands).range.range in
     paid_legal v id_pool owed lumens m id (neg_ℤ amount) a legal stands (debit_low a.balance amount le)
-        (debit_room a.balance (account_liabilities a).buying greatest_i64 amount low range.fits)
+    (debit_room a.balance (account_liabilities a).buying greatest_i64 amount low range.fits)
 
 header_with_fee : (h : LedgerHeader) (fee : ℤ) → IsHeaderInRange h → pos 0 ≤ℤ fee → IsHeaderInRange (with_fee fee h)
 header_with_fee h fee r low = record {
@@ -117,10 +122,10 @@ header_with_fee h fee r low = record {
 pub fees_keep : FeesKeep
 fees_keep h m id a fee legal stands low le =
     let charged = debit_legal (view m) h.id_pool nothing_owed (h.total_coins -ℤ h.fee_pool) m id fee a
-        (owing_nothing h m legal) stands low le in
+    (owing_nothing h m legal) stands low le in
     legal_of (with_fee fee h) (pools_in m) (with_paid id (neg_ℤ fee) m) (header_with_fee h fee legal.header low)
     (legal_as (view m) (IsEntryLegal h.id_pool) nothing_owed nothing_owed _ _ (with_paid id (neg_ℤ fee) m) charged
-        (λ kind k. refl) (fee_moved h.total_coins h.fee_pool fee))
+    (λ kind k. refl) (fee_moved h.total_coins h.fee_pool fee))
 
 -- ---- moves
 
@@ -129,11 +134,11 @@ moves_keep h m to from a b amount legal low to_stands room from_stands enough =
     let coins = h.total_coins -ℤ h.fee_pool in
     let credited = paid_legal (view m) h.id_pool nothing_owed coins m to amount a (owing_nothing h m legal) to_stands
     (credit_low a.balance amount (account_legal (view m) h.id_pool nothing_owed coins m to a
-        (owing_nothing h m legal) to_stands).range.range.balance low) room in
+    (owing_nothing h m legal) to_stands).range.range.balance low) room in
     let debited = debit_legal (view m) h.id_pool nothing_owed (coins +ℤ amount)
-        (with_paid to amount m) from amount b credited from_stands low enough in
+    (with_paid to amount m) from amount b credited from_stands low enough in
     legal_of h (pools_in m) _ legal.header (legal_as (view m)
-        (IsEntryLegal h.id_pool) nothing_owed nothing_owed _ _ _ debited (λ kind k. refl) (there_and_back coins amount))
+    (IsEntryLegal h.id_pool) nothing_owed nothing_owed _ _ _ debited (λ kind k. refl) (there_and_back coins amount))
   where
     credit_low : (balance amount : ℤ) → pos 0 ≤ℤ balance → pos 0 ≤ℤ amount → pos 0 ≤ℤ (balance +ℤ amount)
     credit_low balance amount low also = omega (arith, ints)
@@ -146,8 +151,13 @@ numbered_unmoved n a v Subentries k e = refl
 numbered_unmoved n a v other k e = refl
 
 numbered_range : (n : ℤ) (a : AccountEntry) → IsInRange a → IsInRange (numbered n a)
-numbered_range n a range = record { balance = range.balance; buying = range.buying; selling = range.selling; fits =
-    range.fits }
+numbered_range n a range = record {
+  balance = range.balance;
+  buying = range.buying;
+  selling = range.selling;
+  fits =
+      range.fits;
+}
 
 numbered_keeps : (id_pool : ℕ) (n : ℤ) (a : AccountEntry) → pos 0 ≤ℤ n → n ≤ℤ greatest_i64
     → KeepsRange (IsEntryLegal id_pool) a (numbered n a)
@@ -177,9 +187,9 @@ seq_nums_keep h m id a n legal stands low high =
     let coins = h.total_coins -ℤ h.fee_pool in
     legal_of h (pools_in m) (with_seq_num id n m) legal.header
     (legal_as (view m) (IsEntryLegal h.id_pool) (λ kind k. nothing_owed kind k +ℤ nothing_owed kind k) nothing_owed _
-        _ (with_seq_num id n m)
+    _ (with_seq_num id n m)
     (with_account_legal (view m) (IsEntryLegal h.id_pool) nothing_owed nothing_owed coins m id (numbered n) a
-        (owing_nothing h m legal) stands
+    (owing_nothing h m legal) stands
     (record { id = refl; books = λ v kind k e. numbered_unmoved n a v kind k e ∙ sym (plus_nothing _) })
-        (numbered_keeps h.id_pool n a low high))
+    (numbered_keeps h.id_pool n a low high))
     (λ kind k. plus_nothing (pos 0)) (same_sum coins a.balance))

@@ -1,7 +1,6 @@
 -- Payers that pay n reserves less or more, and owners for whom they pay.
 use Rattle.std.proofs.Common.{◌≡◌, ◌≢◌, refl, sym, ap, subst, ◌∙◌, ℕ, ◌+◌, ◌-◌, ◌≤◌, true, false, Option, Some, None}
 use Rattle.std.proofs.Common.{arith}
-use Rattle.std.proofs.lemmas.Int.{ints}
 use Rattle.std.specs.Prelude.{ℤ, pos, neg_ℤ, ◌+ℤ◌}
 use Rattle.std.specs.FinMap.{get}
 use Rattle.ledger_types.specs.declared.ids.AccountId.{AccountId}
@@ -19,10 +18,10 @@ use Rattle.sponsor_rules.specs.Paying.{map_after_charging, map_after_releasing, 
 use Rattle.sponsor_rules.specs.Paying.{with_less_paid, with_subentry, without_subentry, with_other_payer}
 use Rattle.sponsor_rules.proofs.Ids.{same_account, apart_accounts}
 use Rattle.sponsor_rules.proofs.Keeping.{with_count_keeps, at_most}
-use Rattle.legal_rules.specs.Books.{Kind, Subentries, Sponsoring, Sponsored, View}
+use Rattle.legal_rules.specs.Books.{Subentries, Sponsoring, Sponsored, View}
 use Rattle.entry_sums.specs.Sums.{total}
 use Rattle.legal_rules.specs.OfferIds.{offer_with}
-use Rattle.legal_rules.specs.Owing.{Owed, nothing_owed, in_book, plus, less, IsEntryLegal, IsLegalOwing}
+use Rattle.legal_rules.specs.Owing.{Owed, in_book, plus, less, IsEntryLegal, IsLegalOwing}
 use Rattle.legal_rules.proofs.Numbers.{plus_nothing}
 use Rattle.legal_rules.proofs.Steps.{IsAccountEntry, with_body, IsStep, no_step, steps, step_as, stepped, legal_as}
 use Rattle.legal_rules.proofs.Steps.{same_id_at}
@@ -45,7 +44,7 @@ module _ (id_pool n : ℕ) (id : AccountId) where
   more_paid_step None a same = no_step (IsEntryLegal id_pool) a
   more_paid_step (Some x) a same = step_as (IsEntryLegal id_pool) _ _ a (with_more count.Sponsored n a)
       (more_step id_pool count.Sponsored n a id same tt)
-          (λ kind k. neg_in_book Sponsored (key.Account id) (pos n) kind k)
+      (λ kind k. neg_in_book Sponsored (key.Account id) (pos n) kind k)
 
   less_paid_step : (s : Option AccountId) (a : AccountEntry) → a.account_id ≡ id
       → ((x : AccountId) → s ≡ Some x → n ≤ num_sponsored a) → IsOwnStep (owner_books n id s) a (with_less_paid n s a)
@@ -180,7 +179,7 @@ module _ (v : View) (id_pool : ℕ) (sum : ℤ) where
                     let pays = at_most count.Sponsoring count.Sponsoring n s.account in
                     let was : s.account.num_sub_entries + num_sponsoring s.account + n ≤ 4294967295 =
                     subst (λ (a : AccountEntry). a.num_sub_entries + num_sponsoring a + n ≤ 4294967295) accounts
-                        r.fits in
+                    r.fits in
                     omega arith);
               }
           | false ↦ λ is. record {

@@ -55,10 +55,10 @@ module _ (v : View) (id_pool : ℕ) (lumens : ℤ) where
   credited_legal id amount m new (Some a) stands legal low is =
       let test = passed (int_lt (room a) amount) LineFull (Ok (with_paid id amount m)) new is in
       subst (IsLegalSo (lumens +ℤ lumens_of v.asset amount))
-          (same_ok {F = PaymentFault} (with_paid id amount m) new test.1)
+      (same_ok {F = PaymentFault} (with_paid id amount m) new test.1)
       (paid_legal v id_pool nothing_owed lumens m id amount a legal stands
       (credit_low a.balance amount (account_legal v id_pool nothing_owed lumens m id a legal
-          stands).range.range.balance low) (not_less (room a) amount test.0))
+      stands).range.range.balance low) (not_less (room a) amount test.0))
     where
       credit_low : (balance amount : ℤ) → pos 0 ≤ℤ balance → pos 0 ≤ℤ amount → pos 0 ≤ℤ (balance +ℤ amount)
       credit_low balance amount low also = omega (arith, ints)
@@ -69,12 +69,12 @@ module _ (v : View) (id_pool : ℕ) (lumens : ℤ) where
   debited_legal base_reserve id amount m new None stands legal low is = absurd (cc)
   debited_legal base_reserve id amount m new (Some a) stands legal low is =
       let test = passed (int_lt (available a base_reserve) amount) Underfunded
-          (Ok (with_paid id (neg_ℤ amount) m)) new is in
+      (Ok (with_paid id (neg_ℤ amount) m)) new is in
       subst (IsLegalSo (lumens +ℤ lumens_of v.asset (neg_ℤ amount)))
-          (same_ok {F = PaymentFault} (with_paid id (neg_ℤ amount) m) new test.1)
+      (same_ok {F = PaymentFault} (with_paid id (neg_ℤ amount) m) new test.1)
       (debit_legal v id_pool nothing_owed lumens m id amount a legal stands low
       (not_above_balance v id_pool nothing_owed lumens m id a base_reserve amount legal (omega (arith, ints)) stands
-          (not_less (available a base_reserve) amount test.0)))
+      (not_less (available a base_reserve) amount test.0)))
 
 -- ---- the payment
 
@@ -86,12 +86,12 @@ there_again false coins amount = omega (arith, ints)
 after_credit : (v : View) (id_pool base_reserve : ℕ) (coins : ℤ) (source : AccountId) (amount : ℤ) (new : EntryMap)
     (r : Result EntryMap PaymentFault) → pos 0 ≤ℤ amount
     → ((m : EntryMap) → r ≡ Ok m → IsLegalSo v id_pool coins (coins +ℤ lumens_of v.asset amount) m)
-        → debit_after base_reserve source amount r ≡ Ok new → IsLegalSo v id_pool coins coins new
+    → debit_after base_reserve source amount r ≡ Ok new → IsLegalSo v id_pool coins coins new
 after_credit v id_pool base_reserve coins source amount new (Err fault) low legal is = absurd (cc)
 after_credit v id_pool base_reserve coins source amount new (Ok m) low legal is =
     subst (λ sum. IsLegalSo v id_pool coins sum new) (there_again (is_eq (asset_cmp v.asset asset.Native)) coins amount)
     (debited_legal v id_pool (coins +ℤ lumens_of v.asset amount) base_reserve source amount m new
-        (account_at m source) refl (legal m refl) low is)
+    (account_at m source) refl (legal m refl) low is)
 
 -- A payment, whatever asset is summed.
 paid_legally : (v : View) (id_pool base_reserve : ℕ) (coins : ℤ) (source destination : AccountId) (amount : ℤ)
@@ -100,20 +100,20 @@ paid_legally : (v : View) (id_pool base_reserve : ℕ) (coins : ℤ) (source des
 paid_legally v id_pool base_reserve coins source destination amount old new legal is =
     let first = passed (int_le amount (pos 0)) Malformed _ new is in
     elim (is_same_account source destination) as (λ b. (if b then Ok old else debit_after base_reserve source amount
-        (crediting destination amount old)) ≡ Ok new → IsLegalSo v id_pool coins coins new) [
+    (crediting destination amount old)) ≡ Ok new → IsLegalSo v id_pool coins coins new) [
       | true ↦ λ same. subst (IsLegalSo v id_pool coins coins) (same_ok {F = PaymentFault} old new same) legal
       | false ↦ λ rest. after_credit v id_pool base_reserve coins source amount new (crediting destination amount old)
           (above amount first.0)
           (λ m credited. credited_legal v id_pool coins destination amount old m
-              (account_at old destination) refl legal (above amount first.0) credited) rest
+          (account_at old destination) refl legal (above amount first.0) credited) rest
     ] first.1
 
 pub payments_keep : PaymentsKeep
 payments_keep h source destination amount old new legal is =
     legal_of h (pools_in old) new legal.header (paid_legally (view old) h.id_pool h.base_reserve
-        (h.total_coins -ℤ h.fee_pool) source destination amount old new (owing_nothing h old legal) is)
+    (h.total_coins -ℤ h.fee_pool) source destination amount old new (owing_nothing h old legal) is)
 
 pub payments_conserve : PaymentsConserve
 payments_conserve x h source destination amount old new legal is =
     (paid_legally (view_of x old) h.id_pool h.base_reserve
-        (total (held x) old) source destination amount old new (owing_nothing_of x h old legal) is).supply
+    (total (held x) old) source destination amount old new (owing_nothing_of x h old legal) is).supply

@@ -1,8 +1,8 @@
 -- Pools that are made and removed.
-use Rattle.std.proofs.Common.{◌≡◌, ◌≢◌, ◌⊎◌, inl, inr, refl, sym, ap, subst, ◌∙◌, ℕ, Bool, true, false, Option, Some}
+use Rattle.std.proofs.Common.{◌≡◌, inl, inr, refl, sym, ap, ◌∙◌, ℕ, Bool, true, false, Option, Some}
 use Rattle.std.proofs.Common.{None, arith}
 use Rattle.std.proofs.lemmas.Int.{ints}
-use Rattle.std.specs.Prelude.{ℤ, pos, neg_ℤ, ◌+ℤ◌, ◌-ℤ◌, ◌≤ℤ◌, ◌<ℤ◌, if◌then◌else◌}
+use Rattle.std.specs.Prelude.{ℤ, pos, ◌+ℤ◌, ◌-ℤ◌, ◌≤ℤ◌, ◌<ℤ◌, if◌then◌else◌}
 use Rattle.std.specs.FinMap.{get}
 use Rattle.ledger_types.specs.declared.ids.Hash.{Hash}
 use Rattle.ledger_types.specs.declared.asset.TrustLineAsset.{TrustLineAsset}
@@ -21,9 +21,9 @@ use Rattle.entry_sums.proofs.Lookups.{put_each, put_get, erase_each, erase_get}
 use Rattle.entry_sums.proofs.Summing.{total_put, total_erase, total_same, total_none}
 use Rattle.legal_rules.specs.EntryKeys.{is_key, for_key, for_account}
 use Rattle.legal_rules.specs.PoolShares.{Pools, pool_named, shares_in, share_lines, uses, uses_by, uses_of}
-use Rattle.legal_rules.specs.Books.{Kind, Subentries, Sponsoring, Sponsored, Shares, ShareLines, Uses, View, stated}
+use Rattle.legal_rules.specs.Books.{Kind, Sponsoring, Shares, ShareLines, Uses, View, stated}
 use Rattle.legal_rules.specs.Books.{counted, stated_at}
-use Rattle.legal_rules.specs.Supply.{held, of_asset}
+use Rattle.legal_rules.specs.Supply.{held}
 use Rattle.legal_rules.specs.OfferIds.{offer_with}
 use Rattle.legal_rules.specs.Bounds.{IsFilledOrEmpty}
 use Rattle.legal_rules.specs.PoolLaws.{new_pool, IsNewPool, NewPoolsKeep, RemovedPoolsKeep}

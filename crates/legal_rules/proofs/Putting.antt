@@ -21,7 +21,7 @@ use Rattle.legal_rules.specs.Supply.{held}
 use Rattle.legal_rules.specs.OfferIds.{offer_with, offer_with_in}
 use Rattle.legal_rules.specs.Ranges.{IsOfferInRange, IsBodyInRange}
 use Rattle.legal_rules.specs.Legal.{params_of}
-use Rattle.legal_rules.specs.Owing.{weight, weighed, Owed, plus, less, IsEntryLegal, IsLegalWith, IsLegalOwing}
+use Rattle.legal_rules.specs.Owing.{weight, weighed, Owed, plus, less, IsLegalWith, IsLegalOwing}
 
 -- the key is of no pool
 abbrev pub IsNoPool : LedgerKey → Type 0
@@ -53,7 +53,7 @@ module _ (v : View) (P : LedgerEntry → Type 0) (owed : Owed) (sum : ℤ) (m : 
   put_legal e free holds no_pool apart =
       let summed : (f : Weight) → total f (put m e) ≡ (total f m +ℤ f e) =
       λ f. added (total f (put m e)) (part f (get m (key_of e))) (total f m) (f e) (total_put f m e)
-          (ap (part f) free) in
+      (ap (part f) free) in
       record {
         params = λ id. ap params_of (put_elsewhere m e (key.LiquidityPool id) (λ same. no_pool id (sym same)))
             ∙ legal.params id;
@@ -86,9 +86,17 @@ module _ (v : View) (P : LedgerEntry → Type 0) (owed : Owed) (sum : ℤ) (m : 
 
 wider_offer : (n k : ℕ) (o : OfferEntry) → n ≤ k → IsOfferInRange n o → IsOfferInRange k o
 wider_offer n k o le r = record {
-  amount = r.amount; n = r.n; d = r.d; wheat = r.wheat; sheep = r.sheep; id_low = r.id_low;
+  amount = r.amount;
+  n = r.n;
+  d = r.d;
+  wheat = r.wheat;
+  sheep = r.sheep;
+  id_low = r.id_low;
   id_high = below n k o.offer_id le r.id_high;
-  selling = r.selling; buying = r.buying; assets = r.assets; flags = r.flags;
+  selling = r.selling;
+  buying = r.buying;
+  assets = r.assets;
+  flags = r.flags;
 }
   where
     below : (n k : ℕ) (x : ℤ) → n ≤ k → x ≤ℤ pos n → x ≤ℤ pos k

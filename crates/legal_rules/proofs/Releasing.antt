@@ -1,5 +1,5 @@
 -- What an offer that stands binds can always be released.
-use Rattle.std.proofs.Common.{◌≡◌, ◌≢◌, ◌⊎◌, inl, inr, refl, sym, ap, subst, ◌∙◌, ℕ, ◌%◌, ◌≤◌, Bool, true, false}
+use Rattle.std.proofs.Common.{◌≡◌, ◌⊎◌, inl, inr, refl, sym, ap, subst, ◌∙◌, ℕ, ◌≤◌, Bool, true, false}
 use Rattle.std.proofs.Common.{Option, Some}
 use Rattle.std.proofs.Common.{None, arith}
 use Rattle.std.proofs.lemmas.Int.{ints}
@@ -20,12 +20,12 @@ use Rattle.ledger_types.specs.declared.entry.LedgerEntryBody.TheVariants as body
 use Rattle.ledger_types.specs.declared.key.LedgerKey.{LedgerKey}
 use Rattle.ledger_types.specs.declared.key.LedgerKey.TheVariants as key
 use Rattle.ledger_types.specs.Keys.{key_of, key_of_body}
-use Rattle.entry_map.specs.EntryMap.{EntryMap, put}
+use Rattle.entry_map.specs.EntryMap.{EntryMap}
 use Rattle.entry_map.proofs.KeyMaps.{same_itself}
 use Rattle.entry_slots.specs.Accounts.{account_of, account_at}
 use Rattle.entry_slots.specs.AccountExtensions.{account_liabilities}
 use Rattle.entry_slots.specs.LineExtensions.{line_liabilities}
-use Rattle.entry_slots.specs.Lines.{line_of, line_at, with_line}
+use Rattle.entry_slots.specs.Lines.{line_of, line_at}
 use Rattle.entry_slots.specs.Offers.{offer_of, offer_at, with_offer}
 use Rattle.reserve_rules.specs.Reserve.{greatest_i64, IsInRange, IsLineInRange}
 use Rattle.sponsor_rules.specs.Payers.{is_same_account}
@@ -34,13 +34,13 @@ use Rattle.entry_sums.proofs.Lookups.{put_elsewhere}
 use Rattle.legal_rules.specs.OfferLiabilities.{bound_of}
 use Rattle.legal_rules.specs.EntryKeys.{is_key, for_key}
 use Rattle.legal_rules.specs.Trades.{holder}
-use Rattle.legal_rules.specs.Books.{Kind, Selling, Buying, View, counted, stated, stated_at}
+use Rattle.legal_rules.specs.Books.{Kind, Selling, Buying, View, stated, stated_at}
 use Rattle.legal_rules.specs.Ranges.{IsOfferInRange}
-use Rattle.legal_rules.specs.Binding.{risen, binding, releasing, acquiring, bound_account, bound_line, CanBind}
+use Rattle.legal_rules.specs.Binding.{risen, binding, releasing, bound_account, bound_line, CanBind}
 use Rattle.legal_rules.specs.Binding.{CanBindBoth}
 use Rattle.legal_rules.specs.OfferLaws.{trade_books, AreTradesSettled, LiabilitiesReleased, ChangedOffersKeep}
 use Rattle.legal_rules.specs.Legal.{view, pools_in}
-use Rattle.legal_rules.specs.Owing.{Owed, nothing_owed, plus, less, IsEntryLegal, IsLegalOwing}
+use Rattle.legal_rules.specs.Owing.{Owed, nothing_owed, plus, IsEntryLegal, IsLegalOwing}
 use Rattle.legal_rules.proofs.Legality.{owing_nothing, legal_of}
 use Rattle.legal_rules.proofs.Liable.{stored, line_stored, line_entry, with_line_is, with_line_body}
 use Rattle.legal_rules.proofs.OffersKept.{trading_legal, binding_legal, unbound_if, nothing_bought, offer_entry}
@@ -56,7 +56,7 @@ module _ (selling buying : ℤ) where
   bound_in_range : (a : AccountEntry) → IsInRange a → pos 0 ≤ℤ ((account_liabilities a).selling +ℤ selling)
       → pos 0 ≤ℤ ((account_liabilities a).buying +ℤ buying)
       → (a.balance +ℤ ((account_liabilities a).buying +ℤ buying)) ≤ℤ greatest_i64
-          → IsInRange (bound_account selling buying a)
+      → IsInRange (bound_account selling buying a)
   bound_in_range a r sells buys fits =
       let now = sym (stored (risen selling buying (account_liabilities a)) a.ext) in
       record {
@@ -156,10 +156,12 @@ module _ (v : View) (id_pool : ℕ) (owed : Owed) (sum : ℤ) (m : EntryMap)
       let e0 : LedgerEntry = record e { body = body.Account found.0 } in
       let was : e ≡ e0 = λ i. record e { body = found.1 i } in
       let r = (subst (IsEntryLegal id_pool) was (legal.entries (key.Account id) e there)).range.body.range in
-      let at : n ≤ℤ (account_liabilities found.0).selling = subst (λ b. n ≤ℤ stated Selling b) found.1 le in
-      (found.0, ap account_of (there ∙ ap Some was),
+      let at : n ≤ℤ (account_liabilities found.0).selling = subst (λ b. n ≤ℤ stated Selling b) found.1 le in (
+        found.0,
+        ap account_of (there ∙ ap Some was),
         bound_in_range (neg_ℤ n) (pos 0) found.0 r (fallen _ n at) (same_low _ r.buying)
-            (same_fits found.0.balance _ greatest_i64 r.fits))
+            (same_fits found.0.balance _ greatest_i64 r.fits),
+      )
 
   buys_account : (id : AccountId) (o : Option LedgerEntry) → get m (key.Account id) ≡ o → n ≤ℤ stated_at Buying o
       → CanBind m (Some (key.Account id)) (pos 0) (neg_ℤ n)
@@ -170,10 +172,12 @@ module _ (v : View) (id_pool : ℕ) (owed : Owed) (sum : ℤ) (m : EntryMap)
       let e0 : LedgerEntry = record e { body = body.Account found.0 } in
       let was : e ≡ e0 = λ i. record e { body = found.1 i } in
       let r = (subst (IsEntryLegal id_pool) was (legal.entries (key.Account id) e there)).range.body.range in
-      let at : n ≤ℤ (account_liabilities found.0).buying = subst (λ b. n ≤ℤ stated Buying b) found.1 le in
-      (found.0, ap account_of (there ∙ ap Some was),
+      let at : n ≤ℤ (account_liabilities found.0).buying = subst (λ b. n ≤ℤ stated Buying b) found.1 le in (
+        found.0,
+        ap account_of (there ∙ ap Some was),
         bound_in_range (pos 0) (neg_ℤ n) found.0 r (same_low _ r.selling) (fallen _ n at)
-            (still_fits found.0.balance _ n greatest_i64 (low_of n some) r.fits))
+            (still_fits found.0.balance _ n greatest_i64 (low_of n some) r.fits),
+      )
 
   sells_line : (id : AccountId) (x : TrustLineAsset) (o : Option LedgerEntry) → get m (key.TrustLine id x) ≡ o
       → n ≤ℤ stated_at Selling o → CanBind m (Some (key.TrustLine id x)) (neg_ℤ n) (pos 0)
@@ -185,12 +189,14 @@ module _ (v : View) (id_pool : ℕ) (owed : Owed) (sum : ℤ) (m : EntryMap)
       let was : e ≡ e0 = λ i. record e { body = found.1 i } in
       let whole = subst (IsEntryLegal id_pool) was (legal.entries (key.TrustLine id x) e there) in
       let r = whole.range.body.range in
-      let at : n ≤ℤ (line_liabilities found.0).selling = subst (λ b. n ≤ℤ stated Selling b) found.1 le in
-      (found.0, ap line_of (there ∙ ap Some was),
+      let at : n ≤ℤ (line_liabilities found.0).selling = subst (λ b. n ≤ℤ stated Selling b) found.1 le in (
+        found.0,
+        ap line_of (there ∙ ap Some was),
         line_in_range (neg_ℤ n) (pos 0) found.0 r (fallen _ n at) (same_low _ r.buying)
             (still_covered _ n found.0.balance (low_of n some) r.covered)
-                (same_fits found.0.balance _ found.0.limit r.fits),
-        λ none. too_few n _ some at (whole.bound none).0)
+            (same_fits found.0.balance _ found.0.limit r.fits),
+        λ none. too_few n _ some at (whole.bound none).0,
+      )
 
   buys_line : (id : AccountId) (x : TrustLineAsset) (o : Option LedgerEntry) → get m (key.TrustLine id x) ≡ o
       → n ≤ℤ stated_at Buying o → CanBind m (Some (key.TrustLine id x)) (pos 0) (neg_ℤ n)
@@ -202,12 +208,14 @@ module _ (v : View) (id_pool : ℕ) (owed : Owed) (sum : ℤ) (m : EntryMap)
       let was : e ≡ e0 = λ i. record e { body = found.1 i } in
       let whole = subst (IsEntryLegal id_pool) was (legal.entries (key.TrustLine id x) e there) in
       let r = whole.range.body.range in
-      let at : n ≤ℤ (line_liabilities found.0).buying = subst (λ b. n ≤ℤ stated Buying b) found.1 le in
-      (found.0, ap line_of (there ∙ ap Some was),
+      let at : n ≤ℤ (line_liabilities found.0).buying = subst (λ b. n ≤ℤ stated Buying b) found.1 le in (
+        found.0,
+        ap line_of (there ∙ ap Some was),
         line_in_range (pos 0) (neg_ℤ n) found.0 r (same_low _ r.selling) (fallen _ n at)
             (same_covered _ found.0.balance r.covered)
             (still_fits found.0.balance _ n found.0.limit (low_of n some) r.fits),
-        λ none. too_few n _ some at (whole.bound none).1)
+        λ none. too_few n _ some at (whole.bound none).1,
+      )
 
   sells_at : (k : LedgerKey) → IsHolder k → n ≤ℤ stated_at Selling (get m k) → CanBind m (Some k) (neg_ℤ n) (pos 0)
   sells_at k (inl found) le = subst (λ q. CanBind m (Some q) (neg_ℤ n) (pos 0)) (sym found.1)
@@ -236,7 +244,7 @@ bound_elsewhere m (Some (key.TrustLine x asset)) selling buying seller id keyed 
     let found = line_entry m x asset can.0 can.1 in
     ap (λ n. get n (key.Offer seller id)) (with_line_is m x asset (bound_line selling buying) can.0 found.0 found.1)
     ∙ put_elsewhere m (with_line_body found.0 (bound_line selling buying can.0)) (key.Offer seller id)
-        (λ same. absurd (cc))
+    (λ same. absurd (cc))
 bound_elsewhere m (Some other) selling buying seller id keyed can = absurd can
 
 -- ---- releasing
@@ -321,11 +329,10 @@ pub releasing_legal : LiabilitiesReleased
 unfolding offer_at
 releasing_legal v id_pool owed sum o m legal settled stands =
     let found = offer_entry m o.seller_id o.offer_id o stands in
-    let there = there_of m o found in
-    (
+    let there = there_of m o found in (
       legal_as v (IsEntryLegal id_pool) _ _ _ _ _
           (trading_legal v id_pool owed sum m o _ _ legal
-              (can_release v id_pool owed sum o m legal settled found.0 there))
+          (can_release v id_pool owed sum o m legal settled found.0 there))
           (λ kind k. ap (λ n. owed kind k +ℤ n) (released o kind k)) refl,
       ap offer_of (still_there v id_pool owed sum o m legal settled found.0 there),
     )

@@ -1,19 +1,17 @@
 -- Signers that are added, removed and moved keep a state legal.
-use Rattle.std.proofs.Common.{◌≡◌, ◌≢◌, ◌⊎◌, inl, inr, refl, sym, ap, subst, ◌∙◌, ℕ, ◌+◌, ◌<◌, ◌≤◌, Bool, true, false}
+use Rattle.std.proofs.Common.{◌≡◌, ◌≢◌, refl, sym, ap, subst, ◌∙◌, ℕ, ◌+◌, ◌<◌, ◌≤◌, Bool, true, false}
 use Rattle.std.proofs.Common.{cond}
-use Rattle.std.proofs.Common.{List, length, get_or, Option, Some, None, Ok, slice_set, arith}
+use Rattle.std.proofs.Common.{length, get_or, Option, Some, None, Ok, arith}
 use Rattle.std.proofs.lemmas.Int.{ints}
 use Rattle.std.proofs.lemmas.List.Sums.{get_or-le-sum_by}
 use Rattle.std.specs.Prelude.{ℤ, pos, neg_ℤ, ◌+ℤ◌, ◌-ℤ◌, ◌≤ℤ◌, if◌then◌else◌}
 use Rattle.std.specs.List.{count_by, insert, remove}
 use Rattle.std.specs.FinMap.{get}
 use Rattle.ledger_types.specs.declared.ids.AccountId.{AccountId}
-use Rattle.ledger_types.specs.declared.header.LedgerHeader.{LedgerHeader}
 use Rattle.ledger_types.specs.declared.signer.Signer.{Signer}
 use Rattle.ledger_types.specs.declared.signer.SignerKey.{SignerKey}
 use Rattle.ledger_types.specs.declared.account.AccountEntry.{AccountEntry}
 use Rattle.ledger_types.specs.declared.entry.LedgerEntry.{LedgerEntry}
-use Rattle.ledger_types.specs.declared.key.LedgerKey.{LedgerKey}
 use Rattle.ledger_types.specs.declared.key.LedgerKey.TheVariants as key
 use Rattle.entry_map.specs.EntryMap.{EntryMap}
 use Rattle.entry_map.proofs.KeyMaps.{same_itself}
@@ -23,10 +21,10 @@ use Rattle.entry_slots.specs.EntrySponsor.{sponsor_of}
 use Rattle.entry_slots.specs.Tests.{unless_first}
 use Rattle.sponsor_rules.specs.declared.context.Ctx.{Ctx}
 use Rattle.sponsor_rules.specs.declared.count.Count.TheVariants as count
-use Rattle.sponsor_rules.specs.Counting.{count_in, with_more, with_less}
+use Rattle.sponsor_rules.specs.Counting.{with_more, with_less}
 use Rattle.sponsor_rules.specs.Paying.{map_after_charging, map_after_releasing, map_after_exchange, with_more_paid}
 use Rattle.sponsor_rules.specs.Paying.{with_less_paid, with_subentry, without_subentry, with_other_payer}
-use Rattle.sponsor_rules.specs.Payers.{open_sponsor, payer_of, payer_other_than, is_full, is_over, subentry_tests_at}
+use Rattle.sponsor_rules.specs.Payers.{open_sponsor, payer_other_than, is_full, is_over, subentry_tests_at}
 use Rattle.sponsor_rules.specs.Payers.{payer_tests_at, move_tests_at}
 use Rattle.sponsor_rules.specs.SignerPlace.{place_of, place_for, found_at, found_signer, with_signer, without_signer}
 use Rattle.sponsor_rules.specs.SignerPlace.{with_signer_sponsor}
@@ -40,9 +38,8 @@ use Rattle.sponsor_laws.proofs.Bounds.{done_by, have_passed, payer_passed}
 use Rattle.sponsor_laws.proofs.Moving.{other_is}
 use Rattle.sponsor_laws.proofs.SignedAccounts.{place_within_signers}
 use Rattle.sponsor_laws.proofs.SignerLists.{sponsors_inserted, sponsors_removed, sponsors_set, sponsor_at_place}
-use Rattle.legal_rules.specs.EntryKeys.{is_key, for_account}
 use Rattle.legal_rules.specs.Reserves.{is_for}
-use Rattle.legal_rules.specs.Books.{Kind, Subentries, Sponsoring, Sponsored, View, counted}
+use Rattle.legal_rules.specs.Books.{Subentries, View}
 use Rattle.legal_rules.specs.EntryLaws.{AreReservesSettled}
 use Rattle.legal_rules.specs.SignerLaws.{IsNewSigner, SignerAdded, SignerRemoved, SignerMoved, AddingSignersKeep}
 use Rattle.legal_rules.specs.SignerLaws.{RemovingSignersKeep, MovingSignersKeep}
@@ -55,17 +52,17 @@ use Rattle.legal_rules.proofs.Adding.{subentries_may, payers_room, beside_sponso
 use Rattle.legal_rules.proofs.Bounded.{account_legal, IsAccountLegal}
 use Rattle.legal_rules.proofs.Counting.{neg_in_book, zero_in_book}
 use Rattle.legal_rules.proofs.Legality.{owing_nothing, legal_of}
-use Rattle.legal_rules.proofs.Lows.{natural_low, for_account_low}
+use Rattle.legal_rules.proofs.Lows.{for_account_low}
 use Rattle.legal_rules.proofs.Moving.{other_apart}
 use Rattle.legal_rules.proofs.Needed.{for_own}
 use Rattle.legal_rules.proofs.PaidFor.{nothing_settled}
 use Rattle.legal_rules.proofs.Payers.{HasRoom, IsBeside, beside_none, exchanged, owner_changed, subentry_step}
 use Rattle.legal_rules.proofs.Payers.{no_subentry_step, other_payer_step}
-use Rattle.legal_rules.proofs.SignerEdits.{IsEdited, edit_step, edited_with, edited_without, edited_moved}
+use Rattle.legal_rules.proofs.SignerEdits.{edit_step, edited_with, edited_without, edited_moved}
 use Rattle.legal_rules.proofs.SignerOrder.{signers_with, signers_without, signers_moved}
 use Rattle.legal_rules.proofs.Sponsors.{paid_books, owner_books, payer_books, split_books}
 use Rattle.legal_rules.proofs.Standing.{StandsWith, counted_stands}
-use Rattle.legal_rules.proofs.Steps.{IsStep, steps, step_as, legal_as, account_entry, body_there, with_body, same_id_at}
+use Rattle.legal_rules.proofs.Steps.{steps, step_as, legal_as, account_entry, body_there, with_body, same_id_at}
 
 abbrev SignersOf : AccountEntry → Type 0
 SignersOf a = AreSignersInRange a.account_id a.signers (signer_sponsors a)
@@ -138,7 +135,7 @@ module _ (v : View) (id_pool : ℕ) (owed : Owed) (sum : ℤ) (m : EntryMap) (le
       (signers_with b.account_id b.signers (signer_sponsors b) was s t fresh_now apart)) in
       let both = steps (IsEntryLegal id_pool) _ _ a b c first (step_as (IsEntryLegal id_pool) _
       (plus (in_book Subentries (key.Account id) (pos 1))
-          (plus (paid_books 1 (Some id) t) (less (paid_books 1 (Some id) None))))
+      (plus (paid_books 1 (Some id) t) (less (paid_books 1 (Some id) None))))
       b c second (λ kind k i. plus (in_book Subentries (key.Account (named i)) (pos 1))
       (plus (paid_books 1 (Some (named i)) t) (less (paid_books 1 (Some (named i)) None))) kind k)) in
       let changed = owner_changed v id_pool sum _ _ None t id a (with_counted_signer s t) m (map_after_charging 1 t m)
@@ -180,7 +177,7 @@ module _ (v : View) (id_pool : ℕ) (owed : Owed) (sum : ℤ) (m : EntryMap) (le
   one_of p passes =
       let has = items in
       let le = get_or-le-sum_by (λ (o : Option AccountId). cond (p o) 1 0) (signer_sponsors a) place None
-          (omega arith) in
+      (omega arith) in
       let one : ◌≡◌ {A = ℕ} (cond (p (get_or (signer_sponsors a) place None)) 1 0) 1 =
       ap (λ o. cond (p o) 1 0) (sym (sponsor_at_place a place)) ∙ ap (λ t. cond t 1 0) passes in
       omega arith
@@ -203,7 +200,7 @@ module _ (v : View) (id_pool : ℕ) (owed : Owed) (sum : ℤ) (m : EntryMap) (le
       let has = counted_stands v id_pool owed sum m legal count.Sponsored id 1 (key.Account id) (with_body e a)
       (settled.sponsored (key.Account id)) there
       (for_own id (Some a.account_id) ((if is_there (sponsor_of e) then 2 else 0) + count_by is_there
-          (signer_sponsors a))
+      (signer_sponsors a))
       (ap Some its_id) (omega arith)) (omega arith) in
       let also = has.stands in
       let accounts : has.account ≡ a = cc in
@@ -298,7 +295,7 @@ module _ (v : View) (id_pool : ℕ) (owed : Owed) (sum : ℤ) (m : EntryMap) (le
       (plus (paid_books 1 (Some (named i)) t) (less (paid_books 1 (Some (named i)) (gone i)))) kind k)) in
       let beside : IsBeside t (key.Account id) = λ x is here. apart x is (ids here) in
       let changed = owner_changed v id_pool sum _ _ s t id a (with_moved_signer place s t) m
-          (map_after_exchange 1 s t m)
+      (map_after_exchange 1 s t m)
       (exchanged v id_pool sum 1 s t owed m legal counts_sponsoring room) stands paid_by_other beside both in
       legal_as v (IsEntryLegal id_pool) _ owed sum sum _ changed.legal
       (λ kind k. settles_moved (owed kind k) (payer_books 1 s kind k) (payer_books 1 t kind k)
@@ -312,7 +309,7 @@ module _ (v : View) (id_pool : ℕ) (owed : Owed) (sum : ℤ) (m : EntryMap) (le
   -- a signer that had nobody and gets nobody stays; else it passed the tests
   moved_by : (ctx : Ctx) (t : Option AccountId) (new : EntryMap) → ((x : AccountId) → t ≡ Some x → x ≢ id)
       → ((x : AccountId) → t ≡ Some x → HasAccount m x) → (o : Option AccountId) → s ≡ o → (u : Option AccountId)
-          → t ≡ u
+      → t ≡ u
       → map_after_moving_signer_between ctx id place o u m ≡ Ok new → IsLegalOwing v id_pool owed sum new
   moved_by ctx t new apart stand None old None to done = subst (IsLegalOwing v id_pool owed sum) (cc) legal
   moved_by ctx t new apart stand None old (Some x) to done =
@@ -330,7 +327,7 @@ module _ (v : View) (id_pool : ℕ) (owed : Owed) (sum : ℤ) (m : EntryMap) (le
       (moved_to t apart (λ x is. absurd (cc)))
   moved_by ctx t new apart stand (Some y) old (Some x) to done =
       let after = with_account (map_after_exchange 1 (Some y) (Some x) m) id
-          (with_moved_signer place (Some y) (Some x)) in
+      (with_moved_signer place (Some y) (Some x)) in
       let over = payer_passed ctx m x 1 after new done in
       subst (IsLegalOwing v id_pool owed sum)
       ((λ i. with_account (map_after_exchange 1 (old i) (to i) m) id (with_moved_signer place (old i) (to i)))

@@ -5,11 +5,10 @@ use Rattle.std.specs.Prelude.{ℤ, pos, neg_ℤ, ◌+ℤ◌, ◌-ℤ◌, if◌th
 use Rattle.std.specs.List.{count_by}
 use Rattle.ledger_types.specs.declared.ids.AccountId.{AccountId}
 use Rattle.ledger_types.specs.declared.entry.LedgerEntry.{LedgerEntry}
-use Rattle.ledger_types.specs.declared.entry.LedgerEntryExtensionV1.{LedgerEntryExtensionV1}
 use Rattle.ledger_types.specs.declared.key.LedgerKey.{LedgerKey}
 use Rattle.ledger_types.specs.declared.key.LedgerKey.TheVariants as key
 use Rattle.ledger_types.specs.Keys.{key_of}
-use Rattle.entry_slots.specs.EntrySponsor.{sponsor_in, sponsor_of, with_sponsor}
+use Rattle.entry_slots.specs.EntrySponsor.{sponsor_of, with_sponsor}
 use Rattle.entry_slots.proofs.RecordedSponsor.{recorded_sponsor}
 use Rattle.sponsor_rules.specs.Charge.{multiplicity, owner_of}
 use Rattle.sponsor_laws.specs.Sums.{is_there}

@@ -1,7 +1,7 @@
 -- A state within a transaction after one entry is changed in its place.
-use Rattle.std.proofs.Common.{◌≡◌, refl, sym, ap, subst, ◌∙◌, ℕ, true, false, cond, Option, Some, None, arith}
+use Rattle.std.proofs.Common.{◌≡◌, refl, sym, ap, subst, ◌∙◌, true, false, cond, Option, Some, None, arith}
 use Rattle.std.proofs.lemmas.Int.{ints}
-use Rattle.std.specs.Prelude.{ℤ, pos, ◌+ℤ◌, ◌-ℤ◌}
+use Rattle.std.specs.Prelude.{ℤ, ◌+ℤ◌, ◌-ℤ◌}
 use Rattle.std.specs.FinMap.{get}
 use Rattle.ledger_types.specs.declared.ids.AccountId.{AccountId}
 use Rattle.ledger_types.specs.declared.ids.Hash.{Hash}
@@ -97,12 +97,12 @@ module _ (v : View) (P : LedgerEntry → Type 0) (owed more : Owed) (sum : ℤ) 
         (move.offers id ∙ sym (old_part (offer_with id))) (legal.offers id);
     books = λ kind q.
         moved_by _ _ _ _ (more kind q) (total_put (weight v kind q) m e')
-            (move.books kind q ∙ ap (λ w. w +ℤ more kind q) (sym (old_part (weight v kind q))))
+        (move.books kind q ∙ ap (λ w. w +ℤ more kind q) (sym (old_part (weight v kind q))))
         ∙ ap (λ n. n +ℤ more kind q) (legal.books kind q);
     supply =
         moved_by _ _ _ _ (held v.asset e' -ℤ held v.asset e) (total_put (held v.asset) m e')
-            (difference (held v.asset e) (held v.asset e')
-            ∙ ap (λ w. w +ℤ (held v.asset e' -ℤ held v.asset e)) (sym (old_part (held v.asset))))
+        (difference (held v.asset e) (held v.asset e')
+        ∙ ap (λ w. w +ℤ (held v.asset e' -ℤ held v.asset e)) (sym (old_part (held v.asset))))
         ∙ ap (λ n. n +ℤ (held v.asset e' -ℤ held v.asset e)) legal.supply;
   }
 

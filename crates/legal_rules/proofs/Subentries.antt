@@ -2,11 +2,9 @@
 use Rattle.std.proofs.Common.{◌≡◌, ◌≢◌, refl, sym, ap, subst, ◌∙◌, ℕ, ◌+◌, ◌≤◌, Bool, true, false, [], Option, Some}
 use Rattle.std.proofs.Common.{None, arith}
 use Rattle.std.proofs.lemmas.Int.{ints}
-use Rattle.std.specs.Prelude.{ℤ, pos, neg_ℤ, ◌+ℤ◌, ◌-ℤ◌, ◌≤ℤ◌, if◌then◌else◌}
+use Rattle.std.specs.Prelude.{ℤ, pos, neg_ℤ, ◌+ℤ◌, ◌-ℤ◌, if◌then◌else◌}
 use Rattle.std.specs.List.{count_by}
 use Rattle.ledger_types.specs.declared.ids.AccountId.{AccountId}
-use Rattle.ledger_types.specs.declared.asset.TrustLineAsset.{TrustLineAsset}
-use Rattle.ledger_types.specs.declared.asset.TrustLineAsset.TheVariants as line
 use Rattle.ledger_types.specs.declared.trust_line.TrustLineEntry.{TrustLineEntry}
 use Rattle.ledger_types.specs.declared.offer.OfferEntry.{OfferEntry}
 use Rattle.ledger_types.specs.declared.data_entry.DataEntry.{DataEntry}
@@ -27,9 +25,7 @@ use Rattle.legal_rules.specs.EntryKeys.{is_key, for_account}
 use Rattle.legal_rules.specs.Reserves.{subentries_in, signer_sponsors_in, for_each}
 use Rattle.legal_rules.specs.Books.{Kind, Subentries, Sponsoring, Sponsored, View, counted, stated}
 use Rattle.legal_rules.specs.Ranges.{IsPaidRightly}
-use Rattle.legal_rules.specs.Owing.{weight, weighed, Owed, in_book, plus, beside_reserves, IsEntryLegal, IsBoundRightly}
-use Rattle.legal_rules.specs.Bounds.{AreSubentriesFew, DoReservesFit, IsFilledOrEmpty}
-use Rattle.legal_rules.specs.Ranges.{IsBodyInRange}
+use Rattle.legal_rules.specs.Owing.{weight, weighed, in_book, beside_reserves, IsEntryLegal}
 use Rattle.legal_rules.proofs.Numbers.{plus_nothing}
 use Rattle.legal_rules.proofs.Needed.{line_some}
 use Rattle.legal_rules.proofs.Putting.{IsNoPool}
@@ -132,7 +128,7 @@ module _ (v : View) (e : LedgerEntry) (owner : AccountId) (n : ℕ) (s : IsSuben
       ≡ (in_book Subentries (key.Account owner) (pos n) kind k +ℤ beside_reserves (weighed v e) kind k)
   alone Subentries k =
       states_nothing (is_key (key_of e) k) (counted v Subentries k e) (stated Subentries e.body)
-          (s.states count.SubEntries)
+      (s.states count.SubEntries)
       ∙ (λ i. for_account k (s.owns i) (s.counts i)) ∙ sym (plus_nothing _)
   alone Sponsored k =
       states_nothing (is_key (key_of e) k) (counted v Sponsored k (unsponsored e)) (stated Sponsored e.body)

@@ -7,7 +7,6 @@ use Rattle.ledger_types.specs.declared.account.AccountEntry.{AccountEntry}
 use Rattle.ledger_types.specs.declared.trust_line.TrustLineEntry.{TrustLineEntry}
 use Rattle.ledger_types.specs.declared.liquidity_pool.LiquidityPoolEntry.{LiquidityPoolEntry}
 use Rattle.ledger_types.specs.declared.entry.LedgerEntryBody.TheVariants as body
-use Rattle.ledger_types.specs.declared.key.LedgerKey.{LedgerKey}
 use Rattle.ledger_types.specs.declared.key.LedgerKey.TheVariants as key
 use Rattle.entry_map.specs.EntryMap.{EntryMap}
 use Rattle.entry_slots.specs.Accounts.{account_at, with_account}
@@ -18,7 +17,7 @@ use Rattle.entry_slots.specs.Pools.{pool_at, with_pool}
 use Rattle.sponsor_laws.specs.Sums.{signer_sponsors}
 use Rattle.legal_rules.specs.EntryKeys.{for_key}
 use Rattle.legal_rules.specs.PoolShares.{pool_named}
-use Rattle.legal_rules.specs.Books.{Kind, Shares, ShareLines, Uses, View}
+use Rattle.legal_rules.specs.Books.{Shares, ShareLines, Uses, View}
 use Rattle.legal_rules.specs.Supply.{lumens_of, of_line, held_in}
 use Rattle.legal_rules.specs.Bounds.{IsFilledOrEmpty}
 use Rattle.legal_rules.specs.Ranges.{IsAccountInRange, IsTrustLineInRange, IsPoolInRange}

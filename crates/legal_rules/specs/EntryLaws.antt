@@ -121,7 +121,7 @@ abbrev pub AddingDataKeeps : Type 0
 AddingDataKeeps =
     (h : LedgerHeader) (ctx : Ctx) (seq : ℕ) (data_entry : DataEntry) (old new : EntryMap) → IsLegal h old
     → IsDataInRange data_entry → get old (key_of (new_data seq data_entry)) ≡ None
-        → HasAccount old data_entry.account_id
+    → HasAccount old data_entry.account_id
     → IsSponsorReady ctx data_entry.account_id old
     → map_after_adding ctx data_entry.account_id (new_data seq data_entry) old ≡ Ok new → IsLegal h new
 

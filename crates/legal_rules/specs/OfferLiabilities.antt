@@ -23,12 +23,12 @@ abbrev pub bound_by : (n d w s : ℕ) → Bound
 bound_by n d w s =
     if nat_lt s w
     then (if nat_lt d n then record { wheat = s / n; sheep = ceil_div (s / n * n) d } else record
-        { wheat = s / d * d / n; sheep = s / d })
+    { wheat = s / d * d / n; sheep = s / d })
     else (if nat_lt d n then record { wheat = w / n; sheep = w / n * n / d } else record
-        { wheat = ceil_div (w / d * d) n; sheep = w / d })
+    { wheat = ceil_div (w / d * d) n; sheep = w / d })
 
 unfoldable pub bound_of : OfferEntry → Bound
 bound_of o =
     bound_by (nat_abs o.price.n) (nat_abs o.price.d) (worth (nat_abs o.price.n) (nat_abs o.price.d)
-        (nat_abs o.amount) unlimited)
+    (nat_abs o.amount) unlimited)
     (worth (nat_abs o.price.d) (nat_abs o.price.n) unlimited unlimited)

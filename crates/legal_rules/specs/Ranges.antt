@@ -1,6 +1,6 @@
 -- The ranges of entries: what holds of each by itself (the invariant LedgerEntryIsValid of stellar-core; CAP-0018 and
 -- CAP-0035 for the flags, CAP-0023 for claimable balances, CAP-0038 for pools).
-use Rattle.std.specs.Prelude.{◌≡◌, ◌≢◌, ℕ, ◌+◌, ◌/◌, ◌%◌, ◌≤◌, pos, ◌≤ℤ◌, Bool, true, nat_eq, length, All, List, Option}
+use Rattle.std.specs.Prelude.{◌≡◌, ◌≢◌, ℕ, ◌/◌, ◌%◌, ◌≤◌, pos, ◌≤ℤ◌, Bool, true, nat_eq, length, All, List, Option}
 use Rattle.std.specs.Prelude.{Some, None}
 use Rattle.std.specs.declared.cmp.Ordering.TheVariants.{Less}
 use Rattle.std.specs.List.{AllPairs}

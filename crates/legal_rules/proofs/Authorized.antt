@@ -24,6 +24,7 @@ use Rattle.legal_rules.specs.Legal.{view, IsBooked, IsAuthorized, AreLinesAuthor
 use Rattle.legal_rules.specs.Owing.{IsBoundRightly}
 use Rattle.legal_rules.proofs.Lows.{counted_low}
 use Rattle.legal_rules.proofs.Needed.{for_itself, keys_all}
+use Rattle.legal_rules.proofs.Numbers.{natural_some}
 
 -- ---- from lines to books
 
@@ -90,9 +91,6 @@ module _ (m : EntryMap) (authorized : EachEntry (λ q x. AreLinesAuthorized m x.
 
 some_stated : (n all states : ℤ) → pos 1 ≤ℤ n → n ≤ℤ all → states ≡ all → states ≡ pos 0 → ⊥
 some_stated n all states some le same none = omega (arith, ints)
-
-natural_some : (n : ℕ) → 1 ≤ n → pos 1 ≤ℤ pos n
-natural_some n some = omega (arith, ints)
 
 module _ (id_pool : ℕ) (m : EntryMap) (entries : EachEntry (λ k e. IsEntryInRange id_pool e) m)
     (bound : EachEntry (λ k e. IsBoundRightly e.body) m) (selling : IsBooked Selling m)

@@ -38,6 +38,7 @@ use Rattle.legal_rules.proofs.Payers.{HasRoom, beside_none, exchanged}
 use Rattle.legal_rules.proofs.Putting.{IsNoPool, put_legal, erase_legal}
 use Rattle.legal_rules.proofs.Sponsors.{unsponsored, paid_books, payer_books, unowned_books, sponsor_weighs}
 use Rattle.legal_rules.proofs.Steps.{legal_as}
+use Rattle.legal_rules.proofs.Numbers.{nothing_less}
 
 -- ---- what a claimable balance is
 
@@ -69,10 +70,6 @@ balance_by (body.ClaimableBalance c) n is = record {
   no_offer = λ id. refl;
 }
 balance_by other n is = absurd (cc)
-
-nothing_less : (t : Bool) → (pos 0 -ℤ (if t then pos 0 else pos 0)) ≡ pos 0
-nothing_less true = refl
-nothing_less false = refl
 
 balance_bare : (v : View) (e : LedgerEntry) (c : ClaimableBalanceEntry) (kind : Kind) (k : LedgerKey)
     → weight v kind k (record e { body = body.ClaimableBalance c; ext = None }) ≡ pos 0

@@ -38,7 +38,7 @@ use Rattle.legal_rules.specs.ChangeLaws.{UsesCounted}
 use Rattle.legal_rules.specs.ChangeLaws.{KeepsParams, PoolChanged}
 use Rattle.legal_rules.specs.Owing.{weight, Owed, nothing_owed, in_book, plus, IsEntryLegal}
 use Rattle.legal_rules.specs.Owing.{IsLegalOwing}
-use Rattle.legal_rules.proofs.Numbers.{plus_nothing}
+use Rattle.legal_rules.proofs.Numbers.{plus_nothing, kept_sum}
 use Rattle.legal_rules.proofs.Liable.{int_same, IsLineMove, with_line_body, with_line_legal, line_entry}
 use Rattle.legal_rules.proofs.Steps.{with_body, with_account_legal, replace_legal, legal_as}
 
@@ -232,9 +232,6 @@ module _ (n : ℤ) (t : TrustLineEntry) where
         fits = tt;
         filled = tt;
       }
-
-kept_sum : (sum n : ℤ) → (sum +ℤ (n -ℤ n)) ≡ sum
-kept_sum sum n = omega (arith, ints)
 
 pub uses_counted : UsesCounted
 uses_counted v id_pool owed sum m id asset n t legal stands low =

@@ -1,9 +1,23 @@
 -- The first states of ledgers.
-use Rattle.std.proofs.Common.{◌≡◌, refl, sym, ap, subst, ◌∙◌, ℕ, ◌+◌, ◌≤◌, Bool, true, false, cond, List, [], ◌∷◌}
+use Rattle.std.proofs.Common.{◌≡◌, ◌≢◌, refl, sym, ap, subst, ◌∙◌, ℕ, ◌+◌, ◌≤◌, Bool, true, false, cond, List, [], ◌∷◌}
 use Rattle.std.proofs.Common.{length, map}
-use Rattle.std.proofs.Common.{Option, Some, None, arith}
+use Rattle.std.proofs.Common.{◌++◌, All, Option, Some, None, arith}
 use Rattle.std.proofs.lemmas.Int.{ints}
 use Rattle.std.proofs.lemmas.List.Sums.{length-filter}
+use Rattle.std.proofs.lemmas.List.Elements.{All-head, All-tail}
+use Rattle.std.specs.Ordering.{eq_by_cmp}
+use Rattle.std.specs.List.{flat_map}
+use Rattle.ledger_types.specs.declared.entry.LedgerEntryBody.{LedgerEntryBody}
+use Rattle.ledger_types.specs.Keys.{key_of_body}
+use Rattle.entry_map.proofs.KeyMaps.{same_keys}
+use Rattle.entry_slots.specs.EntrySponsor.{sponsor_of}
+use Rattle.sponsor_rules.specs.Charge.{owner_of}
+use Rattle.entry_sums.proofs.Lookups.{put_get}
+use Rattle.legal_rules.specs.Reserves.{signer_sponsors_in}
+use Rattle.legal_rules.specs.Needs.{account_keys, holding_keys}
+use Rattle.legal_rules.specs.Ranges.{IsPaidRightly}
+use Rattle.legal_rules.specs.FirstStates.{LoneEntries}
+use Rattle.legal_rules.proofs.Subentries.{paid_not_by_owner}
 use Rattle.std.specs.Prelude.{ℤ, pos, ◌+ℤ◌, ◌-ℤ◌, ◌≤ℤ◌, if◌then◌else◌}
 use Rattle.std.specs.List.{count_by, filter}
 use Rattle.std.specs.FinMap.{get, empty, get-empty}
@@ -34,7 +48,7 @@ use Rattle.legal_rules.specs.Ranges.{IsAccountInRange}
 use Rattle.legal_rules.specs.Legal.{view, pools_in, IsBooked}
 use Rattle.legal_rules.specs.Owing.{weight, IsEntryLegal}
 use Rattle.legal_rules.proofs.Legality.{legal_of}
-use Rattle.legal_rules.proofs.Numbers.{taken_off}
+use Rattle.legal_rules.proofs.Numbers.{taken_off, nothing_less}
 
 -- ---- plain accounts
 
@@ -60,10 +74,6 @@ none_less false n none = refl
 none_more : (t : Bool) (n : ℕ) → n ≡ 0 → ((pos 0 +ℤ pos n) -ℤ (if t then pos 0 else pos 0)) ≡ pos 0
 none_more true n none = omega (arith, ints)
 none_more false n none = omega (arith, ints)
-
-nothing_less : (t : Bool) → (pos 0 -ℤ (if t then pos 0 else pos 0)) ≡ pos 0
-nothing_less true = refl
-nothing_less false = refl
 
 module _ (v : View) (e : LedgerEntry) (p : IsPlainAccount e) where
   abbrev a : AccountEntry
@@ -171,4 +181,58 @@ lone_accounts h seq a legal =
       selling = book Selling legal.selling;
       buying = book Buying legal.buying;
       lumens = ap (λ n. n +ℤ h.fee_pool) (sym (one_total (held asset.Native) e)) ∙ legal.lumens;
+    }
+
+-- ---- one entry
+
+chosen_there : (b : Bool) (e : LedgerEntry) (q k : LedgerKey) (o : Option LedgerEntry) → o ≡ None
+    → eq_by_cmp key_cmp q k ≡ b → cond b (Some e) o ≢ None → q ≡ k
+chosen_there true e q k o none tied stands = same_keys q k tied
+chosen_there false e q k o none apart stands = absurd (stands none)
+
+-- what stands beside nothing is the entry itself
+alone : (e : LedgerEntry) (q : LedgerKey) → get (put empty e) q ≢ None → q ≡ key_of e
+alone e q stands = chosen_there (eq_by_cmp key_cmp q (key_of e)) e q (key_of e) (get empty q) (get-empty key_cmp q) refl
+    (λ none. stands (put_get empty e q ∙ none))
+
+module _ (P : LedgerKey → Type 0) (more rest : List LedgerKey) where
+  first_passes : (o s : Option AccountId) → All P (account_keys o ++ account_keys s ++ more ++ rest) → (x : AccountId)
+      → o ≡ Some x → P (key.Account x)
+  first_passes None s all x is = absurd (cc)
+  first_passes (Some y) s all x is = subst (λ i. P (key.Account i)) (let same : y ≡ x = cc in same)
+      (All-head P (key.Account y) (account_keys s ++ more ++ rest) all)
+
+  second_passes : (o s : Option AccountId) → All P (account_keys o ++ account_keys s ++ more ++ rest) → (x : AccountId)
+      → s ≡ Some x → P (key.Account x)
+  second_passes o None all x is = absurd (cc)
+  second_passes None (Some y) all x is = subst (λ i. P (key.Account i)) (let same : y ≡ x = cc in same)
+      (All-head P (key.Account y) (more ++ rest) all)
+  second_passes (Some z) (Some y) all x is = subst (λ i. P (key.Account i)) (let same : y ≡ x = cc in same)
+      (All-head P (key.Account y) (more ++ rest)
+      (All-tail P (key.Account z) (key.Account y ∷ (more ++ rest)) all))
+
+own_by_key : (b : LedgerEntryBody) (x : AccountId) → key_of_body b ≡ key.Account x → owner_of b ≡ Some x
+own_by_key (body.Account a) x is = ap Some (let same : a.account_id ≡ x = cc in same)
+own_by_key other x is = absurd (cc)
+
+unpaid : (e : LedgerEntry) (o : Option AccountId) → sponsor_of e ≡ o → ((x : AccountId) → o ≡ Some x → ⊥) → o ≡ None
+unpaid e None is apart = refl
+unpaid e (Some x) is apart = absurd (apart x refl)
+
+pub lone_entries : LoneEntries
+lone_entries h e legal =
+    let m = put empty e in
+    let there : get m (key_of e) ≡ Some e = put_there empty e in
+    let signers = flat_map account_keys (signer_sponsors_in e.body) in
+    let holding = holding_keys (pools_in m) e.body in
+    let needed = legal.standing (key_of e) e there in
+    let range = legal.entries (key_of e) e there in
+    record {
+      owner = λ id is. sym (alone e (key.Account id) (first_passes (λ q. get m q ≢ None) signers holding
+          (owner_of e.body) (sponsor_of e) needed id is));
+      sponsor = unpaid e (sponsor_of e) refl (λ x is.
+          let at = alone e (key.Account x) (second_passes (λ q. get m q ≢ None) signers holding (owner_of e.body)
+          (sponsor_of e) needed x is) in
+          paid_not_by_owner e.body x x (own_by_key e.body x (sym at))
+              (subst (IsPaidRightly e.body) is range.paid) refl);
     }

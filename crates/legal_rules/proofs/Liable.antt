@@ -36,7 +36,7 @@ use Rattle.legal_rules.specs.Supply.{of_line}
 use Rattle.legal_rules.specs.Binding.{risen, bound_account, bound_line}
 use Rattle.legal_rules.specs.Ranges.{AreSignersInRange}
 use Rattle.legal_rules.specs.Owing.{weight, Owed, in_book, plus, IsEntryLegal, IsLegalOwing}
-use Rattle.legal_rules.proofs.Numbers.{plus_nothing}
+use Rattle.legal_rules.proofs.Numbers.{plus_nothing, kept_sum}
 use Rattle.legal_rules.proofs.Steps.{with_body, IsStep, replace_legal, legal_as}
 
 -- ---- what is stored
@@ -276,9 +276,6 @@ module _ (selling buying : ℤ) (t : TrustLineEntry) where
     fits = tt;
     filled = tt;
   }
-
-kept_sum : (sum n : ℤ) → (sum +ℤ (n -ℤ n)) ≡ sum
-kept_sum sum n = omega (arith, ints)
 
 -- A line's liabilities rise by these, or fall.
 pub bound_line_legal : (v : View) (id_pool : ℕ) (owed : Owed) (sum : ℤ) (m : EntryMap) (id : AccountId)

@@ -48,11 +48,9 @@ use Rattle.legal_rules.proofs.Steps.{IsAccountEntry, with_body, replace_legal}
 use Rattle.legal_rules.proofs.Steps.{legal_as}
 use Rattle.legal_rules.proofs.Steps.{same_id_at, account_stands}
 use Rattle.legal_rules.proofs.Subentries.{subentry_of, paid_by_other, paid_not_by_owner, legal_recorded}
+use Rattle.legal_rules.proofs.Numbers.{kept_sum}
 
 -- ---- the entry with another sponsor
-
-kept_sum : (sum n : ℤ) → (sum +ℤ (n -ℤ n)) ≡ sum
-kept_sum sum n = omega (arith, ints)
 
 -- An entry that stands gets another sponsor: its payer and its owner owe so much more.
 pub recorded_legal : (v : View) (id_pool : ℕ) (owed : Owed) (sum : ℤ) (m : EntryMap) (k : LedgerKey) (e : LedgerEntry)

@@ -35,16 +35,13 @@ use Rattle.legal_rules.proofs.Sponsors.{recorded}
 use Rattle.legal_rules.proofs.Steps.{with_body, legal_as}
 use Rattle.legal_rules.proofs.Subentries.{legal_recorded}
 use Rattle.legal_rules.specs.EntryLaws.{IsNewAccount}
+use Rattle.legal_rules.proofs.Numbers.{nothing_less}
 
 -- ---- an account that has nothing but its lumens
 
 nothing_at : (t : Bool) → ((if t then pos 0 else pos 0) -ℤ (if t then pos 0 else pos 0)) ≡ pos 0
 nothing_at true = refl
 nothing_at false = refl
-
-states_none : (t : Bool) → (pos 0 -ℤ (if t then pos 0 else pos 0)) ≡ pos 0
-states_none true = refl
-states_none false = refl
 
 -- it counts for nothing and states nothing
 pub bare_weighs : (v : View) (e : LedgerEntry) (a : AccountEntry) → IsNewAccount a → (kind : Kind) (k : LedgerKey)
@@ -57,7 +54,7 @@ bare_weighs v e a new kind k =
         (record a { num_sub_entries = 0; signers = []; ext = None })) ≡ pos 0
     nothing Subentries k = nothing_at (is_key (key.Account a.account_id) k)
     nothing Sponsored k = nothing_at (is_key (key.Account a.account_id) k)
-    nothing kind k = states_none (is_key (key.Account a.account_id) k)
+    nothing kind k = nothing_less (is_key (key.Account a.account_id) k)
 
 -- ---- adding
 

@@ -49,6 +49,7 @@ use Rattle.legal_rules.proofs.OffersKept.{IsOfferEntry, traded, offer_changed, a
 use Rattle.legal_rules.proofs.Places.{kept_elsewhere}
 use Rattle.legal_rules.proofs.Standing.{counted_stated}
 use Rattle.legal_rules.proofs.Steps.{legal_as}
+use Rattle.legal_rules.proofs.Numbers.{natural_some}
 
 -- ---- ranges
 
@@ -103,9 +104,6 @@ too_few n s some le none = omega (arith, ints)
 
 low_of : (n : ℤ) → pos 1 ≤ℤ n → pos 0 ≤ℤ n
 low_of n some = omega (arith, ints)
-
-natural_some : (n : ℕ) → 1 ≤ n → pos 1 ≤ℤ pos n
-natural_some n some = omega (arith, ints)
 
 -- ---- where an offer's owner holds its assets
 
@@ -249,22 +247,15 @@ bound_elsewhere m (Some other) selling buying seller id keyed can = absurd can
 
 -- ---- releasing
 
+back_again : (k : LedgerKey) (o : Option LedgerKey) (n : ℤ) → neg_ℤ (for_key k o (neg_ℤ n)) ≡ for_key k o n
+back_again k None n = refl
+back_again k (Some q) n = elim (is_key q k) as (λ t. neg_ℤ (if t then neg_ℤ n else pos 0) ≡ (if t then n else pos 0))
+    [ true ↦ omega (arith, ints) | false ↦ refl ]
+
 released : (o : OfferEntry) (kind : Kind) (k : LedgerKey)
     → traded o (neg_ℤ (pos (bound_of o).wheat)) (neg_ℤ (pos (bound_of o).sheep)) kind k ≡ trade_books o kind k
 released o Selling k = back_again k (holder o.seller_id o.selling) _
-  where
-    back_again : (k : LedgerKey) (o : Option LedgerKey) (n : ℤ) → neg_ℤ (for_key k o (neg_ℤ n)) ≡ for_key k o n
-    back_again k None n = refl
-    back_again k (Some q) n = elim (is_key q k) as (λ t. neg_ℤ
-        (if t then neg_ℤ n else pos 0) ≡ (if t then n else pos 0))
-        [ true ↦ omega (arith, ints) | false ↦ refl ]
 released o Buying k = back_again k (holder o.seller_id o.buying) _
-  where
-    back_again : (k : LedgerKey) (o : Option LedgerKey) (n : ℤ) → neg_ℤ (for_key k o (neg_ℤ n)) ≡ for_key k o n
-    back_again k None n = refl
-    back_again k (Some q) n = elim (is_key q k) as (λ t. neg_ℤ
-        (if t then neg_ℤ n else pos 0) ≡ (if t then n else pos 0))
-        [ true ↦ omega (arith, ints) | false ↦ refl ]
 released o kind k = refl
 
 not_more : (x y : ℤ) → y ≡ pos 0 → x ≤ℤ pos 0 → (x +ℤ y) ≤ℤ pos 0

@@ -26,7 +26,7 @@ use Rattle.legal_rules.specs.Reserves.{subentries_in, signer_sponsors_in, for_ea
 use Rattle.legal_rules.specs.Books.{Kind, Subentries, Sponsoring, Sponsored, View, counted, stated}
 use Rattle.legal_rules.specs.Ranges.{IsPaidRightly}
 use Rattle.legal_rules.specs.Owing.{weight, weighed, in_book, beside_reserves, IsEntryLegal}
-use Rattle.legal_rules.proofs.Numbers.{plus_nothing}
+use Rattle.legal_rules.proofs.Numbers.{plus_nothing, nothing_plus}
 use Rattle.legal_rules.proofs.Needed.{line_some}
 use Rattle.legal_rules.proofs.Putting.{IsNoPool}
 use Rattle.legal_rules.proofs.Sponsors.{unsponsored, paid_books, sponsor_weighs, recorded, recorded_weighs}
@@ -118,9 +118,6 @@ nothing_for false = refl
 
 grouped : (w u p s b : ℤ) → w ≡ (u +ℤ p) → u ≡ (s +ℤ b) → w ≡ ((s +ℤ p) +ℤ b)
 grouped w u p s b is also = omega (arith, ints)
-
-nothing_plus : (x : ℤ) → x ≡ (pos 0 +ℤ x)
-nothing_plus x = omega (arith, ints)
 
 module _ (v : View) (e : LedgerEntry) (owner : AccountId) (n : ℕ) (s : IsSubentry e.body owner n) where
   -- without its sponsor it counts as a subentry alone, beside what it counts in no book of reserves

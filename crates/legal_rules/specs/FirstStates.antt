@@ -1,14 +1,18 @@
 -- States that are legal from the first, and what a legal state of one account says.
-use Rattle.std.specs.Prelude.{◌≡◌, ℕ, ◌≤◌, pos, ◌+ℤ◌, length, [], None}
+use Rattle.std.specs.Prelude.{◌≡◌, ℕ, ◌≤◌, pos, ◌+ℤ◌, length, [], Some, None}
 use Rattle.std.specs.FinMap.{empty}
 use Rattle.ledger_types.specs.declared.asset.Asset.TheVariants as asset
+use Rattle.ledger_types.specs.declared.ids.AccountId.{AccountId}
 use Rattle.ledger_types.specs.declared.account.AccountEntry.{AccountEntry}
 use Rattle.ledger_types.specs.declared.header.LedgerHeader.{LedgerHeader}
 use Rattle.ledger_types.specs.declared.entry.LedgerEntry.{LedgerEntry}
 use Rattle.ledger_types.specs.declared.entry.LedgerEntryBody.TheVariants as body
+use Rattle.ledger_types.specs.declared.key.LedgerKey.TheVariants as key
 use Rattle.ledger_types.specs.Keys.{key_of}
 use Rattle.entry_map.specs.EntryMap.{EntryMap, put}
 use Rattle.entry_slots.specs.AccountExtensions.{account_liabilities}
+use Rattle.entry_slots.specs.EntrySponsor.{sponsor_of}
+use Rattle.sponsor_rules.specs.Charge.{owner_of}
 use Rattle.entry_sums.specs.Sums.{total, EachEntry}
 use Rattle.legal_rules.specs.Supply.{held}
 use Rattle.legal_rules.specs.Ranges.{IsAccountInRange}
@@ -54,3 +58,12 @@ pub record IsLoneAccount (h : LedgerHeader) (a : AccountEntry) : Type 0 where
 abbrev pub LoneAccounts : Type 0
 LoneAccounts = (h : LedgerHeader) (seq : ℕ) (a : AccountEntry) → IsLegal h (put empty (new_account seq a))
     → IsLoneAccount h a
+
+-- what a legal state of one entry says of it: its owner is itself, and nobody pays for it
+pub record IsLoneEntry (e : LedgerEntry) : Type 0 where
+  pub owner : (id : AccountId) → owner_of e.body ≡ Some id → key_of e ≡ key.Account id
+  pub sponsor : sponsor_of e ≡ None
+
+-- so neither a line, an offer or data nor a claimable balance is legal alone
+abbrev pub LoneEntries : Type 0
+LoneEntries = (h : LedgerHeader) (e : LedgerEntry) → IsLegal h (put empty e) → IsLoneEntry e

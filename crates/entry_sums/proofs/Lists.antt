@@ -73,7 +73,7 @@ sum_over-put f k v [] h = put_first (f v) (pos 0) (pos 0) refl
 sum_over-put f k v (e ∷ es) h =
     elim (key_cmp k e.0) as (λ r. key_cmp k e.0 ≡ r
     → (sum_over f (by_order r ((k, v) ∷ e ∷ es) ((e.0, v) ∷ es) (e ∷ put key_cmp k v es)) +ℤ part f
-        (cond (is_eq r) (Some e.1) (find key_cmp k es))) ≡ (sum_over f (e ∷ es) +ℤ f v)) [
+    (cond (is_eq r) (Some e.1) (find key_cmp k es))) ≡ (sum_over f (e ∷ es) +ℤ f v)) [
       | Less ↦ λ p. put_first (f v) (sum_over f (e ∷ es)) _
           (ap (part f) (not_below k es (below_less k e.0 es p (first_of_both _ _ h))))
       | Equal ↦ λ p. put_here (f v) (f e.1) (sum_over f es)
@@ -87,17 +87,17 @@ found_later : (e : LedgerKey × LedgerEntry) (es : Pairs) (k : LedgerKey) (x : L
     → T (below_all key_cmp e.0 es) → find key_cmp k es ≡ Some x → find key_cmp k (e ∷ es) ≡ Some x
 found_later e es k x h there = elim (key_cmp k e.0) as (λ r. key_cmp k e.0 ≡ r
     → cond (is_eq r) (Some e.1) (find key_cmp k es) ≡ Some x) [
-  | Less ↦ λ p. there
-  | Equal ↦ λ p. absurd (let missing = not_below k es (below_tied k e.0 es p h) in cc)
-  | Greater ↦ λ p. there
-] refl
+      | Less ↦ λ p. there
+      | Equal ↦ λ p. absurd (let missing = not_below k es (below_tied k e.0 es p h) in cc)
+      | Greater ↦ λ p. there
+    ] refl
 
 pub sum_over-at_most : (f g : Weight) (es : Pairs) → T (is_sorted key_cmp es)
     → ((k : LedgerKey) (x : LedgerEntry) → find key_cmp k es ≡ Some x → f x ≤ℤ g x) → sum_over f es ≤ℤ sum_over g es
 sum_over-at_most f g [] h le = omega (arith, ints)
 sum_over-at_most f g (e ∷ es) h le = not_more _ _ _ _ (le e.0 e.1 (found_first e es))
     (sum_over-at_most f g es (second_of_both _ _ h) (λ k x there. le k x
-        (found_later e es k x (first_of_both _ _ h) there)))
+    (found_later e es k x (first_of_both _ _ h) there)))
 
 sums_together : (a b c d s t u : ℤ) → s ≡ (t +ℤ u) → a ≡ (b +ℤ c) → (a +ℤ s) ≡ ((b +ℤ t) +ℤ (c +ℤ u))
 sums_together a b c d s t u all here = omega (arith, ints)

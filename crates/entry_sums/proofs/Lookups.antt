@@ -1,5 +1,5 @@
 -- What stands after an entry is put or erased, and what then holds of each entry.
-use Rattle.std.proofs.Common.{◌≡◌, ◌≢◌, refl, sym, ap, subst, ◌∙◌, Bool, true, false, cond, Some, None}
+use Rattle.std.proofs.Common.{◌≡◌, ◌≢◌, refl, sym, ap, subst, ◌∙◌, true, false, cond, Some, None}
 use Rattle.std.specs.Ordering.{eq_by_cmp}
 use Rattle.std.specs.FinMap.{get, get-insert, get-remove}
 use Rattle.ledger_types.specs.declared.entry.LedgerEntry.{LedgerEntry}
@@ -42,10 +42,10 @@ pub put_each : (P : LedgerKey → LedgerEntry → Type 0) (m : EntryMap) (e : Le
     → P (key_of e) e → EachEntry P (put m e)
 put_each P m e each new k x there = elim (eq_by_cmp key_cmp k (key_of e)) as
     (λ b. eq_by_cmp key_cmp k (key_of e) ≡ b → cond b (Some e) (get m k) ≡ Some x → P k x) [
-  | true ↦ λ tied is. let same : e ≡ x = cc in subst (P k) same
-      (subst (λ q. P q e) (sym (same_keys k (key_of e) tied)) new)
-  | false ↦ λ apart is. each k x is
-] refl (sym (put_get m e k) ∙ there)
+      | true ↦ λ tied is. let same : e ≡ x = cc in subst (P k) same
+          (subst (λ q. P q e) (sym (same_keys k (key_of e) tied)) new)
+      | false ↦ λ apart is. each k x is
+    ] refl (sym (put_get m e k) ∙ there)
 
 pub erase_each : (P : LedgerKey → LedgerEntry → Type 0) (m : EntryMap) (k : LedgerKey) → EachEntry P m
     → EachEntry P (erase m k)
@@ -59,7 +59,10 @@ pub left_over : (m : EntryMap) (k q : LedgerKey) (e : LedgerEntry) → get (eras
     → (q ≢ k) × (get m q ≡ Some e)
 left_over m k q e there = elim (eq_by_cmp key_cmp q k) as
     (λ b. eq_by_cmp key_cmp q k ≡ b → cond b None (get m q) ≡ Some e → (q ≢ k) × (get m q ≡ Some e)) [
-  | true ↦ λ tied is. absurd (cc)
-  | false ↦ λ apart is. (λ same. let none : get (erase m k) q ≡ None = ap (get (erase m k)) same
-      ∙ erase_there m k in absurd (cc), is)
-] refl (sym (erase_get m k q) ∙ there)
+      | true ↦ λ tied is. absurd (cc)
+      | false ↦ λ apart is. (
+        λ same. let none : get (erase m k) q ≡ None = ap (get (erase m k)) same
+            ∙ erase_there m k in absurd (cc),
+        is,
+      )
+    ] refl (sym (erase_get m k q) ∙ there)

@@ -234,5 +234,5 @@ lone_entries h e legal =
           let at = alone e (key.Account x) (second_passes (λ q. get m q ≢ None) signers holding (owner_of e.body)
           (sponsor_of e) needed x is) in
           paid_not_by_owner e.body x x (own_by_key e.body x (sym at))
-              (subst (IsPaidRightly e.body) is range.paid) refl);
+          (subst (IsPaidRightly e.body) is range.paid) refl);
     }

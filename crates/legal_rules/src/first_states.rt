@@ -12,12 +12,14 @@ pub fn genesis_is_legal()
     ensures { GenesisIsLegal }
 {}
 
-/// A state of one entry is legal only where it is its own owner and nobody pays for it: no line, offer, data or claimable balance is legal alone.
+/// A state of one entry is legal only where it is its own owner and nobody pays for it: no line, offer, data or
+/// claimable balance is legal alone.
 pub fn lone_entries()
     ensures { LoneEntries }
 {}
 
-/// A state of one account is legal only with as many subentries as signers, no liabilities, and all lumens in that account and the fee pool.
+/// A state of one account is legal only with as many subentries as signers, no liabilities, and all lumens in that
+/// account and the fee pool.
 pub fn lone_accounts()
     ensures { LoneAccounts }
 {}

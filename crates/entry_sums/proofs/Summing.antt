@@ -1,9 +1,9 @@
 -- Sums over the entries of a map.
-use Rattle.std.proofs.Common.{◌≡◌, ◌≢◌, refl, sym, ap, subst, ◌∙◌, Bool, true, false, cond, Option, Some, None, arith}
+use Rattle.std.proofs.Common.{◌≡◌, refl, sym, ap, subst, ◌∙◌, Bool, true, false, cond, Option, Some, None, arith}
 use Rattle.std.proofs.lemmas.Int.{ints}
 use Rattle.std.specs.Prelude.{ℤ, pos, ◌+ℤ◌, ◌≤ℤ◌}
 use Rattle.std.specs.Ordering.{eq_by_cmp}
-use Rattle.std.specs.FinMap.{get, insert, entries, entries_sorted, entries-insert, get-entries, get-insert, get-remove}
+use Rattle.std.specs.FinMap.{get, insert, entries, entries_sorted, entries-insert, get-entries, get-insert}
 use Rattle.std.specs.FinMap.{same_map}
 use Rattle.std.specs.FinMap.Entries.{put as put_in}
 use Rattle.ledger_types.specs.declared.entry.LedgerEntry.{LedgerEntry}
@@ -11,7 +11,7 @@ use Rattle.ledger_types.specs.declared.key.LedgerKey.{LedgerKey}
 use Rattle.ledger_types.specs.Keys.{key_of}
 use Rattle.ledger_types.specs.KeyOrder.{key_cmp}
 use Rattle.ledger_types.proofs.KeyOrdering.{keys_total, keys_exact}
-use Rattle.entry_map.specs.EntryMap.{EntryMap, put, erase}
+use Rattle.entry_map.specs.EntryMap.{EntryMap, erase}
 use Rattle.entry_map.proofs.KeyMaps.{same_keys}
 use Rattle.entry_sums.specs.Sums.{Weight, sum_over, total, part, EachEntry}
 use Rattle.entry_sums.specs.Laws.{PutAdds, EraseTakes, OnlyAtCounts, PartIsAtMost}

@@ -1,13 +1,11 @@
 -- Accounts that stay in range with other counts and signers.
-use Rattle.std.proofs.Common.{◌≡◌, ◌≢◌, refl, sym, ap, subst, ◌∙◌, ℕ, ◌+◌, ◌-◌, ◌≤◌, true, List, Option, Some, None}
+use Rattle.std.proofs.Common.{◌≡◌, ◌≢◌, refl, sym, ap, subst, ◌∙◌, ℕ, ◌+◌, ◌-◌, ◌≤◌, List, Option, Some, None}
 use Rattle.std.proofs.Common.{arith}
-use Rattle.std.specs.Prelude.{ℤ, pos, ◌+ℤ◌, ◌≤ℤ◌}
-use Rattle.ledger_types.specs.declared.ids.AccountId.{AccountId}
+use Rattle.std.specs.Prelude.{pos, ◌+ℤ◌, ◌≤ℤ◌}
 use Rattle.ledger_types.specs.declared.price.Liabilities.{Liabilities}
 use Rattle.ledger_types.specs.declared.signer.Signer.{Signer}
 use Rattle.ledger_types.specs.declared.account.AccountEntry.{AccountEntry}
 use Rattle.ledger_types.specs.declared.account.AccountEntryExtensionV2.{AccountEntryExtensionV2}
-use Rattle.ledger_types.specs.declared.entry.LedgerEntry.{LedgerEntry}
 use Rattle.valid_values.specs.Texts.{is_valid_text}
 use Rattle.entry_slots.specs.AccountExtensions.{second_in, sponsored_in, sponsoring_in, sponsorship_in}
 use Rattle.entry_slots.specs.AccountExtensions.{account_liabilities}
@@ -20,7 +18,7 @@ use Rattle.sponsor_rules.specs.Counting.{count_in, with_new_count}
 use Rattle.sponsor_laws.specs.Sums.{signer_sponsors}
 use Rattle.legal_rules.specs.Ranges.{AreAccountFlags, AreSignersInRange, IsAccountInRange}
 use Rattle.legal_rules.specs.Owing.{IsEntryLegal}
-use Rattle.legal_rules.proofs.Steps.{with_body, KeepsRange}
+use Rattle.legal_rules.proofs.Steps.{KeepsRange}
 
 -- ---- accounts that are alike in all but counts and signers
 

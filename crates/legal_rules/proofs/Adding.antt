@@ -1,5 +1,5 @@
 -- A line, an offer or data that is added.
-use Rattle.std.proofs.Common.{◌≡◌, ◌≢◌, refl, sym, ap, subst, ◌∙◌, ℕ, ◌+◌, ◌≤◌, false, Option, Some, None, Ok, arith}
+use Rattle.std.proofs.Common.{◌≡◌, refl, sym, ap, subst, ◌∙◌, ℕ, ◌+◌, ◌≤◌, false, Option, Some, None, Ok, arith}
 use Rattle.std.proofs.lemmas.Int.{ints}
 use borrow.Author.Tests.{ltb-false}
 use Rattle.std.specs.Prelude.{ℤ, pos, neg_ℤ, ◌+ℤ◌, ◌≤ℤ◌}
@@ -11,8 +11,7 @@ use Rattle.ledger_types.specs.declared.key.LedgerKey.{LedgerKey}
 use Rattle.ledger_types.specs.declared.key.LedgerKey.TheVariants as key
 use Rattle.ledger_types.specs.Keys.{key_of}
 use Rattle.entry_map.specs.EntryMap.{EntryMap, put}
-use Rattle.entry_slots.specs.Accounts.{account_at, with_account, HasAccount}
-use Rattle.entry_slots.specs.AccountExtensions.{num_sponsoring}
+use Rattle.entry_slots.specs.Accounts.{account_at, HasAccount}
 use Rattle.entry_slots.specs.EntrySponsor.{sponsor_of, with_sponsor}
 use Rattle.sponsor_rules.specs.declared.context.Ctx.{Ctx}
 use Rattle.sponsor_rules.specs.declared.count.Count.TheVariants as count
@@ -33,7 +32,7 @@ use Rattle.legal_rules.proofs.AccountRanges.{MayBe}
 use Rattle.legal_rules.proofs.Counting.{neg_in_book}
 use Rattle.legal_rules.proofs.Steps.{legal_as, same_id_at}
 use Rattle.legal_rules.proofs.Putting.{put_legal, legal_wider}
-use Rattle.legal_rules.proofs.Payers.{HasRoom, IsBeside, beside_none, ArePaying, AreChanged, exchanged, owner_changed}
+use Rattle.legal_rules.proofs.Payers.{HasRoom, IsBeside, beside_none, AreChanged, exchanged, owner_changed}
 use Rattle.legal_rules.proofs.Payers.{subentry_step}
 use Rattle.legal_rules.proofs.Sponsors.{paid_books, owner_books, payer_books, split_books}
 use Rattle.legal_rules.proofs.Subentries.{IsSubentry, subentry_weighs, sponsored_weighs, paid_by_other, legal_recorded}

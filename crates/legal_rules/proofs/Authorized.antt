@@ -1,31 +1,30 @@
 -- Lines that carry neither flag of authorisation are bound by no offer, and the lines of offers carry one.
-use Rattle.std.proofs.Common.{◌≡◌, ◌≢◌, refl, sym, ap, subst, ◌∙◌, ℕ, ◌%◌, ◌≤◌, Bool, true, false, [], ◌∷◌, ◌++◌, All}
+use Rattle.std.proofs.Common.{◌≡◌, refl, sym, ap, subst, ◌∙◌, ℕ, true, false, [], ◌∷◌, ◌++◌, All}
 use Rattle.std.proofs.Common.{Option, Some}
 use Rattle.std.proofs.Common.{None, arith}
 use Rattle.std.proofs.lemmas.Int.{ints}
 use Rattle.std.proofs.lemmas.List.Elements.{All-append, All-head, All-tail}
 use Rattle.std.specs.Prelude.{ℤ, pos, ◌≤ℤ◌, if◌then◌else◌}
 use Rattle.std.specs.FinMap.{get}
-use Rattle.ledger_types.specs.declared.trust_line.TrustLineEntry.{TrustLineEntry}
 use Rattle.ledger_types.specs.declared.entry.LedgerEntry.{LedgerEntry}
 use Rattle.ledger_types.specs.declared.entry.LedgerEntryBody.{LedgerEntryBody}
 use Rattle.ledger_types.specs.declared.entry.LedgerEntryBody.TheVariants as body
 use Rattle.ledger_types.specs.declared.key.LedgerKey.{LedgerKey}
 use Rattle.entry_map.specs.EntryMap.{EntryMap}
 use Rattle.entry_map.proofs.KeyMaps.{same_keys}
-use Rattle.entry_slots.specs.LineExtensions.{line_liabilities}
 use Rattle.entry_slots.specs.Lines.{line_in, line_of}
 use Rattle.entry_sums.specs.Sums.{total, EachEntry}
 use Rattle.entry_sums.proofs.Summing.{total_none, part_at_most}
 use Rattle.legal_rules.specs.EntryKeys.{is_key, for_key}
 use Rattle.legal_rules.specs.Trades.{holder, sells, buys}
-use Rattle.legal_rules.specs.Books.{Kind, Selling, Buying, counted, stated, stated_at}
+use Rattle.legal_rules.specs.Books.{Selling, Buying, counted, stated, stated_at}
 use Rattle.legal_rules.specs.Ranges.{IsBodyInRange, IsEntryInRange}
 use Rattle.legal_rules.specs.Needs.{keys_in}
 use Rattle.legal_rules.specs.Legal.{view, IsBooked, IsAuthorized, AreLinesAuthorized}
 use Rattle.legal_rules.specs.Owing.{IsBoundRightly}
 use Rattle.legal_rules.proofs.Lows.{counted_low}
 use Rattle.legal_rules.proofs.Needed.{for_itself, keys_all}
+use Rattle.legal_rules.proofs.Numbers.{natural_some}
 
 -- ---- from lines to books
 
@@ -92,9 +91,6 @@ module _ (m : EntryMap) (authorized : EachEntry (λ q x. AreLinesAuthorized m x.
 
 some_stated : (n all states : ℤ) → pos 1 ≤ℤ n → n ≤ℤ all → states ≡ all → states ≡ pos 0 → ⊥
 some_stated n all states some le same none = omega (arith, ints)
-
-natural_some : (n : ℕ) → 1 ≤ n → pos 1 ≤ℤ pos n
-natural_some n some = omega (arith, ints)
 
 module _ (id_pool : ℕ) (m : EntryMap) (entries : EachEntry (λ k e. IsEntryInRange id_pool e) m)
     (bound : EachEntry (λ k e. IsBoundRightly e.body) m) (selling : IsBooked Selling m)

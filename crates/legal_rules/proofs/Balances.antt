@@ -1,8 +1,8 @@
 -- A claimable balance that is added or removed.
-use Rattle.std.proofs.Common.{◌≡◌, ◌≢◌, refl, sym, ap, subst, ◌∙◌, ℕ, ◌≤◌, Bool, true, false, Option, Some, None, Ok}
+use Rattle.std.proofs.Common.{◌≡◌, ◌≢◌, refl, ap, subst, ◌∙◌, ℕ, ◌≤◌, Option, Some, None, Ok}
 use Rattle.std.proofs.Common.{arith}
 use Rattle.std.proofs.lemmas.Int.{ints}
-use Rattle.std.specs.Prelude.{ℤ, pos, neg_ℤ, ◌+ℤ◌, ◌-ℤ◌, ◌≤ℤ◌, if◌then◌else◌}
+use Rattle.std.specs.Prelude.{ℤ, pos, neg_ℤ, ◌+ℤ◌, ◌≤ℤ◌}
 use Rattle.std.specs.FinMap.{get}
 use Rattle.ledger_types.specs.declared.ids.AccountId.{AccountId}
 use Rattle.ledger_types.specs.declared.claimable_balance.ClaimableBalanceEntry.{ClaimableBalanceEntry}
@@ -13,7 +13,7 @@ use Rattle.ledger_types.specs.declared.key.LedgerKey.{LedgerKey}
 use Rattle.ledger_types.specs.declared.key.LedgerKey.TheVariants as key
 use Rattle.ledger_types.specs.Keys.{key_of, key_of_body}
 use Rattle.entry_map.specs.EntryMap.{EntryMap, put, erase}
-use Rattle.entry_slots.specs.Accounts.{account_at, HasAccount}
+use Rattle.entry_slots.specs.Accounts.{HasAccount}
 use Rattle.entry_slots.specs.EntrySponsor.{sponsor_of, with_sponsor}
 use Rattle.sponsor_rules.specs.declared.charge.Charge.TheVariants as charge
 use Rattle.sponsor_rules.specs.declared.context.Ctx.{Ctx}
@@ -24,20 +24,21 @@ use Rattle.sponsor_rules.specs.Payers.{payer_tests_at}
 use Rattle.sponsor_laws.proofs.Bounds.{done_by, payer_passed}
 use Rattle.entry_sums.specs.Sums.{total}
 use Rattle.legal_rules.specs.EntryKeys.{is_key}
-use Rattle.legal_rules.specs.Books.{Kind, Subentries, Sponsoring, Sponsored, View}
+use Rattle.legal_rules.specs.Books.{Kind, Sponsoring, View}
 use Rattle.legal_rules.specs.Supply.{held}
 use Rattle.legal_rules.specs.OfferIds.{offer_with, offer_with_in}
 use Rattle.legal_rules.specs.Ranges.{IsBodyInRange, IsPaidRightly}
 use Rattle.legal_rules.specs.Bounds.{AreSubentriesFew, DoReservesFit, IsFilledOrEmpty}
-use Rattle.legal_rules.specs.Owing.{weight, Owed, plus, less, IsBoundRightly, IsEntryLegal, IsLegalOwing}
+use Rattle.legal_rules.specs.Owing.{weight, Owed, IsBoundRightly, IsEntryLegal, IsLegalOwing}
 use Rattle.legal_rules.proofs.Adding.{room_of}
 use Rattle.legal_rules.proofs.Needed.{paid_counts}
 use Rattle.legal_rules.specs.EntryLaws.{AreReservesSettled}
 use Rattle.legal_rules.proofs.PaidFor.{payer_has}
-use Rattle.legal_rules.proofs.Payers.{HasRoom, IsBeside, beside_none, exchanged}
+use Rattle.legal_rules.proofs.Payers.{HasRoom, beside_none, exchanged}
 use Rattle.legal_rules.proofs.Putting.{IsNoPool, put_legal, erase_legal}
-use Rattle.legal_rules.proofs.Sponsors.{unsponsored, paid_books, payer_books, unowned_books, sponsor_weighs, recorded}
+use Rattle.legal_rules.proofs.Sponsors.{unsponsored, paid_books, payer_books, unowned_books, sponsor_weighs}
 use Rattle.legal_rules.proofs.Steps.{legal_as}
+use Rattle.legal_rules.proofs.Numbers.{nothing_less}
 
 -- ---- what a claimable balance is
 
@@ -69,10 +70,6 @@ balance_by (body.ClaimableBalance c) n is = record {
   no_offer = λ id. refl;
 }
 balance_by other n is = absurd (cc)
-
-nothing_less : (t : Bool) → (pos 0 -ℤ (if t then pos 0 else pos 0)) ≡ pos 0
-nothing_less true = refl
-nothing_less false = refl
 
 balance_bare : (v : View) (e : LedgerEntry) (c : ClaimableBalanceEntry) (kind : Kind) (k : LedgerKey)
     → weight v kind k (record e { body = body.ClaimableBalance c; ext = None }) ≡ pos 0

@@ -122,12 +122,12 @@ sponsored_at_most v id_pool owed lumens m k legal none = stated_few (stated_at S
     (total_of v (IsEntryLegal id_pool) owed lumens m legal Sponsored k)
     (total_of v (IsEntryLegal id_pool) owed lumens m legal Subentries k) none
 
-account_states : (m : EntryMap) (id : AccountId) (a : AccountEntry) (kind : Kind) → account_at m id ≡ Some a
+pub account_states : (m : EntryMap) (id : AccountId) (a : AccountEntry) (kind : Kind) → account_at m id ≡ Some a
     → stated_at kind (get m (key.Account id)) ≡ stated kind (body.Account a)
 account_states m id a kind stands = let found = account_entry m id a stands in ap (stated_at kind) found.1.there
     ∙ ap (stated kind) found.1.is
 
-minimum_low : (subs sponsoring sponsored base : ℕ) → pos sponsored ≤ℤ (pos subs +ℤ pos 2)
+pub minimum_low : (subs sponsoring sponsored base : ℕ) → pos sponsored ≤ℤ (pos subs +ℤ pos 2)
     → pos 0 ≤ℤ ((pos (2 + subs + sponsoring) -ℤ pos sponsored) *ℤ pos base)
 minimum_low subs sponsoring sponsored base le = subst (λ (x : ℤ). pos 0 ≤ℤ (x *ℤ pos base))
     (natural_of subs sponsoring sponsored le) (natural_low ((2 + subs + sponsoring - sponsored) * base))

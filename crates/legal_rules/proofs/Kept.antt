@@ -1,8 +1,8 @@
 -- Entries that are added and removed, by sponsor_rules' definitions.
-use Rattle.std.proofs.Common.{◌≡◌, ◌≢◌, refl, sym, ap, subst, ◌∙◌, ℕ, Bool, true, false, List, Option, Some, None, Ok}
+use Rattle.std.proofs.Common.{◌≡◌, refl, sym, ap, subst, ◌∙◌, ℕ, List, Option, Some, None, Ok}
 use Rattle.std.proofs.Common.{arith}
 use Rattle.std.proofs.lemmas.Int.{ints}
-use Rattle.std.specs.Prelude.{ℤ, pos, neg_ℤ, ◌+ℤ◌, ◌-ℤ◌, ◌≤ℤ◌, if◌then◌else◌}
+use Rattle.std.specs.Prelude.{ℤ, pos, neg_ℤ, ◌+ℤ◌, ◌-ℤ◌, ◌≤ℤ◌}
 use Rattle.std.specs.FinMap.{get}
 use Rattle.ledger_types.specs.declared.ids.AccountId.{AccountId}
 use Rattle.ledger_types.specs.declared.data_entry.DataEntry.{DataEntry}
@@ -36,6 +36,7 @@ use Rattle.legal_rules.proofs.Subentries.{subentry_of}
 use Rattle.legal_rules.proofs.PaidFor.{nothing_settled}
 use Rattle.legal_rules.proofs.Steps.{with_body, legal_as}
 use Rattle.legal_rules.proofs.Legality.{owing_nothing, legal_of}
+use Rattle.legal_rules.proofs.Numbers.{nothing_less}
 
 -- ---- within a transaction
 
@@ -95,10 +96,6 @@ moving_keeps h ctx k payer old new legal stands done =
 
 as_nothing : (t : ℤ) → t ≡ pos 0 → (pos 0 +ℤ t) ≡ pos 0
 as_nothing t none = omega (arith, ints)
-
-nothing_less : (t : Bool) → (pos 0 -ℤ (if t then pos 0 else pos 0)) ≡ pos 0
-nothing_less true = refl
-nothing_less false = refl
 
 -- data counts in no book beside its reserve
 data_settled : (v : View) (e : LedgerEntry) (d : DataEntry) (kind : Kind) (k : LedgerKey)

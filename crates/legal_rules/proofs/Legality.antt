@@ -1,6 +1,6 @@
 -- The two forms of legality: by what entries state, and by what books owe.
 use Rattle.std.proofs.Common.{◌≡◌, refl, sym, ap, subst, ◌∙◌}
-use Rattle.std.specs.Prelude.{ℤ, ◌-ℤ◌}
+use Rattle.std.specs.Prelude.{◌-ℤ◌}
 use Rattle.std.specs.FinMap.{get}
 use Rattle.ledger_types.specs.declared.asset.Asset.{Asset}
 use Rattle.ledger_types.specs.declared.asset.Asset.TheVariants as asset

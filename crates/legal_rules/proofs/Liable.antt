@@ -19,11 +19,10 @@ use Rattle.ledger_types.specs.declared.entry.LedgerEntryBody.{LedgerEntryBody}
 use Rattle.ledger_types.specs.declared.entry.LedgerEntryBody.TheVariants as body
 use Rattle.ledger_types.specs.declared.key.LedgerKey.{LedgerKey}
 use Rattle.ledger_types.specs.declared.key.LedgerKey.TheVariants as key
-use Rattle.ledger_types.specs.Keys.{key_of_body}
 use Rattle.entry_map.specs.EntryMap.{EntryMap, put}
 use Rattle.entry_slots.specs.AccountExtensions.{no_liabilities, is_nothing, liabilities_in, with_liabilities_in}
 use Rattle.entry_slots.specs.AccountExtensions.{account_liabilities, second_in, sponsored_in, sponsoring_in}
-use Rattle.entry_slots.specs.AccountExtensions.{sponsorship_in, num_sponsoring, num_sponsored}
+use Rattle.entry_slots.specs.AccountExtensions.{sponsorship_in}
 use Rattle.entry_slots.specs.EntrySponsor.{sponsor_of}
 use Rattle.entry_slots.specs.LineExtensions.{line_liabilities, line_liabilities_in, with_line_liabilities_in}
 use Rattle.entry_slots.specs.LineExtensions.{line_second_in, use_count_in, use_count}
@@ -32,17 +31,17 @@ use Rattle.reserve_rules.specs.Reserve.{IsInRange, IsLineInRange}
 use Rattle.sponsor_laws.specs.Sums.{is_there, signer_sponsors}
 use Rattle.legal_rules.specs.EntryKeys.{is_key, for_account}
 use Rattle.legal_rules.specs.Reserves.{is_for}
-use Rattle.legal_rules.specs.Books.{Kind, Subentries, Sponsoring, Sponsored, Selling, Buying, Uses, View, counted}
-use Rattle.legal_rules.specs.Supply.{held, of_line}
+use Rattle.legal_rules.specs.Books.{Kind, Sponsoring, Sponsored, Selling, Buying, Uses, View, counted}
+use Rattle.legal_rules.specs.Supply.{of_line}
 use Rattle.legal_rules.specs.Binding.{risen, bound_account, bound_line}
 use Rattle.legal_rules.specs.Ranges.{AreSignersInRange}
 use Rattle.legal_rules.specs.Owing.{weight, Owed, in_book, plus, IsEntryLegal, IsLegalOwing}
-use Rattle.legal_rules.proofs.Numbers.{plus_nothing}
+use Rattle.legal_rules.proofs.Numbers.{plus_nothing, kept_sum}
 use Rattle.legal_rules.proofs.Steps.{with_body, IsStep, replace_legal, legal_as}
 
 -- ---- what is stored
 
-int_same : (a b : ℤ) → int_eq a b ≡ true → a ≡ b
+pub int_same : (a b : ℤ) → int_eq a b ≡ true → a ≡ b
 int_same a b h = grind (arith, ints)
 
 both_true : (a b : Bool) → (a && b) ≡ true → (a ≡ true) × (b ≡ true)
@@ -277,9 +276,6 @@ module _ (selling buying : ℤ) (t : TrustLineEntry) where
     fits = tt;
     filled = tt;
   }
-
-kept_sum : (sum n : ℤ) → (sum +ℤ (n -ℤ n)) ≡ sum
-kept_sum sum n = omega (arith, ints)
 
 -- A line's liabilities rise by these, or fall.
 pub bound_line_legal : (v : View) (id_pool : ℕ) (owed : Owed) (sum : ℤ) (m : EntryMap) (id : AccountId)

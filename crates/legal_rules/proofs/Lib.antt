@@ -31,3 +31,7 @@ pub mod Kept
 pub mod Liable
 pub mod OffersKept
 pub mod Releasing
+pub mod Changed
+pub mod PoolsKept
+pub mod Given
+pub mod First

@@ -1,9 +1,9 @@
 -- An entry that moves to another payer, or to its owner.
 use Rattle.std.proofs.Common.{◌≡◌, ◌≢◌, ◌⊎◌, inl, inr, refl, sym, ap, subst, ◌∙◌, ℕ, ◌≤◌, true, false, Option, Some}
 use Rattle.std.proofs.Common.{None, Ok}
-use Rattle.std.proofs.Common.{length, arith}
+use Rattle.std.proofs.Common.{arith}
 use Rattle.std.proofs.lemmas.Int.{ints}
-use Rattle.std.specs.Prelude.{ℤ, pos, neg_ℤ, ◌+ℤ◌, ◌-ℤ◌, if◌then◌else◌}
+use Rattle.std.specs.Prelude.{ℤ, neg_ℤ, ◌+ℤ◌, if◌then◌else◌}
 use Rattle.std.specs.FinMap.{get}
 use Rattle.ledger_types.specs.declared.ids.AccountId.{AccountId}
 use Rattle.ledger_types.specs.declared.account.AccountEntry.{AccountEntry}
@@ -13,11 +13,10 @@ use Rattle.ledger_types.specs.declared.entry.LedgerEntryBody.{LedgerEntryBody}
 use Rattle.ledger_types.specs.declared.entry.LedgerEntryBody.TheVariants as body
 use Rattle.ledger_types.specs.declared.key.LedgerKey.{LedgerKey}
 use Rattle.ledger_types.specs.declared.key.LedgerKey.TheVariants as key
-use Rattle.ledger_types.specs.Keys.{key_of, key_of_body}
-use Rattle.entry_map.specs.EntryMap.{EntryMap, put}
-use Rattle.entry_slots.specs.Accounts.{account_of, account_at, HasAccount}
+use Rattle.ledger_types.specs.Keys.{key_of_body}
+use Rattle.entry_map.specs.EntryMap.{EntryMap}
+use Rattle.entry_slots.specs.Accounts.{account_at, HasAccount}
 use Rattle.entry_slots.specs.EntrySponsor.{sponsor_of, with_sponsor}
-use Rattle.entry_slots.specs.Tests.{unless_first}
 use Rattle.sponsor_rules.specs.declared.charge.Charge.{Charge}
 use Rattle.sponsor_rules.specs.declared.charge.Charge.TheVariants as charge
 use Rattle.sponsor_rules.specs.declared.context.Ctx.{Ctx}
@@ -32,28 +31,26 @@ use Rattle.sponsor_rules.proofs.Ids.{apart_accounts}
 use Rattle.sponsor_laws.specs.Laws.{PayerStands}
 use Rattle.sponsor_laws.proofs.Bounds.{done_by, payer_passed}
 use Rattle.sponsor_laws.proofs.Moving.{other_is}
-use Rattle.legal_rules.specs.Books.{Kind, View}
+use Rattle.legal_rules.specs.Books.{View}
 use Rattle.legal_rules.specs.Supply.{held}
 use Rattle.legal_rules.specs.Ranges.{IsPaidRightly}
-use Rattle.legal_rules.specs.Owing.{weight, Owed, plus, less, IsEntryLegal, IsLegalOwing}
+use Rattle.legal_rules.specs.Owing.{Owed, plus, less, IsEntryLegal, IsLegalOwing}
 use Rattle.legal_rules.proofs.Adding.{room_of}
 use Rattle.legal_rules.proofs.Needed.{paid_counts}
 use Rattle.legal_rules.proofs.Removing.{owns, no_account}
 use Rattle.legal_rules.specs.EntryLaws.{AreReservesSettled}
 use Rattle.legal_rules.proofs.PaidFor.{payer_has, owner_has}
-use Rattle.legal_rules.proofs.Payers.{HasRoom, IsBeside, ArePaying, AreChanged, exchanged, owner_changed}
+use Rattle.legal_rules.proofs.Payers.{HasRoom, IsBeside, AreChanged, exchanged, owner_changed}
 use Rattle.legal_rules.proofs.Payers.{other_payer_step}
 use Rattle.legal_rules.proofs.Sponsors.{paid_books, owner_books, payer_books, split_books, unowned_books}
 use Rattle.legal_rules.proofs.Sponsors.{recorded_weighs}
-use Rattle.legal_rules.proofs.Steps.{IsReplaced, IsAccountEntry, with_body, account_entry, body_there, replace_legal}
+use Rattle.legal_rules.proofs.Steps.{IsAccountEntry, with_body, replace_legal}
 use Rattle.legal_rules.proofs.Steps.{legal_as}
 use Rattle.legal_rules.proofs.Steps.{same_id_at, account_stands}
-use Rattle.legal_rules.proofs.Subentries.{IsSubentry, subentry_of, paid_by_other, paid_not_by_owner, legal_recorded}
+use Rattle.legal_rules.proofs.Subentries.{subentry_of, paid_by_other, paid_not_by_owner, legal_recorded}
+use Rattle.legal_rules.proofs.Numbers.{kept_sum}
 
 -- ---- the entry with another sponsor
-
-kept_sum : (sum n : ℤ) → (sum +ℤ (n -ℤ n)) ≡ sum
-kept_sum sum n = omega (arith, ints)
 
 -- An entry that stands gets another sponsor: its payer and its owner owe so much more.
 pub recorded_legal : (v : View) (id_pool : ℕ) (owed : Owed) (sum : ℤ) (m : EntryMap) (k : LedgerKey) (e : LedgerEntry)

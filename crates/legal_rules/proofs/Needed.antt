@@ -1,7 +1,7 @@
 -- What entries need stands, since they count for it.
-use Rattle.std.proofs.Common.{◌≡◌, ◌≢◌, ◌⊎◌, inl, inr, refl, sym, ap, subst, ◌∙◌, ℕ, ◌<◌, ◌≤◌, Bool, true, false, cond}
+use Rattle.std.proofs.Common.{◌≡◌, ◌≢◌, ◌⊎◌, inl, inr, refl, sym, ap, ◌∙◌, ℕ, ◌≤◌, Bool, true, false, cond}
 use Rattle.std.proofs.Common.{List}
-use Rattle.std.proofs.Common.{[], ◌∷◌, ◌++◌, length, get_or, All, Option, Some, None, arith}
+use Rattle.std.proofs.Common.{[], ◌∷◌, ◌++◌, get_or, All, Option, Some, None, arith}
 use Rattle.std.proofs.lemmas.Int.{ints}
 use Rattle.std.proofs.lemmas.List.Elements.{All-nil, All-cons, All-head, All-tail, All-append}
 use Rattle.std.proofs.lemmas.List.Sums.{get_or-le-sum_by}
@@ -33,6 +33,7 @@ use Rattle.legal_rules.specs.Ranges.{IsBodyInRange, IsEntryInRange, IsPaidRightl
 use Rattle.legal_rules.specs.Needs.{account_keys, keys_in, share_keys, pool_keys, holding_keys, needed_keys}
 use Rattle.legal_rules.specs.Legal.{view, pools_in, IsBooked}
 use Rattle.legal_rules.proofs.Lows.{counted_low, for_key_low, natural_low, for_account_low}
+use Rattle.legal_rules.proofs.Numbers.{natural_some}
 
 -- ---- a number for what is named itself
 
@@ -44,9 +45,6 @@ pub for_itself : (k : LedgerKey) (o : Option LedgerKey) (n : ℤ) → o ≡ Some
 for_itself k None n is some = absurd (cc)
 for_itself k (Some named) n is some = one_if (is_key named k) n
     (ap (λ q. is_key q k) (let same : named ≡ k = cc in same) ∙ same_itself k) some
-
-natural_some : (n : ℕ) → 1 ≤ n → pos 1 ≤ℤ pos n
-natural_some n some = omega (arith, ints)
 
 pub for_own : (id : AccountId) (o : Option AccountId) (n : ℕ) → o ≡ Some id → 1 ≤ n
     → pos 1 ≤ℤ for_account (key.Account id) o n

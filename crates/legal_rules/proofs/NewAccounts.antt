@@ -1,5 +1,5 @@
 -- An account that is added.
-use Rattle.std.proofs.Common.{◌≡◌, ◌≢◌, refl, sym, ap, subst, ◌∙◌, ℕ, ◌≤◌, Bool, true, false, [], Option, Some, None}
+use Rattle.std.proofs.Common.{◌≡◌, refl, ap, subst, ◌∙◌, ℕ, Bool, true, false, [], Option, Some, None}
 use Rattle.std.proofs.Common.{Ok}
 use Rattle.std.proofs.Common.{arith}
 use Rattle.std.proofs.lemmas.Int.{ints}
@@ -8,10 +8,8 @@ use Rattle.std.specs.FinMap.{get}
 use Rattle.ledger_types.specs.declared.ids.AccountId.{AccountId}
 use Rattle.ledger_types.specs.declared.account.AccountEntry.{AccountEntry}
 use Rattle.ledger_types.specs.declared.entry.LedgerEntry.{LedgerEntry}
-use Rattle.ledger_types.specs.declared.entry.LedgerEntryBody.TheVariants as body
 use Rattle.ledger_types.specs.declared.key.LedgerKey.{LedgerKey}
 use Rattle.ledger_types.specs.declared.key.LedgerKey.TheVariants as key
-use Rattle.ledger_types.specs.Keys.{key_of}
 use Rattle.entry_map.specs.EntryMap.{EntryMap, put}
 use Rattle.entry_slots.specs.EntrySponsor.{sponsor_of, with_sponsor}
 use Rattle.sponsor_rules.specs.declared.context.Ctx.{Ctx}
@@ -23,30 +21,27 @@ use Rattle.sponsor_rules.specs.Payers.{open_sponsor, payer_tests_at}
 use Rattle.sponsor_laws.proofs.Bounds.{done_by, payer_passed}
 use Rattle.entry_sums.specs.Sums.{total}
 use Rattle.legal_rules.specs.EntryKeys.{is_key}
-use Rattle.legal_rules.specs.Books.{Kind, Subentries, Sponsoring, Sponsored, View}
-use Rattle.legal_rules.specs.Supply.{held, lumens_of}
+use Rattle.legal_rules.specs.Books.{Kind, Subentries, Sponsored, View}
+use Rattle.legal_rules.specs.Supply.{lumens_of}
 use Rattle.legal_rules.specs.OfferIds.{offer_with}
 use Rattle.legal_rules.specs.Sponsorships.{IsSponsorReady}
-use Rattle.legal_rules.specs.Owing.{weight, Owed, in_book, plus, less, IsEntryLegal, IsLegalOwing}
+use Rattle.legal_rules.specs.Owing.{weight, Owed, in_book, less, IsEntryLegal, IsLegalOwing}
 use Rattle.legal_rules.proofs.Adding.{room_of}
 use Rattle.legal_rules.proofs.Counting.{more_step, neg_in_book}
 use Rattle.legal_rules.proofs.Payers.{HasRoom, exchanged}
 use Rattle.legal_rules.proofs.Putting.{put_legal}
 use Rattle.legal_rules.proofs.Sponsors.{unsponsored, paid_books, owner_books, payer_books, split_books, sponsor_weighs}
 use Rattle.legal_rules.proofs.Sponsors.{recorded}
-use Rattle.legal_rules.proofs.Steps.{with_body, IsStep, legal_as}
-use Rattle.legal_rules.proofs.Subentries.{paid_by_other, legal_recorded}
+use Rattle.legal_rules.proofs.Steps.{with_body, legal_as}
+use Rattle.legal_rules.proofs.Subentries.{legal_recorded}
 use Rattle.legal_rules.specs.EntryLaws.{IsNewAccount}
+use Rattle.legal_rules.proofs.Numbers.{nothing_less}
 
 -- ---- an account that has nothing but its lumens
 
 nothing_at : (t : Bool) → ((if t then pos 0 else pos 0) -ℤ (if t then pos 0 else pos 0)) ≡ pos 0
 nothing_at true = refl
 nothing_at false = refl
-
-states_none : (t : Bool) → (pos 0 -ℤ (if t then pos 0 else pos 0)) ≡ pos 0
-states_none true = refl
-states_none false = refl
 
 -- it counts for nothing and states nothing
 pub bare_weighs : (v : View) (e : LedgerEntry) (a : AccountEntry) → IsNewAccount a → (kind : Kind) (k : LedgerKey)
@@ -59,7 +54,7 @@ bare_weighs v e a new kind k =
         (record a { num_sub_entries = 0; signers = []; ext = None })) ≡ pos 0
     nothing Subentries k = nothing_at (is_key (key.Account a.account_id) k)
     nothing Sponsored k = nothing_at (is_key (key.Account a.account_id) k)
-    nothing kind k = states_none (is_key (key.Account a.account_id) k)
+    nothing kind k = nothing_less (is_key (key.Account a.account_id) k)
 
 -- ---- adding
 

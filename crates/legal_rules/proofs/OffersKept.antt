@@ -1,5 +1,5 @@
 -- Offers that are added and changed, with what they bind.
-use Rattle.std.proofs.Common.{◌≡◌, ◌≢◌, refl, sym, ap, subst, ◌∙◌, ℕ, ◌+◌, ◌%◌, ◌≤◌, Bool, true, false, Option, Some}
+use Rattle.std.proofs.Common.{◌≡◌, ◌≢◌, refl, sym, ap, subst, ◌∙◌, ℕ, ◌+◌, Bool, true, false, Option, Some}
 use Rattle.std.proofs.Common.{None, arith}
 use Rattle.std.proofs.lemmas.Int.{ints}
 use Rattle.std.specs.Prelude.{ℤ, pos, neg_ℤ, ◌+ℤ◌, ◌-ℤ◌, ◌≤ℤ◌, if◌then◌else◌}
@@ -7,10 +7,6 @@ use Rattle.std.specs.Ordering.{is_eq, int_cmp}
 use Rattle.std.specs.Cmp.{Equal-is}
 use Rattle.std.specs.FinMap.{get, int_cmp-IsAntisymmetric}
 use Rattle.ledger_types.specs.declared.ids.AccountId.{AccountId}
-use Rattle.ledger_types.specs.declared.account.AccountEntry.{AccountEntry}
-use Rattle.ledger_types.specs.declared.asset.Asset.{Asset}
-use Rattle.ledger_types.specs.declared.asset.Asset.TheVariants as asset
-use Rattle.ledger_types.specs.declared.asset.TrustLineAsset.TheVariants as line
 use Rattle.ledger_types.specs.declared.offer.OfferEntry.{OfferEntry}
 use Rattle.ledger_types.specs.declared.header.LedgerHeader.{LedgerHeader}
 use Rattle.ledger_types.specs.declared.entry.LedgerEntry.{LedgerEntry}
@@ -20,9 +16,7 @@ use Rattle.ledger_types.specs.declared.key.LedgerKey.{LedgerKey}
 use Rattle.ledger_types.specs.declared.key.LedgerKey.TheVariants as key
 use Rattle.ledger_types.specs.Keys.{key_of_body}
 use Rattle.entry_map.specs.EntryMap.{EntryMap}
-use Rattle.entry_slots.specs.Accounts.{account_at}
 use Rattle.entry_slots.specs.EntrySponsor.{sponsor_of}
-use Rattle.entry_slots.specs.Lines.{line_at}
 use Rattle.entry_slots.specs.Offers.{offer_in, offer_of, offer_at, with_offer, with_offer_in, with_offer_of}
 use Rattle.entry_sums.specs.Sums.{total, EachEntry}
 use Rattle.entry_sums.proofs.Summing.{total_none}
@@ -32,9 +26,9 @@ use Rattle.legal_rules.specs.Reserves.{sponsored_in_entry}
 use Rattle.legal_rules.specs.Trades.{holder, sells, buys}
 use Rattle.legal_rules.specs.Books.{Kind, Subentries, Sponsoring, Sponsored, Selling, Buying, View, counted}
 use Rattle.legal_rules.specs.OfferIds.{offer_with, offer_with_in}
-use Rattle.legal_rules.specs.Ranges.{IsBodyInRange, IsOfferInRange}
+use Rattle.legal_rules.specs.Ranges.{IsBodyInRange}
 use Rattle.legal_rules.specs.Headers.{IsHeaderInRange}
-use Rattle.legal_rules.specs.Binding.{binding, acquiring, releasing, bound_account, bound_line, CanBind, CanBindBoth}
+use Rattle.legal_rules.specs.Binding.{binding, acquiring, bound_account, CanBind, CanBindBoth}
 use Rattle.legal_rules.specs.OfferLaws.{trade_books, LiabilitiesAcquired, OfferChanged, new_offer, with_next_id}
 use Rattle.legal_rules.specs.OfferLaws.{NewOffersKeep, IsIdLeft}
 use Rattle.legal_rules.specs.Legal.{view, pools_in}

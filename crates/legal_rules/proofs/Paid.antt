@@ -1,5 +1,5 @@
 -- Lumens that are paid, charged or moved, and another sequence number.
-use Rattle.std.proofs.Common.{Bool, true, false, ◌≡◌, refl, sym, subst, ◌∙◌, ℕ, Some, arith}
+use Rattle.std.proofs.Common.{Bool, true, false, ◌≡◌, refl, sym, ◌∙◌, ℕ, Some, arith}
 use Rattle.std.proofs.lemmas.Int.{ints}
 use Rattle.std.specs.Prelude.{ℤ, pos, neg_ℤ, ◌+ℤ◌, ◌-ℤ◌, ◌≤ℤ◌, if◌then◌else◌}
 use Rattle.std.specs.Ordering.{is_eq}

@@ -1,5 +1,5 @@
 -- Whoever pays for an entry stands, and so does its owner, and both count what is paid.
-use Rattle.std.proofs.Common.{◌≡◌, refl, sym, ap, subst, ◌∙◌, ℕ, ◌+◌, ◌≤◌, Bool, true, false, Option, Some, None, arith}
+use Rattle.std.proofs.Common.{◌≡◌, sym, subst, ℕ, ◌+◌, ◌≤◌, Bool, true, false, Some, arith}
 use Rattle.std.proofs.lemmas.Int.{ints}
 use Rattle.std.specs.Prelude.{ℤ, pos, ◌+ℤ◌, ◌≤ℤ◌, if◌then◌else◌}
 use Rattle.std.specs.List.{count_by}
@@ -19,7 +19,7 @@ use Rattle.sponsor_rules.specs.declared.count.Count.TheVariants as count
 use Rattle.sponsor_laws.specs.Sums.{is_there}
 use Rattle.legal_rules.specs.EntryKeys.{is_key, for_account}
 use Rattle.legal_rules.specs.Reserves.{signer_sponsors_in, for_each}
-use Rattle.legal_rules.specs.Books.{Subentries, Sponsoring, Sponsored, View, counted}
+use Rattle.legal_rules.specs.Books.{Sponsoring, Sponsored, View, counted}
 use Rattle.legal_rules.specs.Owing.{Owed, nothing_owed, IsLegalOwing}
 use Rattle.legal_rules.specs.EntryLaws.{AreReservesSettled}
 use Rattle.legal_rules.proofs.Lows.{natural_low}

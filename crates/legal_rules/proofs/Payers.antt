@@ -1,7 +1,6 @@
 -- Payers that pay n reserves less or more, and owners for whom they pay.
 use Rattle.std.proofs.Common.{◌≡◌, ◌≢◌, refl, sym, ap, subst, ◌∙◌, ℕ, ◌+◌, ◌-◌, ◌≤◌, true, false, Option, Some, None}
 use Rattle.std.proofs.Common.{arith}
-use Rattle.std.proofs.lemmas.Int.{ints}
 use Rattle.std.specs.Prelude.{ℤ, pos, neg_ℤ, ◌+ℤ◌}
 use Rattle.std.specs.FinMap.{get}
 use Rattle.ledger_types.specs.declared.ids.AccountId.{AccountId}
@@ -19,10 +18,10 @@ use Rattle.sponsor_rules.specs.Paying.{map_after_charging, map_after_releasing, 
 use Rattle.sponsor_rules.specs.Paying.{with_less_paid, with_subentry, without_subentry, with_other_payer}
 use Rattle.sponsor_rules.proofs.Ids.{same_account, apart_accounts}
 use Rattle.sponsor_rules.proofs.Keeping.{with_count_keeps, at_most}
-use Rattle.legal_rules.specs.Books.{Kind, Subentries, Sponsoring, Sponsored, View}
+use Rattle.legal_rules.specs.Books.{Subentries, Sponsoring, Sponsored, View}
 use Rattle.entry_sums.specs.Sums.{total}
 use Rattle.legal_rules.specs.OfferIds.{offer_with}
-use Rattle.legal_rules.specs.Owing.{Owed, nothing_owed, in_book, plus, less, IsEntryLegal, IsLegalOwing}
+use Rattle.legal_rules.specs.Owing.{Owed, in_book, plus, less, IsEntryLegal, IsLegalOwing}
 use Rattle.legal_rules.proofs.Numbers.{plus_nothing}
 use Rattle.legal_rules.proofs.Steps.{IsAccountEntry, with_body, IsStep, no_step, steps, step_as, stepped, legal_as}
 use Rattle.legal_rules.proofs.Steps.{same_id_at}

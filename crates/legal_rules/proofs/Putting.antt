@@ -21,7 +21,7 @@ use Rattle.legal_rules.specs.Supply.{held}
 use Rattle.legal_rules.specs.OfferIds.{offer_with, offer_with_in}
 use Rattle.legal_rules.specs.Ranges.{IsOfferInRange, IsBodyInRange}
 use Rattle.legal_rules.specs.Legal.{params_of}
-use Rattle.legal_rules.specs.Owing.{weight, weighed, Owed, plus, less, IsEntryLegal, IsLegalWith, IsLegalOwing}
+use Rattle.legal_rules.specs.Owing.{weight, weighed, Owed, plus, less, IsLegalWith, IsLegalOwing}
 
 -- the key is of no pool
 abbrev pub IsNoPool : LedgerKey → Type 0

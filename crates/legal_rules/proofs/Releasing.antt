@@ -1,5 +1,5 @@
 -- What an offer that stands binds can always be released.
-use Rattle.std.proofs.Common.{◌≡◌, ◌≢◌, ◌⊎◌, inl, inr, refl, sym, ap, subst, ◌∙◌, ℕ, ◌%◌, ◌≤◌, Bool, true, false}
+use Rattle.std.proofs.Common.{◌≡◌, ◌⊎◌, inl, inr, refl, sym, ap, subst, ◌∙◌, ℕ, Bool, true, false}
 use Rattle.std.proofs.Common.{Option, Some}
 use Rattle.std.proofs.Common.{None, arith}
 use Rattle.std.proofs.lemmas.Int.{ints}
@@ -20,12 +20,12 @@ use Rattle.ledger_types.specs.declared.entry.LedgerEntryBody.TheVariants as body
 use Rattle.ledger_types.specs.declared.key.LedgerKey.{LedgerKey}
 use Rattle.ledger_types.specs.declared.key.LedgerKey.TheVariants as key
 use Rattle.ledger_types.specs.Keys.{key_of, key_of_body}
-use Rattle.entry_map.specs.EntryMap.{EntryMap, put}
+use Rattle.entry_map.specs.EntryMap.{EntryMap}
 use Rattle.entry_map.proofs.KeyMaps.{same_itself}
 use Rattle.entry_slots.specs.Accounts.{account_of, account_at}
 use Rattle.entry_slots.specs.AccountExtensions.{account_liabilities}
 use Rattle.entry_slots.specs.LineExtensions.{line_liabilities}
-use Rattle.entry_slots.specs.Lines.{line_of, line_at, with_line}
+use Rattle.entry_slots.specs.Lines.{line_of, line_at}
 use Rattle.entry_slots.specs.Offers.{offer_of, offer_at, with_offer}
 use Rattle.reserve_rules.specs.Reserve.{greatest_i64, IsInRange, IsLineInRange}
 use Rattle.sponsor_rules.specs.Payers.{is_same_account}
@@ -34,13 +34,13 @@ use Rattle.entry_sums.proofs.Lookups.{put_elsewhere}
 use Rattle.legal_rules.specs.OfferLiabilities.{bound_of}
 use Rattle.legal_rules.specs.EntryKeys.{is_key, for_key}
 use Rattle.legal_rules.specs.Trades.{holder}
-use Rattle.legal_rules.specs.Books.{Kind, Selling, Buying, View, counted, stated, stated_at}
+use Rattle.legal_rules.specs.Books.{Kind, Selling, Buying, View, stated, stated_at}
 use Rattle.legal_rules.specs.Ranges.{IsOfferInRange}
-use Rattle.legal_rules.specs.Binding.{risen, binding, releasing, acquiring, bound_account, bound_line, CanBind}
+use Rattle.legal_rules.specs.Binding.{risen, binding, releasing, bound_account, bound_line, CanBind}
 use Rattle.legal_rules.specs.Binding.{CanBindBoth}
 use Rattle.legal_rules.specs.OfferLaws.{trade_books, AreTradesSettled, LiabilitiesReleased, ChangedOffersKeep}
 use Rattle.legal_rules.specs.Legal.{view, pools_in}
-use Rattle.legal_rules.specs.Owing.{Owed, nothing_owed, plus, less, IsEntryLegal, IsLegalOwing}
+use Rattle.legal_rules.specs.Owing.{Owed, nothing_owed, plus, IsEntryLegal, IsLegalOwing}
 use Rattle.legal_rules.proofs.Legality.{owing_nothing, legal_of}
 use Rattle.legal_rules.proofs.Liable.{stored, line_stored, line_entry, with_line_is, with_line_body}
 use Rattle.legal_rules.proofs.OffersKept.{trading_legal, binding_legal, unbound_if, nothing_bought, offer_entry}
@@ -49,6 +49,7 @@ use Rattle.legal_rules.proofs.OffersKept.{IsOfferEntry, traded, offer_changed, a
 use Rattle.legal_rules.proofs.Places.{kept_elsewhere}
 use Rattle.legal_rules.proofs.Standing.{counted_stated}
 use Rattle.legal_rules.proofs.Steps.{legal_as}
+use Rattle.legal_rules.proofs.Numbers.{natural_some}
 
 -- ---- ranges
 
@@ -103,9 +104,6 @@ too_few n s some le none = omega (arith, ints)
 
 low_of : (n : ℤ) → pos 1 ≤ℤ n → pos 0 ≤ℤ n
 low_of n some = omega (arith, ints)
-
-natural_some : (n : ℕ) → 1 ≤ n → pos 1 ≤ℤ pos n
-natural_some n some = omega (arith, ints)
 
 -- ---- where an offer's owner holds its assets
 
@@ -249,22 +247,15 @@ bound_elsewhere m (Some other) selling buying seller id keyed can = absurd can
 
 -- ---- releasing
 
+back_again : (k : LedgerKey) (o : Option LedgerKey) (n : ℤ) → neg_ℤ (for_key k o (neg_ℤ n)) ≡ for_key k o n
+back_again k None n = refl
+back_again k (Some q) n = elim (is_key q k) as (λ t. neg_ℤ (if t then neg_ℤ n else pos 0) ≡ (if t then n else pos 0))
+    [ true ↦ omega (arith, ints) | false ↦ refl ]
+
 released : (o : OfferEntry) (kind : Kind) (k : LedgerKey)
     → traded o (neg_ℤ (pos (bound_of o).wheat)) (neg_ℤ (pos (bound_of o).sheep)) kind k ≡ trade_books o kind k
 released o Selling k = back_again k (holder o.seller_id o.selling) _
-  where
-    back_again : (k : LedgerKey) (o : Option LedgerKey) (n : ℤ) → neg_ℤ (for_key k o (neg_ℤ n)) ≡ for_key k o n
-    back_again k None n = refl
-    back_again k (Some q) n = elim (is_key q k) as (λ t. neg_ℤ
-        (if t then neg_ℤ n else pos 0) ≡ (if t then n else pos 0))
-        [ true ↦ omega (arith, ints) | false ↦ refl ]
 released o Buying k = back_again k (holder o.seller_id o.buying) _
-  where
-    back_again : (k : LedgerKey) (o : Option LedgerKey) (n : ℤ) → neg_ℤ (for_key k o (neg_ℤ n)) ≡ for_key k o n
-    back_again k None n = refl
-    back_again k (Some q) n = elim (is_key q k) as (λ t. neg_ℤ
-        (if t then neg_ℤ n else pos 0) ≡ (if t then n else pos 0))
-        [ true ↦ omega (arith, ints) | false ↦ refl ]
 released o kind k = refl
 
 not_more : (x y : ℤ) → y ≡ pos 0 → x ≤ℤ pos 0 → (x +ℤ y) ≤ℤ pos 0

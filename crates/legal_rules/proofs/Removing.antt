@@ -1,5 +1,5 @@
 -- A line, an offer or data that is removed.
-use Rattle.std.proofs.Common.{◌≡◌, ◌≢◌, refl, sym, ap, subst, ◌∙◌, ℕ, ◌-◌, ◌≤◌, Bool, true, false, Option, Some, None}
+use Rattle.std.proofs.Common.{◌≡◌, ◌≢◌, refl, sym, subst, ◌∙◌, ℕ, Bool, true, false, Option, Some, None}
 use Rattle.std.proofs.Common.{arith}
 use Rattle.std.proofs.lemmas.Int.{ints}
 use Rattle.std.specs.Prelude.{ℤ, pos, neg_ℤ, ◌+ℤ◌, ◌≤ℤ◌, if◌then◌else◌}
@@ -9,7 +9,6 @@ use Rattle.ledger_types.specs.declared.account.AccountEntry.{AccountEntry}
 use Rattle.ledger_types.specs.declared.entry.LedgerEntry.{LedgerEntry}
 use Rattle.ledger_types.specs.declared.key.LedgerKey.{LedgerKey}
 use Rattle.ledger_types.specs.declared.key.LedgerKey.TheVariants as key
-use Rattle.ledger_types.specs.Keys.{key_of}
 use Rattle.entry_map.specs.EntryMap.{EntryMap, erase}
 use Rattle.entry_map.proofs.KeyMaps.{same_itself}
 use Rattle.entry_slots.specs.EntrySponsor.{sponsor_of}
@@ -17,7 +16,7 @@ use Rattle.sponsor_rules.specs.declared.count.Count.TheVariants as count
 use Rattle.sponsor_rules.specs.Paying.{map_after_releasing, without_subentry}
 use Rattle.sponsor_rules.specs.Removing.{map_after_discounting}
 use Rattle.legal_rules.specs.EntryKeys.{is_key, for_account}
-use Rattle.legal_rules.specs.Books.{Kind, Subentries, View, counted}
+use Rattle.legal_rules.specs.Books.{Subentries, View}
 use Rattle.legal_rules.specs.Supply.{held}
 use Rattle.legal_rules.specs.Ranges.{IsPaidRightly}
 use Rattle.legal_rules.specs.Owing.{weight, weighed, Owed, in_book, plus, less, beside_reserves, IsEntryLegal}
@@ -30,7 +29,7 @@ use Rattle.legal_rules.proofs.Standing.{StandsWith, counted_stands}
 use Rattle.legal_rules.proofs.Payers.{IsBeside, beside_none, AreChanged, exchanged, owner_changed, no_subentry_step}
 use Rattle.legal_rules.specs.EntryLaws.{AreReservesSettled}
 use Rattle.legal_rules.proofs.PaidFor.{payer_has, owner_has}
-use Rattle.legal_rules.proofs.Sponsors.{paid_books, owner_books, payer_books, split_books}
+use Rattle.legal_rules.proofs.Sponsors.{owner_books, payer_books, split_books}
 use Rattle.legal_rules.proofs.Subentries.{IsSubentry, subentry_weighs, paid_not_by_owner}
 
 settles : (o p own s b w y : ℤ) → w ≡ ((s +ℤ y) +ℤ b) → y ≡ (own +ℤ p)

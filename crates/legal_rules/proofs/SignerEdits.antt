@@ -6,7 +6,7 @@ use Rattle.std.proofs.lemmas.Int.{ints}
 use Rattle.std.proofs.lemmas.List.Edits.{length-insert, length-remove}
 use Rattle.std.proofs.lemmas.List.Sums.{sum_by-insert, sum_by-remove, sum_by-set, prefix_len-le-length}
 use Rattle.std.specs.Prelude.{ℤ, pos, neg_ℤ, ◌+ℤ◌, ◌-ℤ◌, if◌then◌else◌}
-use Rattle.std.specs.List.{sum_by, count_by, insert, remove}
+use Rattle.std.specs.List.{count_by, insert, remove}
 use Rattle.std.specs.Ordering.{is_lt}
 use Rattle.ledger_types.specs.declared.ids.AccountId.{AccountId}
 use Rattle.ledger_types.specs.declared.signer.Signer.{Signer}
@@ -22,16 +22,15 @@ use Rattle.sponsor_rules.specs.SignerPlace.{place_for, with_sponsors, with_signe
 use Rattle.sponsor_rules.proofs.Keeping.{counts_edited, with_sponsors_means}
 use Rattle.sponsor_laws.specs.Sums.{is_there, signer_sponsors}
 use Rattle.sponsor_laws.proofs.SignerLists.{sponsors_inserted, sponsors_removed, sponsors_set, sponsor_at_place}
-use Rattle.legal_rules.specs.EntryKeys.{is_key, for_key, for_account}
+use Rattle.legal_rules.specs.EntryKeys.{is_key, for_account}
 use Rattle.legal_rules.specs.Reserves.{is_for}
 use Rattle.legal_rules.specs.Books.{Kind, Subentries, Sponsoring, Sponsored, Selling, Buying, Shares, ShareLines, Uses}
-use Rattle.legal_rules.specs.Books.{View, counted}
+use Rattle.legal_rules.specs.Books.{View}
 use Rattle.legal_rules.specs.Ranges.{AreSignersInRange}
 use Rattle.legal_rules.specs.Owing.{weight, Owed, in_book, plus, less, IsEntryLegal}
 use Rattle.legal_rules.proofs.AccountRanges.{AreAlike, keeps_as}
-use Rattle.legal_rules.proofs.SignerOrder.{signers_with, signers_without, signers_moved}
 use Rattle.legal_rules.proofs.Sponsors.{paid_books}
-use Rattle.legal_rules.proofs.Steps.{with_body, IsMove, IsStep}
+use Rattle.legal_rules.proofs.Steps.{with_body, IsStep}
 
 -- c has d signers more than b; of their sponsors one is gone, and one has come
 pub record IsEdited (gone come : Option AccountId) (d : ℤ) (b c : AccountEntry) : Type 0 where

@@ -1,19 +1,17 @@
 -- Signers that are added, removed and moved keep a state legal.
-use Rattle.std.proofs.Common.{◌≡◌, ◌≢◌, ◌⊎◌, inl, inr, refl, sym, ap, subst, ◌∙◌, ℕ, ◌+◌, ◌<◌, ◌≤◌, Bool, true, false}
+use Rattle.std.proofs.Common.{◌≡◌, ◌≢◌, refl, sym, ap, subst, ◌∙◌, ℕ, ◌+◌, ◌<◌, ◌≤◌, Bool, true, false}
 use Rattle.std.proofs.Common.{cond}
-use Rattle.std.proofs.Common.{List, length, get_or, Option, Some, None, Ok, slice_set, arith}
+use Rattle.std.proofs.Common.{length, get_or, Option, Some, None, Ok, arith}
 use Rattle.std.proofs.lemmas.Int.{ints}
 use Rattle.std.proofs.lemmas.List.Sums.{get_or-le-sum_by}
 use Rattle.std.specs.Prelude.{ℤ, pos, neg_ℤ, ◌+ℤ◌, ◌-ℤ◌, ◌≤ℤ◌, if◌then◌else◌}
 use Rattle.std.specs.List.{count_by, insert, remove}
 use Rattle.std.specs.FinMap.{get}
 use Rattle.ledger_types.specs.declared.ids.AccountId.{AccountId}
-use Rattle.ledger_types.specs.declared.header.LedgerHeader.{LedgerHeader}
 use Rattle.ledger_types.specs.declared.signer.Signer.{Signer}
 use Rattle.ledger_types.specs.declared.signer.SignerKey.{SignerKey}
 use Rattle.ledger_types.specs.declared.account.AccountEntry.{AccountEntry}
 use Rattle.ledger_types.specs.declared.entry.LedgerEntry.{LedgerEntry}
-use Rattle.ledger_types.specs.declared.key.LedgerKey.{LedgerKey}
 use Rattle.ledger_types.specs.declared.key.LedgerKey.TheVariants as key
 use Rattle.entry_map.specs.EntryMap.{EntryMap}
 use Rattle.entry_map.proofs.KeyMaps.{same_itself}
@@ -23,10 +21,10 @@ use Rattle.entry_slots.specs.EntrySponsor.{sponsor_of}
 use Rattle.entry_slots.specs.Tests.{unless_first}
 use Rattle.sponsor_rules.specs.declared.context.Ctx.{Ctx}
 use Rattle.sponsor_rules.specs.declared.count.Count.TheVariants as count
-use Rattle.sponsor_rules.specs.Counting.{count_in, with_more, with_less}
+use Rattle.sponsor_rules.specs.Counting.{with_more, with_less}
 use Rattle.sponsor_rules.specs.Paying.{map_after_charging, map_after_releasing, map_after_exchange, with_more_paid}
 use Rattle.sponsor_rules.specs.Paying.{with_less_paid, with_subentry, without_subentry, with_other_payer}
-use Rattle.sponsor_rules.specs.Payers.{open_sponsor, payer_of, payer_other_than, is_full, is_over, subentry_tests_at}
+use Rattle.sponsor_rules.specs.Payers.{open_sponsor, payer_other_than, is_full, is_over, subentry_tests_at}
 use Rattle.sponsor_rules.specs.Payers.{payer_tests_at, move_tests_at}
 use Rattle.sponsor_rules.specs.SignerPlace.{place_of, place_for, found_at, found_signer, with_signer, without_signer}
 use Rattle.sponsor_rules.specs.SignerPlace.{with_signer_sponsor}
@@ -40,9 +38,8 @@ use Rattle.sponsor_laws.proofs.Bounds.{done_by, have_passed, payer_passed}
 use Rattle.sponsor_laws.proofs.Moving.{other_is}
 use Rattle.sponsor_laws.proofs.SignedAccounts.{place_within_signers}
 use Rattle.sponsor_laws.proofs.SignerLists.{sponsors_inserted, sponsors_removed, sponsors_set, sponsor_at_place}
-use Rattle.legal_rules.specs.EntryKeys.{is_key, for_account}
 use Rattle.legal_rules.specs.Reserves.{is_for}
-use Rattle.legal_rules.specs.Books.{Kind, Subentries, Sponsoring, Sponsored, View, counted}
+use Rattle.legal_rules.specs.Books.{Subentries, View}
 use Rattle.legal_rules.specs.EntryLaws.{AreReservesSettled}
 use Rattle.legal_rules.specs.SignerLaws.{IsNewSigner, SignerAdded, SignerRemoved, SignerMoved, AddingSignersKeep}
 use Rattle.legal_rules.specs.SignerLaws.{RemovingSignersKeep, MovingSignersKeep}
@@ -55,17 +52,17 @@ use Rattle.legal_rules.proofs.Adding.{subentries_may, payers_room, beside_sponso
 use Rattle.legal_rules.proofs.Bounded.{account_legal, IsAccountLegal}
 use Rattle.legal_rules.proofs.Counting.{neg_in_book, zero_in_book}
 use Rattle.legal_rules.proofs.Legality.{owing_nothing, legal_of}
-use Rattle.legal_rules.proofs.Lows.{natural_low, for_account_low}
+use Rattle.legal_rules.proofs.Lows.{for_account_low}
 use Rattle.legal_rules.proofs.Moving.{other_apart}
 use Rattle.legal_rules.proofs.Needed.{for_own}
 use Rattle.legal_rules.proofs.PaidFor.{nothing_settled}
 use Rattle.legal_rules.proofs.Payers.{HasRoom, IsBeside, beside_none, exchanged, owner_changed, subentry_step}
 use Rattle.legal_rules.proofs.Payers.{no_subentry_step, other_payer_step}
-use Rattle.legal_rules.proofs.SignerEdits.{IsEdited, edit_step, edited_with, edited_without, edited_moved}
+use Rattle.legal_rules.proofs.SignerEdits.{edit_step, edited_with, edited_without, edited_moved}
 use Rattle.legal_rules.proofs.SignerOrder.{signers_with, signers_without, signers_moved}
 use Rattle.legal_rules.proofs.Sponsors.{paid_books, owner_books, payer_books, split_books}
 use Rattle.legal_rules.proofs.Standing.{StandsWith, counted_stands}
-use Rattle.legal_rules.proofs.Steps.{IsStep, steps, step_as, legal_as, account_entry, body_there, with_body, same_id_at}
+use Rattle.legal_rules.proofs.Steps.{steps, step_as, legal_as, account_entry, body_there, with_body, same_id_at}
 
 abbrev SignersOf : AccountEntry → Type 0
 SignersOf a = AreSignersInRange a.account_id a.signers (signer_sponsors a)

@@ -5,11 +5,10 @@ use Rattle.std.specs.Prelude.{ℤ, pos, neg_ℤ, ◌+ℤ◌, ◌-ℤ◌, if◌th
 use Rattle.std.specs.List.{count_by}
 use Rattle.ledger_types.specs.declared.ids.AccountId.{AccountId}
 use Rattle.ledger_types.specs.declared.entry.LedgerEntry.{LedgerEntry}
-use Rattle.ledger_types.specs.declared.entry.LedgerEntryExtensionV1.{LedgerEntryExtensionV1}
 use Rattle.ledger_types.specs.declared.key.LedgerKey.{LedgerKey}
 use Rattle.ledger_types.specs.declared.key.LedgerKey.TheVariants as key
 use Rattle.ledger_types.specs.Keys.{key_of}
-use Rattle.entry_slots.specs.EntrySponsor.{sponsor_in, sponsor_of, with_sponsor}
+use Rattle.entry_slots.specs.EntrySponsor.{sponsor_of, with_sponsor}
 use Rattle.entry_slots.proofs.RecordedSponsor.{recorded_sponsor}
 use Rattle.sponsor_rules.specs.Charge.{multiplicity, owner_of}
 use Rattle.sponsor_laws.specs.Sums.{is_there}
@@ -17,7 +16,7 @@ use Rattle.legal_rules.specs.EntryKeys.{is_key, for_account}
 use Rattle.legal_rules.specs.Reserves.{signer_sponsors_in, for_each}
 use Rattle.legal_rules.specs.Books.{Kind, Sponsoring, Sponsored, View, stated}
 use Rattle.legal_rules.specs.Owing.{weight, Owed, nothing_owed, in_book, plus, less}
-use Rattle.legal_rules.proofs.Numbers.{plus_nothing}
+use Rattle.legal_rules.proofs.Numbers.{plus_nothing, nothing_plus}
 
 -- ---- what books owe for what is paid
 
@@ -37,9 +36,6 @@ owner_books n id (Some x) = in_book Sponsored (key.Account id) (pos n)
 abbrev pub payer_books : ℕ → Option AccountId → Owed
 payer_books n None = nothing_owed
 payer_books n (Some x) = in_book Sponsoring (key.Account x) (pos n)
-
-nothing_plus : (x : ℤ) → x ≡ (pos 0 +ℤ x)
-nothing_plus x = omega (arith, ints)
 
 pub split_books : (n : ℕ) (id : AccountId) (o : Option AccountId) (kind : Kind) (k : LedgerKey)
     → paid_books n (Some id) o kind k ≡ plus (owner_books n id o) (payer_books n o) kind k

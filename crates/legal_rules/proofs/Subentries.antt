@@ -2,11 +2,9 @@
 use Rattle.std.proofs.Common.{◌≡◌, ◌≢◌, refl, sym, ap, subst, ◌∙◌, ℕ, ◌+◌, ◌≤◌, Bool, true, false, [], Option, Some}
 use Rattle.std.proofs.Common.{None, arith}
 use Rattle.std.proofs.lemmas.Int.{ints}
-use Rattle.std.specs.Prelude.{ℤ, pos, neg_ℤ, ◌+ℤ◌, ◌-ℤ◌, ◌≤ℤ◌, if◌then◌else◌}
+use Rattle.std.specs.Prelude.{ℤ, pos, neg_ℤ, ◌+ℤ◌, ◌-ℤ◌, if◌then◌else◌}
 use Rattle.std.specs.List.{count_by}
 use Rattle.ledger_types.specs.declared.ids.AccountId.{AccountId}
-use Rattle.ledger_types.specs.declared.asset.TrustLineAsset.{TrustLineAsset}
-use Rattle.ledger_types.specs.declared.asset.TrustLineAsset.TheVariants as line
 use Rattle.ledger_types.specs.declared.trust_line.TrustLineEntry.{TrustLineEntry}
 use Rattle.ledger_types.specs.declared.offer.OfferEntry.{OfferEntry}
 use Rattle.ledger_types.specs.declared.data_entry.DataEntry.{DataEntry}
@@ -27,10 +25,8 @@ use Rattle.legal_rules.specs.EntryKeys.{is_key, for_account}
 use Rattle.legal_rules.specs.Reserves.{subentries_in, signer_sponsors_in, for_each}
 use Rattle.legal_rules.specs.Books.{Kind, Subentries, Sponsoring, Sponsored, View, counted, stated}
 use Rattle.legal_rules.specs.Ranges.{IsPaidRightly}
-use Rattle.legal_rules.specs.Owing.{weight, weighed, Owed, in_book, plus, beside_reserves, IsEntryLegal, IsBoundRightly}
-use Rattle.legal_rules.specs.Bounds.{AreSubentriesFew, DoReservesFit, IsFilledOrEmpty}
-use Rattle.legal_rules.specs.Ranges.{IsBodyInRange}
-use Rattle.legal_rules.proofs.Numbers.{plus_nothing}
+use Rattle.legal_rules.specs.Owing.{weight, weighed, in_book, beside_reserves, IsEntryLegal}
+use Rattle.legal_rules.proofs.Numbers.{plus_nothing, nothing_plus}
 use Rattle.legal_rules.proofs.Needed.{line_some}
 use Rattle.legal_rules.proofs.Putting.{IsNoPool}
 use Rattle.legal_rules.proofs.Sponsors.{unsponsored, paid_books, sponsor_weighs, recorded, recorded_weighs}
@@ -122,9 +118,6 @@ nothing_for false = refl
 
 grouped : (w u p s b : ℤ) → w ≡ (u +ℤ p) → u ≡ (s +ℤ b) → w ≡ ((s +ℤ p) +ℤ b)
 grouped w u p s b is also = omega (arith, ints)
-
-nothing_plus : (x : ℤ) → x ≡ (pos 0 +ℤ x)
-nothing_plus x = omega (arith, ints)
 
 module _ (v : View) (e : LedgerEntry) (owner : AccountId) (n : ℕ) (s : IsSubentry e.body owner n) where
   -- without its sponsor it counts as a subentry alone, beside what it counts in no book of reserves

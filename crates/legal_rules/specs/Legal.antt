@@ -1,5 +1,5 @@
 -- When the state of a ledger, a header and the map of its entries, is legal.
-use Rattle.std.specs.Prelude.{◌≡◌, ◌≢◌, ◌%◌, pos, ◌+ℤ◌, ◌++◌, All, Option, Some, None}
+use Rattle.std.specs.Prelude.{◌≡◌, ◌≢◌, ◌%◌, ◌+ℤ◌, ◌++◌, All, Option, Some, None}
 use Rattle.std.specs.FinMap.{get}
 use Rattle.ledger_types.specs.declared.asset.Asset.TheVariants as asset
 use Rattle.ledger_types.specs.declared.asset.PoolParams.{PoolParams}

@@ -19,3 +19,7 @@ pub mod EntryLaws
 pub mod SignerLaws
 pub mod Binding
 pub mod OfferLaws
+pub mod ChangeLaws
+pub mod PoolLaws
+pub mod Consequences
+pub mod FirstStates

@@ -1,12 +1,11 @@
 -- That offers which are added, changed and removed keep a state legal, with what they bind.
-use Rattle.std.specs.Prelude.{◌≡◌, ℕ, ◌+◌, ◌*◌, ◌^◌, ◌≤◌, ℤ, pos, neg_ℤ, ◌≤ℤ◌, Some, None, Ok}
+use Rattle.std.specs.Prelude.{◌≡◌, ℕ, ◌+◌, ◌*◌, ◌^◌, ◌≤◌, ℤ, pos, ◌≤ℤ◌, Some, None, Ok}
 use Rattle.std.specs.FinMap.{get}
 use Rattle.ledger_types.specs.declared.offer.OfferEntry.{OfferEntry}
 use Rattle.ledger_types.specs.declared.header.LedgerHeader.{LedgerHeader}
 use Rattle.ledger_types.specs.declared.entry.LedgerEntry.{LedgerEntry}
 use Rattle.ledger_types.specs.declared.entry.LedgerEntryBody.TheVariants as body
 use Rattle.ledger_types.specs.declared.key.LedgerKey.{LedgerKey}
-use Rattle.ledger_types.specs.declared.key.LedgerKey.TheVariants as key
 use Rattle.ledger_types.specs.Keys.{key_of}
 use Rattle.entry_map.specs.EntryMap.{EntryMap}
 use Rattle.entry_slots.specs.Accounts.{HasAccount}

@@ -1,6 +1,6 @@
 -- The ranges of entries: what holds of each by itself (the invariant LedgerEntryIsValid of stellar-core; CAP-0018 and
 -- CAP-0035 for the flags, CAP-0023 for claimable balances, CAP-0038 for pools).
-use Rattle.std.specs.Prelude.{◌≡◌, ◌≢◌, ℕ, ◌+◌, ◌/◌, ◌%◌, ◌≤◌, pos, ◌≤ℤ◌, Bool, true, nat_eq, length, All, List, Option}
+use Rattle.std.specs.Prelude.{◌≡◌, ◌≢◌, ℕ, ◌/◌, ◌%◌, ◌≤◌, pos, ◌≤ℤ◌, Bool, true, nat_eq, length, All, List, Option}
 use Rattle.std.specs.Prelude.{Some, None}
 use Rattle.std.specs.declared.cmp.Ordering.TheVariants.{Less}
 use Rattle.std.specs.List.{AllPairs}
@@ -45,7 +45,8 @@ pub record AreAccountFlags (flags : ℕ) : Type 0 where
 
 -- The signers of an account, and who is recorded as paying for each. A key of another kind with the bytes of the
 -- account's own key is not its own key.
-pub record AreSignersInRange (id : AccountId) (signers : List Signer) (sponsors : List (Option AccountId)) : Type 0 where
+pub record AreSignersInRange (id : AccountId) (signers : List Signer)
+    (sponsors : List (Option AccountId)) : Type 0 where
   pub rising : AllPairs (λ x y. signer_key_cmp x.key y.key ≡ Less) signers
   pub weights : All (λ s. (1 ≤ s.weight) × (s.weight ≤ 255)) signers
   pub others : All (λ s. s.key ≢ signer.Ed25519 id.0) signers
@@ -75,7 +76,8 @@ abbrev pub AreLineFlags : TrustLineAsset → ℕ → Type 0
 AreLineFlags (line.PoolShare pool) flags = flags ≡ 0
 AreLineFlags other flags = (flags ≤ 7) × (flags % 4 ≢ 3)
 
--- balance and liabilities are at least 0, what is to be sold is in the balance, and what is to be bought within the limit
+-- balance and liabilities are at least 0, what is to be sold is in the balance, and what is to be bought within the
+-- limit
 pub record IsTrustLineInRange (t : TrustLineEntry) : Type 0 where
   pub range : IsLineInRange t
   pub limit : pos 1 ≤ℤ t.limit

@@ -1,0 +1,5 @@
+use Rattle.legal_rules.proofs.consequences.signers_few.Goals as goal
+use Rattle.legal_rules.proofs.Given.{signers_few}
+
+pub returns : goal.returns
+returns c = signers_few

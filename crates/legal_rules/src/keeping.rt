@@ -1,4 +1,0 @@
-//! Laws of lumens.
-
-/// Nothing.
-pub fn nothing() {}

@@ -1,0 +1,244 @@
+-- What the pass over two buckets makes is their merge, and has a file.
+use Rattle.std.proofs.Common.{◌≡◌, ℕ, ◌≤◌, pos, Bool, true, false, cond, T, List, [], ◌∷◌, map, max, Option, Some, None}
+use Rattle.std.proofs.Common.{refl, sym, ap}
+use Rattle.std.proofs.Common.{subst, ◌∙◌, All, eqb, arith, length, ◌++◌, ◌⊎◌, inl, inr}
+use Rattle.std.proofs.lemmas.Bool.{cases_lt}
+use Rattle.std.proofs.lemmas.List.{length-append}
+use Rattle.std.specs.Prelude.{option_and_then}
+use Rattle.std.proofs.lemmas.List.Elements.{All-from_recursion, recursion_from_All, All-head, All-tail, All-cons}
+use Rattle.std.proofs.lemmas.List.Elements.{All-nil}
+use Rattle.std.specs.List.{AllByRecursion}
+use Rattle.std.specs.FinMap.{get, entries, entries_sorted, from_sorted, get-entries, entries-from_sorted}
+use Rattle.std.specs.FinMap.{get-from_sorted}
+use Rattle.std.specs.FinMap.Entries.{find, is_sorted}
+use Rattle.ledger_types.specs.declared.key.LedgerKey.{LedgerKey}
+use Rattle.ledger_types.specs.declared.entry.LedgerEntry.{LedgerEntry}
+use Rattle.ledger_types.specs.declared.bucket.BucketEntry.{BucketEntry}
+use Rattle.ledger_types.specs.declared.bucket.BucketEntry.TheVariants as bucket
+use Rattle.ledger_types.specs.KeyOrder.{key_cmp}
+use Rattle.xdr_core.specs.Leaves.{i32}
+use Rattle.xdr_entries.specs.Entries.{ledger_entry}
+use Rattle.xdr_entries.specs.Keys.{bucket_entry}
+use Rattle.bucket_items.specs.MarkedItem.{IsSpellable, max_item_len}
+use Rattle.bucket_items.proofs.Holding.{i32_len}
+use Rattle.bucket_core.specs.Bucket.{Change, Init, Live, Dead, Contents, change_at, version_of, IsUnderKey}
+use Rattle.bucket_core.specs.File.{item_of, items_of, HasFile}
+use Rattle.bucket_core.proofs.Files.{nothing_has_file}
+use Rattle.bucket_merge.specs.Merge.{joined, kept, merged_change, greater_version, IsMerge}
+use Rattle.bucket_merge.specs.Walk.{Pair, put, walk, changes_of, filled_with, merge_of}
+use Rattle.bucket_merge.proofs.WalkLaws.{Sorted, Above, along, InOrder, walk_in_order, walk_merges}
+
+-- ---- key by key
+
+changes_sorted : (c : Contents) → Sorted (changes_of c)
+changes_sorted None = tt
+changes_sorted (Some filled) = entries_sorted filled.changes
+
+found_at : (c : Contents) (k : LedgerKey) → find key_cmp k (changes_of c) ≡ change_at c k
+found_at None k = refl
+found_at (Some filled) k = sym (get-entries filled.changes k)
+
+pub walk_sorted : (level : ℕ) (a b : Contents) → Sorted (walk level (changes_of a) (changes_of b))
+walk_sorted level a b =
+    (walk_in_order level (changes_of a) (changes_of b) (changes_sorted a) (changes_sorted b)).sorted
+
+found_merged : (level : ℕ) (a b : Contents) (k : LedgerKey)
+    → find key_cmp k (walk level (changes_of a) (changes_of b)) ≡ merged_change level (change_at a k) (change_at b k)
+found_merged level a b k =
+    walk_merges level (changes_of a) (changes_of b) (changes_sorted a) (changes_sorted b) k
+    ∙ (λ i. merged_change level (found_at a k i) (found_at b k i))
+
+-- where both are empty nothing is merged
+no_version : (level : ℕ) (a b : Contents) (k : LedgerKey)
+    → greater_version (version_of a) (version_of b) ≡ None
+    → merged_change level (change_at a k) (change_at b k) ≡ None
+no_version level None None k e = refl
+no_version level None (Some b) k e = absurd (cc (e))
+no_version level (Some a) None k e = absurd (cc (e))
+no_version level (Some a) (Some b) k e = absurd (cc (e))
+
+filled_change : (level : ℕ) (a b : Contents) (k : LedgerKey) (v : Option ℕ)
+    → greater_version (version_of a) (version_of b) ≡ v
+    → change_at (filled_with v (walk level (changes_of a) (changes_of b))) k
+    ≡ merged_change level (change_at a k) (change_at b k)
+filled_change level a b k None e = sym (no_version level a b k e)
+filled_change level a b k (Some v) e =
+    get-from_sorted key_cmp (walk level (changes_of a) (changes_of b)) k (walk_sorted level a b)
+    ∙ found_merged level a b k
+
+filled_version : (v : Option ℕ) (es : List Pair) → version_of (filled_with v es) ≡ v
+filled_version None es = refl
+filled_version (Some v) es = refl
+
+pub pass_is_merge : (level : ℕ) (a b : Contents) → IsMerge level a b (merge_of level a b)
+pass_is_merge level a b = record {
+  version = filled_version (greater_version (version_of a) (version_of b)) _;
+  changes = λ k. filled_change level a b k (greater_version (version_of a) (version_of b)) refl;
+}
+
+-- ---- under their own keys
+
+abbrev Keyed : LedgerKey → Option Change → Type 0
+Keyed k o = (c : Change) → o ≡ Some c → IsUnderKey k c
+
+some_is : (a c : Change) → Some a ≡ Some c → a ≡ c
+some_is a c e = cc
+
+dead_keyed : (k : LedgerKey) (c : Change) (b : Bool) → cond b None (Some Dead) ≡ Some c → IsUnderKey k c
+dead_keyed k c true is = absurd (cc (is))
+dead_keyed k c false is = subst (IsUnderKey k) (some_is Dead c is) tt
+
+kept_keyed : (level : ℕ) (k : LedgerKey) (a : Change) → IsUnderKey k a → Keyed k (kept level a)
+kept_keyed level k (Init e) h c is = subst (IsUnderKey k) (some_is (Init e) c is) h
+kept_keyed level k (Live e) h c is = subst (IsUnderKey k) (some_is (Live e) c is) h
+kept_keyed level k Dead h c is = dead_keyed k c (eqb level 10) is
+
+joined_keyed : (level : ℕ) (k : LedgerKey) (a b : Change) → IsUnderKey k b
+    → Keyed k (option_and_then (kept level) (joined a b))
+joined_keyed level k Dead (Init e) h c is = kept_keyed level k (Live e) h c is
+joined_keyed level k (Init was) (Live e) h c is = kept_keyed level k (Init e) h c is
+joined_keyed level k (Init was) Dead h c is = absurd (cc (is))
+joined_keyed level k a b h c is = kept_keyed level k b h c is
+
+merged_keyed : (level : ℕ) (k : LedgerKey) (a b : Option Change) → Keyed k a → Keyed k b
+    → Keyed k (merged_change level a b)
+merged_keyed level k None None ha hb c is = absurd (cc (is))
+merged_keyed level k (Some a) None ha hb c is = kept_keyed level k a (ha a refl) c is
+merged_keyed level k None (Some b) ha hb c is = kept_keyed level k b (hb b refl) c is
+merged_keyed level k (Some a) (Some b) ha hb c is = joined_keyed level k a b (hb b refl) c is
+
+-- ---- spelled
+
+same_length : (e : LedgerEntry)
+    → length (bucket_entry.spell (bucket.Init e)) ≡ length (bucket_entry.spell (bucket.Live e))
+unfolding bucket_entry
+same_length e = omega (
+  arith,
+  length-append (i32.spell (pos 2)) (ledger_entry.spell e),
+  length-append (i32.spell (pos 0)) (ledger_entry.spell e),
+  i32_len (pos 2),
+  i32_len (pos 0),
+)
+
+-- an entry that is spelled as made is spelled as changed, and the other way round
+init_as_live : (e : LedgerEntry) → IsSpellable (bucket.Init e) → IsSpellable (bucket.Live e)
+unfolding bucket_entry
+init_as_live e h = record {
+  within = h.within;
+  sized = h.sized;
+  short = subst (λ (n : ℕ). n ≤ max_item_len) (same_length e) h.short;
+}
+
+live_as_init : (e : LedgerEntry) → IsSpellable (bucket.Live e) → IsSpellable (bucket.Init e)
+unfolding bucket_entry
+live_as_init e h = record {
+  within = h.within;
+  sized = h.sized;
+  short = subst (λ (n : ℕ). n ≤ max_item_len) (sym (same_length e)) h.short;
+}
+
+abbrev pub IsSpelled : Pair → Type 0
+IsSpelled x = IsSpellable (item_of x)
+
+abbrev pub AreSpelled : List Pair → Type 0
+AreSpelled es = AllByRecursion IsSpelled es
+
+-- what is put is spelled
+abbrev PutSpelled : LedgerKey → Option Change → Type 0
+PutSpelled k None = Unit {0}
+PutSpelled k (Some c) = IsSpelled (k, c)
+
+put_spelled : (k : LedgerKey) (o : Option Change) (zs : List Pair) → PutSpelled k o → AreSpelled zs
+    → AreSpelled (put k o zs)
+put_spelled k None zs p h = h
+put_spelled k (Some c) zs p h = (p, h)
+
+dead_spelled : (k : LedgerKey) (b : Bool) → IsSpelled (k, Dead) → PutSpelled k (cond b None (Some Dead))
+dead_spelled k true h = tt
+dead_spelled k false h = h
+
+kept_spelled : (level : ℕ) (k : LedgerKey) (c : Change) → IsSpelled (k, c) → PutSpelled k (kept level c)
+kept_spelled level k (Init e) h = h
+kept_spelled level k (Live e) h = h
+kept_spelled level k Dead h = dead_spelled k (eqb level 10) h
+
+joined_spelled : (level : ℕ) (k : LedgerKey) (a b : Change) → IsSpelled (k, b)
+    → PutSpelled k (option_and_then (kept level) (joined a b))
+joined_spelled level k Dead (Init e) h = kept_spelled level k (Live e) (init_as_live e h)
+joined_spelled level k (Init was) (Live e) h = kept_spelled level k (Init e) (live_as_init e h)
+joined_spelled level k (Init was) Dead h = tt
+joined_spelled level k a b h = kept_spelled level k b h
+
+-- the items of a merge are spelled where those of both lists are
+abbrev StaySpelled : List Pair → List Pair → List Pair → Type 0
+StaySpelled xs ys zs = AreSpelled xs → AreSpelled ys → AreSpelled zs
+
+walk_spelled : (level : ℕ) (xs ys : List Pair) → Sorted xs → Sorted ys → StaySpelled xs ys (walk level xs ys)
+walk_spelled level = along level StaySpelled (λ a b. tt)
+    (λ x xs ys zs ax ay h a b. put_spelled x.0 (kept level x.1) zs (kept_spelled level x.0 x.1 a.0) (h a.1 b))
+    (λ y xs ys zs ax ay h a b. put_spelled y.0 (kept level y.1) zs (kept_spelled level y.0 y.1 b.0) (h a b.1))
+    (λ x y xs ys zs e ax ay h a b.
+    put_spelled y.0 (option_and_then (kept level) (joined x.1 y.1)) zs (joined_spelled level y.0 x.1 y.1 b.0)
+    (h a.1 b.1))
+
+-- ---- the whole
+
+each_spelled : (es : List Pair) → AllByRecursion IsSpellable (map item_of es) → AreSpelled es
+each_spelled [] h = tt
+each_spelled (x ∷ es) h = (h.0, each_spelled es h.1)
+
+items_spelled : (es : List Pair) → AreSpelled es → AllByRecursion IsSpellable (map item_of es)
+items_spelled [] h = tt
+items_spelled (x ∷ es) h = (h.0, items_spelled es h.1)
+
+pub entries_spelled : (c : Contents) → HasFile c → AreSpelled (changes_of c)
+entries_spelled None h = tt
+entries_spelled (Some filled) h =
+    each_spelled (entries filled.changes) (recursion_from_All IsSpellable (items_of (Some filled)) h.spelled).1
+
+-- META of the greater version is spelled where those of both are
+abbrev MetaSpelled : Option ℕ → Type 0
+MetaSpelled None = Unit {0}
+MetaSpelled (Some v) = IsSpellable (bucket.Meta v)
+
+meta_spelled : (c : Contents) → HasFile c → MetaSpelled (version_of c)
+meta_spelled None h = tt
+meta_spelled (Some filled) h = (recursion_from_All IsSpellable (items_of (Some filled)) h.spelled).0
+
+max_is : (v w : ℕ) → (max v w ≡ v) ⊎ (max v w ≡ w)
+max_is v w = elim (cases_lt v w) [ inl lt ↦ inr (omega arith) | inr le ↦ inl (omega arith) ]
+
+greater_spelled : (v w : Option ℕ) → MetaSpelled v → MetaSpelled w → MetaSpelled (greater_version v w)
+greater_spelled None w a b = b
+greater_spelled (Some v) None a b = a
+greater_spelled (Some v) (Some w) a b =
+    elim (max_is v w) [
+      | inl e ↦ subst (λ (n : ℕ). IsSpellable (bucket.Meta n)) (sym e) a
+      | inr e ↦ subst (λ (n : ℕ). IsSpellable (bucket.Meta n)) (sym e) b
+    ]
+
+-- the items of a filled bucket
+pub items_filled : (v : ℕ) (es : List Pair) → Sorted es
+    → items_of (filled_with (Some v) es) ≡ bucket.Meta v ∷ map item_of es
+items_filled v es s =
+    ap (λ (xs : List Pair). bucket.Meta v ∷ map item_of xs) (entries-from_sorted key_cmp es s)
+
+filled_has_file : (level : ℕ) (a b : Contents) → HasFile a → HasFile b → (v : Option ℕ)
+    → greater_version (version_of a) (version_of b) ≡ v → MetaSpelled v
+    → HasFile (filled_with v (walk level (changes_of a) (changes_of b)))
+filled_has_file level a b ha hb None e m = nothing_has_file
+filled_has_file level a b ha hb (Some v) e m =
+    let es = walk level (changes_of a) (changes_of b) in
+    let spelled = walk_spelled level (changes_of a) (changes_of b) (changes_sorted a) (changes_sorted b)
+    (entries_spelled a ha) (entries_spelled b hb) in
+    record {
+      keyed = λ k c is. merged_keyed level k (change_at a k) (change_at b k) (ha.keyed k) (hb.keyed k) c
+          (sym (filled_change level a b k (Some v) e) ∙ is);
+      spelled = subst (All IsSpellable) (sym (items_filled v es (walk_sorted level a b)))
+          (All-from_recursion IsSpellable (bucket.Meta v ∷ map item_of es) (m, items_spelled es spelled));
+    }
+
+pub merge_has_file : (level : ℕ) (a b : Contents) → HasFile a → HasFile b → HasFile (merge_of level a b)
+merge_has_file level a b ha hb =
+    filled_has_file level a b ha hb (greater_version (version_of a) (version_of b)) refl
+    (greater_spelled (version_of a) (version_of b) (meta_spelled a ha) (meta_spelled b hb))

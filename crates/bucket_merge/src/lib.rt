@@ -15,4 +15,5 @@ mod tests;
 mod write;
 
 pub use job::{MergeBack, MergeJob};
+pub use merge::merge_fresh;
 pub use out::MergeOut;

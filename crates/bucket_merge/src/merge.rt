@@ -91,3 +91,17 @@ pub(crate) fn merge<L: Ledger>(
     merge_sides(level, older, newer, &mut file, steps)?;
     Bucket::of_file(file)
 }
+
+/// The merge of a fresh bucket into the newest file, that of level 0. An item of either is a step.
+pub fn merge_fresh<L: Ledger>(
+    curr: &Bucket,
+    fresh: &Bucket,
+    steps: &mut Steps<L>,
+) -> Result<Arc<Bucket>, AllocError>
+    ensures merge { IfOk result (λ bucket. spec.IsMerge 0 curr.now fresh.now bucket.value) }
+    ensures exact { OnOk result (steps.new ≡ steps.old + count_of curr.now + count_of fresh.now) }
+    ensures most { steps.new ≤ steps.old + count_of curr.now + count_of fresh.now }
+{
+    let bucket = merge(0, curr, fresh, steps)?;
+    Ok(bucket)
+}

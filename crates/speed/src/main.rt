@@ -11,11 +11,18 @@
 //!     speed map-base COUNT          makes the base alone
 //!
 //! Both print how many offers were put, how many were found, and the sum of the amounts of those.
+//!
+//!     speed merge OLDER NEWER       reads two files of buckets, and merges them
+//!     speed buckets OLDER NEWER     reads them alone
+//!
+//! Both print how many bytes the merge has, or both files together.
 #![tactic(auto)]
 
+mod buckets;
 mod codecs;
 mod entries;
 
+use buckets::pass_buckets;
 use codecs::{Done, pass_entries, pass_set};
 use entries::{Tally, pass_offers};
 use std::rt::Files;
@@ -65,15 +72,51 @@ fn report_offers<R: Print + AllocGlobal>(
     println!(rt; "{command}: {puts} puts, {found} found, amounts {amounts}")
 }
 
+/// Passes two files of buckets and prints how long what was made of them is.
+fn report_buckets<R: Files + Print + AllocGlobal>(
+    rt: &R,
+    command: &str,
+    older: &str,
+    newer: &str,
+) -> io::Result<()> {
+    let older = fs::read(rt, older)?;
+    let newer = fs::read(rt, newer)?;
+    match pass_buckets(older, newer, command == "merge") {
+        Some(length) => println!(rt; "{command}: {length} bytes"),
+        None => println!(rt; "{command}: nothing was done"),
+    }
+}
+
+/// Runs a command on two files, where there is such a command.
+fn report_two<R: Files + Print + AllocGlobal>(
+    rt: &R,
+    command: &str,
+    older: &str,
+    newer: &str,
+) -> io::Result<()> {
+    match command.as_bytes() {
+        b"merge" | b"buckets" => report_buckets(rt, command, older, newer),
+        _ => println!(rt; "{command}: nothing was done"),
+    }
+}
+
+/// Runs a command on one word.
+fn report_one<R: Files + Print + AllocGlobal>(rt: &R, command: &str, word: &str) -> io::Result<()> {
+    match command.as_bytes() {
+        b"map" => report_offers(rt, command, word, true),
+        b"map-base" => report_offers(rt, command, word, false),
+        _ => report(rt, command, word),
+    }
+}
+
 fn main(rt: HostRuntime) -> io::Result<()> {
     let mut words = env::args(&rt)?;
     let _program = words.next();
     let (Some(command), Some(word)) = (words.next(), words.next()) else {
         return println!(rt; "no command");
     };
-    match command.as_str().as_bytes() {
-        b"map" => report_offers(&rt, command.as_str(), word.as_str(), true),
-        b"map-base" => report_offers(&rt, command.as_str(), word.as_str(), false),
-        _ => report(&rt, command.as_str(), word.as_str()),
+    match words.next() {
+        Some(other) => report_two(&rt, command.as_str(), word.as_str(), other.as_str()),
+        None => report_one(&rt, command.as_str(), word.as_str()),
     }
 }

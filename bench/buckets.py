@@ -6,7 +6,7 @@
 PROGRAM is the built program, crates/speed/out/speed of this repository where none is given.
 
 The files have 32 MB each (1 MB is 1,000,000 bytes): data entries with values of 50 bytes, in the order of their keys, half of the
-keys in both files. The same is done with a tenth of the entries. A merge is made 3 times, and the small one 20 times. The time in
+keys in both files. The same is done with a tenth of the entries. A merge is made 10 times, and the small one 20 times. The time in
 which the program reads and judges both files is taken off, so that the merge alone counts; it keeps both files in memory.
 
 The script prints processor time, MB of input a second, the ratio of the time to that of sha256sum over the merge, and peak memory
@@ -100,7 +100,7 @@ def main():
     with tempfile.TemporaryDirectory() as folder:
         bench = Bench(program, folder)
         few, _ = bench.measure(count // 10, 20)
-        many, held = bench.measure(count, 3)
+        many, held = bench.measure(count, 10)
     print(f"ten times the items take {many / few:.1f} times as long")
     if many / few > GREATEST_RATIO or held > GREATEST_MEMORY:
         sys.exit(1)

@@ -12,6 +12,7 @@ mod spelling;
 mod tests;
 mod turn;
 
+pub use envelope::{fee_source, not_below_0, seq_num, source};
 pub use fees::{fee_charged, set_base_fee};
 pub use order::apply_order;
 pub use set_digest::set_hash;

@@ -12,3 +12,4 @@ mod transaction;
 
 pub use envelope::{envelope_hash, signed_hash};
 pub use ledger::{ledger_hash, results_hash};
+pub use transaction::transaction_hash;

@@ -12,12 +12,12 @@ use crate::text::{refused_text, results_text};
 use byteorder::{BigEndian, ByteOrder};
 use hash_ids::network_id;
 use item_list::ItemList;
+use set_apply::{apply_set, are_valid, results_hash};
 use set_form::{FormFault, SetInput, read_set_input};
 use set_outcome::Status;
 use set_rules::Terms;
 use set_types::{AccountEntry, LedgerEntry};
 use std::alloc::{AllocError, Global};
-use tx_apply::{apply_set, are_valid, results_hash};
 
 /// The most bytes that an input has.
 pub const INPUT_LIMIT: usize = 16777216;

@@ -17,7 +17,7 @@ use Rattle.set_rules.specs.Accounts.{account_at, with_account}
 use Rattle.set_rules.specs.Fees.{fee_of_source, debited, charge_all}
 use Rattle.set_rules.specs.Transactions.{source_after, Applied, at_source, apply_transaction}
 use Rattle.set_rules.specs.Results.{hash_of_tx, apply_all}
-use Rattle.tx_apply.specs.Place.{StandsAt}
+use Rattle.set_apply.specs.Place.{StandsAt}
 
 -- a fact that follows where the call answered Ok
 pub where_ok : {T E : Type 0} (r : Result T E) {P Q : Type 0} → (P → Q) → OnOk r P → OnOk r Q

@@ -9,8 +9,8 @@ use Rattle.std.specs.List.Sorted.{IsNonDecreasingBy, IsPartitionPoint}
 use Rattle.ledger_types.specs.declared.ids.AccountId.{AccountId}
 use Rattle.set_types.specs.declared.account.AccountEntry.{AccountEntry}
 use Rattle.set_rules.specs.Accounts.{account_id_cmp, account_at}
-use Rattle.tx_apply.specs.Place.{IdsRise, IsPlaceOf}
-use Rattle.tx_apply.proofs.Rising.{found_at, not_found, still_rises}
+use Rattle.set_apply.specs.Place.{IdsRise, IsPlaceOf}
+use Rattle.set_apply.proofs.Rising.{found_at, not_found, still_rises}
 
 -- ids are in one line, as their bytes are
 ids_total : IsTotalOrder account_id_cmp

@@ -3,7 +3,7 @@
 ghost use Rattle.std.specs.Prelude.{◌≡◌, ◌<◌, length, IfOk, is_some};
 ghost use Rattle.std.specs.List.Sorted.{IsBinarySearchResult};
 ghost use Rattle.set_rules.specs.Accounts.{account_id_cmp, account_at};
-ghost use Rattle.tx_apply.specs.Place.{IdsRise, IsPlaceOf};
+ghost use Rattle.set_apply.specs.Place.{IdsRise, IsPlaceOf};
 
 use ledger_types::AccountId;
 use set_types::AccountEntry;

@@ -9,7 +9,7 @@ ghost use Rattle.set_rules.specs.Conditions.{is_printable as is_printable_byte, 
 ghost use Rattle.set_rules.specs.Conditions.{total_balance, are_valid_accounts as are_accounts};
 ghost use Rattle.set_rules.specs.Conditions.{sources_stand as sources_stand_among, are_in_range as are_values_in_range};
 ghost use Rattle.set_rules.specs.Conditions.{are_valid as are_valid_values};
-ghost use Rattle.tx_apply.specs.Place.{IdsRise};
+ghost use Rattle.set_apply.specs.Place.{IdsRise};
 
 use crate::accounts::has_account;
 use set_rules::Terms;

@@ -4,7 +4,7 @@ ghost use Rattle.std.specs.Prelude.{◌≡◌, IfOk, OnOk};
 ghost use Rattle.set_rules.specs.Accounts.{account_at, with_account};
 ghost use Rattle.set_rules.specs.Fees.{fee_charged as charge_of, fee_of_source, debited as debited_by};
 ghost use Rattle.set_rules.specs.Fees.{charge_all as charge_all_of};
-ghost use Rattle.tx_apply.specs.Place.{IdsRise};
+ghost use Rattle.set_apply.specs.Place.{IdsRise};
 
 use crate::accounts::account_place;
 use set_rules::fee_charged;

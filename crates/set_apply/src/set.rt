@@ -2,7 +2,7 @@
 
 ghost use Rattle.std.specs.Prelude.{◌≡◌, length, IfOk};
 ghost use Rattle.set_rules.specs.Results.{hash_of_tx, apply_all as apply_all_of, set_results};
-ghost use Rattle.tx_apply.specs.Place.{IdsRise};
+ghost use Rattle.set_apply.specs.Place.{IdsRise};
 
 use crate::fees::charge_all;
 use crate::transactions::apply_transaction;

@@ -3,7 +3,7 @@
 ghost use Rattle.std.specs.Prelude.{◌≡◌, IfOk, OnOk};
 ghost use Rattle.set_rules.specs.Transactions.{is_bad_seq as is_bad_seq_of, checked as checked_by, source_after};
 ghost use Rattle.set_rules.specs.Transactions.{apply_transaction as applied_by};
-ghost use Rattle.tx_apply.specs.Place.{IdsRise};
+ghost use Rattle.set_apply.specs.Place.{IdsRise};
 
 use crate::accounts::account_place;
 use crate::signatures::check_signatures;

@@ -4,7 +4,7 @@ use Rattle.std.specs.Fmt.{signed_decimal}
 use Rattle.std.proofs.lemmas.Int.{to_z-of_z}
 use Rattle.hex.specs.Hex.{encode_lower}
 use Rattle.set_rules.specs.Results.{outcome_code}
-use Rattle.tx_apply.proofs.Written.{nothing_written, then_text}
+use Rattle.set_apply.proofs.Written.{nothing_written, then_text}
 use Rattle.replay.proofs.text.push_tx_line.Goals as goal
 
 pub returns : goal.returns

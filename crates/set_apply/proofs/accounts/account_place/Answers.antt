@@ -1,5 +1,5 @@
-use Rattle.tx_apply.proofs.Places.{place_found, place_missed}
-use Rattle.tx_apply.proofs.accounts.account_place.Goals as goal
+use Rattle.set_apply.proofs.Places.{place_found, place_missed}
+use Rattle.set_apply.proofs.accounts.account_place.Goals as goal
 
 pub returns-in-Ok : goal.returns-in-Ok
 returns-in-Ok c =

@@ -1,6 +1,6 @@
 use Rattle.std.proofs.Common.{◌∙◌}
-use Rattle.tx_apply.proofs.Places.{place_tells}
-use Rattle.tx_apply.proofs.accounts.has_account.Goals as goal
+use Rattle.set_apply.proofs.Places.{place_tells}
+use Rattle.set_apply.proofs.accounts.has_account.Goals as goal
 
 pub returns : goal.returns
 returns c = c.is_some.ensures

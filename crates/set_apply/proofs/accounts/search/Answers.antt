@@ -1,7 +1,7 @@
 use Rattle.std.proofs.Common.{rules}
 use Rattle.std.proofs.lemmas.List.Sorted.{answers_always}
 use Rattle.set_types.specs.declared.account.AccountEntry.{AccountEntry}
-use Rattle.tx_apply.proofs.accounts.search.Goals as goal
+use Rattle.set_apply.proofs.accounts.search.Goals as goal
 
 pub returns-clause-searched : goal.returns-clause-searched
 returns-clause-searched c =

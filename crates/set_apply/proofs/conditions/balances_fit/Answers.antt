@@ -2,8 +2,8 @@ use Rattle.std.proofs.Common.{◌≡◌, rules, arith, ℤ, pos, int_le, to_z, o
 use Rattle.std.specs.Int.{w128}
 use Rattle.std.proofs.lemmas.Int.{to_z-of_z}
 use Rattle.set_rules.specs.Conditions.{total_balance}
-use Rattle.tx_apply.proofs.Checking.{sum_more, sum_all}
-use Rattle.tx_apply.proofs.conditions.balances_fit.Goals as goal
+use Rattle.set_apply.proofs.Checking.{sum_more, sum_all}
+use Rattle.set_apply.proofs.conditions.balances_fit.Goals as goal
 
 pub loop-account-preserved : goal.loop-account-preserved
 loop-account-preserved c =

@@ -1,7 +1,7 @@
 use Rattle.std.proofs.Common.{◌≡◌, ◌∷◌, drop}
 use Rattle.set_rules.specs.Accounts.{account_id_cmp}
 use Rattle.set_rules.specs.Conditions.{rises}
-use Rattle.tx_apply.proofs.conditions.ids_rise.Given as goal
+use Rattle.set_apply.proofs.conditions.ids_rise.Given as goal
 
 abbrev pub invariant-loop-account : goal.invariant-loop-account
 invariant-loop-account l =

@@ -1,6 +1,6 @@
 use Rattle.std.proofs.Common.{◌≡◌, ◌∷◌, drop}
 use Rattle.set_rules.specs.Conditions.{rises, signer_key_cmp}
-use Rattle.tx_apply.proofs.conditions.keys_rise.Given as goal
+use Rattle.set_apply.proofs.conditions.keys_rise.Given as goal
 
 abbrev pub invariant-loop-signer : goal.invariant-loop-signer
 invariant-loop-signer l =

@@ -1,8 +1,8 @@
 use Rattle.std.proofs.Common.{rules, FitsSigned, w64}
 use Rattle.std.proofs.lemmas.Int.{to_z-of_z}
 use Rattle.set_rules.specs.Fees.{charge_all}
-use Rattle.tx_apply.proofs.Charging.{goes_on, is_done}
-use Rattle.tx_apply.proofs.fees.charge_all.Goals as goal
+use Rattle.set_apply.proofs.Charging.{goes_on, is_done}
+use Rattle.set_apply.proofs.fees.charge_all.Goals as goal
 
 pub loop-envelope-preserved : goal.loop-envelope-preserved
 loop-envelope-preserved c =

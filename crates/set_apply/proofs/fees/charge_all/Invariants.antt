@@ -1,8 +1,8 @@
 use Rattle.std.proofs.Common.{◌≡◌, drop}
 use Rattle.set_rules.specs.Fees.{charge_all}
-use Rattle.tx_apply.specs.Place.{IdsRise}
-use Rattle.tx_apply.proofs.Charging.{with_front}
-use Rattle.tx_apply.proofs.fees.charge_all.Given as goal
+use Rattle.set_apply.specs.Place.{IdsRise}
+use Rattle.set_apply.proofs.Charging.{with_front}
+use Rattle.set_apply.proofs.fees.charge_all.Given as goal
 
 abbrev pub invariant-loop-envelope : goal.invariant-loop-envelope
 invariant-loop-envelope l = record {

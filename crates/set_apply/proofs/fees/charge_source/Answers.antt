@@ -2,8 +2,8 @@ use Rattle.std.proofs.Common.{ap, sym, ◌∙◌, rules, set, FitsSigned, w64}
 use Rattle.std.proofs.lemmas.Int.{to_z-of_z}
 use Rattle.set_types.specs.declared.account.AccountEntry.{AccountEntry}
 use Rattle.set_rules.specs.Fees.{debited}
-use Rattle.tx_apply.proofs.Places.{ids_still_rise}
-use Rattle.tx_apply.proofs.fees.charge_source.Goals as goal
+use Rattle.set_apply.proofs.Places.{ids_still_rise}
+use Rattle.set_apply.proofs.fees.charge_source.Goals as goal
 
 pub returns-clause-debited : goal.returns-clause-debited
 returns-clause-debited c =

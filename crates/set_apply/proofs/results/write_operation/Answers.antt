@@ -2,8 +2,8 @@ use Rattle.std.proofs.Common.{[], ◌++◌, pos, refl, rules, FitsSigned, w32}
 use Rattle.std.proofs.Math.Facts.{sfits_lit}
 use Rattle.xdr_core.specs.Leaves.{i32}
 use Rattle.set_rules.specs.Results.{bump_code, spell_operation}
-use Rattle.tx_apply.proofs.Written.{nothing_written, then_i32}
-use Rattle.tx_apply.proofs.results.write_operation.Goals as goal
+use Rattle.set_apply.proofs.Written.{nothing_written, then_i32}
+use Rattle.set_apply.proofs.results.write_operation.Goals as goal
 
 pub returns-in_ok-i32-in-BumpSequence-3 : goal.returns-in_ok-i32-in-BumpSequence-3
 unfolding spell_operation

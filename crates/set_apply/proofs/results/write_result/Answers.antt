@@ -2,8 +2,8 @@ use Rattle.std.proofs.Common.{[], ◌++◌, pos, refl, rules, FitsSigned, w32, w
 use Rattle.std.proofs.Math.Facts.{sfits_lit}
 use Rattle.xdr_core.specs.Leaves.{i32, i64}
 use Rattle.set_rules.specs.Results.{outcome_code, spell_operations, spell_result}
-use Rattle.tx_apply.proofs.Written.{nothing_written, then_i32, then_i64, then_text}
-use Rattle.tx_apply.proofs.results.write_result.Goals as goal
+use Rattle.set_apply.proofs.Written.{nothing_written, then_i32, then_i64, then_text}
+use Rattle.set_apply.proofs.results.write_result.Goals as goal
 
 pub returns : goal.returns
 unfolding spell_result

@@ -2,7 +2,7 @@ use Rattle.std.proofs.Common.{◌≡◌, ◌++◌, length, take}
 use Rattle.std.specs.List.{flat_map}
 use Rattle.xdr_core.specs.Leaves.{u32}
 use Rattle.set_rules.specs.Results.{spell_pair}
-use Rattle.tx_apply.proofs.results.write_results.Given as goal
+use Rattle.set_apply.proofs.results.write_results.Given as goal
 
 abbrev pub invariant-loop-pair : goal.invariant-loop-pair
 invariant-loop-pair l =

@@ -1,8 +1,8 @@
 use Rattle.std.proofs.Common.{get_or, pos, refl, rules, FitsSigned, w64}
 use Rattle.std.proofs.lemmas.Int.{to_z-of_z}
-use Rattle.tx_apply.proofs.Applying.{goes_on, is_done}
+use Rattle.set_apply.proofs.Applying.{goes_on, is_done}
 use Rattle.set_rules.specs.Results.{apply_all}
-use Rattle.tx_apply.proofs.set.apply_all.Goals as goal
+use Rattle.set_apply.proofs.set.apply_all.Goals as goal
 
 pub loop-index-preserved : goal.loop-index-preserved
 loop-index-preserved c =

@@ -1,7 +1,7 @@
 use Rattle.std.proofs.Common.{◌≡◌, ◌++◌, drop}
 use Rattle.set_rules.specs.Results.{apply_all}
-use Rattle.tx_apply.specs.Place.{IdsRise}
-use Rattle.tx_apply.proofs.set.apply_all.Given as goal
+use Rattle.set_apply.specs.Place.{IdsRise}
+use Rattle.set_apply.proofs.set.apply_all.Given as goal
 
 abbrev pub invariant-loop-index : goal.invariant-loop-index
 invariant-loop-index l = record {

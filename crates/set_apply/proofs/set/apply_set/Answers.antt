@@ -1,6 +1,6 @@
 use Rattle.std.proofs.Common.{◌∙◌}
-use Rattle.tx_apply.proofs.Applying.{as_many_charges, as_many_results}
-use Rattle.tx_apply.proofs.set.apply_set.Goals as goal
+use Rattle.set_apply.proofs.Applying.{as_many_charges, as_many_results}
+use Rattle.set_apply.proofs.set.apply_set.Goals as goal
 
 pub apply_all-requires-clause-charged : goal.apply_all-requires-clause-charged
 apply_all-requires-clause-charged c =

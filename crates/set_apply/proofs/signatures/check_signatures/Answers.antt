@@ -1,8 +1,8 @@
 use Rattle.std.proofs.Common.{◌+◌, Bool, ◌&&◌, eqb, length, sym, ap, ◌∙◌, arith}
 use Rattle.set_rules.specs.Signatures.{weights, reaches, uses_all}
-use Rattle.tx_apply.proofs.Weighing.{stands_none, stands_less, stands_end, stands_all}
-use Rattle.tx_apply.proofs.signatures.check_signatures.Goals as goal
-use Rattle.tx_apply.proofs.signatures.check_signatures.Goals.{in-None, in-Some-2, then-all_used, else-all_used}
+use Rattle.set_apply.proofs.Weighing.{stands_none, stands_less, stands_end, stands_all}
+use Rattle.set_apply.proofs.signatures.check_signatures.Goals as goal
+use Rattle.set_apply.proofs.signatures.check_signatures.Goals.{in-None, in-Some-2, then-all_used, else-all_used}
 
 pub returns-in-Some-clause-met : goal.returns-in-Some-clause-met
 returns-in-Some-clause-met c =

@@ -1,7 +1,7 @@
 use Rattle.std.proofs.Common.{drop}
 use Rattle.set_rules.specs.Signatures.{weights, reaches, uses_all}
-use Rattle.tx_apply.proofs.Weighing.{Stands}
-use Rattle.tx_apply.proofs.signatures.check_signatures.Given as goal
+use Rattle.set_apply.proofs.Weighing.{Stands}
+use Rattle.set_apply.proofs.signatures.check_signatures.Given as goal
 
 abbrev pub invariant-loop-index : goal.invariant-loop-index
 invariant-loop-index l =

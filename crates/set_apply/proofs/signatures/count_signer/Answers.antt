@@ -3,8 +3,8 @@ use Rattle.std.specs.Prelude.{position}
 use Rattle.sha2.specs.Sha256.{sha256}
 use Rattle.set_types.specs.declared.account.Signer.{Signer}
 use Rattle.set_rules.specs.Signatures.{matches_key, Counts}
-use Rattle.tx_apply.proofs.Matching.{counts_at, counts_nothing}
-use Rattle.tx_apply.proofs.signatures.count_signer.Goals as goal
+use Rattle.set_apply.proofs.Matching.{counts_at, counts_nothing}
+use Rattle.set_apply.proofs.signatures.count_signer.Goals as goal
 
 pub returns-clause-weight : goal.returns-clause-weight
 returns-clause-weight c =

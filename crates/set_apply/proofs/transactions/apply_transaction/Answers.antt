@@ -1,6 +1,6 @@
-use Rattle.tx_apply.proofs.Applying.{where_ok, applied_at}
-use Rattle.tx_apply.proofs.Places.{ids_still_rise}
-use Rattle.tx_apply.proofs.transactions.apply_transaction.Goals as goal
+use Rattle.set_apply.proofs.Applying.{where_ok, applied_at}
+use Rattle.set_apply.proofs.Places.{ids_still_rise}
+use Rattle.set_apply.proofs.transactions.apply_transaction.Goals as goal
 
 pub returns-clause-accounts : goal.returns-clause-accounts
 returns-clause-accounts c =

@@ -1,0 +1,70 @@
+-- Every operation is lawful.
+use Rattle.std.proofs.Common.{◌≡◌, refl, Result, Ok, Err}
+use Rattle.op_types.specs.declared.operation.OperationBody.{OperationBody}
+use Rattle.op_types.specs.declared.operation.OperationBody.TheVariants as body
+use Rattle.op_types.specs.declared.operation_result.OperationResult.{OperationResult}
+use Rattle.op_types.specs.declared.operation_result.OperationResult.TheVariants.{NotSupported}
+use Rattle.entry_map.specs.EntryMap.{EntryMap}
+use Rattle.entry_slots.specs.Accounts.{HasAccount}
+use Rattle.sponsor_rules.specs.declared.context.Ctx.{Ctx}
+use Rattle.op_account.specs.AccountMerge.{account_merge}
+use Rattle.op_account.specs.BumpSequence.{bump_sequence}
+use Rattle.op_account.specs.CreateAccount.{create_account}
+use Rattle.op_account.specs.Inflation.{inflation}
+use Rattle.op_account.specs.Operations.{account_operation}
+use Rattle.op_options.specs.ManageData.{manage_data}
+use Rattle.op_options.specs.Operations.{options_operation}
+use Rattle.op_options.specs.SetOptions.{set_options}
+use Rattle.op_payment.specs.Operations.{payment_operation}
+use Rattle.op_payment.specs.Payment.{payment}
+use Rattle.op_sponsor.specs.BeginSponsoringFutureReserves.{begin_sponsoring}
+use Rattle.op_sponsor.specs.EndSponsoringFutureReserves.{end_sponsoring}
+use Rattle.op_sponsor.specs.Operations.{sponsor_operation}
+use Rattle.op_sponsor.specs.RevokeSponsorship.{revoke_sponsorship}
+use Rattle.op_form.specs.Done.{Done, Attempt, done_of}
+use Rattle.op_laws.specs.AnyOperation.{any_operation}
+use Rattle.op_laws.specs.Laws.{IsLawful, IsFit, AllLawful}
+use Rattle.op_laws.specs.Underway.{IsUnderway}
+use Rattle.op_laws.proofs.BumpSequence.{bump_sequence_is_lawful}
+use Rattle.op_laws.proofs.Lawful.{lawful_still}
+use Rattle.op_laws.proofs.ManageData.{manage_data_is_lawful}
+use Rattle.op_laws.proofs.Merging.{account_merge_is_lawful}
+use Rattle.op_laws.proofs.NewAccounts.{create_account_is_lawful}
+use Rattle.op_laws.proofs.Payment.{payment_is_lawful}
+use Rattle.op_laws.proofs.Revoking.{revoke_sponsorship_is_lawful}
+use Rattle.op_laws.proofs.SetOptions.{set_options_is_lawful}
+use Rattle.op_laws.proofs.Sponsorships.{begin_sponsoring_is_lawful, end_sponsoring_is_lawful}
+use Rattle.op_laws.proofs.Standing.{leaves_itself}
+
+-- An attempt that fails leaves all as it was.
+attempted : (ctx : Ctx) (m : EntryMap) → IsUnderway ctx m → (attempt : Attempt)
+    → ((done : Done) → attempt ≡ Ok done → IsLawful ctx m done) → IsLawful ctx m (done_of ctx m attempt)
+attempted ctx m under (Ok done) lawful = lawful done refl
+attempted ctx m under (Err result) lawful = lawful_still ctx m under result m (λ v sum legal. legal)
+    (leaves_itself ctx.base_reserve m under.settled.legal.keyed)
+
+not_supported : (ctx : Ctx) (m : EntryMap) → IsUnderway ctx m → IsLawful ctx m (done_of ctx m (Err NotSupported))
+not_supported ctx m under = attempted ctx m under (Err NotSupported) (λ done is. absurd (cc))
+
+pub all_are_lawful : AllLawful
+unfolding any_operation account_operation options_operation payment_operation sponsor_operation
+all_are_lawful ctx (body.CreateAccount op) m fit under stands = attempted ctx m under (create_account ctx op m)
+    (λ done is. create_account_is_lawful ctx op m done under stands is)
+all_are_lawful ctx (body.AccountMerge op) m fit under stands = attempted ctx m under (account_merge ctx op m)
+    (λ done is. account_merge_is_lawful ctx op m done under stands is)
+all_are_lawful ctx body.Inflation m fit under stands = not_supported ctx m under
+all_are_lawful ctx (body.BumpSequence op) m fit under stands = attempted ctx m under (bump_sequence ctx op m)
+    (λ done is. bump_sequence_is_lawful ctx op m done fit under stands is)
+all_are_lawful ctx (body.SetOptions op) m fit under stands = attempted ctx m under (set_options ctx op m)
+    (λ done is. set_options_is_lawful ctx op m done under stands is)
+all_are_lawful ctx (body.ManageData op) m fit under stands = attempted ctx m under (manage_data ctx op m)
+    (λ done is. manage_data_is_lawful ctx op m done under stands is)
+all_are_lawful ctx (body.Payment op) m fit under stands = attempted ctx m under (payment ctx op m)
+    (λ done is. payment_is_lawful ctx op m done under stands is)
+all_are_lawful ctx (body.BeginSponsoringFutureReserves op) m fit under stands = attempted ctx m under
+    (begin_sponsoring ctx op m) (λ done is. begin_sponsoring_is_lawful ctx op m done under stands is)
+all_are_lawful ctx body.EndSponsoringFutureReserves m fit under stands = attempted ctx m under (end_sponsoring ctx m)
+    (λ done is. end_sponsoring_is_lawful ctx tt m done under stands is)
+all_are_lawful ctx (body.RevokeSponsorship op) m fit under stands = attempted ctx m under (revoke_sponsorship ctx op m)
+    (λ done is. revoke_sponsorship_is_lawful ctx op m done under stands is)
+all_are_lawful ctx other m fit under stands = not_supported ctx m under

@@ -1,0 +1,113 @@
+-- A lawful operation, by what it leaves of the books and of the accounts.
+use Rattle.std.proofs.Common.{◌≡◌, refl, sym, ap, subst, ◌∙◌, ℕ, ◌<◌, List, [], Option, Some, inl, inr, All, arith}
+use Rattle.std.proofs.lemmas.Int.{ints}
+use Rattle.std.proofs.lemmas.List.Elements.{All-weaker}
+use Rattle.std.specs.Prelude.{ℤ, pos, ◌+ℤ◌, ◌≤ℤ◌}
+use Rattle.ledger_types.specs.declared.ids.AccountId.{AccountId}
+use Rattle.ledger_types.specs.declared.account.AccountEntry.{AccountEntry}
+use Rattle.ledger_types.specs.declared.asset.Asset.{Asset}
+use Rattle.ledger_types.specs.declared.asset.Asset.TheVariants as asset
+use Rattle.op_types.specs.declared.operation_result.OperationResult.{OperationResult}
+use Rattle.entry_map.specs.EntryMap.{EntryMap}
+use Rattle.entry_slots.specs.Accounts.{account_at, HasAccount}
+use Rattle.entry_sums.specs.Sums.{total}
+use Rattle.reserve_rules.specs.Reserve.{available}
+use Rattle.sponsor_rules.specs.declared.context.Ctx.{Ctx}
+use Rattle.sponsor_rules.specs.declared.context.Sponsorship.{Sponsorship}
+use Rattle.legal_rules.specs.Books.{View}
+use Rattle.legal_rules.specs.Supply.{held}
+use Rattle.legal_rules.specs.Owing.{nothing_owed, IsLegalOwing}
+use Rattle.legal_rules.specs.Sponsorships.{AreSponsorshipsSound}
+use Rattle.legal_rules.specs.Legal.{view}
+use Rattle.legal_rules.proofs.Legality.{view_of}
+use Rattle.legal_rules.proofs.Steps.{same_id_at}
+use Rattle.op_form.specs.Done.{Done, Move}
+use Rattle.op_laws.specs.Laws.{IsCovered, IsLawful}
+use Rattle.op_laws.specs.Moves.{gained, issued, lumens_at}
+use Rattle.op_laws.specs.Underway.{AreEntriesLegal, IsUnderway, KeepsTerms}
+use Rattle.op_laws.proofs.Lumens.{no_moves, nothing_issued}
+use Rattle.op_laws.proofs.Payments.{few_left}
+use Rattle.op_laws.proofs.Settled.{entries_legal, owing_of}
+use Rattle.op_laws.proofs.Standing.{IsAfter, IsCoveredBy, Leaves, none_more}
+
+-- A change keeps a state legal, and the supply of the asset at hand, by whatever it is viewed.
+abbrev pub KeepsLegal : ℕ → (old new : EntryMap) → Type 0
+KeepsLegal id_pool old new = (v : View) (sum : ℤ) → IsLegalOwing v id_pool nothing_owed sum old
+    → IsLegalOwing v id_pool nothing_owed sum new
+
+abbrev pub AreEachAfter : ℕ → (AccountId → ℤ) → (old new : EntryMap) → Type 0
+AreEachAfter base more old new = (id : AccountId) → IsAfter base (more id) (account_at old id) (account_at new id)
+
+pub terms_kept : (ctx : Ctx) → KeepsTerms ctx ctx
+terms_kept ctx = record {
+  seq = refl;
+  version = refl;
+  base_reserve = refl;
+  flags = refl;
+  close_time = refl;
+  tx_source = refl;
+  tx_seq = refl;
+}
+
+plus_none : (x y n : ℤ) → x ≡ y → n ≡ pos 0 → x ≡ (y +ℤ n)
+plus_none x y n same none = omega (arith, ints)
+
+covered_as : (ctx : Ctx) (m : EntryMap) (id : AccountId) (a : AccountEntry) → a.account_id ≡ id
+    → IsCoveredBy ctx.base_reserve (account_at m id) a → IsCovered ctx m a
+covered_as ctx m id a named (inl low) = inl low
+covered_as ctx m id a named (inr was) = inr (was.0, ap (account_at m) named ∙ was.1, was.2)
+
+module _ (ctx : Ctx) (m : EntryMap) (under : IsUnderway ctx m) (more : AccountId → ℤ) where
+  pub legal_after : (new : EntryMap) → KeepsLegal ctx.id_pool m new → AreEntriesLegal ctx.id_pool new
+  legal_after new keeps = entries_legal (view m) ctx.id_pool (total (held asset.Native) m) new
+      (keeps (view m) (total (held asset.Native) m) under.settled.legal)
+
+  -- the entries are left so, in a context with the same terms
+  pub lawful_by : (done : Done) → KeepsLegal ctx.id_pool m done.entries
+      → AreEachAfter ctx.base_reserve more m done.entries
+      → ((id : AccountId) → more id ≡ gained asset.Native id done.moves)
+      → ((x : Asset) → issued x done.moves ≡ pos 0) → KeepsTerms ctx done.ctx → done.ctx.id_pool ≡ ctx.id_pool
+      → AreSponsorshipsSound done.ctx done.entries → IsLawful ctx m done
+  lawful_by done keeps each gains none terms pool sound =
+      let legal = legal_after done.entries keeps in
+      record {
+        legal = record {
+          settled = record {
+            legal = subst (λ n. AreEntriesLegal n done.entries) (sym pool) legal;
+            signers = few_left ctx.base_reserve more m done.entries each under.settled.signers;
+          };
+          sponsorships = sound;
+          seq = subst (λ n. n < 2147483647) (sym terms.seq) under.seq;
+        };
+        terms = terms;
+        lumens = λ id. (each id).lumens ∙ ap (λ n. lumens_at m id +ℤ n) (gains id);
+        supply = λ x. plus_none _ _ _
+            (keeps (view_of x m) (total (held x) m) (owing_of x ctx.id_pool m under.settled.legal)).supply (none x);
+        reserves = λ id a stands. covered_as ctx m id a (same_id_at done.entries id a legal.keyed stands)
+            ((each id).covered a stands);
+      }
+
+  sound_after : (new : EntryMap) → ((id : AccountId) → HasAccount m id → HasAccount new id)
+      → AreSponsorshipsSound ctx new
+  sound_after new stand = record {
+    once = under.sponsorships.once;
+    other = under.sponsorships.other;
+    stand = All-weaker (λ (x : Sponsorship). HasAccount m x.sponsor) (λ x. HasAccount new x.sponsor)
+        (λ x. stand x.sponsor) ctx.sponsorships under.sponsorships.stand;
+  }
+
+  -- the same in the same context
+  pub lawful_here : (result : OperationResult) (new : EntryMap) (moves : List Move) → KeepsLegal ctx.id_pool m new
+      → Leaves ctx.base_reserve more m new → ((id : AccountId) → more id ≡ gained asset.Native id moves)
+      → ((x : Asset) → issued x moves ≡ pos 0)
+      → IsLawful ctx m (record { result = result; entries = new; ctx = ctx; moves = moves })
+  lawful_here result new moves keeps leaves gains none =
+      lawful_by (record { result = result; entries = new; ctx = ctx; moves = moves }) keeps leaves.each gains none
+      (terms_kept ctx) refl (sound_after new leaves.stand)
+
+-- nothing moves
+pub lawful_still : (ctx : Ctx) (m : EntryMap) → IsUnderway ctx m → (result : OperationResult) (new : EntryMap)
+    → KeepsLegal ctx.id_pool m new → Leaves ctx.base_reserve none_more m new
+    → IsLawful ctx m (record { result = result; entries = new; ctx = ctx; moves = [] })
+lawful_still ctx m under result new keeps leaves =
+    lawful_here ctx m under none_more result new [] keeps leaves no_moves nothing_issued

@@ -1,0 +1,298 @@
+-- MANAGE_DATA is lawful.
+use Rattle.std.proofs.Common.{◌≡◌, ◌≢◌, refl, sym, ap, subst, ◌∙◌, ℕ, ◌≤◌, Bool, true, false, not, ◌||◌, List, [], ◌∷◌}
+use Rattle.std.proofs.Common.{is_some, length, nat_eq, Option, Some, None, Ok, arith}
+use Rattle.std.proofs.lemmas.Int.{ints}
+use Rattle.std.specs.Prelude.{ℤ, pos, neg_ℤ, ◌+ℤ◌, ◌-ℤ◌, ◌≤ℤ◌}
+use Rattle.std.specs.FinMap.{get}
+use Rattle.ledger_types.specs.declared.ids.AccountId.{AccountId}
+use Rattle.ledger_types.specs.declared.data_entry.DataEntry.{DataEntry}
+use Rattle.ledger_types.specs.declared.account.AccountEntry.{AccountEntry}
+use Rattle.ledger_types.specs.declared.entry.LedgerEntry.{LedgerEntry}
+use Rattle.ledger_types.specs.declared.entry.LedgerEntryBody.{LedgerEntryBody}
+use Rattle.ledger_types.specs.declared.entry.LedgerEntryBody.TheVariants as body
+use Rattle.ledger_types.specs.declared.key.LedgerKey.{LedgerKey}
+use Rattle.ledger_types.specs.declared.key.LedgerKey.TheVariants as key
+use Rattle.ledger_types.specs.Keys.{key_of, key_of_body}
+use Rattle.valid_values.specs.Texts.{is_valid_text}
+use Rattle.entry_map.specs.EntryMap.{EntryMap, put, erase}
+use Rattle.entry_slots.specs.Accounts.{account_at, HasAccount}
+use Rattle.entry_slots.specs.DataEntries.{data_in, data_of, data_at, with_data, with_data_in, with_data_of}
+use Rattle.entry_slots.specs.EntrySponsor.{sponsor_of}
+use Rattle.entry_sums.specs.Sums.{total}
+use Rattle.sponsor_rules.specs.declared.context.Ctx.{Ctx}
+use Rattle.sponsor_rules.specs.Adding.{map_after_adding}
+use Rattle.sponsor_rules.specs.Paying.{without_subentry}
+use Rattle.sponsor_rules.specs.Removing.{map_after_discounting, map_after_removing, map_after_removing_entry}
+use Rattle.legal_rules.specs.EntryKeys.{is_key}
+use Rattle.legal_rules.specs.Books.{Kind, Subentries, Sponsoring, Sponsored, View}
+use Rattle.legal_rules.specs.EntryLaws.{IsFresh}
+use Rattle.legal_rules.specs.Legal.{view}
+use Rattle.legal_rules.specs.OfferIds.{offer_with}
+use Rattle.legal_rules.specs.Owing.{weight, weighed, nothing_owed, beside_reserves, IsEntryLegal, IsLegalOwing}
+use Rattle.legal_rules.specs.Ranges.{IsDataInRange}
+use Rattle.legal_rules.specs.Supply.{held}
+use Rattle.legal_rules.proofs.Given.{sponsors_ready}
+use Rattle.legal_rules.proofs.Kept.{subentry_added_so}
+use Rattle.legal_rules.proofs.Numbers.{plus_nothing, nothing_less, kept_sum}
+use Rattle.legal_rules.proofs.PaidFor.{nothing_settled}
+use Rattle.legal_rules.proofs.Removing.{subentry_removed, owns}
+use Rattle.legal_rules.proofs.Steps.{legal_as, replace_legal}
+use Rattle.legal_rules.proofs.Subentries.{subentry_of}
+use Rattle.op_types.specs.declared.account_ops.ManageDataOp.{ManageDataOp}
+use Rattle.op_types.specs.declared.account_results.ManageDataResult.TheVariants as manage
+use Rattle.op_form.specs.Done.{Done}
+use Rattle.op_form.specs.Steps.{success}
+use Rattle.op_options.specs.ManageData.{answer, name_tests, new_data, with_value, removed, added, valued, managed}
+use Rattle.op_options.specs.ManageData.{manage_data}
+use Rattle.op_laws.specs.Laws.{IsLawful, AreLawful}
+use Rattle.op_laws.specs.Underway.{IsUnderway}
+use Rattle.op_laws.proofs.Charges.{subentry_kept, discharged_kept, erased_kept, put_beside}
+use Rattle.op_laws.proofs.Lawful.{KeepsLegal, lawful_still}
+use Rattle.op_laws.proofs.Standing.{IsKeyed, Leaves, none_more, keeps_both, accounts_kept, keyed_put}
+use Rattle.op_laws.proofs.Tests.{went_on, first_passed, neither, went_after_charge}
+
+-- ---- the entry of data
+
+pub record IsDataEntry (m : EntryMap) (id : AccountId) (name : List ℕ) (d : DataEntry) (e : LedgerEntry) : Type 0 where
+  pub there : get m (key.Data id name) ≡ Some e
+  pub is : e.body ≡ body.Data d
+
+data_body : (b : LedgerEntryBody) (d : DataEntry) → data_in b ≡ Some d → b ≡ body.Data d
+data_body (body.Data x) d h = let same : x ≡ d = cc in ap body.Data same
+data_body other d h = absurd (cc)
+
+data_entry_of : (o : Option LedgerEntry) (d : DataEntry) → data_of o ≡ Some d
+    → (e : LedgerEntry) × (o ≡ Some e) × (e.body ≡ body.Data d)
+data_entry_of None d h = absurd (cc)
+data_entry_of (Some e) d h = (e, refl, data_body e.body d h)
+
+data_entry : (m : EntryMap) (id : AccountId) (name : List ℕ) (d : DataEntry) → data_at m id name ≡ Some d
+    → (e : LedgerEntry) × IsDataEntry m id name d e
+unfolding data_at
+data_entry m id name d h = let found = data_entry_of (get m (key.Data id name)) d h in
+    (found.0, record { there = found.1; is = found.2 })
+
+-- where no data stands under its key, nothing does
+no_data_body : (b : LedgerEntryBody) (id : AccountId) (name : List ℕ) → key_of_body b ≡ key.Data id name
+    → data_in b ≡ None → ⊥
+no_data_body (body.Data d) id name own none = absurd (cc)
+no_data_body other id name own none = absurd (cc)
+
+no_data_of : (o : Option LedgerEntry) (id : AccountId) (name : List ℕ)
+    → ((e : LedgerEntry) → o ≡ Some e → key_of e ≡ key.Data id name) → data_of o ≡ None → o ≡ None
+no_data_of None id name own none = refl
+no_data_of (Some e) id name own none = absurd (no_data_body e.body id name (own e refl) none)
+
+no_data : (m : EntryMap) (id : AccountId) (name : List ℕ) → IsKeyed m → data_at m id name ≡ None
+    → get m (key.Data id name) ≡ None
+unfolding data_at
+no_data m id name keyed none = no_data_of (get m (key.Data id name)) id name (keyed (key.Data id name)) none
+
+-- data counts in no book beside its reserve
+data_settled : (v : View) (e : LedgerEntry) (d : DataEntry) (kind : Kind) (k : LedgerKey)
+    → beside_reserves (weighed v (record e { body = body.Data d })) kind k ≡ pos 0
+data_settled v e d Subentries k = refl
+data_settled v e d Sponsoring k = refl
+data_settled v e d Sponsored k = refl
+data_settled v e d kind k = nothing_less (is_key (key_of_body (body.Data d)) k)
+
+-- ---- adding
+
+as_nothing : (t : ℤ) → t ≡ pos 0 → (pos 0 +ℤ t) ≡ pos 0
+as_nothing t none = omega (arith, ints)
+
+plus_none : (x : ℤ) → x ≤ℤ pos 1 → (x +ℤ pos 0) ≤ℤ pos 1
+plus_none x le = omega (arith, ints)
+
+module _ (ctx : Ctx) (m : EntryMap) (under : IsUnderway ctx m) (stands : HasAccount m ctx.op_source) (name : List ℕ)
+    (range : (value : List ℕ)
+    → IsDataInRange (record { account_id = ctx.op_source; data_name = name; data_value = value })) where
+  abbrev src : AccountId
+  src = ctx.op_source
+
+  added_legal : (value : List ℕ) (new : EntryMap) → data_at m src name ≡ None
+      → map_after_adding ctx src (new_data ctx name value) m ≡ Ok new → KeepsLegal ctx.id_pool m new
+  added_legal value new none done v sum legal =
+      let entry = new_data ctx name value in
+      legal_as v (IsEntryLegal ctx.id_pool) _ nothing_owed _ sum new
+      (subentry_added_so v ctx.id_pool ctx.id_pool nothing_owed sum ctx src 1 entry m new legal refl (record {
+        free = no_data m src name legal.keyed none;
+        unsponsored = refl;
+        id_free = λ id. plus_none _ (legal.offers id);
+      }) (omega arith) (record {
+        range = record { body = range value; paid = λ some. absurd (some refl) };
+        bound = tt;
+        few = tt;
+        fits = tt;
+        filled = tt;
+      }) stands (sponsors_ready ctx m src under.sponsorships) done)
+      (λ kind k. as_nothing _ (data_settled v entry (record { account_id = src; data_name = name; data_value = value })
+      kind k)) (plus_nothing sum)
+
+  added_lawful : (value : List ℕ) (done : Done) → data_at m src name ≡ None → added ctx name value m ≡ Ok done
+      → IsLawful ctx m done
+  added_lawful value done none is =
+      let went = went_after_charge (map_after_adding ctx src (new_data ctx name value) m) (answer manage.LowReserve) _
+      done is in
+      let also = went.2 in
+      let made : Done = record { result = answer manage.Success; entries = went.0; ctx = ctx; moves = [] } in
+      let same : made ≡ done = cc in
+      subst (IsLawful ctx m) same (lawful_still ctx m under (answer manage.Success) went.0
+      (added_legal value went.0 none went.1)
+      (subentry_kept ctx m src 1 (new_data ctx name value) went.0 under.settled.legal.keyed (λ id at. absurd (cc))
+      went.1))
+
+  -- ---- another value
+
+  abbrev valued_entry : LedgerEntry → DataEntry → LedgerEntry
+  valued_entry e d = record e { body = body.Data d }
+
+  value_unmoved : (value : List ℕ) (d : DataEntry) (v : View) (kind : Kind) (k : LedgerKey) (e : LedgerEntry)
+      → weight v kind k (valued_entry e (with_value value d)) ≡ weight v kind k (valued_entry e d)
+  value_unmoved value d v Subentries k e = refl
+  value_unmoved value d v other k e = refl
+
+  with_data_is : (value : List ℕ) (d : DataEntry) (e : LedgerEntry) → IsDataEntry m src name d e
+      → with_data m src name (with_value value) ≡ put m (valued_entry e (with_value value d))
+  unfolding with_data
+  with_data_is value d e here = ap (with_data_of m (with_value value)) here.there
+      ∙ ap (with_data_in m e (with_value value)) here.is
+
+  valued_legal : (value : List ℕ) (d : DataEntry) (e : LedgerEntry) → IsDataEntry m src name d e
+      → KeepsLegal ctx.id_pool m (put m (valued_entry e (with_value value d)))
+  valued_legal value d e here v sum legal =
+      let there : get m (key.Data src name) ≡ Some (valued_entry e d) = here.there
+      ∙ ap Some (λ i. record e { body = here.is i }) in
+      let was = legal.entries (key.Data src name) (valued_entry e d) there in
+      legal_as v (IsEntryLegal ctx.id_pool) _ nothing_owed _ sum _
+      (replace_legal v (IsEntryLegal ctx.id_pool) nothing_owed nothing_owed sum m (key.Data src name)
+      (valued_entry e d) (valued_entry e (with_value value d)) there legal (record {
+        own = refl;
+        params = refl;
+        offers = λ id. refl;
+        books = λ kind k. value_unmoved value d v kind k e ∙ sym (plus_nothing _);
+      }) (record {
+        range = record {
+          body = record { some = was.range.body.some; name = was.range.body.name };
+          paid = was.range.paid;
+        };
+        bound = tt;
+        few = tt;
+        fits = tt;
+        filled = tt;
+      })) (λ kind k. refl) (kept_sum sum (pos 0))
+
+  valued_lawful : (value : List ℕ) (d : DataEntry) (done : Done) → data_at m src name ≡ Some d
+      → valued ctx name value m (Some d) ≡ Ok done → IsLawful ctx m done
+  valued_lawful value d done at is =
+      let found = data_entry m src name d at in
+      let e1 = valued_entry found.0 (with_value value d) in
+      let new = with_data m src name (with_value value) in
+      let made : Done = record { result = answer manage.Success; entries = new; ctx = ctx; moves = [] } in
+      let same : made ≡ done = cc in
+      let put_so = with_data_is value d found.0 found.1 in
+      subst (IsLawful ctx m) same (lawful_still ctx m under (answer manage.Success) new
+      (subst (KeepsLegal ctx.id_pool m) (sym put_so) (valued_legal value d found.0 found.1))
+      (subst (Leaves ctx.base_reserve none_more m) (sym put_so) (accounts_kept ctx.base_reserve m (put m e1)
+      (keyed_put m e1 under.settled.legal.keyed) (put_beside m e1 (λ id same. absurd (cc))))))
+
+-- ---- removing
+
+none_taken : (x : ℤ) → x ≡ pos 0 → (pos 0 +ℤ neg_ℤ x) ≡ pos 0
+none_taken x none = omega (arith, ints)
+
+minus_zero : (x : ℤ) → (x +ℤ neg_ℤ (pos 0)) ≡ x
+minus_zero x = omega (arith, ints)
+
+module _ (id_pool base : ℕ) (m : EntryMap) (id : AccountId) (name : List ℕ) where
+  abbrev its_key : LedgerKey
+  its_key = key.Data id name
+
+  module _ (e : LedgerEntry) (d : DataEntry) (there : get m its_key ≡ Some (record e { body = body.Data d })) where
+    abbrev e1 : LedgerEntry
+    e1 = record e { body = body.Data d }
+
+    removed_legal : KeepsLegal id_pool m (map_after_removing_entry its_key m (Some e1))
+    removed_legal v sum legal = legal_as v (IsEntryLegal id_pool) _ nothing_owed _ sum _
+        (subentry_removed v id_pool nothing_owed sum m legal nothing_settled d.account_id 1 its_key e1 there
+        (subentry_of (body.Data d) d.account_id 1 refl))
+        (λ kind k. none_taken _ (data_settled v e d kind k)) (minus_zero sum)
+
+    had_one : (v : View) (sum : ℤ) → IsLegalOwing v id_pool nothing_owed sum m → (a : AccountEntry)
+        → account_at m d.account_id ≡ Some a → 1 ≤ a.num_sub_entries
+    had_one v sum legal a stands =
+        let own = owns v id_pool nothing_owed sum m legal nothing_settled d.account_id 1 its_key e1 there
+        (subentry_of (body.Data d) d.account_id 1 refl) in
+        let also = own.stands in
+        let same : own.account ≡ a = cc in
+        subst (λ (b : AccountEntry). 1 ≤ b.num_sub_entries) same own.enough
+
+    removed_left : (v : View) (sum : ℤ) → IsLegalOwing v id_pool nothing_owed sum m
+        → Leaves base none_more m (map_after_removing_entry its_key m (Some e1))
+    removed_left v sum legal =
+        let s = sponsor_of e1 in
+        let now = map_after_discounting d.account_id 1 s m in
+        let first = discharged_kept base 1 d.account_id s m legal.keyed (had_one v sum legal)
+        (without_subentry 1 s) (λ a next. next) in
+        keeps_both base m now (erase now its_key) first
+        (erased_kept base now its_key first.keyed (λ other same. absurd (cc)))
+
+removed_lawful : (ctx : Ctx) (m : EntryMap) → IsUnderway ctx m → (name : List ℕ) (done : Done)
+    → removed ctx name m ≡ Ok done → IsLawful ctx m done
+removed_lawful ctx m under name done is =
+    let src = ctx.op_source in
+    let k = key.Data src name in
+    let new = map_after_removing k m in
+    let went = went_on ((not (is_some (data_at m src name)), answer manage.NameNotFound) ∷ [])
+    (success ctx (answer manage.Success) new []) done is in
+    let test = first_passed (not (is_some (data_at m src name))) (answer manage.NameNotFound) [] went.0 in
+    let also = went.1 in
+    let made : Done = record { result = answer manage.Success; entries = new; ctx = ctx; moves = [] } in
+    let same : made ≡ done = cc in
+    let there = stands_then (data_at m src name) test.0 in
+    let found = data_entry m src name there.0 there.1 in
+    let is_so : found.0 ≡ record found.0 { body = body.Data there.0 } = λ i. record found.0 { body = found.1.is i } in
+    let at = found.1.there ∙ ap Some is_so in
+    let removed_so : map_after_removing_entry k m (Some (record found.0 { body = body.Data there.0 })) ≡ new =
+    sym (ap (map_after_removing_entry k m) at) in
+    subst (IsLawful ctx m) same (lawful_still ctx m under (answer manage.Success) new
+    (subst (KeepsLegal ctx.id_pool m) removed_so
+    (removed_legal ctx.id_pool ctx.base_reserve m src name found.0 there.0 at))
+    (subst (Leaves ctx.base_reserve none_more m) removed_so
+    (removed_left ctx.id_pool ctx.base_reserve m src name found.0 there.0 at (view m) _ under.settled.legal)))
+  where
+    stands_then : (o : Option DataEntry) → not (is_some o) ≡ false → (d : DataEntry) × (o ≡ Some d)
+    stands_then None test = absurd (cc)
+    stands_then (Some d) test = (d, refl)
+
+-- ---- the operation
+
+not_empty : (n : ℕ) → nat_eq n 0 ≡ false → 1 ≤ n
+not_empty n h = grind arith
+
+not_false : (b : Bool) → not b ≡ false → b ≡ true
+not_false true h = refl
+not_false false h = absurd (cc)
+
+module _ (ctx : Ctx) (m : EntryMap) (under : IsUnderway ctx m) (stands : HasAccount m ctx.op_source) (name : List ℕ)
+    (range : (value : List ℕ)
+    → IsDataInRange (record { account_id = ctx.op_source; data_name = name; data_value = value })) (done : Done) where
+  by_data : (value : List ℕ) (o : Option DataEntry) → data_at m ctx.op_source name ≡ o
+      → valued ctx name value m o ≡ Ok done → IsLawful ctx m done
+  by_data value None at is = added_lawful ctx m under stands name range value done at is
+  by_data value (Some d) at is = valued_lawful ctx m under stands name range value d done at is
+
+  by_value : (o : Option (List ℕ)) → managed ctx name m o ≡ Ok done → IsLawful ctx m done
+  by_value None is = removed_lawful ctx m under name done is
+  by_value (Some value) is = by_data value (data_at m ctx.op_source name) refl is
+
+pub manage_data_is_lawful : AreLawful manage_data
+manage_data_is_lawful ctx op m done under stands is =
+    let went = went_on (name_tests op.data_name) (managed ctx op.data_name m op.data_value) done is in
+    let test = first_passed (nat_eq (length op.data_name) 0 || not (is_valid_text op.data_name))
+    (answer manage.InvalidName) [] went.0 in
+    let both = neither (nat_eq (length op.data_name) 0) (not (is_valid_text op.data_name)) test.0 in
+    by_value ctx m under stands op.data_name (λ value. record {
+      some = not_empty (length op.data_name) both.0;
+      name = not_false (is_valid_text op.data_name) both.1;
+    }) done op.data_value went.1

@@ -1,0 +1,416 @@
+-- ACCOUNT_MERGE is lawful.
+use Rattle.std.proofs.Common.{◌≡◌, ◌≢◌, refl, sym, ap, subst, ◌∙◌, ℕ, suc, ◌+◌, ◌-◌, ◌<◌, ◌≤◌, Bool, true, false, not}
+use Rattle.std.proofs.Common.{◌||◌, nat_eq, nat_lt, cond, is_some, bit_and, List, [], ◌∷◌, length, remove, get_or, All, Option, Some, None}
+use Rattle.std.proofs.Common.{Ok, arith}
+use Rattle.std.proofs.lemmas.Int.{ints}
+use Rattle.std.proofs.lemmas.Bool.{eqb-true}
+use Rattle.std.proofs.lemmas.List.Elements.{All-nil, All-cons}
+use Rattle.std.proofs.lemmas.List.Sums.{position_or_len_is}
+use Rattle.std.specs.Prelude.{ℤ, pos, neg_ℤ, int_le, ◌+ℤ◌, ◌≤ℤ◌, if◌then◌else◌}
+use Rattle.std.specs.FinMap.{get}
+use Rattle.std.specs.List.{list_any}
+use Rattle.std.specs.Ordering.{is_eq}
+use Rattle.ledger_types.specs.declared.ids.AccountId.{AccountId}
+use Rattle.ledger_types.specs.declared.asset.Asset.TheVariants as asset
+use Rattle.ledger_types.specs.declared.account.AccountEntry.{AccountEntry}
+use Rattle.ledger_types.specs.declared.entry.LedgerEntry.{LedgerEntry}
+use Rattle.ledger_types.specs.declared.key.LedgerKey.{LedgerKey}
+use Rattle.ledger_types.specs.declared.key.LedgerKey.TheVariants as key
+use Rattle.ledger_types.specs.declared.signer.Signer.{Signer}
+use Rattle.ledger_types.specs.Ids.{account_of}
+use Rattle.ledger_types.specs.Keys.{key_of}
+use Rattle.ledger_types.specs.KeyOrder.{asset_cmp, signer_key_cmp}
+use Rattle.entry_map.specs.EntryMap.{EntryMap, erase}
+use Rattle.entry_slots.specs.Accounts.{account_of as account_in_entry, account_at, with_account, HasAccount}
+use Rattle.entry_slots.specs.AccountExtensions.{num_sponsoring, signer_sponsor}
+use Rattle.entry_slots.specs.EntrySponsor.{sponsor_of}
+use Rattle.entry_slots.specs.Tests.{Tests}
+use Rattle.entry_sums.proofs.Lookups.{erase_there}
+use Rattle.sponsor_rules.specs.declared.context.Ctx.{Ctx}
+use Rattle.sponsor_rules.specs.declared.context.Sponsorship.{Sponsorship}
+use Rattle.sponsor_rules.specs.declared.count.Count.TheVariants as count
+use Rattle.sponsor_rules.specs.Charge.{charge_of}
+use Rattle.sponsor_rules.specs.Counting.{count_in, with_less}
+use Rattle.sponsor_rules.specs.Paying.{map_after_releasing, without_subentry}
+use Rattle.sponsor_rules.specs.Payers.{is_same_account}
+use Rattle.sponsor_rules.specs.Removing.{map_without_charge, map_after_removing, map_after_removing_entry}
+use Rattle.sponsor_rules.specs.SignerPlace.{place_of, found_at, found_signer, without_signer}
+use Rattle.sponsor_rules.specs.Signers.{without_counted_signer, map_without_signer, map_after_removing_signer}
+use Rattle.sponsor_rules.proofs.Ids.{same_account, apart_accounts}
+use Rattle.sponsor_rules.proofs.Keeping.{with_count_is, with_count_keeps, counts_edited}
+use Rattle.sponsor_laws.proofs.Accounts.{with_count-keeps}
+use Rattle.legal_rules.specs.Books.{View}
+use Rattle.legal_rules.specs.Legal.{view}
+use Rattle.legal_rules.specs.Owing.{nothing_owed, IsLegalOwing}
+use Rattle.legal_rules.specs.Sponsorships.{AreSponsorshipsSound}
+use Rattle.legal_rules.specs.Supply.{lumens_of}
+use Rattle.legal_rules.proofs.Bounded.{account_legal}
+use Rattle.legal_rules.proofs.Merging.{removed_account}
+use Rattle.legal_rules.proofs.PaidFor.{nothing_settled}
+use Rattle.legal_rules.proofs.Places.{account_after, account_elsewhere}
+use Rattle.legal_rules.proofs.SignersKept.{counts_sponsoring, paid_by_other, signer_removed}
+use Rattle.legal_rules.proofs.Steps.{IsAccountEntry, account_entry, legal_as}
+use Rattle.op_types.specs.declared.account_ops.AccountMergeOp.{AccountMergeOp}
+use Rattle.op_types.specs.declared.account_results.AccountMergeResult.TheVariants as merge
+use Rattle.op_types.specs.declared.operation_result.OperationResult.{OperationResult}
+use Rattle.op_types.specs.declared.operation_result.OperationResult.TheVariants.{NoAccount}
+use Rattle.op_account.specs.AccountMerge.{answer, destination_tests, source_tests, map_without_signers}
+use Rattle.op_account.specs.AccountMerge.{map_without_account, taken_and_removed, merge_of, account_merge}
+use Rattle.op_form.specs.Done.{Done}
+use Rattle.op_form.specs.Lumens.{with_more_lumens, map_after_credit}
+use Rattle.op_form.specs.Sequences.{first_seq}
+use Rattle.op_form.specs.Sponsorships.{is_open_sponsor}
+use Rattle.op_form.specs.Steps.{unless_refused}
+use Rattle.op_laws.specs.Laws.{IsLawful, AreLawful}
+use Rattle.op_laws.specs.Moves.{lumens_in, lumens_at}
+use Rattle.op_laws.specs.Underway.{IsUnderway}
+use Rattle.op_laws.proofs.Charges.{releasing_kept, erase_beside}
+use Rattle.op_laws.proofs.Lawful.{KeepsLegal, AreEachAfter, terms_kept, lawful_by}
+use Rattle.op_laws.proofs.Lumens.{lumens_move, lumens_gained, none_issued}
+use Rattle.op_laws.proofs.Paying.{IsTaken, taken, taken_legal, taken_left}
+use Rattle.op_laws.proofs.Reserves.{pays_less}
+use Rattle.op_laws.proofs.Signers.{signer_kept, without_means}
+use Rattle.op_laws.proofs.SetOptions.{is_its_key}
+use Rattle.op_laws.proofs.Standing.{IsKeyed, IsAfter, Leaves, for_one, none_more, leaves_itself, leaves_both, keeps_both}
+use Rattle.op_laws.proofs.Tests.{went_on, first_passed, neither, went_after_some}
+
+-- ---- an account without its first signer
+
+-- it stands at the front
+at_first : (x : Signer) (xs : List Signer) → place_of x.key (x ∷ xs) ≡ Some 0
+unfolding place_of
+at_first x xs =
+    let p = λ (y : Signer). is_eq (signer_key_cmp y.key x.key) in
+    let at = position_or_len_is p (x ∷ xs) 0 x (omega arith) (λ k lt. absurd (omega arith)) (λ lt. is_its_key x.key) in
+    ap (λ n. cond (nat_lt n (length (x ∷ xs))) (Some n) None) at ∙ ap (λ t. cond t (Some 0) None)
+    (nat_lt_true 0 (length (x ∷ xs)) (omega arith))
+  where
+    nat_lt_true : (n k : ℕ) → n < k → nat_lt n k ≡ true
+    nat_lt_true n k lt = grind arith
+
+-- an account with a subentry less: how many it has, for how many it pays, and its signers
+abbrev HasLess : AccountEntry → AccountEntry → Type 0
+HasLess b c =
+    (c.num_sub_entries ≡ b.num_sub_entries - 1) × (num_sponsoring c ≡ num_sponsoring b) × (c.signers ≡ b.signers)
+
+less_itself : (b : AccountEntry) → HasLess b (with_less count.SubEntries 1 b)
+less_itself b = (
+  with_count_is count.SubEntries (b.num_sub_entries - 1) b,
+  with_count_keeps count.SubEntries count.Sponsoring (b.num_sub_entries - 1) b (λ e. absurd (cc e)),
+  (with_count-keeps count.SubEntries (b.num_sub_entries - 1) b).signers,
+)
+
+less_subentry : (s : Option AccountId) (b : AccountEntry) → HasLess b (without_subentry 1 s b)
+less_subentry None b = less_itself b
+less_subentry (Some x) b =
+    let c = with_less count.SubEntries 1 b in
+    let n = count_in count.Sponsored c - 1 in
+    let first = less_itself b in (
+      with_count_keeps count.Sponsored count.SubEntries n c (λ e. absurd (cc e)) ∙ first.0,
+      with_count_keeps count.Sponsored count.Sponsoring n c (λ e. absurd (cc e)) ∙ first.1,
+      (with_count-keeps count.Sponsored n c).signers ∙ first.2,
+    )
+
+-- what stands without its first signer
+record IsUnsigned (xs : List Signer) (b c : AccountEntry) : Type 0 where
+  signers : c.signers ≡ xs
+  subentries : c.num_sub_entries ≡ b.num_sub_entries - 1
+  pays : num_sponsoring c ≡ num_sponsoring b
+  balance : c.balance ≡ b.balance
+
+first_unsigned : (x : Signer) (xs : List Signer) (s : Option AccountId) (b : AccountEntry) → b.signers ≡ x ∷ xs
+    → IsUnsigned xs b (without_counted_signer (record { place = 0; sponsor = s }) b)
+first_unsigned x xs s b is =
+    let c = without_subentry 1 s b in
+    let less = less_subentry s b in
+    let change = λ (ys : List (Option AccountId)). remove ys 0 in
+    record {
+      signers = ap (λ (ys : List Signer). remove ys 0) (less.2 ∙ is);
+      subentries = counts_edited change count.SubEntries c (remove c.signers 0) ∙ less.0;
+      pays = counts_edited change count.Sponsoring c (remove c.signers 0) ∙ less.1;
+      balance = (without_means 0 s b).balance;
+    }
+
+-- ---- the map without it
+
+module _ (v : View) (id_pool base : ℕ) (sum : ℤ) (src : AccountId) where
+  module _ (m : EntryMap) (legal : IsLegalOwing v id_pool nothing_owed sum m) (x : Signer) (xs : List Signer)
+      (b : AccountEntry) (stands : account_at m src ≡ Some b) (is : b.signers ≡ x ∷ xs) where
+    abbrev s : Option AccountId
+    s = signer_sponsor b 0
+
+    within : 0 < length b.signers
+    within = subst (λ (ys : List Signer). 0 < length ys) (sym is) (omega arith)
+
+    abbrev now : EntryMap
+    now = map_after_releasing 1 s m
+
+    keyed_now : IsKeyed now
+    keyed_now = (releasing_kept base 1 s m legal.keyed).keyed
+
+    still_by : (o : Option AccountId) → s ≡ o → account_at (map_after_releasing 1 o m) src ≡ account_at m src
+    still_by None to = refl
+    still_by (Some y) to =
+        let payer = counts_sponsoring v id_pool nothing_owed sum m legal nothing_settled src b stands 0 within y to in
+        account_elsewhere m y (with_less count.Sponsoring 1) payer.account legal.keyed payer.stands
+        (pays_less 1 payer.account).means.id src (λ same. paid_by_other v id_pool nothing_owed sum m legal nothing_settled
+        src b stands 0 within y to (ap key.Account same))
+
+    abbrev f : AccountEntry → AccountEntry
+    f = without_counted_signer (record { place = 0; sponsor = s })
+
+    removed_is : map_after_removing_signer src x.key m ≡ with_account now src f
+    removed_is =
+        ap (λ o. map_without_signer src m (found_signer x.key o)) stands
+        ∙ ap (λ o. map_without_signer src m (found_at b o)) (ap (place_of x.key) is ∙ at_first x xs)
+
+    pub first_removed : account_at (map_after_removing_signer src x.key m) src ≡ Some (f b)
+    first_removed =
+        ap (λ n. account_at n src) removed_is
+        ∙ account_after now src f b keyed_now (still_by s refl ∙ stands) (without_means 0 s b).id
+
+-- ---- all signers
+
+-- an account without signers and subentries, that pays for nobody
+record IsBare (id_pool base : ℕ) (src : AccountId) (balance : ℤ) (m new : EntryMap) : Type 0 where
+  account : AccountEntry
+  stands : account_at new src ≡ Some account
+  subentries : account.num_sub_entries ≡ 0
+  pays : num_sponsoring account ≡ 0
+  same : account.balance ≡ balance
+  legal : KeepsLegal id_pool m new
+  leaves : Leaves base none_more m new
+
+one_less : (n l : ℕ) → n ≡ suc l → n - 1 ≡ l
+one_less n l is = omega arith
+
+module _ (v : View) (id_pool base : ℕ) (sum : ℤ) (src : AccountId) where
+  bare : (xs : List Signer) (m : EntryMap) → IsLegalOwing v id_pool nothing_owed sum m → (b : AccountEntry)
+      → account_at m src ≡ Some b → b.signers ≡ xs → b.num_sub_entries ≡ length xs → num_sponsoring b ≡ 0
+      → IsBare id_pool base src b.balance m (map_without_signers src xs m)
+  unfolding map_without_signers
+  bare [] m legal b stands is subs pays = record {
+    account = b;
+    stands = stands;
+    subentries = subs;
+    pays = pays;
+    same = refl;
+    legal = λ w n had. had;
+    leaves = leaves_itself base m legal.keyed;
+  }
+  bare (x ∷ xs) m legal b stands is subs pays =
+      let now = map_after_removing_signer src x.key m in
+      let c = without_counted_signer (record { place = 0; sponsor = signer_sponsor b 0 }) b in
+      let less = first_unsigned x xs (signer_sponsor b 0) b is in
+      let rest = bare xs now
+      (signer_removed v id_pool nothing_owed sum src x.key m legal nothing_settled) c
+      (first_removed v id_pool base sum src m legal x xs b stands is) less.signers
+      (less.subentries ∙ one_less b.num_sub_entries (length xs) subs) (less.pays ∙ pays) in
+      record {
+        account = rest.account;
+        stands = rest.stands;
+        subentries = rest.subentries;
+        pays = rest.pays;
+        same = rest.same ∙ less.balance;
+        legal = λ w n had. rest.legal w n (signer_removed w id_pool nothing_owed n src x.key m had nothing_settled);
+        leaves = keeps_both base m now (map_without_signers src xs now)
+            (signer_kept v id_pool sum m legal base src x.key) rest.leaves;
+      }
+
+-- ---- the account is removed
+
+-- accounts after one of them is removed
+record IsGone (base : ℕ) (src : AccountId) (m new : EntryMap) : Type 0 where
+  gone : account_at new src ≡ None
+  now : EntryMap
+  leaves : Leaves base none_more m now
+  others : (id : AccountId) → id ≢ src → account_at new id ≡ account_at now id
+
+nobody : (m : EntryMap) (id : AccountId) → account_at (erase m (key.Account id)) id ≡ None
+unfolding account_at
+nobody m id = ap account_in_entry (erase_there m (key.Account id))
+
+removed_gone : (base : ℕ) (src : AccountId) (m : EntryMap) → IsKeyed m → (a : AccountEntry) → account_at m src ≡ Some a
+    → IsGone base src m (map_after_removing (key.Account src) m)
+removed_gone base src m keyed a stands =
+    let found = account_entry m src a stands in
+    let s = sponsor_of found.0 in
+    let now = map_after_releasing 2 s m in
+    subst (IsGone base src m)
+    (ap (λ b. erase (map_without_charge (charge_of b) s m) (key.Account src)) (sym found.1.is)
+    ∙ ap (map_after_removing_entry (key.Account src) m) (sym found.1.there))
+    (record {
+      gone = nobody now src;
+      now = now;
+      leaves = releasing_kept base 2 s m keyed;
+      others = λ id apart. erase_beside now (key.Account src) id (λ same. apart (cc));
+    })
+
+-- ---- the operation
+
+given_up : (t : Bool) (sum n k : ℤ) → n ≡ k
+    → ((sum +ℤ (if t then k else pos 0)) +ℤ neg_ℤ (if t then n else pos 0)) ≡ sum
+given_up true sum n k same = omega (arith, ints)
+given_up false sum n k same = omega (arith, ints)
+
+none_passes : (p : Sponsorship → Bool) (xs : List Sponsorship) → list_any p xs ≡ false → All (λ x. p x ≡ false) xs
+none_passes p [] is = All-nil (λ x. p x ≡ false)
+none_passes p (x ∷ xs) is =
+    let both = neither (p x) (list_any p xs) is in
+    All-cons (λ y. p y ≡ false) x xs both.0 (none_passes p xs both.1)
+
+no_sponsor : (ctx : Ctx) (id : AccountId) → is_open_sponsor ctx id ≡ false
+    → All (λ s. is_same_account s.sponsor id ≡ false) ctx.sponsorships
+unfolding is_open_sponsor
+no_sponsor ctx id is = none_passes (λ s. is_same_account s.sponsor id) ctx.sponsorships is
+
+sum_of_three : (x y : ℤ) → ((x +ℤ pos 0) +ℤ pos 0) ≡ x
+sum_of_three x y = omega (arith, ints)
+
+plus_none : (x : ℤ) → x ≡ (x +ℤ pos 0)
+plus_none x = omega (arith, ints)
+
+all_given : (o n d : ℤ) → o ≡ n → d ≡ pos 0 → pos 0 ≡ (o +ℤ (d +ℤ neg_ℤ n))
+all_given o n d is none = omega (arith, ints)
+
+module _ (ctx : Ctx) (op : AccountMergeOp) (m : EntryMap) (done : Done) (under : IsUnderway ctx m) (a : AccountEntry)
+    (stands : account_at m ctx.op_source ≡ Some a) (apart : account_of op.destination ≢ ctx.op_source)
+    (signed : a.num_sub_entries ≡ length a.signers) (pays : num_sponsoring a ≡ 0)
+    (opens : is_open_sponsor ctx ctx.op_source ≡ false) where
+  abbrev src : AccountId
+  src = ctx.op_source
+
+  abbrev dest : AccountId
+  dest = account_of op.destination
+
+  abbrev base : ℕ
+  base = ctx.base_reserve
+
+  low : pos 0 ≤ℤ a.balance
+  low = (account_legal (view m) ctx.id_pool nothing_owed _ m src a under.settled.legal stands).range.range.balance
+
+  module _ (paid : EntryMap) (h : IsTaken dest a.balance m paid) where
+    first : Leaves base (for_one dest a.balance) m paid
+    first = taken_left base dest a.balance m paid h low under.settled.legal.keyed
+
+    still : account_at paid src ≡ Some a
+    still =
+        ap (λ n. account_at n src) (sym h.is)
+        ∙ account_elsewhere m dest (with_more_lumens a.balance) h.account under.settled.legal.keyed h.stands refl src
+        (λ same. apart (sym same)) ∙ stands
+
+    abbrev unsigned : EntryMap
+    unsigned = map_without_signers src a.signers paid
+
+    bared : IsBare ctx.id_pool base src a.balance paid unsigned
+    bared = bare (view m) ctx.id_pool base _ src a.signers paid
+        (taken_legal (view m) ctx.id_pool _ dest a.balance m paid h low under.settled.legal) a still refl signed pays
+
+    abbrev new : EntryMap
+    new = map_without_account src a paid
+
+    gone : IsGone base src unsigned new
+    gone = removed_gone base src unsigned bared.leaves.keyed bared.account bared.stands
+
+    merged_legal : KeepsLegal ctx.id_pool m new
+    merged_legal v sum legal =
+        legal_as v _ nothing_owed nothing_owed _ sum new
+        (removed_account v ctx.id_pool (sum +ℤ lumens_of v.asset a.balance) unsigned src bared.account
+        (bared.legal v (sum +ℤ lumens_of v.asset a.balance)
+        (taken_legal v ctx.id_pool sum dest a.balance m paid h low legal))
+        bared.stands bared.subentries bared.pays) (λ kind k. refl)
+        (given_up (is_eq (asset_cmp v.asset asset.Native)) sum bared.account.balance a.balance bared.same)
+
+    -- what stands before the account goes
+    before : Leaves base (λ id. (for_one dest a.balance id +ℤ pos 0) +ℤ pos 0) m gone.now
+    before = leaves_both base _ none_more m unsigned gone.now
+        (leaves_both base (for_one dest a.balance) none_more m paid unsigned first bared.leaves) gone.leaves
+
+    merged_each : AreEachAfter base (λ id. for_one dest a.balance id +ℤ for_one src (neg_ℤ a.balance) id) m new
+    merged_each id = elim (is_same_account src id) as (λ b. is_same_account src id ≡ b
+        → IsAfter base (for_one dest a.balance id +ℤ (if b then neg_ℤ a.balance else pos 0)) (account_at m id)
+        (account_at new id)) [
+          | true ↦ λ tied.
+              let same = same_account src id tied in
+              let none : account_at new id ≡ None = ap (account_at new) (sym same) ∙ gone.gone in
+              let was : lumens_at m id ≡ a.balance = ap (lumens_at m) (sym same) ∙ ap lumens_in stands in
+              let no_destination : for_one dest a.balance id ≡ pos 0 = ap (λ t. if t then a.balance else pos 0)
+              (ap (is_same_account dest) (sym same) ∙ not_same dest src apart) in
+              subst (λ o. IsAfter base (for_one dest a.balance id +ℤ neg_ℤ a.balance) (account_at m id) o) (sym none)
+              (record {
+                lumens = all_given (lumens_at m id) a.balance (for_one dest a.balance id) was no_destination;
+                covered = λ b is. absurd (cc);
+                few = λ b is. absurd (cc);
+              })
+          | false ↦ λ differ.
+              let other = apart_accounts src id differ in
+              subst (λ o. IsAfter base (for_one dest a.balance id +ℤ pos 0) (account_at m id) o)
+              (sym (gone.others id (λ same. other (sym same))))
+              (subst (λ n. IsAfter base n (account_at m id) (account_at gone.now id))
+              (sum_of_three (for_one dest a.balance id) (pos 0) ∙ plus_none (for_one dest a.balance id)) (before.each id))
+        ] refl
+      where
+        not_same : (x y : AccountId) → x ≢ y → is_same_account x y ≡ false
+        not_same x y differ = elim (is_same_account x y) as (λ b. is_same_account x y ≡ b → b ≡ false) [
+          | true ↦ λ tied. absurd (differ (same_account x y tied))
+          | false ↦ λ h. refl
+        ] refl
+
+    merged_sound : AreSponsorshipsSound ctx new
+    merged_sound = record {
+      once = under.sponsorships.once;
+      other = under.sponsorships.other;
+      stand = λ k d lt.
+          let sponsor = (get_or ctx.sponsorships k d).sponsor in
+          let had = before.stand sponsor (under.sponsorships.stand k d lt) in
+          (had.0, gone.others sponsor (apart_accounts sponsor src (no_sponsor ctx src opens k d lt)) ∙ had.1);
+    }
+
+  merged : taken_and_removed ctx op a m ≡ Ok done → IsLawful ctx m done
+  merged is =
+      let went = went_after_some (map_after_credit dest a.balance m) (answer merge.DestFull) _ done is in
+      let paid = went.0 in
+      let also = went.2 in
+      let h = taken dest a.balance m paid went.1 in
+      let made : Done = record {
+        result = answer (merge.Success a.balance);
+        entries = map_without_account src a paid;
+        ctx = ctx;
+        moves = lumens_move src dest a.balance ∷ [];
+      } in
+      let same : made ≡ done = cc in
+      subst (IsLawful ctx m) same (lawful_by ctx m under _ made (merged_legal paid h) (merged_each paid h)
+      (lumens_gained src dest a.balance) (none_issued src dest a.balance) (terms_kept ctx) refl (merged_sound paid h))
+
+not_not : (b : Bool) → not b ≡ false → b ≡ true
+not_not true h = refl
+not_not false h = absurd (cc)
+
+with_source : (ctx : Ctx) (op : AccountMergeOp) (m : EntryMap) (done : Done) → IsUnderway ctx m → (a : AccountEntry)
+    → account_at m ctx.op_source ≡ Some a → account_of op.destination ≢ ctx.op_source
+    → unless_refused (source_tests ctx a) (taken_and_removed ctx op a m) ≡ Ok done → IsLawful ctx m done
+with_source ctx op m done under a stands apart is =
+    let last = not (nat_eq (num_sponsoring a) 0) || is_open_sponsor ctx ctx.op_source in
+    let fourth : Tests OperationResult = (last, answer merge.IsSponsor) ∷ [] in
+    let third : Tests OperationResult = (int_le (first_seq ctx) a.seq_num, answer merge.SeqnumTooFar) ∷ fourth in
+    let subs = not (nat_eq a.num_sub_entries (length a.signers)) in
+    let went = went_on (source_tests ctx a) (taken_and_removed ctx op a m) done is in
+    let one = first_passed (not (nat_eq (bit_and a.flags 4) 0)) (answer merge.ImmutableSet)
+    ((subs, answer merge.HasSubEntries) ∷ third) went.0 in
+    let two = first_passed subs (answer merge.HasSubEntries) third one.1 in
+    let three = first_passed (int_le (first_seq ctx) a.seq_num) (answer merge.SeqnumTooFar) fourth two.1 in
+    let four = first_passed last (answer merge.IsSponsor) [] three.1 in
+    let both = neither (not (nat_eq (num_sponsoring a) 0)) (is_open_sponsor ctx ctx.op_source) four.0 in
+    merged ctx op m done under a stands apart (eqb-true a.num_sub_entries (length a.signers) (not_not _ two.0))
+    (eqb-true (num_sponsoring a) 0 (not_not _ both.0)) both.1 went.1
+
+pub account_merge_is_lawful : AreLawful account_merge
+account_merge_is_lawful ctx op m done under stands is =
+    let src = ctx.op_source in
+    let dest = account_of op.destination in
+    let exists : Tests OperationResult = (not (is_some (account_at m dest)), answer merge.NoAccount) ∷ [] in
+    let went = went_on (destination_tests ctx op m) (merge_of ctx op m (account_at m src)) done is in
+    let first = first_passed (is_same_account dest src) (answer merge.Malformed) exists went.0 in
+    let source = went_after_some (account_at m src) NoAccount
+    (λ a. unless_refused (source_tests ctx a) (taken_and_removed ctx op a m)) done went.1 in
+    with_source ctx op m done under source.0 source.1 (apart_accounts dest src first.0) source.2

@@ -1,0 +1,387 @@
+-- CREATE_ACCOUNT is lawful.
+use Rattle.std.proofs.Common.{◌≡◌, ◌≢◌, refl, sym, ap, subst, ◌∙◌, ℕ, ◌+◌, ◌*◌, ◌^◌, ◌<◌, ◌≤◌, Bool, true, false, ◌||◌}
+use Rattle.std.proofs.Common.{is_some, List, [], ◌∷◌, length, Option, Some, None, Ok, inl, inr, arith}
+use Rattle.std.proofs.lemmas.Int.{ints}
+use Rattle.std.specs.Prelude.{ℤ, pos, neg_ℤ, int_lt, ◌+ℤ◌, ◌-ℤ◌, ◌*ℤ◌, ◌≤ℤ◌, if◌then◌else◌}
+use Rattle.std.specs.FinMap.{get}
+use Rattle.std.specs.Ordering.{is_eq, is_lt, int_cmp}
+use Rattle.ledger_types.specs.declared.ids.AccountId.{AccountId}
+use Rattle.ledger_types.specs.declared.asset.Asset.TheVariants as asset
+use Rattle.ledger_types.specs.declared.account.AccountEntry.{AccountEntry}
+use Rattle.ledger_types.specs.declared.price.Liabilities.{Liabilities}
+use Rattle.ledger_types.specs.declared.signer.Signer.{Signer}
+use Rattle.valid_values.specs.Texts.{is_valid_text}
+use Rattle.entry_sums.specs.Sums.{total}
+use Rattle.legal_rules.specs.Ranges.{has_flag}
+use Rattle.ledger_types.specs.declared.entry.LedgerEntry.{LedgerEntry}
+use Rattle.ledger_types.specs.declared.entry.LedgerEntryBody.{LedgerEntryBody}
+use Rattle.ledger_types.specs.declared.entry.LedgerEntryBody.TheVariants as body
+use Rattle.ledger_types.specs.declared.key.LedgerKey.TheVariants as key
+use Rattle.ledger_types.specs.Keys.{key_of, key_of_body}
+use Rattle.ledger_types.specs.KeyOrder.{asset_cmp}
+use Rattle.entry_map.specs.EntryMap.{EntryMap, put}
+use Rattle.entry_slots.specs.Accounts.{account_in, account_of, account_at, HasAccount}
+use Rattle.entry_slots.specs.AccountExtensions.{account_liabilities}
+use Rattle.entry_sums.proofs.Lookups.{put_there, put_elsewhere}
+use Rattle.reserve_rules.specs.Reserve.{available, greatest_i64}
+use Rattle.sponsor_rules.specs.declared.context.Ctx.{Ctx}
+use Rattle.sponsor_rules.specs.declared.count.Count.TheVariants as count
+use Rattle.sponsor_rules.specs.declared.fault.AddFault.TheVariants.{LowReserve}
+use Rattle.sponsor_rules.specs.Adding.{own_tests, sponsored_account_entry, map_after_adding_account, map_after_adding}
+use Rattle.sponsor_rules.specs.Counting.{with_more}
+use Rattle.sponsor_rules.specs.Paying.{map_after_charging}
+use Rattle.sponsor_rules.specs.Payers.{is_same_account, open_sponsor, payer_tests_at}
+use Rattle.sponsor_rules.proofs.Ids.{same_account, apart_accounts}
+use Rattle.legal_rules.specs.Legal.{view}
+use Rattle.legal_rules.specs.Owing.{nothing_owed, IsEntryLegal}
+use Rattle.legal_rules.specs.Sponsorships.{IsSponsorReady}
+use Rattle.legal_rules.specs.Supply.{held, lumens_of}
+use Rattle.legal_rules.proofs.Bounded.{account_legal}
+use Rattle.legal_rules.proofs.Covered.{not_above_balance}
+use Rattle.legal_rules.proofs.Given.{sponsors_ready}
+use Rattle.legal_rules.proofs.Kept.{account_added_so}
+use Rattle.legal_rules.proofs.Places.{absent_after}
+use Rattle.legal_rules.proofs.Steps.{legal_as}
+use Rattle.op_types.specs.declared.account_ops.CreateAccountOp.{CreateAccountOp}
+use Rattle.op_types.specs.declared.operation_result.OperationResult.{OperationResult}
+use Rattle.op_types.specs.declared.payment_results.CreateAccountResult.TheVariants as create
+use Rattle.op_account.specs.CreateAccount.{answer, new_account, new_entry, start_tests, start_move, added_and_paid}
+use Rattle.op_account.specs.CreateAccount.{create_account}
+use Rattle.op_form.specs.Done.{Done}
+use Rattle.op_form.specs.Lumens.{map_after_debit}
+use Rattle.op_form.specs.Sequences.{first_seq}
+use Rattle.entry_slots.specs.Tests.{Tests}
+use Rattle.op_laws.specs.Laws.{IsLawful, AreLawful}
+use Rattle.op_laws.specs.Underway.{IsUnderway}
+use Rattle.op_laws.proofs.Charges.{payers_had, charging_kept, IsChargedFrom, charged_at}
+use Rattle.op_laws.proofs.Lawful.{KeepsLegal, lawful_here}
+use Rattle.op_laws.proofs.Lumens.{lumens_move, lumens_gained, none_issued}
+use Rattle.op_laws.proofs.Numbers.{still_available}
+use Rattle.op_laws.proofs.Paying.{IsGiven, not_less, given, given_legal, given_left, given_back}
+use Rattle.op_laws.proofs.Reserves.{IsCharged, reserves_of, pays_more, paid_more}
+use Rattle.op_laws.proofs.Standing.{IsKeyed, IsAfter, Leaves, for_one, none_more, is_itself_after, leaves_both, leaves_as}
+use Rattle.op_laws.proofs.Standing.{keyed_put}
+use Rattle.op_laws.proofs.Tests.{passed, went_on, first_passed, neither, went_after_some, went_after_charge}
+
+-- ---- where no account stands
+
+no_account_body : (b : LedgerEntryBody) (id : AccountId) → key_of_body b ≡ key.Account id → account_in b ≡ None → ⊥
+no_account_body (body.Account a) id own none = absurd (cc)
+no_account_body other id own none = absurd (cc)
+
+absent_of : (o : Option LedgerEntry) (id : AccountId)
+    → ((e : LedgerEntry) → o ≡ Some e → key_of e ≡ key.Account id) → account_of o ≡ None → o ≡ None
+absent_of None id own none = refl
+absent_of (Some e) id own none = absurd (no_account_body e.body id (own e refl) none)
+
+-- nothing stands under its key
+pub absent_at : (m : EntryMap) (id : AccountId) → IsKeyed m → account_at m id ≡ None → get m (key.Account id) ≡ None
+unfolding account_at
+absent_at m id keyed none = absent_of (get m (key.Account id)) id (keyed (key.Account id)) none
+
+nobody_at : (m : EntryMap) (id : AccountId) → get m (key.Account id) ≡ None → account_at m id ≡ None
+unfolding account_at
+nobody_at m id none = ap account_of none
+
+-- ---- a new account is put
+
+plus_balance : (n : ℤ) → n ≡ (pos 0 +ℤ n)
+plus_balance n = omega (arith, ints)
+
+new_after : (base : ℕ) (a : AccountEntry) → pos 0 ≤ℤ available a base → length a.signers ≤ 20
+    → IsAfter base a.balance None (Some a)
+new_after base a covered few = record {
+  lumens = plus_balance a.balance;
+  covered = λ b is. let same : a ≡ b = cc in inl (subst (λ x. pos 0 ≤ℤ available x base) same covered);
+  few = λ b is. let same : a ≡ b = cc in inl (subst (λ (x : AccountEntry). length x.signers ≤ 20) same few);
+}
+
+module _ (base : ℕ) (m : EntryMap) (keyed : IsKeyed m) (e : LedgerEntry) (a : AccountEntry)
+    (is : e.body ≡ body.Account a) (none : account_at m a.account_id ≡ None) (covered : pos 0 ≤ℤ available a base)
+    (few : length a.signers ≤ 20) where
+  abbrev now : EntryMap
+  now = put m e
+
+  its_key : key_of e ≡ key.Account a.account_id
+  its_key = ap key_of_body is
+
+  here : account_at now a.account_id ≡ Some a
+  unfolding account_at
+  here = ap (λ k. account_of (get now k)) (sym its_key) ∙ ap account_of (put_there m e) ∙ ap account_in is
+
+  pub beside : (id : AccountId) → a.account_id ≢ id → account_at now id ≡ account_at m id
+  unfolding account_at
+  beside id apart = ap account_of (put_elsewhere m e (key.Account id) (λ same.
+      let keys : key.Account id ≡ key.Account a.account_id = same ∙ its_key in
+      apart (cc)))
+
+  pub new_account_left : Leaves base (for_one a.account_id a.balance) m now
+  new_account_left = record {
+    each = λ id. elim (is_same_account a.account_id id) as (λ b. is_same_account a.account_id id ≡ b
+        → IsAfter base (if b then a.balance else pos 0) (account_at m id) (account_at now id)) [
+          | true ↦ λ tied. subst (λ x. IsAfter base a.balance (account_at m x) (account_at now x))
+              (same_account a.account_id id tied)
+              (subst (λ o. IsAfter base a.balance o (account_at now a.account_id)) (sym none)
+              (subst (λ o. IsAfter base a.balance None o) (sym here) (new_after base a covered few)))
+          | false ↦ λ apart. subst (λ o. IsAfter base (pos 0) (account_at m id) o)
+              (sym (beside id (apart_accounts a.account_id id apart))) (is_itself_after base (account_at m id))
+        ] refl;
+    stand = λ id stands. elim (is_same_account a.account_id id) as (λ b. is_same_account a.account_id id ≡ b
+        → HasAccount now id) [
+          | true ↦ λ tied. (a, ap (account_at now) (sym (same_account a.account_id id tied)) ∙ here)
+          | false ↦ λ apart. (stands.0, beside id (apart_accounts a.account_id id apart) ∙ stands.1)
+        ] refl;
+    keyed = keyed_put m e keyed;
+  }
+
+-- ---- what the new account can spend
+
+two_covered : (b : ℤ) (n : ℕ) → pos n ≤ℤ b → pos 0 ≤ℤ (b -ℤ pos n -ℤ pos 0)
+two_covered b n le = omega (arith, ints)
+
+no_reserve : (n : ℤ) → n ≤ℤ (pos 2 +ℤ neg_ℤ (pos 2)) → n ≤ℤ pos 0
+no_reserve n le = omega (arith, ints)
+
+module _ (ctx : Ctx) (op : CreateAccountOp) where
+  abbrev base : ℕ
+  base = ctx.base_reserve
+
+  abbrev its : AccountEntry
+  its = new_account ctx op
+
+  -- two reserves of its own
+  own_covered : pos (2 * base) ≤ℤ op.starting_balance → pos 0 ≤ℤ available its base
+  own_covered enough = two_covered op.starting_balance (2 * base) enough
+
+  abbrev sponsored : AccountEntry
+  sponsored = with_more count.Sponsored 2 its
+
+  -- a sponsor pays its two reserves
+  sponsored_covered : pos 0 ≤ℤ op.starting_balance → pos 0 ≤ℤ available sponsored base
+  sponsored_covered low =
+      let h = paid_more 2 its in
+      let none : (pos 0 *ℤ pos base) ≡ pos 0 = zero_times base in
+      let less = still_available op.starting_balance op.starting_balance (pos 0) (reserves_of sponsored)
+      (account_liabilities sponsored).selling base (itself op.starting_balance)
+      (no_reserve (reserves_of sponsored) h.reserves) in
+      let selling : (account_liabilities sponsored).selling ≡ pos 0 =
+      ap (λ (l : Liabilities). l.selling) h.means.liabilities in
+      low_left op.starting_balance (pos 0 *ℤ pos base) (reserves_of sponsored *ℤ pos base)
+      (account_liabilities sponsored).selling sponsored.balance low none selling less h.means.balance
+    where
+      zero_times : (n : ℕ) → (pos 0 *ℤ pos n) ≡ pos 0
+      zero_times n = ap pos (let is : 0 * n ≡ 0 = omega arith in is)
+
+      itself : (x : ℤ) → x ≤ℤ x
+      itself x = omega (arith, ints)
+
+      low_left : (b z p s c : ℤ) → pos 0 ≤ℤ b → z ≡ pos 0 → s ≡ pos 0 → (b -ℤ z -ℤ s) ≤ℤ (b -ℤ p -ℤ s) → c ≡ b
+          → pos 0 ≤ℤ (c -ℤ p -ℤ s)
+      low_left b z p s c low none zero le same = omega (arith, ints)
+
+-- ---- the account is added
+
+-- accounts after one was added: of what another one had no more is available
+record IsAdded (ctx : Ctx) (op : CreateAccountOp) (m new : EntryMap) : Type 0 where
+  leaves : Leaves ctx.base_reserve (for_one op.destination op.starting_balance) m new
+  others : (id : AccountId) (b : AccountEntry) → op.destination ≢ id → account_at new id ≡ Some b
+      → IsChargedFrom ctx.base_reserve m id b
+
+plus_for_one : (n : ℤ) → (pos 0 +ℤ n) ≡ n
+plus_for_one n = omega (arith, ints)
+
+module _ (ctx : Ctx) (op : CreateAccountOp) (m : EntryMap) (keyed : IsKeyed m) (low : pos 0 ≤ℤ op.starting_balance)
+    (none : account_at m op.destination ≡ None) where
+  abbrev entry : LedgerEntry
+  entry = new_entry ctx op
+
+  added_alone : (new : EntryMap) → map_after_adding_account ctx entry (its ctx op) None m ≡ Ok new → IsAdded ctx op m new
+  added_alone new done =
+      let test = passed (own_tests ctx (its ctx op)) (put m entry) new done in
+      let two = first_passed (is_lt (int_cmp op.starting_balance (pos (2 * ctx.base_reserve)))) LowReserve [] test.0 in
+      let covered = own_covered ctx op (not_less op.starting_balance (pos (2 * ctx.base_reserve)) two.0) in
+      subst (IsAdded ctx op m) test.1 (record {
+        leaves = new_account_left ctx.base_reserve m keyed entry (its ctx op) refl none covered (omega arith);
+        others = λ id b apart there. charged_at ctx.base_reserve 2 None m keyed id b
+            (sym (beside ctx.base_reserve m keyed entry (its ctx op) refl none covered (omega arith) id apart) ∙ there);
+      })
+
+  added_sponsored : (x : AccountId) → HasAccount m x → (new : EntryMap)
+      → map_after_adding_account ctx entry (its ctx op) (Some x) m ≡ Ok new → IsAdded ctx op m new
+  added_sponsored x stands new done =
+      let b = sponsored ctx op in
+      let h = paid_more 2 (its ctx op) in
+      let e = sponsored_account_entry x entry (its ctx op) in
+      let now = map_after_charging 2 (Some x) m in
+      let test = passed (payer_tests_at ctx m x 2) (put now e) new done in
+      let had = payers_had ctx m x 2 None (Some x) test.0 in
+      let first = charging_kept ctx.base_reserve 2 (Some x) m keyed had.0 in
+      let covered = sponsored_covered ctx op low in
+      let still = nobody_at now op.destination (absent_after m x (with_more count.Sponsoring 2) stands.0 keyed stands.1
+      (pays_more 2 stands.0).means.id (key.Account op.destination) (absent_at m op.destination keyed none)) in
+      let gone : account_at now b.account_id ≡ None = ap (account_at now) h.means.id ∙ still in
+      let few : length b.signers ≤ 20 = subst (λ (xs : List Signer). length xs ≤ 20) (sym h.signers) (omega arith) in
+      subst (IsAdded ctx op m) test.1 (record {
+        leaves = leaves_as ctx.base_reserve _ (for_one op.destination op.starting_balance) m (put now e)
+            (leaves_both ctx.base_reserve none_more (for_one b.account_id b.balance) m now (put now e) first
+            (new_account_left ctx.base_reserve now first.keyed e b refl gone covered few))
+            (λ id. plus_for_one (for_one b.account_id b.balance id)
+            ∙ (λ i. for_one (h.means.id i) (h.means.balance i) id));
+        others = λ id c apart there. charged_at ctx.base_reserve 2 (Some x) m keyed id c
+            (sym (beside ctx.base_reserve now first.keyed e b refl gone covered few id
+            (λ same. apart (sym h.means.id ∙ same))) ∙ there);
+      })
+
+  added_by : (o : Option AccountId) → ((x : AccountId) → o ≡ Some x → HasAccount m x) → (new : EntryMap)
+      → map_after_adding_account ctx entry (its ctx op) o m ≡ Ok new → IsAdded ctx op m new
+  added_by None stand new done = added_alone new done
+  added_by (Some x) stand new done = added_sponsored x (stand x refl) new done
+
+-- ---- the new account is legal
+
+first_fits : (n : ℕ) → n < 2147483647 → pos ((n + 1) * 2 ^ 32) ≤ℤ greatest_i64
+first_fits n lt = omega (arith, ints)
+
+natural_low : (n : ℕ) → pos 0 ≤ℤ pos n
+natural_low n = omega (arith, ints)
+
+no_text : is_valid_text [] ≡ true
+unfolding is_valid_text
+no_text = refl
+
+no_flag : has_flag 0 8 ≡ true → has_flag 0 2 ≡ true
+no_flag is = absurd (cc)
+
+plus_nothing_fits : (n g : ℤ) → n ≤ℤ g → (n +ℤ pos 0) ≤ℤ g
+plus_nothing_fits n g le = omega (arith, ints)
+
+new_legal : (ctx : Ctx) (op : CreateAccountOp) (id_pool : ℕ) → ctx.seq < 2147483647 → pos 0 ≤ℤ op.starting_balance
+    → op.starting_balance ≤ℤ greatest_i64 → IsEntryLegal id_pool (new_entry ctx op)
+new_legal ctx op id_pool early low high = record {
+  range = record {
+    body = record {
+      range = record {
+        balance = low;
+        buying = natural_low 0;
+        selling = natural_low 0;
+        fits = plus_nothing_fits op.starting_balance greatest_i64 high;
+      };
+      seq_num = natural_low ((ctx.seq + 1) * 2 ^ 32);
+      greatest_seq_num = first_fits ctx.seq early;
+      flags = record { known = omega arith; clawback = no_flag };
+      home_domain = no_text;
+      signers = record {
+        rising = λ i j d lt within. absurd (omega arith);
+        weights = λ k d lt. absurd (omega arith);
+        others = λ k d lt. absurd (omega arith);
+        items = refl;
+        paid_by_others = λ k d lt. absurd (omega arith);
+      };
+    };
+    paid = λ some. absurd (some refl);
+  };
+  bound = tt;
+  few = omega arith;
+  fits = omega arith;
+  filled = tt;
+}
+
+-- ---- the operation
+
+not_below : (n : ℤ) → int_lt n (pos 0) ≡ false → pos 0 ≤ℤ n
+not_below n h = grind (arith, ints)
+
+none_of : (o : Option AccountEntry) → is_some o ≡ false → o ≡ None
+none_of None h = refl
+none_of (Some a) h = absurd (cc)
+
+under_all : (n s w b buying g : ℤ) → n ≤ℤ s → s ≤ℤ w → (n ≤ℤ w → n ≤ℤ b) → pos 0 ≤ℤ buying → (b +ℤ buying) ≤ℤ g
+    → n ≤ℤ g
+under_all n s w b buying g one two most low fits =
+    let le = most (through n s w one two) in last n b buying g le low fits
+  where
+    through : (a b c : ℤ) → a ≤ℤ b → b ≤ℤ c → a ≤ℤ c
+    through a b c one two = omega (arith, ints)
+
+    last : (n b buying g : ℤ) → n ≤ℤ b → pos 0 ≤ℤ buying → (b +ℤ buying) ≤ℤ g → n ≤ℤ g
+    last n b buying g le low fits = omega (arith, ints)
+
+plus_none : (x : ℤ) → x ≤ℤ pos 1 → (x +ℤ pos 0) ≤ℤ pos 1
+plus_none x le = omega (arith, ints)
+
+module _ (ctx : Ctx) (op : CreateAccountOp) (m : EntryMap) (done : Done) (under : IsUnderway ctx m)
+    (low : pos 0 ≤ℤ op.starting_balance) (apart : op.destination ≢ ctx.op_source)
+    (none : account_at m op.destination ≡ None) where
+  abbrev src : AccountId
+  src = ctx.op_source
+
+  abbrev dest : AccountId
+  dest = op.destination
+
+  abbrev amount : ℤ
+  amount = op.starting_balance
+
+  ready : IsSponsorReady ctx dest m
+  ready = sponsors_ready ctx m dest under.sponsorships
+
+  -- what the source had for it is a number of 64 bits
+  amount_fits : (added new : EntryMap) → IsAdded ctx op m added → IsGiven ctx.base_reserve src amount added new
+      → amount ≤ℤ greatest_i64
+  amount_fits added new left h =
+      let v = view m in
+      let sum = total (held asset.Native) m in
+      let from = left.others src h.account apart h.stands in
+      let was = from.was in
+      let range = (account_legal v ctx.id_pool nothing_owed sum m src was under.settled.legal from.stood).range.range in
+      under_all amount (available h.account ctx.base_reserve) (available was ctx.base_reserve) was.balance
+      (account_liabilities was).buying greatest_i64 h.enough from.less
+      (not_above_balance v ctx.id_pool nothing_owed sum m src was ctx.base_reserve amount under.settled.legal
+      (omega (arith, ints)) from.stood) range.buying range.fits
+
+  created_legal : (added new : EntryMap) → map_after_adding ctx dest (new_entry ctx op) m ≡ Ok added
+      → IsGiven ctx.base_reserve src amount added new → amount ≤ℤ greatest_i64 → KeepsLegal ctx.id_pool m new
+  created_legal added new is h high v sum legal =
+      legal_as v (IsEntryLegal ctx.id_pool) nothing_owed nothing_owed _ sum new
+      (given_legal v ctx.id_pool ctx.base_reserve (sum +ℤ lumens_of v.asset amount) src amount added new h low
+      (account_added_so v ctx.id_pool nothing_owed sum ctx (its ctx op) (new_entry ctx op) m added legal refl
+      (record { subentries = refl; signers = refl; ext = refl }) (record {
+        free = absent_at m dest legal.keyed none;
+        unsponsored = refl;
+        id_free = λ id. plus_none _ (legal.offers id);
+      }) (new_legal ctx op ctx.id_pool under.seq low high) ready is)) (λ kind k. refl)
+      (given_back (is_eq (asset_cmp v.asset asset.Native)) sum amount)
+
+  created : added_and_paid ctx op m ≡ Ok done → IsLawful ctx m done
+  created is =
+      let first = went_after_charge (map_after_adding ctx dest (new_entry ctx op) m) (answer create.LowReserve) _ done is
+      in
+      let added = first.0 in
+      let second = went_after_some (map_after_debit ctx src amount added) (answer create.Underfunded) _ done first.2 in
+      let new = second.0 in
+      let also = second.2 in
+      let h = given ctx src amount added new second.1 in
+      let left = added_by ctx op m under.settled.legal.keyed low none (open_sponsor ctx dest) ready.stands added first.1
+      in
+      let made : Done = record {
+        result = answer create.Success;
+        entries = new;
+        ctx = ctx;
+        moves = lumens_move src dest amount ∷ [];
+      } in
+      let same : made ≡ done = cc in
+      subst (IsLawful ctx m) same (lawful_here ctx m under _ (answer create.Success) new (lumens_move src dest amount ∷ [])
+      (created_legal added new first.1 h (amount_fits added new left h))
+      (leaves_both ctx.base_reserve _ _ m added new left.leaves
+      (given_left ctx.base_reserve src amount added new h left.leaves.keyed))
+      (lumens_gained src dest amount) (none_issued src dest amount))
+
+pub create_account_is_lawful : AreLawful create_account
+create_account_is_lawful ctx op m done under stands is =
+    let exists : Tests OperationResult = (is_some (account_at m op.destination), answer create.AlreadyExist) ∷ [] in
+    let went = went_on (start_tests ctx op m) (added_and_paid ctx op m) done is in
+    let first = first_passed (int_lt op.starting_balance (pos 0) || is_same_account op.destination ctx.op_source)
+    (answer create.Malformed) exists went.0 in
+    let both = neither (int_lt op.starting_balance (pos 0)) (is_same_account op.destination ctx.op_source) first.0 in
+    let second = first_passed (is_some (account_at m op.destination)) (answer create.AlreadyExist) [] first.1 in
+    created ctx op m done under (not_below op.starting_balance both.0)
+    (apart_accounts op.destination ctx.op_source both.1) (none_of (account_at m op.destination) second.0) went.1

@@ -1,0 +1,169 @@
+-- REVOKE_SPONSORSHIP is lawful.
+use Rattle.std.proofs.Common.{◌≡◌, ◌≢◌, refl, sym, ap, subst, ◌∙◌, ℕ, ◌+◌, ◌*◌, ◌≤◌, Bool, true, false, [], ◌∷◌, length}
+use Rattle.std.proofs.Common.{List, Option, Some, None, Ok, slice_set, arith, inl, inr}
+use Rattle.std.proofs.lemmas.Int.{ints}
+use Rattle.std.specs.Prelude.{ℤ, pos, ◌≤ℤ◌}
+use Rattle.std.specs.FinMap.{get}
+use Rattle.ledger_types.specs.declared.ids.AccountId.{AccountId}
+use Rattle.ledger_types.specs.declared.account.AccountEntry.{AccountEntry}
+use Rattle.ledger_types.specs.declared.entry.LedgerEntry.{LedgerEntry}
+use Rattle.ledger_types.specs.declared.key.LedgerKey.{LedgerKey}
+use Rattle.ledger_types.specs.declared.signer.SignerKey.{SignerKey}
+use Rattle.entry_map.specs.EntryMap.{EntryMap}
+use Rattle.entry_slots.specs.Accounts.{account_at, with_account, HasAccount}
+use Rattle.entry_slots.specs.EntrySponsor.{sponsor_of}
+use Rattle.entry_slots.specs.Tests.{first_fault}
+use Rattle.sponsor_rules.specs.declared.charge.Charge.{Charge}
+use Rattle.sponsor_rules.specs.declared.charge.Charge.TheVariants as charge
+use Rattle.sponsor_rules.specs.declared.context.Ctx.{Ctx}
+use Rattle.sponsor_rules.specs.declared.count.Count.{Count}
+use Rattle.sponsor_rules.specs.declared.signer_place.FoundSigner.{FoundSigner}
+use Rattle.sponsor_rules.specs.Charge.{charge_of}
+use Rattle.sponsor_rules.specs.Moving.{map_with_sponsor, map_after_moving_balance, map_after_moving_by}
+use Rattle.sponsor_rules.specs.Moving.{map_after_moving_entry, map_after_moving}
+use Rattle.sponsor_rules.specs.Paying.{map_after_exchange, with_other_payer}
+use Rattle.sponsor_rules.specs.Payers.{open_sponsor, payer_other_than, payer_tests_at, move_tests_at}
+use Rattle.sponsor_rules.specs.SignerPlace.{found_signer, with_signer_sponsor}
+use Rattle.sponsor_rules.specs.Signers.{with_moved_signer, map_after_moving_signer_between, map_after_moving_found}
+use Rattle.sponsor_rules.specs.Signers.{map_after_moving_signer}
+use Rattle.sponsor_rules.proofs.Keeping.{counts_edited, with_sponsors_means}
+use Rattle.reserve_rules.specs.Reserve.{available}
+use Rattle.legal_rules.specs.Owing.{nothing_owed}
+use Rattle.legal_rules.proofs.Given.{sponsors_ready}
+use Rattle.legal_rules.proofs.Kept.{entry_moved_so}
+use Rattle.legal_rules.proofs.PaidFor.{nothing_settled}
+use Rattle.legal_rules.proofs.SignersKept.{signer_moved as signer_moved_so}
+use Rattle.op_types.specs.declared.operation_result.OperationResult.{OperationResult}
+use Rattle.op_types.specs.declared.sponsor_ops.RevokeSponsorshipOp.{RevokeSponsorshipOp}
+use Rattle.op_types.specs.declared.sponsor_ops.RevokeSponsorshipOp.TheVariants as revoked
+use Rattle.op_types.specs.declared.sponsor_results.RevokeSponsorshipResult.TheVariants as revoke
+use Rattle.op_form.specs.Done.{Done}
+use Rattle.op_sponsor.specs.RevokeSponsorship.{answer, is_malformed, entry_tests, entry_moved, entry_revoked}
+use Rattle.op_sponsor.specs.RevokeSponsorship.{signer_tests, signer_moved, revoke_sponsorship}
+use Rattle.op_laws.specs.Laws.{IsLawful, AreLawful}
+use Rattle.op_laws.specs.Underway.{IsUnderway}
+use Rattle.op_laws.proofs.Charges.{exchanged_kept, exchange_kept, payers_had, next_payer, payer_had, moved_between}
+use Rattle.op_laws.proofs.Charges.{sponsor_kept}
+use Rattle.op_laws.proofs.Lawful.{lawful_still}
+use Rattle.op_laws.proofs.Reserves.{next_edited}
+use Rattle.op_laws.proofs.Standing.{IsKeyed, IsNext, Leaves, none_more, leaves_itself, keeps_both}
+use Rattle.op_laws.proofs.Tests.{passed, went_on, went_after_some, went_after_charge}
+
+module _ (ctx : Ctx) (m new : EntryMap) (keyed : IsKeyed m) where
+  abbrev IsLeft : EntryMap → Type 0
+  IsLeft map = Leaves ctx.base_reserve none_more m map
+
+  still_left : m ≡ new → IsLeft new
+  still_left same = subst IsLeft same (leaves_itself ctx.base_reserve m keyed)
+
+  -- ---- entries
+
+  balance_left : (k : LedgerKey) (n : ℕ) (s t : Option AccountId) → map_after_moving_balance ctx k n s t m ≡ Ok new
+      → IsLeft new
+  balance_left k n s None done = still_left (cc)
+  balance_left k n s (Some x) done =
+      let now = map_after_exchange n s (Some x) m in
+      let after = map_with_sponsor k (Some x) now in
+      let test = passed (payer_tests_at ctx m x n) after new done in
+      let had = payers_had ctx m x n None (Some x) test.0 in
+      let first = exchange_kept ctx.base_reserve n s (Some x) m keyed had.0 in
+      subst IsLeft test.1 (keeps_both ctx.base_reserve m now after first
+      (sponsor_kept ctx.base_reserve now k (Some x) first.keyed))
+
+  charge_left : (k : LedgerKey) (c : Charge) (s payer : Option AccountId) → map_after_moving_by ctx k c s payer m ≡ Ok new
+      → IsLeft new
+  charge_left k (charge.Itself owner) s payer done = moved_between ctx k owner 2 m new keyed s
+      (payer_other_than owner payer) done
+  charge_left k (charge.Subentry owner n) s payer done = moved_between ctx k owner n m new keyed s
+      (payer_other_than owner payer) done
+  charge_left k (charge.Payer n) s payer done = balance_left k n s payer done
+  charge_left k charge.Nobody s payer done = still_left (cc)
+
+  entry_left : (k : LedgerKey) (payer : Option AccountId) (o : Option LedgerEntry)
+      → map_after_moving_entry ctx k payer m o ≡ Ok new → IsLeft new
+  entry_left k payer None done = still_left (cc)
+  entry_left k payer (Some e) done = charge_left k (charge_of e.body) (sponsor_of e) payer done
+
+  -- ---- signers
+
+  -- the next account with another sponsor of a signer
+  signer_next : (place : ℕ) (s t : Option AccountId) (a : AccountEntry)
+      → IsNext ctx.base_reserve (pos 0) a (with_other_payer 1 s t a)
+      → IsNext ctx.base_reserve (pos 0) a (with_moved_signer place s t a)
+  signer_next place s t a next =
+      let b = with_other_payer 1 s t a in
+      let change = λ (xs : List (Option AccountId)). slice_set xs place t in
+      next_edited ctx.base_reserve (pos 0) a b (with_moved_signer place s t a) next
+      (with_sponsors_means change b b.signers) (λ which. counts_edited change which b b.signers) next.few
+
+  signer_so : (id : AccountId) (place : ℕ) (s t : Option AccountId) → first_fault (move_tests_at ctx m id t 1) ≡ None
+      → with_account (map_after_exchange 1 s t m) id (with_moved_signer place s t) ≡ new → IsLeft new
+  signer_so id place s t none is =
+      let had = payers_had ctx m id 1 s t none in
+      subst IsLeft is (exchanged_kept ctx.base_reserve 1 s t id (with_moved_signer place s t) m keyed had.0
+      (λ a stands. signer_next place s t a (next_payer ctx.base_reserve 1 s t id m keyed had.1 a stands)))
+
+  signer_left : (id : AccountId) (place : ℕ) (s t : Option AccountId)
+      → map_after_moving_signer_between ctx id place s t m ≡ Ok new → IsLeft new
+  signer_left id place None None done = still_left (cc)
+  signer_left id place None (Some x) done =
+      let test = passed (move_tests_at ctx m id (Some x) 1)
+      (with_account (map_after_exchange 1 None (Some x) m) id (with_moved_signer place None (Some x))) new done in
+      signer_so id place None (Some x) test.0 test.1
+  signer_left id place (Some y) None done =
+      let test = passed (move_tests_at ctx m id None 1)
+      (with_account (map_after_exchange 1 (Some y) None m) id (with_moved_signer place (Some y) None)) new done in
+      signer_so id place (Some y) None test.0 test.1
+  signer_left id place (Some y) (Some x) done =
+      let test = passed (move_tests_at ctx m id (Some x) 1)
+      (with_account (map_after_exchange 1 (Some y) (Some x) m) id (with_moved_signer place (Some y) (Some x))) new done
+      in
+      signer_so id place (Some y) (Some x) test.0 test.1
+
+  found_left : (id : AccountId) (payer : Option AccountId) (o : Option FoundSigner)
+      → map_after_moving_found ctx id payer m o ≡ Ok new → IsLeft new
+  found_left id payer None done = still_left (cc)
+  found_left id payer (Some found) done = signer_left id found.place found.sponsor (payer_other_than id payer) done
+
+-- ---- the operation
+
+module _ (ctx : Ctx) (m : EntryMap) (done : Done) (under : IsUnderway ctx m) where
+  abbrev payer : Option AccountId
+  payer = open_sponsor ctx ctx.op_source
+
+  payer_stands : (x : AccountId) → payer ≡ Some x → HasAccount m x
+  payer_stands = (sponsors_ready ctx m ctx.op_source under.sponsorships).stands
+
+  entry_lawful : (k : LedgerKey) → entry_moved ctx k m ≡ Ok done → IsLawful ctx m done
+  entry_lawful k is =
+      let went = went_after_charge (map_after_moving ctx k payer m) (answer revoke.LowReserve) _ done is in
+      let also = went.2 in
+      let made : Done = record { result = answer revoke.Success; entries = went.0; ctx = ctx; moves = [] } in
+      let same : made ≡ done = cc in
+      subst (IsLawful ctx m) same (lawful_still ctx m under (answer revoke.Success) went.0
+      (λ v sum legal. entry_moved_so v ctx.id_pool nothing_owed sum ctx k payer m went.0 legal nothing_settled
+      payer_stands went.1)
+      (entry_left ctx m went.0 under.settled.legal.keyed k payer (get m k) went.1))
+
+  signer_lawful : (id : AccountId) (which : SignerKey) → signer_moved ctx id which m ≡ Ok done → IsLawful ctx m done
+  signer_lawful id which is =
+      let went = went_after_charge (map_after_moving_signer ctx id which payer m) (answer revoke.LowReserve) _ done is in
+      let also = went.2 in
+      let made : Done = record { result = answer revoke.Success; entries = went.0; ctx = ctx; moves = [] } in
+      let same : made ≡ done = cc in
+      subst (IsLawful ctx m) same (lawful_still ctx m under (answer revoke.Success) went.0
+      (λ v sum legal. signer_moved_so v ctx.id_pool nothing_owed sum ctx id which payer m went.0 legal nothing_settled
+      payer_stands went.1)
+      (found_left ctx m went.0 under.settled.legal.keyed id payer (found_signer which (account_at m id)) went.1))
+
+  by_thing : (op : RevokeSponsorshipOp) → revoke_sponsorship ctx op m ≡ Ok done → IsLawful ctx m done
+  by_thing (revoked.LedgerEntry k) is =
+      let first = went_on ((is_malformed k, answer revoke.Malformed) ∷ []) (entry_revoked ctx k m (get m k)) done is in
+      let second = went_after_some (get m k) (answer revoke.DoesNotExist) _ done first.1 in
+      entry_lawful k (went_on (entry_tests ctx second.0) (entry_moved ctx k m) done second.2).1
+  by_thing (revoked.Signer id which) is =
+      let first = went_after_some (found_signer which (account_at m id)) (answer revoke.DoesNotExist) _ done is in
+      signer_lawful id which (went_on (signer_tests ctx id first.0) (signer_moved ctx id which m) done first.2).1
+
+pub revoke_sponsorship_is_lawful : AreLawful revoke_sponsorship
+revoke_sponsorship_is_lawful ctx op m done under stands is = by_thing ctx m done under op is

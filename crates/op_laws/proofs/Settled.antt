@@ -1,0 +1,144 @@
+-- Settled entries, by the forms in which changes are stated, and what they give.
+use Rattle.std.proofs.Common.{◌≡◌, ◌≢◌, refl, sym, ap, subst, ◌∙◌, ℕ, ◌≤◌, Bool, true, false, Some, arith}
+use Rattle.std.proofs.lemmas.Int.{ints}
+use Rattle.std.specs.Prelude.{ℤ, pos, ◌+ℤ◌, ◌-ℤ◌, ◌≤ℤ◌, if◌then◌else◌}
+use Rattle.std.specs.Ordering.{is_eq}
+use Rattle.ledger_types.specs.declared.ids.AccountId.{AccountId}
+use Rattle.ledger_types.specs.declared.asset.Asset.{Asset}
+use Rattle.ledger_types.specs.declared.asset.Asset.TheVariants as asset
+use Rattle.ledger_types.specs.declared.asset.TrustLineAsset.{TrustLineAsset}
+use Rattle.ledger_types.specs.declared.asset.TrustLineAsset.TheVariants as line
+use Rattle.ledger_types.specs.declared.account.AccountEntry.{AccountEntry}
+use Rattle.ledger_types.specs.declared.entry.LedgerEntry.{LedgerEntry}
+use Rattle.ledger_types.specs.declared.entry.LedgerEntryBody.{LedgerEntryBody}
+use Rattle.ledger_types.specs.declared.entry.LedgerEntryBody.TheVariants as body
+use Rattle.ledger_types.specs.declared.key.LedgerKey.{LedgerKey}
+use Rattle.ledger_types.specs.declared.key.LedgerKey.TheVariants as key
+use Rattle.ledger_types.specs.Keys.{key_of}
+use Rattle.ledger_types.specs.KeyOrder.{asset_cmp}
+use Rattle.entry_map.specs.EntryMap.{EntryMap}
+use Rattle.entry_slots.specs.Accounts.{account_at}
+use Rattle.entry_slots.specs.AccountExtensions.{num_sponsored}
+use Rattle.entry_sums.specs.Sums.{total}
+use Rattle.entry_sums.proofs.Summing.{total_not_below}
+use Rattle.legal_rules.specs.EntryKeys.{is_key}
+use Rattle.legal_rules.specs.Books.{Kind, Subentries, Sponsored, Uses, View, stated}
+use Rattle.legal_rules.specs.PoolShares.{uses}
+use Rattle.legal_rules.specs.Ranges.{IsBodyInRange}
+use Rattle.legal_rules.specs.Supply.{of_asset, of_line, held_in, held}
+use Rattle.legal_rules.specs.Legal.{view, pools_in}
+use Rattle.legal_rules.specs.Owing.{weight, nothing_owed, IsLegalOwing}
+use Rattle.legal_rules.proofs.Bounded.{account_legal}
+use Rattle.legal_rules.proofs.Covered.{sponsored_at_most, account_states}
+use Rattle.legal_rules.proofs.Legality.{owing_nothing_of, legal_of, view_of}
+use Rattle.legal_rules.proofs.Numbers.{taken_off}
+use Rattle.legal_rules.proofs.Steps.{legal_as}
+use Rattle.op_laws.specs.Underway.{AreEntriesLegal, IsSettled}
+use Rattle.op_laws.specs.Steps.{LegalSettles, SettledLegal, SettledAccounts, SettledReady, SettledInRange, SettledHeld}
+
+-- ---- other views
+
+-- what is weighed depends on the pools alone
+same_weight : (v w : View) → v.pools ≡ w.pools → (kind : Kind) (k : LedgerKey) (e : LedgerEntry)
+    → weight v kind k e ≡ weight w kind k e
+same_weight v w same Uses k e =
+    λ i. uses (same i) k e.body -ℤ (if is_key (key_of e) k then stated Uses e.body else pos 0)
+same_weight v w same other k e = refl
+
+-- the same entries, whatever asset is asked for
+viewed_by : (v w : View) (id_pool : ℕ) (sum : ℤ) (m : EntryMap) → v.pools ≡ w.pools
+    → IsLegalOwing v id_pool nothing_owed sum m → IsLegalOwing w id_pool nothing_owed (total (held w.asset) m) m
+viewed_by v w id_pool sum m same legal = record {
+  params = λ id. legal.params id ∙ (λ i. same i id);
+  keyed = legal.keyed;
+  entries = legal.entries;
+  offers = legal.offers;
+  books = λ kind k. sym (ap (λ f. total f m) (λ i e. same_weight v w same kind k e i)) ∙ legal.books kind k;
+  supply = refl;
+}
+
+-- What owes nothing, by whatever it is viewed, is legal entries.
+pub entries_legal : (v : View) (id_pool : ℕ) (sum : ℤ) (m : EntryMap) → IsLegalOwing v id_pool nothing_owed sum m
+    → AreEntriesLegal id_pool m
+entries_legal v id_pool sum m legal =
+    let known : pools_in m ≡ v.pools = λ i id. legal.params id i in
+    viewed_by v (view m) id_pool sum m (sym known) legal
+
+-- Legal entries owe nothing, whatever asset is asked for.
+pub owing_of : (x : Asset) (id_pool : ℕ) (m : EntryMap) → AreEntriesLegal id_pool m
+    → IsLegalOwing (view_of x m) id_pool nothing_owed (total (held x) m) m
+owing_of x id_pool m legal = viewed_by (view m) (view_of x m) id_pool (total (held asset.Native) m) m refl legal
+
+-- ---- legal states
+
+pub legal_settles : LegalSettles
+legal_settles h m legal few = record { legal = owing_nothing_of asset.Native h m legal; signers = few }
+
+pub settled_legal : SettledLegal
+settled_legal h m header settled sum =
+    legal_of h (pools_in m) m header (subst (λ n. IsLegalOwing (view m) h.id_pool nothing_owed n m)
+    (taken_off h.total_coins h.fee_pool (total (held asset.Native) m) sum) settled.legal)
+
+-- ---- what settled entries give
+
+pub settled_accounts : SettledAccounts
+settled_accounts id_pool m id a settled stands =
+    (account_legal (view m) id_pool nothing_owed (total (held asset.Native) m) m id a settled.legal stands).range
+
+ready_of : (stated_sponsored stated_subs : ℤ) (sponsored subs : ℕ) → stated_sponsored ≡ pos sponsored
+    → stated_subs ≡ pos subs → stated_sponsored ≤ℤ (stated_subs +ℤ pos 2) → subs ≤ 1000 → sponsored ≤ 4294967293
+ready_of stated_sponsored stated_subs sponsored subs is also le few = omega (arith, ints)
+
+pub settled_ready : SettledReady
+settled_ready id_pool m settled = record {
+  ready = λ id a stands. record {
+    sponsored = ready_of _ _ (num_sponsored a) a.num_sub_entries (account_states m id a Sponsored stands)
+        (account_states m id a Subentries stands)
+        (sponsored_at_most (view m) id_pool nothing_owed (total (held asset.Native) m) m (key.Account id) settled.legal
+        (omega (arith, ints)))
+        (account_legal (view m) id_pool nothing_owed (total (held asset.Native) m) m id a settled.legal stands).few;
+  };
+}
+
+pub settled_in_range : SettledInRange
+settled_in_range id_pool m settled = record {
+  in_range = λ id a stands. (settled_accounts id_pool m id a settled stands).range;
+}
+
+-- ---- what is held
+
+sum_not_below : (a b : ℤ) → pos 0 ≤ℤ a → pos 0 ≤ℤ b → pos 0 ≤ℤ (a +ℤ b)
+sum_not_below a b low least = omega (arith, ints)
+
+of_not_below : (x a : Asset) (n : ℤ) → pos 0 ≤ℤ n → pos 0 ≤ℤ of_asset x a n
+of_not_below x a n low = by (is_eq (asset_cmp x a))
+  where
+    by : (same : Bool) → pos 0 ≤ℤ (if same then n else pos 0)
+    by true = low
+    by false = omega (arith, ints)
+
+-- an amount that is at least 1 is at least 0
+lower : (n : ℤ) → pos 1 ≤ℤ n → pos 0 ≤ℤ n
+lower n low = omega (arith, ints)
+
+line_not_below : (x : Asset) (a : TrustLineAsset) (n : ℤ) → pos 0 ≤ℤ n → pos 0 ≤ℤ of_line x a n
+line_not_below x line.Native n low = omega (arith, ints)
+line_not_below x (line.Alphanum4 code issuer) n low = of_not_below x (asset.Alphanum4 code issuer) n low
+line_not_below x (line.Alphanum12 code issuer) n low = of_not_below x (asset.Alphanum12 code issuer) n low
+line_not_below x (line.PoolShare pool) n low = omega (arith, ints)
+
+in_not_below : (x : Asset) (id_pool : ℕ) (of : LedgerEntryBody) → IsBodyInRange id_pool of → pos 0 ≤ℤ held_in x of
+in_not_below x id_pool (body.Account account) r = of_not_below x asset.Native account.balance r.range.balance
+in_not_below x id_pool (body.TrustLine line) r = line_not_below x line.asset line.balance r.range.balance
+in_not_below x id_pool (body.Offer offer) r = omega (arith, ints)
+in_not_below x id_pool (body.Data entry) r = omega (arith, ints)
+in_not_below x id_pool (body.ClaimableBalance balance) r =
+    of_not_below x balance.asset balance.amount (lower balance.amount r.amount)
+in_not_below x id_pool (body.LiquidityPool pool) r =
+    sum_not_below (of_asset x pool.params.asset_a pool.reserve_a) (of_asset x pool.params.asset_b pool.reserve_b)
+    (of_not_below x pool.params.asset_a pool.reserve_a r.reserve_a)
+    (of_not_below x pool.params.asset_b pool.reserve_b r.reserve_b)
+
+pub settled_held : SettledHeld
+settled_held id_pool m settled = total_not_below (held asset.Native) m
+    (λ k e there. in_not_below asset.Native id_pool e.body (settled.legal.entries k e there).range.body)

@@ -1,0 +1,152 @@
+-- BEGIN_SPONSORING_FUTURE_RESERVES and END_SPONSORING_FUTURE_RESERVES are lawful.
+use Rattle.std.proofs.Common.{◌≡◌, ◌≢◌, refl, sym, ap, subst, ◌∙◌, ℕ, suc, take, drop, ◌<◌, Bool, true, false, cond, ◌||◌, is_some, List}
+use Rattle.std.proofs.Common.{[], ◌∷◌, ◌++◌, length, get_or, All, AllPairs, Option, Some, None, Ok, arith}
+use Rattle.std.proofs.lemmas.List.Elements.{All-nil, All-cons, All-append, All-take, All-drop, All-push}
+use Rattle.std.proofs.lemmas.List.Quantifiers.{all_pairs_push, all_pairs_remove, position-Some}
+use Rattle.std.specs.List.{find, position, remove}
+use Rattle.std.specs.Option.{option_map}
+use Rattle.ledger_types.specs.declared.ids.AccountId.{AccountId}
+use Rattle.ledger_types.specs.declared.asset.Asset.TheVariants as asset
+use Rattle.entry_map.specs.EntryMap.{EntryMap}
+use Rattle.entry_slots.specs.Accounts.{HasAccount, account_at}
+use Rattle.entry_slots.specs.Tests.{Tests}
+use Rattle.sponsor_rules.specs.declared.context.Ctx.{Ctx}
+use Rattle.sponsor_rules.specs.declared.context.Sponsorship.{Sponsorship}
+use Rattle.sponsor_rules.specs.Payers.{is_same_account, open_sponsor}
+use Rattle.sponsor_rules.proofs.Ids.{apart_accounts}
+use Rattle.legal_rules.specs.Sponsorships.{AreSponsorshipsSound}
+use Rattle.op_types.specs.declared.operation_result.OperationResult.{OperationResult}
+use Rattle.op_types.specs.declared.sponsor_ops.BeginSponsoringFutureReservesOp.{BeginSponsoringFutureReservesOp}
+use Rattle.op_types.specs.declared.sponsor_results.BeginSponsoringFutureReservesResult.TheVariants as begin
+use Rattle.op_types.specs.declared.sponsor_results.EndSponsoringFutureReservesResult.TheVariants as end
+use Rattle.op_form.specs.Done.{Done}
+use Rattle.op_form.specs.Sponsorships.{is_open_sponsor}
+use Rattle.op_form.specs.Steps.{success}
+use Rattle.op_sponsor.specs.BeginSponsoringFutureReserves as begins
+use Rattle.op_sponsor.specs.EndSponsoringFutureReserves as ends
+use Rattle.op_laws.specs.Laws.{IsLawful, AreLawful}
+use Rattle.op_laws.specs.Underway.{IsUnderway, KeepsTerms}
+use Rattle.op_laws.proofs.Lawful.{lawful_by}
+use Rattle.op_laws.proofs.Lumens.{no_moves, nothing_issued}
+use Rattle.op_laws.proofs.Standing.{none_more, is_itself_after}
+use Rattle.op_laws.proofs.Tests.{went_on, first_passed, went_after_some}
+
+-- ---- other sponsorships
+
+-- the same entries with other open sponsorships
+opened_so : (ctx : Ctx) (m : EntryMap) → IsUnderway ctx m → (result : OperationResult) (opened : List Sponsorship)
+    → AreSponsorshipsSound (record ctx { sponsorships = opened }) m
+    → IsLawful ctx m (record {
+      result = result;
+      entries = m;
+      ctx = record ctx { sponsorships = opened };
+      moves = [];
+    })
+opened_so ctx m under result opened sound =
+    lawful_by ctx m under none_more (record {
+      result = result;
+      entries = m;
+      ctx = record ctx { sponsorships = opened };
+      moves = [];
+    }) (λ v sum legal. legal) (λ id. is_itself_after ctx.base_reserve (account_at m id)) no_moves nothing_issued
+    (record {
+      seq = refl;
+      version = refl;
+      base_reserve = refl;
+      flags = refl;
+      close_time = refl;
+      tx_source = refl;
+      tx_seq = refl;
+    }) refl sound
+
+-- ---- begin
+
+none_passes : (test : Sponsorship → Bool) (xs : List Sponsorship) → find test xs ≡ None
+    → All (λ x. test x ≡ false) xs
+none_passes test [] is = All-nil (λ x. test x ≡ false)
+none_passes test (x ∷ xs) is = elim (test x) as (λ b. test x ≡ b → cond b (Some x) (find test xs) ≡ None
+    → All (λ y. test y ≡ false) (x ∷ xs)) [
+      | true ↦ λ h some. absurd (cc)
+      | false ↦ λ h none. All-cons (λ y. test y ≡ false) x xs h (none_passes test xs none)
+    ] refl is
+
+not_some : (o : Option Sponsorship) → is_some (option_map (λ s. s.sponsor) o) ≡ false → o ≡ None
+not_some None is = refl
+not_some (Some x) is = absurd (cc)
+
+-- an account that nobody sponsors is in no open sponsorship
+not_sponsored : (ctx : Ctx) (id : AccountId) → is_some (open_sponsor ctx id) ≡ false
+    → All (λ s. is_same_account s.sponsored id ≡ false) ctx.sponsorships
+unfolding open_sponsor
+not_sponsored ctx id is = none_passes (λ s. is_same_account s.sponsored id) ctx.sponsorships
+    (not_some (find (λ s. is_same_account s.sponsored id) ctx.sponsorships) is)
+
+opened_sound : (ctx : Ctx) (op : BeginSponsoringFutureReservesOp) (m : EntryMap) → AreSponsorshipsSound ctx m
+    → HasAccount m ctx.op_source → is_same_account op.sponsored_id ctx.op_source ≡ false
+    → is_some (open_sponsor ctx op.sponsored_id) ≡ false
+    → AreSponsorshipsSound (begins.with_sponsorship_opened op ctx) m
+opened_sound ctx op m sound stands apart none =
+    let new = begins.new_sponsorship ctx op in
+    let free = not_sponsored ctx op.sponsored_id none in
+    record {
+      once = all_pairs_push (λ x y. x.sponsored ≢ y.sponsored) ctx.sponsorships new sound.once
+          (λ k d lt. apart_accounts (get_or ctx.sponsorships k d).sponsored op.sponsored_id (free k d lt));
+      other = All-push (λ x. x.sponsor ≢ x.sponsored) ctx.sponsorships new sound.other
+          (λ same. apart_accounts op.sponsored_id ctx.op_source apart (sym same));
+      stand = All-push (λ x. HasAccount m x.sponsor) ctx.sponsorships new sound.stand stands;
+    }
+
+pub begin_sponsoring_is_lawful : AreLawful begins.begin_sponsoring
+begin_sponsoring_is_lawful ctx op m done under stands is =
+    let opened = begins.with_sponsorship_opened op ctx in
+    let went = went_on (begins.begin_tests ctx op) (success opened (begins.answer begin.Success) m []) done is in
+    let third : Tests OperationResult = (
+      is_some (open_sponsor ctx ctx.op_source) || is_open_sponsor ctx op.sponsored_id,
+      begins.answer begin.Recursive,
+    ) ∷ [] in
+    let first = first_passed (is_same_account op.sponsored_id ctx.op_source) (begins.answer begin.Malformed)
+    ((is_some (open_sponsor ctx op.sponsored_id), begins.answer begin.AlreadySponsored) ∷ third) went.0 in
+    let second = first_passed (is_some (open_sponsor ctx op.sponsored_id)) (begins.answer begin.AlreadySponsored) third
+    first.1 in
+    let made : Done = record { result = begins.answer begin.Success; entries = m; ctx = opened; moves = [] } in
+    let same : made ≡ done = cc in
+    subst (IsLawful ctx m) same (opened_so ctx m under (begins.answer begin.Success)
+    (ctx.sponsorships ++ begins.new_sponsorship ctx op ∷ [])
+    (opened_sound ctx op m under.sponsorships stands first.0 second.0))
+
+-- ---- end
+
+all_removed : (P : Sponsorship → Type 0) (xs : List Sponsorship) (n : ℕ) → All P xs → All P (remove xs n)
+all_removed P xs n all = All-append P (take n xs) (drop (suc n) xs) (All-take P n xs all) (All-drop P (suc n) xs all)
+
+ended_sound : (ctx : Ctx) (m : EntryMap) (place : ℕ) → AreSponsorshipsSound ctx m → place < length ctx.sponsorships
+    → AreSponsorshipsSound (ends.without_sponsorship place ctx) m
+ended_sound ctx m place sound within = record {
+  once = all_pairs_remove (λ x y. x.sponsored ≢ y.sponsored) ctx.sponsorships place within sound.once;
+  other = all_removed (λ x. x.sponsor ≢ x.sponsored) ctx.sponsorships place sound.other;
+  stand = all_removed (λ x. HasAccount m x.sponsor) ctx.sponsorships place sound.stand;
+}
+
+some_sponsorship : AccountId → Sponsorship
+some_sponsorship id = record { sponsored = id; sponsor = id }
+
+within_open : (ctx : Ctx) (place : ℕ) → ends.place_of_sponsorship ctx ≡ Some place → place < length ctx.sponsorships
+unfolding ends.place_of_sponsorship
+within_open ctx place is =
+    (position-Some (λ s. is_same_account s.sponsored ctx.op_source) ctx.sponsorships place
+    (some_sponsorship ctx.op_source) is).0
+
+pub end_sponsoring_is_lawful : AreLawful (λ ctx (_ : Unit {0}) m. ends.end_sponsoring ctx m)
+end_sponsoring_is_lawful ctx op m done under stands is =
+    let went = went_after_some (ends.place_of_sponsorship ctx) (ends.answer end.NotSponsored) _ done is in
+    let place = went.0 in
+    let made : Done = record {
+      result = ends.answer end.Success;
+      entries = m;
+      ctx = ends.without_sponsorship place ctx;
+      moves = [];
+    } in
+    let also = went.2 in
+    let same : made ≡ done = cc in
+    subst (IsLawful ctx m) same (opened_so ctx m under (ends.answer end.Success) (remove ctx.sponsorships place)
+    (ended_sound ctx m place under.sponsorships (within_open ctx place went.1)))

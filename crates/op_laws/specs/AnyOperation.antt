@@ -1,0 +1,28 @@
+-- What an operation does, by its type: each type is defined in the crate of its kind (OperationFrame::makeHelper in
+-- stellar-core).
+use Rattle.std.specs.Prelude.{Err}
+use Rattle.op_types.specs.declared.operation.OperationBody.{OperationBody}
+use Rattle.op_types.specs.declared.operation.OperationBody.TheVariants as body
+use Rattle.op_types.specs.declared.operation_result.OperationResult.TheVariants.{NotSupported}
+use Rattle.entry_map.specs.EntryMap.{EntryMap}
+use Rattle.sponsor_rules.specs.declared.context.Ctx.{Ctx}
+use Rattle.op_form.specs.Done.{Done, done_of}
+use Rattle.op_account.specs.Operations.{account_operation}
+use Rattle.op_options.specs.Operations.{options_operation}
+use Rattle.op_payment.specs.Operations.{payment_operation}
+use Rattle.op_sponsor.specs.Operations.{sponsor_operation}
+
+-- Operations of the other types are not supported yet.
+unfoldable pub any_operation : Ctx → OperationBody → EntryMap → Done
+any_operation ctx (body.CreateAccount op) m = account_operation ctx (body.CreateAccount op) m
+any_operation ctx (body.AccountMerge op) m = account_operation ctx (body.AccountMerge op) m
+any_operation ctx body.Inflation m = account_operation ctx body.Inflation m
+any_operation ctx (body.BumpSequence op) m = account_operation ctx (body.BumpSequence op) m
+any_operation ctx (body.SetOptions op) m = options_operation ctx (body.SetOptions op) m
+any_operation ctx (body.ManageData op) m = options_operation ctx (body.ManageData op) m
+any_operation ctx (body.Payment op) m = payment_operation ctx (body.Payment op) m
+any_operation ctx (body.BeginSponsoringFutureReserves op) m =
+    sponsor_operation ctx (body.BeginSponsoringFutureReserves op) m
+any_operation ctx body.EndSponsoringFutureReserves m = sponsor_operation ctx body.EndSponsoringFutureReserves m
+any_operation ctx (body.RevokeSponsorship op) m = sponsor_operation ctx (body.RevokeSponsorship op) m
+any_operation ctx other m = done_of ctx m (Err NotSupported)

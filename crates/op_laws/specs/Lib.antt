@@ -1,0 +1,5 @@
+pub mod AnyOperation
+pub mod Underway
+pub mod Moves
+pub mod Laws
+pub mod Steps

@@ -1,0 +1,76 @@
+-- That fees, sequence numbers and signers that are used up leave settled entries.
+use Rattle.std.specs.Prelude.{◌≡◌, ◌≢◌, ℕ, ℤ, pos, neg_ℤ, ◌+ℤ◌, ◌≤ℤ◌, [], Some}
+use Rattle.ledger_types.specs.declared.ids.AccountId.{AccountId}
+use Rattle.ledger_types.specs.declared.ids.Hash.{Hash}
+use Rattle.ledger_types.specs.declared.asset.Asset.{Asset}
+use Rattle.ledger_types.specs.declared.asset.Asset.TheVariants as asset
+use Rattle.ledger_types.specs.declared.header.LedgerHeader.{LedgerHeader}
+use Rattle.ledger_types.specs.declared.account.AccountEntry.{AccountEntry}
+use Rattle.entry_map.specs.EntryMap.{EntryMap}
+use Rattle.entry_slots.specs.Accounts.{account_at}
+use Rattle.entry_sums.specs.Sums.{total}
+use Rattle.reserve_rules.specs.Reserve.{greatest_i64}
+use Rattle.sponsor_rules.specs.Signers.{map_after_removing_preauth}
+use Rattle.legal_rules.specs.Headers.{IsHeaderInRange}
+use Rattle.legal_rules.specs.Legal.{IsLegal}
+use Rattle.legal_rules.specs.Payments.{with_paid, with_seq_num}
+use Rattle.legal_rules.specs.Supply.{held, lumens_of}
+use Rattle.legal_rules.specs.Ranges.{IsAccountInRange}
+use Rattle.op_form.specs.Premises.{AccountsAreReady, AccountsAreInRange}
+use Rattle.op_laws.specs.Laws.{AllLawful}
+use Rattle.op_laws.specs.Underway.{AreSignersFew, IsSettled, LeavesSettled}
+
+-- a legal state whose accounts have few signers is settled
+abbrev pub LegalSettles : Type 0
+LegalSettles = (h : LedgerHeader) (m : EntryMap) → IsLegal h m → AreSignersFew m → IsSettled h.id_pool m
+
+-- what settled entries need for a legal state: a header in its ranges, whose total of lumens is theirs and the fee pool
+abbrev pub SettledLegal : Type 0
+SettledLegal = (h : LedgerHeader) (m : EntryMap) → IsHeaderInRange h → IsSettled h.id_pool m
+    → (total (held asset.Native) m +ℤ h.fee_pool) ≡ h.total_coins → IsLegal h m
+
+-- a fee that an account has is taken, and so much less is held in lumens, and of nothing else
+abbrev pub FeesSettle : Type 0
+FeesSettle =
+    (id_pool : ℕ) (m : EntryMap) (id : AccountId) (a : AccountEntry) (fee : ℤ) → IsSettled id_pool m
+    → account_at m id ≡ Some a → pos 0 ≤ℤ fee → fee ≤ℤ a.balance
+    → IsSettled id_pool (with_paid id (neg_ℤ fee) m)
+    × ((x : Asset) → total (held x) (with_paid id (neg_ℤ fee) m) ≡ total (held x) m +ℤ lumens_of x (neg_ℤ fee))
+
+-- the next sequence number of an account is used up
+abbrev pub SeqNumsSettle : Type 0
+SeqNumsSettle = (id_pool : ℕ) (m : EntryMap) (id : AccountId) (a : AccountEntry) (n : ℤ) → IsSettled id_pool m
+    → account_at m id ≡ Some a → a.seq_num ≢ greatest_i64 → n ≡ a.seq_num +ℤ pos 1
+    → LeavesSettled id_pool m (with_seq_num id n m) []
+
+-- the pre-authorised signers of a hash are removed from an account
+abbrev pub PreauthsSettle : Type 0
+PreauthsSettle = (id_pool : ℕ) (m : EntryMap) (id : AccountId) (hash : Hash) → IsSettled id_pool m
+    → LeavesSettled id_pool m (map_after_removing_preauth id hash m) []
+
+-- ---- what settled entries give
+
+abbrev pub SettledAccounts : Type 0
+SettledAccounts = (id_pool : ℕ) (m : EntryMap) (id : AccountId) (a : AccountEntry) → IsSettled id_pool m
+    → account_at m id ≡ Some a → IsAccountInRange a
+
+abbrev pub SettledReady : Type 0
+SettledReady = (id_pool : ℕ) (m : EntryMap) → IsSettled id_pool m → AccountsAreReady m
+
+abbrev pub SettledInRange : Type 0
+SettledInRange = (id_pool : ℕ) (m : EntryMap) → IsSettled id_pool m → AccountsAreInRange m
+
+-- no less than nothing is held in lumens
+abbrev pub SettledHeld : Type 0
+SettledHeld = (id_pool : ℕ) (m : EntryMap) → IsSettled id_pool m → pos 0 ≤ℤ total (held asset.Native) m
+
+-- all that the transactions of a set stand on
+pub record TransactionLaws : Type 0 where
+  pub operations : AllLawful
+  pub fees : FeesSettle
+  pub seq_nums : SeqNumsSettle
+  pub preauths : PreauthsSettle
+  pub accounts : SettledAccounts
+  pub ready : SettledReady
+  pub in_range : SettledInRange
+  pub held : SettledHeld

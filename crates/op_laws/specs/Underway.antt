@@ -1,0 +1,51 @@
+-- What holds before and behind each operation of a transaction.
+use Rattle.std.specs.Prelude.{◌≡◌, ℕ, ◌<◌, ◌≤◌, ◌+ℤ◌, List, length, Some}
+use Rattle.ledger_types.specs.declared.ids.AccountId.{AccountId}
+use Rattle.ledger_types.specs.declared.account.AccountEntry.{AccountEntry}
+use Rattle.ledger_types.specs.declared.asset.Asset.{Asset}
+use Rattle.ledger_types.specs.declared.asset.Asset.TheVariants as asset
+use Rattle.entry_map.specs.EntryMap.{EntryMap}
+use Rattle.entry_slots.specs.Accounts.{account_at}
+use Rattle.entry_sums.specs.Sums.{total}
+use Rattle.sponsor_rules.specs.declared.context.Ctx.{Ctx}
+use Rattle.legal_rules.specs.Legal.{view}
+use Rattle.legal_rules.specs.Owing.{nothing_owed, IsLegalOwing}
+use Rattle.legal_rules.specs.Sponsorships.{AreSponsorshipsSound}
+use Rattle.legal_rules.specs.Supply.{held}
+use Rattle.op_form.specs.Done.{Move}
+use Rattle.op_laws.specs.Moves.{issued}
+
+-- The entries are those of a legal state, but that nothing is said of the header. Offers have ids up to `id_pool`.
+abbrev pub AreEntriesLegal : (id_pool : ℕ) → EntryMap → Type 0
+AreEntriesLegal id_pool m = IsLegalOwing (view m) id_pool nothing_owed (total (held asset.Native) m) m
+
+-- an account has at most 20 signers (MAX_SIGNERS in Stellar-ledger-entries.x)
+pub record AreSignersFew (m : EntryMap) : Type 0 where
+  pub few : (id : AccountId) (account : AccountEntry) → account_at m id ≡ Some account → length account.signers ≤ 20
+
+-- what holds of the entries between two transactions, when so many ids are drawn
+pub record IsSettled (id_pool : ℕ) (m : EntryMap) : Type 0 where
+  pub legal : AreEntriesLegal id_pool m
+  pub signers : AreSignersFew m
+
+-- what a part of a transaction leaves: settled entries, whose supply of each asset these moves changed
+pub record LeavesSettled (id_pool : ℕ) (old new : EntryMap) (moves : List Move) : Type 0 where
+  pub settled : IsSettled id_pool new
+  pub supply : (x : Asset) → total (held x) new ≡ total (held x) old +ℤ issued x moves
+
+-- what holds before every operation of a transaction
+pub record IsUnderway (ctx : Ctx) (m : EntryMap) : Type 0 where
+  pub settled : IsSettled ctx.id_pool m
+  pub sponsorships : AreSponsorshipsSound ctx m
+  -- a ledger can close above the header's
+  pub seq : ctx.seq < 2147483647
+
+-- the terms that all operations of a transaction share
+pub record KeepsTerms (was ctx : Ctx) : Type 0 where
+  pub seq : ctx.seq ≡ was.seq
+  pub version : ctx.version ≡ was.version
+  pub base_reserve : ctx.base_reserve ≡ was.base_reserve
+  pub flags : ctx.flags ≡ was.flags
+  pub close_time : ctx.close_time ≡ was.close_time
+  pub tx_source : ctx.tx_source ≡ was.tx_source
+  pub tx_seq : ctx.tx_seq ≡ was.tx_seq

@@ -1,0 +1,62 @@
+//! Laws of what comes before the operations of a transaction.
+
+ghost use Rattle.op_laws.specs.Steps as spec;
+
+/// A legal state is settled.
+pub fn legal_settles()
+    ensures { spec.LegalSettles }
+{}
+
+/// Settled entries are a legal state under a header that fits them.
+pub fn settled_legal()
+    ensures { spec.SettledLegal }
+{}
+
+/// A fee that is charged leaves settled entries.
+pub fn fees_settle()
+    ensures { spec.FeesSettle }
+{}
+
+/// A sequence number that is used up leaves settled entries.
+pub fn seq_nums_settle()
+    ensures { spec.SeqNumsSettle }
+{}
+
+/// A pre-authorised signer that is used up leaves settled entries.
+pub fn preauths_settle()
+    ensures { spec.PreauthsSettle }
+{}
+
+/// Each account of settled entries is in its ranges.
+pub fn settled_accounts()
+    ensures { spec.SettledAccounts }
+{}
+
+/// Two reserves more of each account of settled entries can be paid by others.
+pub fn settled_ready()
+    ensures { spec.SettledReady }
+{}
+
+/// Balances and liabilities of the accounts of settled entries are in their ranges.
+pub fn settled_in_range()
+    ensures { spec.SettledInRange }
+{}
+
+/// Settled entries hold no less than nothing in lumens.
+pub fn settled_held()
+    ensures { spec.SettledHeld }
+{}
+
+/// All laws that the transactions of a set stand on.
+pub fn transaction_laws()
+    ensures { spec.TransactionLaws }
+{
+    crate::operations::all_are_lawful();
+    fees_settle();
+    seq_nums_settle();
+    preauths_settle();
+    settled_accounts();
+    settled_ready();
+    settled_in_range();
+    settled_held();
+}

@@ -36,15 +36,16 @@ use Rattle.op_laws.proofs.SetOptions.{set_options_is_lawful}
 use Rattle.op_laws.proofs.Sponsorships.{begin_sponsoring_is_lawful, end_sponsoring_is_lawful}
 use Rattle.op_laws.proofs.Standing.{leaves_itself}
 
--- An attempt that fails leaves all as it was.
+-- An operation that fails leaves all as it was.
+pub failed_is_lawful : (ctx : Ctx) (m : EntryMap) → IsUnderway ctx m → (result : OperationResult)
+    → IsLawful ctx m (done_of ctx m (Err result))
+failed_is_lawful ctx m under result = lawful_still ctx m under result m (λ v sum legal. legal)
+    (leaves_itself ctx.base_reserve m under.settled.legal.keyed)
+
 attempted : (ctx : Ctx) (m : EntryMap) → IsUnderway ctx m → (attempt : Attempt)
     → ((done : Done) → attempt ≡ Ok done → IsLawful ctx m done) → IsLawful ctx m (done_of ctx m attempt)
 attempted ctx m under (Ok done) lawful = lawful done refl
-attempted ctx m under (Err result) lawful = lawful_still ctx m under result m (λ v sum legal. legal)
-    (leaves_itself ctx.base_reserve m under.settled.legal.keyed)
-
-not_supported : (ctx : Ctx) (m : EntryMap) → IsUnderway ctx m → IsLawful ctx m (done_of ctx m (Err NotSupported))
-not_supported ctx m under = attempted ctx m under (Err NotSupported) (λ done is. absurd (cc))
+attempted ctx m under (Err result) lawful = failed_is_lawful ctx m under result
 
 pub all_are_lawful : AllLawful
 unfolding any_operation account_operation options_operation payment_operation sponsor_operation
@@ -52,7 +53,7 @@ all_are_lawful ctx (body.CreateAccount op) m fit under stands = attempted ctx m 
     (λ done is. create_account_is_lawful ctx op m done under stands is)
 all_are_lawful ctx (body.AccountMerge op) m fit under stands = attempted ctx m under (account_merge ctx op m)
     (λ done is. account_merge_is_lawful ctx op m done under stands is)
-all_are_lawful ctx body.Inflation m fit under stands = not_supported ctx m under
+all_are_lawful ctx body.Inflation m fit under stands = failed_is_lawful ctx m under NotSupported
 all_are_lawful ctx (body.BumpSequence op) m fit under stands = attempted ctx m under (bump_sequence ctx op m)
     (λ done is. bump_sequence_is_lawful ctx op m done fit under stands is)
 all_are_lawful ctx (body.SetOptions op) m fit under stands = attempted ctx m under (set_options ctx op m)
@@ -67,4 +68,4 @@ all_are_lawful ctx body.EndSponsoringFutureReserves m fit under stands = attempt
     (λ done is. end_sponsoring_is_lawful ctx tt m done under stands is)
 all_are_lawful ctx (body.RevokeSponsorship op) m fit under stands = attempted ctx m under (revoke_sponsorship ctx op m)
     (λ done is. revoke_sponsorship_is_lawful ctx op m done under stands is)
-all_are_lawful ctx other m fit under stands = not_supported ctx m under
+all_are_lawful ctx other m fit under stands = failed_is_lawful ctx m under NotSupported

@@ -15,7 +15,7 @@ pub none_moved : (x : Asset) (n : ℤ) → (n +ℤ issued x []) ≡ n
 unfolding issued
 none_moved x n = plus_none n
 
-plus_assoc : (a b c : ℤ) → ((a +ℤ b) +ℤ c) ≡ (a +ℤ (b +ℤ c))
+pub plus_assoc : (a b c : ℤ) → ((a +ℤ b) +ℤ c) ≡ (a +ℤ (b +ℤ c))
 plus_assoc a b c = omega (arith, ints)
 
 none_before : (n : ℤ) → (pos 0 +ℤ n) ≡ n

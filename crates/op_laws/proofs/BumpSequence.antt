@@ -26,6 +26,7 @@ use Rattle.op_form.specs.Steps.{success}
 use Rattle.op_laws.specs.Laws.{IsLawful, IsBumpFit, AreLawfulWhere}
 use Rattle.op_laws.specs.Underway.{IsUnderway}
 use Rattle.op_laws.proofs.Lawful.{KeepsLegal, lawful_still}
+use Rattle.op_laws.proofs.Payments.{numbered_books, numbered_range}
 use Rattle.op_laws.proofs.Standing.{IsNext, account_kept}
 use Rattle.op_laws.proofs.Tests.{went_on, first_passed}
 
@@ -33,40 +34,12 @@ use Rattle.op_laws.proofs.Tests.{went_on, first_passed}
 
 same_books : (n : ℤ) (a : AccountEntry) (b : Bool)
     → KeepsBooks a (if b then record a { seq_num = n } else a)
-same_books n a true = record {
-  id = refl;
-  subentries = refl;
-  sponsoring = refl;
-  sponsored = refl;
-  liabilities = refl;
-  signers = refl;
-  sponsors = refl;
-}
-same_books n a false = record {
-  id = refl;
-  subentries = refl;
-  sponsoring = refl;
-  sponsored = refl;
-  liabilities = refl;
-  signers = refl;
-  sponsors = refl;
-}
+same_books n a true = numbered_books n a
+same_books n a false = numbered_books a.seq_num a
 
 same_range : (n : ℤ) (a : AccountEntry) (b : Bool) → pos 0 ≤ℤ n → n ≤ℤ greatest_i64 → IsAccountInRange a
     → IsAccountInRange (if b then record a { seq_num = n } else a)
-same_range n a true low high r = record {
-  range = record {
-    balance = r.range.balance;
-    buying = r.range.buying;
-    selling = r.range.selling;
-    fits = r.range.fits;
-  };
-  seq_num = low;
-  greatest_seq_num = high;
-  flags = r.flags;
-  home_domain = r.home_domain;
-  signers = r.signers;
-}
+same_range n a true low high r = numbered_range n a low high r
 same_range n a false low high r = r
 
 same_balance : (n : ℤ) (a : AccountEntry) (b : Bool) → (if b then record a { seq_num = n } else a).balance ≡ a.balance

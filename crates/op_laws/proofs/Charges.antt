@@ -26,13 +26,15 @@ use Rattle.sponsor_rules.specs.Moving.{map_after_moving_between}
 use Rattle.sponsor_rules.specs.Paying.{map_after_charging, map_after_releasing, map_after_exchange, with_other_payer}
 use Rattle.sponsor_rules.specs.Paying.{with_subentry, without_subentry}
 use Rattle.sponsor_rules.specs.Adding.{sponsored_entry, map_after_counting, map_after_adding_subentry}
-use Rattle.sponsor_rules.specs.Payers.{is_same_account, is_full, is_over, is_short, payer_of, payer_tests_at, move_tests_at}
+use Rattle.sponsor_rules.specs.Payers.{is_same_account, is_full, is_over, is_short, payer_of, payer_tests_at}
+use Rattle.sponsor_rules.specs.Payers.{move_tests_at}
 use Rattle.sponsor_rules.specs.Payers.{subentry_tests_at, payer_by, open_sponsor}
 use Rattle.sponsor_rules.proofs.Ids.{same_account, apart_accounts}
 use Rattle.sponsor_rules.proofs.Keeping.{with_count_keeps, means_kept}
 use Rattle.sponsor_rules.specs.Keeping.{KeepsMeans}
 use Rattle.legal_rules.proofs.Places.{account_after, account_elsewhere}
-use Rattle.op_laws.proofs.Reserves.{IsCharged, pays_more, pays_less, pays_from, other_payer_charged, available_still, enough_of}
+use Rattle.op_laws.proofs.Reserves.{IsCharged, pays_more, pays_less, pays_from, other_payer_charged, available_still}
+use Rattle.op_laws.proofs.Reserves.{enough_of}
 use Rattle.op_laws.proofs.Reserves.{next_still, next_covers, subentry_charged, no_subentry_charged}
 use Rattle.op_laws.proofs.Standing.{IsKeyed, IsNext, Leaves, none_more, leaves_itself, keeps_both, accounts_kept}
 use Rattle.op_laws.proofs.Standing.{account_kept, no_account_changed, put_accounts, keyed_put}
@@ -229,12 +231,12 @@ payers_had ctx m owner k None None none = (λ x is. absurd (cc), tt)
 payers_had ctx m owner k (Some y) None none = (λ x is. absurd (cc), owner_had ctx m owner k none)
 payers_had ctx m owner k None (Some x) none = (
   (λ z is. let same : x ≡ z = cc in subst (λ w. (a : AccountEntry) → account_at m w ≡ Some a
-  → pos (k * ctx.base_reserve) ≤ℤ available a ctx.base_reserve) same (payer_had ctx m x k none)),
+      → pos (k * ctx.base_reserve) ≤ℤ available a ctx.base_reserve) same (payer_had ctx m x k none)),
   tt,
 )
 payers_had ctx m owner k (Some y) (Some x) none = (
   (λ z is. let same : x ≡ z = cc in subst (λ w. (a : AccountEntry) → account_at m w ≡ Some a
-  → pos (k * ctx.base_reserve) ≤ℤ available a ctx.base_reserve) same (payer_had ctx m x k none)),
+      → pos (k * ctx.base_reserve) ≤ℤ available a ctx.base_reserve) same (payer_had ctx m x k none)),
   tt,
 )
 

@@ -1,6 +1,7 @@
 -- ACCOUNT_MERGE is lawful.
 use Rattle.std.proofs.Common.{◌≡◌, ◌≢◌, refl, sym, ap, subst, ◌∙◌, ℕ, suc, ◌+◌, ◌-◌, ◌<◌, ◌≤◌, Bool, true, false, not}
-use Rattle.std.proofs.Common.{◌||◌, nat_eq, nat_lt, cond, is_some, bit_and, List, [], ◌∷◌, length, remove, get_or, All, Option, Some, None}
+use Rattle.std.proofs.Common.{◌||◌, nat_eq, nat_lt, cond, is_some, bit_and, List, [], ◌∷◌, length, remove, get_or, All}
+use Rattle.std.proofs.Common.{Option, Some, None}
 use Rattle.std.proofs.Common.{Ok, arith}
 use Rattle.std.proofs.lemmas.Int.{ints}
 use Rattle.std.proofs.lemmas.Bool.{eqb-true}
@@ -71,7 +72,8 @@ use Rattle.op_laws.proofs.Paying.{IsTaken, taken, taken_legal, taken_left}
 use Rattle.op_laws.proofs.Reserves.{pays_less}
 use Rattle.op_laws.proofs.Signers.{signer_kept, without_means}
 use Rattle.op_laws.proofs.SetOptions.{is_its_key}
-use Rattle.op_laws.proofs.Standing.{IsKeyed, IsAfter, Leaves, for_one, none_more, leaves_itself, leaves_both, keeps_both}
+use Rattle.op_laws.proofs.Standing.{IsKeyed, IsAfter, Leaves, for_one, none_more, leaves_itself, leaves_both}
+use Rattle.op_laws.proofs.Standing.{keeps_both}
 use Rattle.op_laws.proofs.Tests.{went_on, first_passed, neither, went_after_some}
 
 -- ---- an account without its first signer
@@ -153,7 +155,8 @@ module _ (v : View) (id_pool base : ℕ) (sum : ℤ) (src : AccountId) where
     still_by (Some y) to =
         let payer = counts_sponsoring v id_pool nothing_owed sum m legal nothing_settled src b stands 0 within y to in
         account_elsewhere m y (with_less count.Sponsoring 1) payer.account legal.keyed payer.stands
-        (pays_less 1 payer.account).means.id src (λ same. paid_by_other v id_pool nothing_owed sum m legal nothing_settled
+        (pays_less 1 payer.account).means.id src
+        (λ same. paid_by_other v id_pool nothing_owed sum m legal nothing_settled
         src b stands 0 within y to (ap key.Account same))
 
     abbrev f : AccountEntry → AccountEntry
@@ -347,7 +350,8 @@ module _ (ctx : Ctx) (op : AccountMergeOp) (m : EntryMap) (done : Done) (under :
               subst (λ o. IsAfter base (for_one dest a.balance id +ℤ pos 0) (account_at m id) o)
               (sym (gone.others id (λ same. other (sym same))))
               (subst (λ n. IsAfter base n (account_at m id) (account_at gone.now id))
-              (sum_of_three (for_one dest a.balance id) (pos 0) ∙ plus_none (for_one dest a.balance id)) (before.each id))
+              (sum_of_three (for_one dest a.balance id) (pos 0) ∙ plus_none (for_one dest a.balance id))
+              (before.each id))
         ] refl
       where
         not_same : (x y : AccountId) → x ≢ y → is_same_account x y ≡ false

@@ -59,7 +59,8 @@ use Rattle.op_laws.proofs.Lumens.{lumens_move, lumens_gained, none_issued}
 use Rattle.op_laws.proofs.Numbers.{still_available}
 use Rattle.op_laws.proofs.Paying.{IsGiven, not_less, given, given_legal, given_left, given_back}
 use Rattle.op_laws.proofs.Reserves.{IsCharged, reserves_of, pays_more, paid_more}
-use Rattle.op_laws.proofs.Standing.{IsKeyed, IsAfter, Leaves, for_one, none_more, is_itself_after, leaves_both, leaves_as}
+use Rattle.op_laws.proofs.Standing.{IsKeyed, IsAfter, Leaves, for_one, none_more, is_itself_after, leaves_both}
+use Rattle.op_laws.proofs.Standing.{leaves_as}
 use Rattle.op_laws.proofs.Standing.{keyed_put}
 use Rattle.op_laws.proofs.Tests.{passed, went_on, first_passed, neither, went_after_some, went_after_charge}
 
@@ -195,7 +196,8 @@ module _ (ctx : Ctx) (op : CreateAccountOp) (m : EntryMap) (keyed : IsKeyed m) (
   abbrev entry : LedgerEntry
   entry = new_entry ctx op
 
-  added_alone : (new : EntryMap) → map_after_adding_account ctx entry (its ctx op) None m ≡ Ok new → IsAdded ctx op m new
+  added_alone : (new : EntryMap) → map_after_adding_account ctx entry (its ctx op) None m ≡ Ok new → IsAdded ctx op m
+      new
   added_alone new done =
       let test = passed (own_tests ctx (its ctx op)) (put m entry) new done in
       let two = first_passed (is_lt (int_cmp op.starting_balance (pos (2 * ctx.base_reserve)))) LowReserve [] test.0 in
@@ -353,7 +355,8 @@ module _ (ctx : Ctx) (op : CreateAccountOp) (m : EntryMap) (done : Done) (under 
 
   created : added_and_paid ctx op m ≡ Ok done → IsLawful ctx m done
   created is =
-      let first = went_after_charge (map_after_adding ctx dest (new_entry ctx op) m) (answer create.LowReserve) _ done is
+      let first = went_after_charge (map_after_adding ctx dest (new_entry ctx op) m) (answer create.LowReserve) _ done
+      is
       in
       let added = first.0 in
       let second = went_after_some (map_after_debit ctx src amount added) (answer create.Underfunded) _ done first.2 in
@@ -369,7 +372,8 @@ module _ (ctx : Ctx) (op : CreateAccountOp) (m : EntryMap) (done : Done) (under 
         moves = lumens_move src dest amount ∷ [];
       } in
       let same : made ≡ done = cc in
-      subst (IsLawful ctx m) same (lawful_here ctx m under _ (answer create.Success) new (lumens_move src dest amount ∷ [])
+      subst (IsLawful ctx m) same
+      (lawful_here ctx m under _ (answer create.Success) new (lumens_move src dest amount ∷ [])
       (created_legal added new first.1 h (amount_fits added new left h))
       (leaves_both ctx.base_reserve _ _ m added new left.leaves
       (given_left ctx.base_reserve src amount added new h left.leaves.keyed))

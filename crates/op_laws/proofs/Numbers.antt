@@ -23,7 +23,8 @@ product_more x zero base = ap (λ y. y *ℤ pos base) (no_more x) ∙ none (x *�
     no_more x = omega (arith, ints)
 
     none : (x : ℤ) (b : ℕ) → x ≡ (x +ℤ pos (0 * b))
-    none x b = let zero_times : 0 * b ≡ 0 = omega arith in subst (λ n. x ≡ (x +ℤ pos n)) (sym zero_times) (sym (no_more x))
+    none x b = let zero_times : 0 * b ≡ 0 = omega arith in subst (λ n. x ≡ (x +ℤ pos n)) (sym zero_times)
+        (sym (no_more x))
 product_more x (suc k) base =
     ap (λ y. y *ℤ pos base) (one_more x k) ∙ suc_ℤ-*ℤ (x +ℤ pos k) (pos base)
     ∙ ap (λ y. y +ℤ pos base) (product_more x k base)

@@ -21,7 +21,8 @@ use Rattle.op_types.specs.declared.payment_results.PaymentResult.TheVariants as 
 use Rattle.op_form.specs.Done.{Done, Move}
 use Rattle.op_form.specs.Lumens.{map_after_credit, map_after_debit}
 use Rattle.op_form.specs.Steps.{unless_refused}
-use Rattle.op_payment.specs.Payment.{answer, destination_tests, paid, payment_in, payment, payment_move, taken_and_given}
+use Rattle.op_payment.specs.Payment.{answer, destination_tests, paid, payment_in, payment, payment_move}
+use Rattle.op_payment.specs.Payment.{taken_and_given}
 use Rattle.op_laws.specs.Laws.{IsLawful, AreLawful}
 use Rattle.op_laws.specs.Underway.{IsUnderway}
 use Rattle.op_laws.proofs.Lawful.{KeepsLegal, lawful_here}
@@ -52,7 +53,8 @@ module _ (ctx : Ctx) (op : PaymentOp) (m : EntryMap) (done : Done) (under : IsUn
       → IsLawful ctx m (record { result = answer pay.Success; entries = new; ctx = ctx; moves = move ∷ [] })
       → IsLawful ctx m done
   made new is lawful =
-      let with_its : Done = record { result = answer pay.Success; entries = new; ctx = ctx; moves = payment_move ctx op ∷ [] } in
+      let with_its : Done = record
+      { result = answer pay.Success; entries = new; ctx = ctx; moves = payment_move ctx op ∷ [] } in
       let same : with_its ≡ done = cc in
       subst (IsLawful ctx m) same (subst (λ x. IsLawful ctx m (record {
         result = answer pay.Success;
@@ -69,13 +71,15 @@ module _ (ctx : Ctx) (op : PaymentOp) (m : EntryMap) (done : Done) (under : IsUn
   to_another : taken_and_given ctx op m ≡ Ok done → IsLawful ctx m done
   to_another is =
       let first = went_after_some (map_after_credit to op.amount m) (answer pay.LineFull) _ done is in
-      let second = went_after_some (map_after_debit ctx from op.amount first.0) (answer pay.Underfunded) _ done first.2 in
+      let second = went_after_some (map_after_debit ctx from op.amount first.0) (answer pay.Underfunded) _ done first.2
+      in
       let one = taken to op.amount m first.0 first.1 in
       let two = given ctx from op.amount first.0 second.0 second.1 in
       let taken_one = taken_left ctx.base_reserve to op.amount m first.0 one low under.settled.legal.keyed in
       made second.0 second.2 (lawful_here ctx m under _ (answer pay.Success) second.0 (move ∷ [])
       (λ v sum legal. legal_as v _ nothing_owed nothing_owed _ sum second.0
-      (given_legal v ctx.id_pool ctx.base_reserve (sum +ℤ lumens_of v.asset op.amount) from op.amount first.0 second.0 two
+      (given_legal v ctx.id_pool ctx.base_reserve (sum +ℤ lumens_of v.asset op.amount) from op.amount first.0 second.0
+      two
       low (taken_legal v ctx.id_pool sum to op.amount m first.0 one low legal)) (λ kind k. refl)
       (given_back (is_eq (asset_cmp v.asset asset.Native)) sum op.amount))
       (leaves_both ctx.base_reserve _ _ m first.0 second.0 taken_one

@@ -17,7 +17,9 @@ use Rattle.legal_rules.specs.Supply.{held, lumens_of}
 use Rattle.legal_rules.specs.Legal.{view}
 use Rattle.legal_rules.specs.Owing.{nothing_owed, IsLegalOwing}
 use Rattle.legal_rules.specs.Payments.{numbered, with_seq_num}
+use Rattle.legal_rules.specs.Ranges.{IsAccountInRange}
 use Rattle.legal_rules.proofs.Bounded.{account_legal}
+use Rattle.legal_rules.specs.ChangeLaws.{KeepsBooks}
 use Rattle.legal_rules.proofs.Changed.{account_changed}
 use Rattle.legal_rules.proofs.Legality.{view_of}
 use Rattle.legal_rules.proofs.Paid.{debit_legal}
@@ -64,16 +66,46 @@ few_left base more old new each few = record {
 pub fees_settle : FeesSettle
 fees_settle id_pool m id a fee settled stands low le =
     let legal = λ (x : Asset). debit_legal (view_of x m) id_pool nothing_owed (total (held x) m) m id fee a
-    (owing_of x id_pool m settled.legal) stands low le in
-    (record {
-      legal = entries_legal (view m) id_pool _ _ (legal asset.Native);
-      signers = few_changed m id _ a settled.legal.keyed stands refl (settled.signers.few id a stands) settled.signers;
-    }, λ x. (legal x).supply)
+    (owing_of x id_pool m settled.legal) stands low le in (
+      record {
+        legal = entries_legal (view m) id_pool _ _ (legal asset.Native);
+        signers = few_changed m id _ a settled.legal.keyed stands refl (settled.signers.few id a stands)
+            settled.signers;
+      },
+      λ x. (legal x).supply,
+    )
 
 -- ---- sequence numbers
 
 same_sum : (x n : ℤ) → (x +ℤ (n -ℤ n)) ≡ x
 same_sum x n = omega (arith, ints)
+
+pub numbered_books : (n : ℤ) (a : AccountEntry) → KeepsBooks a (numbered n a)
+numbered_books n a = record {
+  id = refl;
+  subentries = refl;
+  sponsoring = refl;
+  sponsored = refl;
+  liabilities = refl;
+  signers = refl;
+  sponsors = refl;
+}
+
+pub numbered_range : (n : ℤ) (a : AccountEntry) → pos 0 ≤ℤ n → n ≤ℤ greatest_i64 → IsAccountInRange a
+    → IsAccountInRange (numbered n a)
+numbered_range n a low high r = record {
+  range = record {
+    balance = r.range.balance;
+    buying = r.range.buying;
+    selling = r.range.selling;
+    fits = r.range.fits;
+  };
+  seq_num = low;
+  greatest_seq_num = high;
+  flags = r.flags;
+  home_domain = r.home_domain;
+  signers = r.signers;
+}
 
 -- another sequence number, whatever asset is asked for
 pub numbered_legal : (v : View) (id_pool : ℕ) (sum : ℤ) (m : EntryMap) (id : AccountId) (a : AccountEntry) (n : ℤ)
@@ -82,27 +114,8 @@ pub numbered_legal : (v : View) (id_pool : ℕ) (sum : ℤ) (m : EntryMap) (id :
 numbered_legal v id_pool sum m id a n legal stands low high =
     let r = (account_legal v id_pool nothing_owed sum m id a legal stands).range in
     legal_as v _ nothing_owed nothing_owed _ sum _
-    (account_changed v id_pool nothing_owed sum m id (numbered n) a legal stands (record {
-      id = refl;
-      subentries = refl;
-      sponsoring = refl;
-      sponsored = refl;
-      liabilities = refl;
-      signers = refl;
-      sponsors = refl;
-    }) (record {
-      range = record {
-        balance = r.range.balance;
-        buying = r.range.buying;
-        selling = r.range.selling;
-        fits = r.range.fits;
-      };
-      seq_num = low;
-      greatest_seq_num = high;
-      flags = r.flags;
-      home_domain = r.home_domain;
-      signers = r.signers;
-    })) (λ kind k. refl) (same_sum sum (lumens_of v.asset a.balance))
+    (account_changed v id_pool nothing_owed sum m id (numbered n) a legal stands (numbered_books n a)
+    (numbered_range n a low high r)) (λ kind k. refl) (same_sum sum (lumens_of v.asset a.balance))
 
 next_fits : (s n greatest : ℤ) → pos 0 ≤ℤ s → s ≤ℤ greatest → s ≢ greatest → n ≡ (s +ℤ pos 1)
     → (pos 0 ≤ℤ n) × (n ≤ℤ greatest)
@@ -110,7 +123,8 @@ next_fits s n greatest low high apart is = (omega (arith, ints), omega (arith, i
 
 pub seq_nums_settle : SeqNumsSettle
 seq_nums_settle id_pool m id a n settled stands more is =
-    let r = (account_legal (view m) id_pool nothing_owed (total (held asset.Native) m) m id a settled.legal stands).range
+    let r = (account_legal (view m) id_pool nothing_owed (total (held asset.Native) m) m id a settled.legal
+    stands).range
     in
     let fits = next_fits a.seq_num n greatest_i64 r.seq_num r.greatest_seq_num more is in
     let legal = λ (x : Asset). numbered_legal (view_of x m) id_pool (total (held x) m) m id a n

@@ -13,9 +13,11 @@ use Rattle.sponsor_rules.specs.declared.count.Count.{Count}
 use Rattle.sponsor_rules.specs.declared.count.Count.TheVariants as count
 use Rattle.sponsor_rules.specs.Counting.{count_in, with_count, with_more, with_less}
 use Rattle.sponsor_rules.specs.Keeping.{KeepsMeans}
-use Rattle.sponsor_rules.specs.Paying.{with_more_paid, with_less_paid, with_subentry, without_subentry, with_other_payer}
+use Rattle.sponsor_rules.specs.Paying.{with_more_paid, with_less_paid, with_subentry, without_subentry}
+use Rattle.sponsor_rules.specs.Paying.{with_other_payer}
 use Rattle.sponsor_rules.specs.Payers.{is_short}
-use Rattle.sponsor_rules.proofs.Keeping.{with_count_is, with_count_keeps, with_count_means, means_kept, means_kept_twice}
+use Rattle.sponsor_rules.proofs.Keeping.{with_count_is, with_count_keeps, with_count_means, means_kept}
+use Rattle.sponsor_rules.proofs.Keeping.{means_kept_twice}
 use Rattle.sponsor_laws.proofs.Accounts.{with_count-keeps}
 use Rattle.op_laws.proofs.Numbers.{still_available, covers}
 use Rattle.op_laws.proofs.Standing.{IsNext}
@@ -105,7 +107,8 @@ set_charged which n a more le = record {
 
 -- an account pays k reserves more
 pub pays_more : (k : ℕ) (a : AccountEntry) → IsCharged (pos k) a (with_more count.Sponsoring k a)
-pays_more k a = set_charged count.Sponsoring (num_sponsoring a + k) a (pos k) (reserves_by a (with_more count.Sponsoring k a) _ _ _ (pos k)
+pays_more k a = set_charged count.Sponsoring (num_sponsoring a + k) a (pos k)
+    (reserves_by a (with_more count.Sponsoring k a) _ _ _ (pos k)
     (pays_set (num_sponsoring a + k) a (with_more count.Sponsoring k a) refl)
     (le a.num_sub_entries (num_sponsoring a) (num_sponsored a)))
   where
@@ -136,7 +139,8 @@ pays_from base k a =
     no_fewer s p d s' p' d' one two three = omega (arith, ints)
 
 pub pays_less : (k : ℕ) (a : AccountEntry) → IsCharged (pos 0) a (with_less count.Sponsoring k a)
-pays_less k a = set_charged count.Sponsoring (num_sponsoring a - k) a (pos 0) (reserves_by a (with_less count.Sponsoring k a) _ _ _ (pos 0)
+pays_less k a = set_charged count.Sponsoring (num_sponsoring a - k) a (pos 0)
+    (reserves_by a (with_less count.Sponsoring k a) _ _ _ (pos 0)
     (pays_set (num_sponsoring a - k) a (with_less count.Sponsoring k a) refl)
     (le a.num_sub_entries (num_sponsoring a) (num_sponsored a)))
   where
@@ -145,7 +149,8 @@ pays_less k a = set_charged count.Sponsoring (num_sponsoring a - k) a (pos 0) (r
 
 -- an account has k subentries more
 has_more : (k : ℕ) (a : AccountEntry) → IsCharged (pos k) a (with_more count.SubEntries k a)
-has_more k a = set_charged count.SubEntries (a.num_sub_entries + k) a (pos k) (reserves_by a (with_more count.SubEntries k a) _ _ _ (pos k)
+has_more k a = set_charged count.SubEntries (a.num_sub_entries + k) a (pos k)
+    (reserves_by a (with_more count.SubEntries k a) _ _ _ (pos k)
     (subs_set (a.num_sub_entries + k) a (with_more count.SubEntries k a) refl)
     (le a.num_sub_entries (num_sponsoring a) (num_sponsored a)))
   where
@@ -175,7 +180,8 @@ paid_more k a = set_charged count.Sponsored (num_sponsored a + k) a (neg_ℤ (po
     le s p d = omega (arith, ints)
 
 paid_less : (k : ℕ) (a : AccountEntry) → IsCharged (pos k) a (with_less count.Sponsored k a)
-paid_less k a = set_charged count.Sponsored (num_sponsored a - k) a (pos k) (reserves_by a (with_less count.Sponsored k a) _ _ _ (pos k)
+paid_less k a = set_charged count.Sponsored (num_sponsored a - k) a (pos k)
+    (reserves_by a (with_less count.Sponsored k a) _ _ _ (pos k)
     (paid_set (num_sponsored a - k) a (with_less count.Sponsored k a) refl)
     (le a.num_sub_entries (num_sponsoring a) (num_sponsored a)))
   where

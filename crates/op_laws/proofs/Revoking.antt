@@ -70,7 +70,8 @@ module _ (ctx : Ctx) (m new : EntryMap) (keyed : IsKeyed m) where
       subst IsLeft test.1 (keeps_both ctx.base_reserve m now after first
       (sponsor_kept ctx.base_reserve now k (Some x) first.keyed))
 
-  charge_left : (k : LedgerKey) (c : Charge) (s payer : Option AccountId) → map_after_moving_by ctx k c s payer m ≡ Ok new
+  charge_left : (k : LedgerKey) (c : Charge) (s payer : Option AccountId) → map_after_moving_by ctx k c s payer m ≡ Ok
+      new
       → IsLeft new
   charge_left k (charge.Itself owner) s payer done = moved_between ctx k owner 2 m new keyed s
       (payer_other_than owner payer) done
@@ -147,7 +148,8 @@ module _ (ctx : Ctx) (m : EntryMap) (done : Done) (under : IsUnderway ctx m) whe
 
   signer_lawful : (id : AccountId) (which : SignerKey) → signer_moved ctx id which m ≡ Ok done → IsLawful ctx m done
   signer_lawful id which is =
-      let went = went_after_charge (map_after_moving_signer ctx id which payer m) (answer revoke.LowReserve) _ done is in
+      let went = went_after_charge (map_after_moving_signer ctx id which payer m) (answer revoke.LowReserve) _ done is
+      in
       let also = went.2 in
       let made : Done = record { result = answer revoke.Success; entries = went.0; ctx = ctx; moves = [] } in
       let same : made ≡ done = cc in

@@ -1,6 +1,7 @@
 -- SET_OPTIONS is lawful.
 use Rattle.std.proofs.Common.{◌≡◌, ◌≢◌, ◌⊎◌, inl, inr, refl, sym, ap, subst, ◌∙◌, ℕ, ◌+◌, ◌<◌, ◌≤◌, Bool, true, false}
-use Rattle.std.proofs.Common.{cond, not, ◌&&◌, ◌||◌, nat_eq, nat_lt, nat_le, bit_and, List, [], ◌∷◌, length, get_or, All}
+use Rattle.std.proofs.Common.{cond, not, ◌&&◌, ◌||◌, nat_eq, nat_lt, nat_le, bit_and, List, [], ◌∷◌, length, get_or}
+use Rattle.std.proofs.Common.{All}
 use Rattle.std.proofs.Common.{insert, Option, Some, None, Result, Ok, arith}
 use Rattle.std.proofs.lemmas.Int.{ints}
 use Rattle.std.proofs.lemmas.List.Edits.{length-insert}
@@ -233,7 +234,8 @@ module _ (ctx : Ctx) (m : EntryMap) (under : IsUnderway ctx m) (a : AccountEntry
         let test = passed (subentry_tests_at ctx m src 1) (map_with_signer src s t m) signed done in
         let leaves = charged_kept ctx m src 1 keyed test.0 f signed_next in
         record {
-          legal = λ v sum legal. signer_added v ctx.id_pool nothing_owed sum ctx src a s m signed legal stands fresh ready
+          legal = λ v sum legal. signer_added v ctx.id_pool nothing_owed sum ctx src a s m signed legal stands fresh
+              ready
               done;
           leaves = subst (Leaves base none_more m) test.1 leaves;
           flags = λ b there.

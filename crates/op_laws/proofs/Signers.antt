@@ -1,5 +1,6 @@
 -- Signers that are removed: what they leave of accounts, and settled.
-use Rattle.std.proofs.Common.{◌≡◌, ◌⊎◌, inl, inr, refl, sym, ap, subst, ◌∙◌, ℕ, ◌≤◌, ◌<◌, List, length, Option, Some, None}
+use Rattle.std.proofs.Common.{◌≡◌, ◌⊎◌, inl, inr, refl, sym, ap, subst, ◌∙◌, ℕ, ◌≤◌, ◌<◌, List, length, Option, Some}
+use Rattle.std.proofs.Common.{None}
 use Rattle.std.proofs.Common.{suc, take, drop, ◌++◌, arith}
 use Rattle.std.proofs.lemmas.Grind.{common_steps}
 use Rattle.std.specs.Prelude.{ℤ, pos}
@@ -89,7 +90,8 @@ pub preauths_settle : PreauthsSettle
 preauths_settle id_pool m id hash settled =
     let sum = total (held asset.Native) m in
     let new = map_after_removing_signer id (PreAuthTx hash) m in
-    let legal = λ (x : Asset). signer_removed (view_of x m) id_pool nothing_owed (total (held x) m) id (PreAuthTx hash) m
+    let legal = λ (x : Asset). signer_removed (view_of x m) id_pool nothing_owed (total (held x) m) id (PreAuthTx hash)
+    m
     (owing_of x id_pool m settled.legal) nothing_settled in
     record {
       settled = record {

@@ -1,5 +1,6 @@
 -- BEGIN_SPONSORING_FUTURE_RESERVES and END_SPONSORING_FUTURE_RESERVES are lawful.
-use Rattle.std.proofs.Common.{◌≡◌, ◌≢◌, refl, sym, ap, subst, ◌∙◌, ℕ, suc, take, drop, ◌<◌, Bool, true, false, cond, ◌||◌, is_some, List}
+use Rattle.std.proofs.Common.{◌≡◌, ◌≢◌, refl, sym, ap, subst, ◌∙◌, ℕ, suc, take, drop, ◌<◌, Bool, true, false, cond}
+use Rattle.std.proofs.Common.{◌||◌, is_some, List}
 use Rattle.std.proofs.Common.{[], ◌∷◌, ◌++◌, length, get_or, All, AllPairs, Option, Some, None, Ok, arith}
 use Rattle.std.proofs.lemmas.List.Elements.{All-nil, All-cons, All-append, All-take, All-drop, All-push}
 use Rattle.std.proofs.lemmas.List.Quantifiers.{all_pairs_push, all_pairs_remove, position-Some}

@@ -15,7 +15,8 @@ use Rattle.ledger_types.specs.declared.key.LedgerKey.TheVariants as key
 use Rattle.ledger_types.specs.Keys.{key_of, key_of_body}
 use Rattle.entry_map.specs.EntryMap.{EntryMap, put}
 use Rattle.entry_map.proofs.KeyMaps.{same_keys, same_itself}
-use Rattle.entry_slots.specs.Accounts.{account_in, account_of, account_at, with_account, with_account_in, with_account_of}
+use Rattle.entry_slots.specs.Accounts.{account_in, account_of, account_at, with_account, with_account_in}
+use Rattle.entry_slots.specs.Accounts.{with_account_of}
 use Rattle.entry_slots.specs.Accounts.{HasAccount}
 use Rattle.entry_sums.specs.Sums.{EachEntry}
 use Rattle.entry_sums.proofs.Lookups.{put_each, put_there, put_elsewhere}

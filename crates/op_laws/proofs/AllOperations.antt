@@ -1,16 +1,13 @@
 -- Every operation is lawful.
-use Rattle.std.proofs.Common.{◌≡◌, refl, Result, Ok, Err}
-use Rattle.op_types.specs.declared.operation.OperationBody.{OperationBody}
+use Rattle.std.proofs.Common.{◌≡◌, refl, Ok, Err}
 use Rattle.op_types.specs.declared.operation.OperationBody.TheVariants as body
 use Rattle.op_types.specs.declared.operation_result.OperationResult.{OperationResult}
 use Rattle.op_types.specs.declared.operation_result.OperationResult.TheVariants.{NotSupported}
 use Rattle.entry_map.specs.EntryMap.{EntryMap}
-use Rattle.entry_slots.specs.Accounts.{HasAccount}
 use Rattle.sponsor_rules.specs.declared.context.Ctx.{Ctx}
 use Rattle.op_account.specs.AccountMerge.{account_merge}
 use Rattle.op_account.specs.BumpSequence.{bump_sequence}
 use Rattle.op_account.specs.CreateAccount.{create_account}
-use Rattle.op_account.specs.Inflation.{inflation}
 use Rattle.op_account.specs.Operations.{account_operation}
 use Rattle.op_options.specs.ManageData.{manage_data}
 use Rattle.op_options.specs.Operations.{options_operation}
@@ -23,7 +20,7 @@ use Rattle.op_sponsor.specs.Operations.{sponsor_operation}
 use Rattle.op_sponsor.specs.RevokeSponsorship.{revoke_sponsorship}
 use Rattle.op_form.specs.Done.{Done, Attempt, done_of}
 use Rattle.op_laws.specs.AnyOperation.{any_operation}
-use Rattle.op_laws.specs.Laws.{IsLawful, IsFit, AllLawful}
+use Rattle.op_laws.specs.Laws.{IsLawful, AllLawful}
 use Rattle.op_laws.specs.Underway.{IsUnderway}
 use Rattle.op_laws.proofs.BumpSequence.{bump_sequence_is_lawful}
 use Rattle.op_laws.proofs.Lawful.{lawful_still}

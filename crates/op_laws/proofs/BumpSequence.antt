@@ -1,30 +1,24 @@
 -- BUMP_SEQUENCE is lawful.
-use Rattle.std.proofs.Common.{◌≡◌, refl, sym, ap, subst, ◌∙◌, ℕ, ◌<◌, Bool, true, false, cond, [], ◌∷◌, Some, Ok, arith}
-use Rattle.std.proofs.Common.{inl, inr}
+use Rattle.std.proofs.Common.{◌≡◌, refl, ap, subst, ◌∙◌, ℕ, Bool, true, false, [], ◌∷◌, arith}
+use Rattle.std.proofs.Common.{inr}
 use Rattle.std.proofs.lemmas.Int.{ints}
 use Rattle.std.specs.Prelude.{ℤ, pos, int_lt, ◌+ℤ◌, ◌-ℤ◌, ◌≤ℤ◌, if◌then◌else◌}
-use Rattle.ledger_types.specs.declared.ids.AccountId.{AccountId}
 use Rattle.ledger_types.specs.declared.account.AccountEntry.{AccountEntry}
 use Rattle.entry_map.specs.EntryMap.{EntryMap}
-use Rattle.entry_slots.specs.Accounts.{account_at, with_account, HasAccount}
-use Rattle.reserve_rules.specs.Reserve.{greatest_i64, available}
+use Rattle.entry_slots.specs.Accounts.{with_account, HasAccount}
+use Rattle.reserve_rules.specs.Reserve.{greatest_i64}
 use Rattle.sponsor_rules.specs.declared.context.Ctx.{Ctx}
-use Rattle.legal_rules.specs.Books.{View}
 use Rattle.legal_rules.specs.ChangeLaws.{KeepsBooks}
-use Rattle.legal_rules.specs.Owing.{nothing_owed, IsLegalOwing}
+use Rattle.legal_rules.specs.Owing.{nothing_owed}
 use Rattle.legal_rules.specs.Ranges.{IsAccountInRange}
 use Rattle.legal_rules.specs.Supply.{lumens_of}
 use Rattle.legal_rules.proofs.Bounded.{account_legal}
 use Rattle.legal_rules.proofs.Changed.{account_changed}
 use Rattle.legal_rules.proofs.Steps.{legal_as}
-use Rattle.op_types.specs.declared.account_ops.BumpSequenceOp.{BumpSequenceOp}
 use Rattle.op_types.specs.declared.account_results.BumpSequenceResult.TheVariants as bump
-use Rattle.op_types.specs.declared.operation_result.OperationResult.{OperationResult}
 use Rattle.op_account.specs.BumpSequence.{answer, with_seq_num_from, bump_sequence}
-use Rattle.op_form.specs.Done.{Done}
 use Rattle.op_form.specs.Steps.{success}
 use Rattle.op_laws.specs.Laws.{IsLawful, IsBumpFit, AreLawfulWhere}
-use Rattle.op_laws.specs.Underway.{IsUnderway}
 use Rattle.op_laws.proofs.Lawful.{KeepsLegal, lawful_still}
 use Rattle.op_laws.proofs.Payments.{numbered_books, numbered_range}
 use Rattle.op_laws.proofs.Standing.{IsNext, account_kept}

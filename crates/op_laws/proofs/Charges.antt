@@ -1,6 +1,6 @@
 -- What adding, moving and removing leave of the accounts of a map.
-use Rattle.std.proofs.Common.{◌≡◌, ◌≢◌, ◌⊎◌, inl, inr, refl, sym, ap, subst, ◌∙◌, ℕ, ◌+◌, ◌*◌, ◌≤◌, Bool, true, false}
-use Rattle.std.proofs.Common.{◌||◌, [], ◌∷◌, Option, Some, None, Ok, length, arith}
+use Rattle.std.proofs.Common.{◌≡◌, ◌≢◌, refl, sym, ap, subst, ◌∙◌, ℕ, ◌*◌, ◌≤◌, true, false}
+use Rattle.std.proofs.Common.{◌||◌, [], ◌∷◌, Option, Some, None, Ok, arith}
 use Rattle.std.proofs.lemmas.Int.{ints}
 use Rattle.std.specs.Prelude.{ℤ, pos, ◌≤ℤ◌}
 use Rattle.std.specs.FinMap.{get}
@@ -11,7 +11,7 @@ use Rattle.ledger_types.specs.declared.key.LedgerKey.{LedgerKey}
 use Rattle.ledger_types.specs.declared.key.LedgerKey.TheVariants as key
 use Rattle.ledger_types.specs.Keys.{key_of}
 use Rattle.entry_map.specs.EntryMap.{EntryMap, put, erase}
-use Rattle.entry_slots.specs.Accounts.{account_in, account_of, account_at, with_account}
+use Rattle.entry_slots.specs.Accounts.{account_of, account_at, with_account}
 use Rattle.entry_slots.specs.EntrySponsor.{with_sponsor}
 use Rattle.entry_slots.specs.Tests.{Tests, first_fault}
 use Rattle.entry_sums.proofs.Lookups.{put_elsewhere, erase_elsewhere, erase_each}
@@ -20,7 +20,7 @@ use Rattle.sponsor_rules.specs.declared.context.Ctx.{Ctx}
 use Rattle.sponsor_rules.specs.declared.fault.AddFault.{AddFault}
 use Rattle.sponsor_rules.specs.declared.fault.AddFault.TheVariants.{TooManySubentries, TooManySponsoring, LowReserve}
 use Rattle.sponsor_rules.specs.declared.count.Count.TheVariants as count
-use Rattle.sponsor_rules.specs.Counting.{count_in, with_more, with_less}
+use Rattle.sponsor_rules.specs.Counting.{with_more, with_less}
 use Rattle.sponsor_rules.specs.Moving.{map_with_recorded, map_with_sponsor, map_with_other_payer}
 use Rattle.sponsor_rules.specs.Moving.{map_after_moving_between}
 use Rattle.sponsor_rules.specs.Paying.{map_after_charging, map_after_releasing, map_after_exchange, with_other_payer}
@@ -33,7 +33,7 @@ use Rattle.sponsor_rules.proofs.Ids.{same_account, apart_accounts}
 use Rattle.sponsor_rules.proofs.Keeping.{with_count_keeps, means_kept}
 use Rattle.sponsor_rules.specs.Keeping.{KeepsMeans}
 use Rattle.legal_rules.proofs.Places.{account_after, account_elsewhere}
-use Rattle.op_laws.proofs.Reserves.{IsCharged, pays_more, pays_less, pays_from, other_payer_charged, available_still}
+use Rattle.op_laws.proofs.Reserves.{pays_more, pays_less, pays_from, other_payer_charged, available_still}
 use Rattle.op_laws.proofs.Reserves.{enough_of}
 use Rattle.op_laws.proofs.Reserves.{next_still, next_covers, subentry_charged, no_subentry_charged}
 use Rattle.op_laws.proofs.Standing.{IsKeyed, IsNext, Leaves, none_more, leaves_itself, keeps_both, accounts_kept}

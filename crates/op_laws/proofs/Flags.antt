@@ -1,6 +1,6 @@
 -- Account flags that SET_OPTIONS leaves.
-use Rattle.std.proofs.Common.{◌≡◌, ◌⊎◌, inl, inr, refl, sym, ap, subst, ◌∙◌, ℕ, suc, ◌+◌, ◌<◌, ◌≤◌, Bool, true, false}
-use Rattle.std.proofs.Common.{not, ◌&&◌, ◌||◌, nat_eq, nat_lt, bit_and, bit_or, bit_xor, ◌^◌, Option, arith}
+use Rattle.std.proofs.Common.{◌≡◌, ◌⊎◌, inl, inr, refl, sym, subst, ℕ, suc, ◌<◌, ◌≤◌, true, false}
+use Rattle.std.proofs.Common.{not, ◌&&◌, nat_eq, bit_and, bit_xor, ◌^◌, Option, arith}
 use Rattle.std.proofs.lemmas.Bool.{cases_lt}
 use Rattle.std.proofs.lemmas.Nat.{or_lt, xor_lt, and_le_l}
 use Rattle.op_types.specs.declared.account_ops.SetOptionsOp.{SetOptionsOp}

@@ -1,8 +1,8 @@
 -- A lawful operation, by what it leaves of the books and of the accounts.
-use Rattle.std.proofs.Common.{◌≡◌, refl, sym, ap, subst, ◌∙◌, ℕ, ◌<◌, List, [], Option, Some, inl, inr, All, arith}
+use Rattle.std.proofs.Common.{◌≡◌, refl, sym, ap, subst, ◌∙◌, ℕ, ◌<◌, List, [], inl, inr, arith}
 use Rattle.std.proofs.lemmas.Int.{ints}
 use Rattle.std.proofs.lemmas.List.Elements.{All-weaker}
-use Rattle.std.specs.Prelude.{ℤ, pos, ◌+ℤ◌, ◌≤ℤ◌}
+use Rattle.std.specs.Prelude.{ℤ, pos, ◌+ℤ◌}
 use Rattle.ledger_types.specs.declared.ids.AccountId.{AccountId}
 use Rattle.ledger_types.specs.declared.account.AccountEntry.{AccountEntry}
 use Rattle.ledger_types.specs.declared.asset.Asset.{Asset}
@@ -11,7 +11,6 @@ use Rattle.op_types.specs.declared.operation_result.OperationResult.{OperationRe
 use Rattle.entry_map.specs.EntryMap.{EntryMap}
 use Rattle.entry_slots.specs.Accounts.{account_at, HasAccount}
 use Rattle.entry_sums.specs.Sums.{total}
-use Rattle.reserve_rules.specs.Reserve.{available}
 use Rattle.sponsor_rules.specs.declared.context.Ctx.{Ctx}
 use Rattle.sponsor_rules.specs.declared.context.Sponsorship.{Sponsorship}
 use Rattle.legal_rules.specs.Books.{View}

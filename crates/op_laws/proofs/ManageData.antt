@@ -1,8 +1,8 @@
 -- MANAGE_DATA is lawful.
-use Rattle.std.proofs.Common.{◌≡◌, ◌≢◌, refl, sym, ap, subst, ◌∙◌, ℕ, ◌≤◌, Bool, true, false, not, ◌||◌, List, [], ◌∷◌}
+use Rattle.std.proofs.Common.{◌≡◌, refl, sym, ap, subst, ◌∙◌, ℕ, ◌≤◌, Bool, true, false, not, ◌||◌, List, [], ◌∷◌}
 use Rattle.std.proofs.Common.{is_some, length, nat_eq, Option, Some, None, Ok, arith}
 use Rattle.std.proofs.lemmas.Int.{ints}
-use Rattle.std.specs.Prelude.{ℤ, pos, neg_ℤ, ◌+ℤ◌, ◌-ℤ◌, ◌≤ℤ◌}
+use Rattle.std.specs.Prelude.{ℤ, pos, neg_ℤ, ◌+ℤ◌, ◌≤ℤ◌}
 use Rattle.std.specs.FinMap.{get}
 use Rattle.ledger_types.specs.declared.ids.AccountId.{AccountId}
 use Rattle.ledger_types.specs.declared.data_entry.DataEntry.{DataEntry}
@@ -18,19 +18,15 @@ use Rattle.entry_map.specs.EntryMap.{EntryMap, put, erase}
 use Rattle.entry_slots.specs.Accounts.{account_at, HasAccount}
 use Rattle.entry_slots.specs.DataEntries.{data_in, data_of, data_at, with_data, with_data_in, with_data_of}
 use Rattle.entry_slots.specs.EntrySponsor.{sponsor_of}
-use Rattle.entry_sums.specs.Sums.{total}
 use Rattle.sponsor_rules.specs.declared.context.Ctx.{Ctx}
 use Rattle.sponsor_rules.specs.Adding.{map_after_adding}
 use Rattle.sponsor_rules.specs.Paying.{without_subentry}
 use Rattle.sponsor_rules.specs.Removing.{map_after_discounting, map_after_removing, map_after_removing_entry}
 use Rattle.legal_rules.specs.EntryKeys.{is_key}
 use Rattle.legal_rules.specs.Books.{Kind, Subentries, Sponsoring, Sponsored, View}
-use Rattle.legal_rules.specs.EntryLaws.{IsFresh}
 use Rattle.legal_rules.specs.Legal.{view}
-use Rattle.legal_rules.specs.OfferIds.{offer_with}
 use Rattle.legal_rules.specs.Owing.{weight, weighed, nothing_owed, beside_reserves, IsEntryLegal, IsLegalOwing}
 use Rattle.legal_rules.specs.Ranges.{IsDataInRange}
-use Rattle.legal_rules.specs.Supply.{held}
 use Rattle.legal_rules.proofs.Given.{sponsors_ready}
 use Rattle.legal_rules.proofs.Kept.{subentry_added_so}
 use Rattle.legal_rules.proofs.Numbers.{plus_nothing, nothing_less, kept_sum}
@@ -38,7 +34,6 @@ use Rattle.legal_rules.proofs.PaidFor.{nothing_settled}
 use Rattle.legal_rules.proofs.Removing.{subentry_removed, owns}
 use Rattle.legal_rules.proofs.Steps.{legal_as, replace_legal}
 use Rattle.legal_rules.proofs.Subentries.{subentry_of}
-use Rattle.op_types.specs.declared.account_ops.ManageDataOp.{ManageDataOp}
 use Rattle.op_types.specs.declared.account_results.ManageDataResult.TheVariants as manage
 use Rattle.op_form.specs.Done.{Done}
 use Rattle.op_form.specs.Steps.{success}

@@ -1,5 +1,5 @@
 -- ACCOUNT_MERGE is lawful.
-use Rattle.std.proofs.Common.{◌≡◌, ◌≢◌, refl, sym, ap, subst, ◌∙◌, ℕ, suc, ◌+◌, ◌-◌, ◌<◌, ◌≤◌, Bool, true, false, not}
+use Rattle.std.proofs.Common.{◌≡◌, ◌≢◌, refl, sym, ap, subst, ◌∙◌, ℕ, suc, ◌-◌, ◌<◌, Bool, true, false, not}
 use Rattle.std.proofs.Common.{◌||◌, nat_eq, nat_lt, cond, is_some, bit_and, List, [], ◌∷◌, length, remove, get_or, All}
 use Rattle.std.proofs.Common.{Option, Some, None}
 use Rattle.std.proofs.Common.{Ok, arith}
@@ -8,21 +8,17 @@ use Rattle.std.proofs.lemmas.Bool.{eqb-true}
 use Rattle.std.proofs.lemmas.List.Elements.{All-nil, All-cons}
 use Rattle.std.proofs.lemmas.List.Sums.{position_or_len_is}
 use Rattle.std.specs.Prelude.{ℤ, pos, neg_ℤ, int_le, ◌+ℤ◌, ◌≤ℤ◌, if◌then◌else◌}
-use Rattle.std.specs.FinMap.{get}
 use Rattle.std.specs.List.{list_any}
 use Rattle.std.specs.Ordering.{is_eq}
 use Rattle.ledger_types.specs.declared.ids.AccountId.{AccountId}
 use Rattle.ledger_types.specs.declared.asset.Asset.TheVariants as asset
 use Rattle.ledger_types.specs.declared.account.AccountEntry.{AccountEntry}
-use Rattle.ledger_types.specs.declared.entry.LedgerEntry.{LedgerEntry}
-use Rattle.ledger_types.specs.declared.key.LedgerKey.{LedgerKey}
 use Rattle.ledger_types.specs.declared.key.LedgerKey.TheVariants as key
 use Rattle.ledger_types.specs.declared.signer.Signer.{Signer}
 use Rattle.ledger_types.specs.Ids.{account_of}
-use Rattle.ledger_types.specs.Keys.{key_of}
 use Rattle.ledger_types.specs.KeyOrder.{asset_cmp, signer_key_cmp}
 use Rattle.entry_map.specs.EntryMap.{EntryMap, erase}
-use Rattle.entry_slots.specs.Accounts.{account_of as account_in_entry, account_at, with_account, HasAccount}
+use Rattle.entry_slots.specs.Accounts.{account_of as account_in_entry, account_at, with_account}
 use Rattle.entry_slots.specs.AccountExtensions.{num_sponsoring, signer_sponsor}
 use Rattle.entry_slots.specs.EntrySponsor.{sponsor_of}
 use Rattle.entry_slots.specs.Tests.{Tests}
@@ -35,7 +31,7 @@ use Rattle.sponsor_rules.specs.Counting.{count_in, with_less}
 use Rattle.sponsor_rules.specs.Paying.{map_after_releasing, without_subentry}
 use Rattle.sponsor_rules.specs.Payers.{is_same_account}
 use Rattle.sponsor_rules.specs.Removing.{map_without_charge, map_after_removing, map_after_removing_entry}
-use Rattle.sponsor_rules.specs.SignerPlace.{place_of, found_at, found_signer, without_signer}
+use Rattle.sponsor_rules.specs.SignerPlace.{place_of, found_at, found_signer}
 use Rattle.sponsor_rules.specs.Signers.{without_counted_signer, map_without_signer, map_after_removing_signer}
 use Rattle.sponsor_rules.proofs.Ids.{same_account, apart_accounts}
 use Rattle.sponsor_rules.proofs.Keeping.{with_count_is, with_count_keeps, counts_edited}
@@ -50,7 +46,7 @@ use Rattle.legal_rules.proofs.Merging.{removed_account}
 use Rattle.legal_rules.proofs.PaidFor.{nothing_settled}
 use Rattle.legal_rules.proofs.Places.{account_after, account_elsewhere}
 use Rattle.legal_rules.proofs.SignersKept.{counts_sponsoring, paid_by_other, signer_removed}
-use Rattle.legal_rules.proofs.Steps.{IsAccountEntry, account_entry, legal_as}
+use Rattle.legal_rules.proofs.Steps.{account_entry, legal_as}
 use Rattle.op_types.specs.declared.account_ops.AccountMergeOp.{AccountMergeOp}
 use Rattle.op_types.specs.declared.account_results.AccountMergeResult.TheVariants as merge
 use Rattle.op_types.specs.declared.operation_result.OperationResult.{OperationResult}

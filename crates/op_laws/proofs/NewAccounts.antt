@@ -1,6 +1,6 @@
 -- CREATE_ACCOUNT is lawful.
-use Rattle.std.proofs.Common.{◌≡◌, ◌≢◌, refl, sym, ap, subst, ◌∙◌, ℕ, ◌+◌, ◌*◌, ◌^◌, ◌<◌, ◌≤◌, Bool, true, false, ◌||◌}
-use Rattle.std.proofs.Common.{is_some, List, [], ◌∷◌, length, Option, Some, None, Ok, inl, inr, arith}
+use Rattle.std.proofs.Common.{◌≡◌, ◌≢◌, refl, sym, ap, subst, ◌∙◌, ℕ, ◌+◌, ◌*◌, ◌^◌, ◌<◌, ◌≤◌, true, false, ◌||◌}
+use Rattle.std.proofs.Common.{is_some, List, [], ◌∷◌, length, Option, Some, None, Ok, inl, arith}
 use Rattle.std.proofs.lemmas.Int.{ints}
 use Rattle.std.specs.Prelude.{ℤ, pos, neg_ℤ, int_lt, ◌+ℤ◌, ◌-ℤ◌, ◌*ℤ◌, ◌≤ℤ◌, if◌then◌else◌}
 use Rattle.std.specs.FinMap.{get}
@@ -45,11 +45,10 @@ use Rattle.legal_rules.proofs.Steps.{legal_as}
 use Rattle.op_types.specs.declared.account_ops.CreateAccountOp.{CreateAccountOp}
 use Rattle.op_types.specs.declared.operation_result.OperationResult.{OperationResult}
 use Rattle.op_types.specs.declared.payment_results.CreateAccountResult.TheVariants as create
-use Rattle.op_account.specs.CreateAccount.{answer, new_account, new_entry, start_tests, start_move, added_and_paid}
+use Rattle.op_account.specs.CreateAccount.{answer, new_account, new_entry, start_tests, added_and_paid}
 use Rattle.op_account.specs.CreateAccount.{create_account}
 use Rattle.op_form.specs.Done.{Done}
 use Rattle.op_form.specs.Lumens.{map_after_debit}
-use Rattle.op_form.specs.Sequences.{first_seq}
 use Rattle.entry_slots.specs.Tests.{Tests}
 use Rattle.op_laws.specs.Laws.{IsLawful, AreLawful}
 use Rattle.op_laws.specs.Underway.{IsUnderway}
@@ -58,7 +57,7 @@ use Rattle.op_laws.proofs.Lawful.{KeepsLegal, lawful_here}
 use Rattle.op_laws.proofs.Lumens.{lumens_move, lumens_gained, none_issued}
 use Rattle.op_laws.proofs.Numbers.{still_available}
 use Rattle.op_laws.proofs.Paying.{IsGiven, not_less, given, given_legal, given_left, given_back}
-use Rattle.op_laws.proofs.Reserves.{IsCharged, reserves_of, pays_more, paid_more}
+use Rattle.op_laws.proofs.Reserves.{reserves_of, pays_more, paid_more}
 use Rattle.op_laws.proofs.Standing.{IsKeyed, IsAfter, Leaves, for_one, none_more, is_itself_after, leaves_both}
 use Rattle.op_laws.proofs.Standing.{leaves_as}
 use Rattle.op_laws.proofs.Standing.{keyed_put}

@@ -1,5 +1,5 @@
 -- Lumens that an account gives and takes.
-use Rattle.std.proofs.Common.{◌≡◌, refl, sym, ap, subst, ◌∙◌, ℕ, Bool, true, false, Option, Some, None, inl, inr, arith}
+use Rattle.std.proofs.Common.{◌≡◌, refl, subst, ℕ, Bool, true, false, Option, Some, None, inl, inr, arith}
 use Rattle.std.proofs.lemmas.Int.{ints}
 use Rattle.std.specs.Prelude.{ℤ, pos, neg_ℤ, ◌+ℤ◌, ◌-ℤ◌, ◌≤ℤ◌, if◌then◌else◌}
 use Rattle.std.specs.Ordering.{is_lt, int_cmp}
@@ -18,7 +18,7 @@ use Rattle.legal_rules.proofs.Covered.{not_above_balance}
 use Rattle.legal_rules.proofs.Paid.{paid_legal, debit_legal}
 use Rattle.op_form.specs.Lumens.{with_less_lumens, map_after_debit_of, map_after_debit, with_more_lumens}
 use Rattle.op_form.specs.Lumens.{map_after_credit_of, map_after_credit}
-use Rattle.op_laws.proofs.Standing.{IsKeyed, IsNext, Leaves, for_one, account_changed}
+use Rattle.op_laws.proofs.Standing.{IsKeyed, Leaves, for_one, account_changed}
 
 pub not_less : (x y : ℤ) → is_lt (int_cmp x y) ≡ false → y ≤ℤ x
 not_less x y h = grind (arith, ints)

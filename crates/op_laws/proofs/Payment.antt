@@ -1,5 +1,5 @@
 -- PAYMENT of lumens is lawful.
-use Rattle.std.proofs.Common.{◌≡◌, refl, sym, ap, subst, ◌∙◌, ℕ, Bool, true, false, [], ◌∷◌, Some, Ok, arith}
+use Rattle.std.proofs.Common.{◌≡◌, refl, sym, subst, Bool, true, false, [], ◌∷◌, Ok, arith}
 use Rattle.std.proofs.lemmas.Int.{ints}
 use Rattle.std.specs.Prelude.{ℤ, pos, int_le, ◌+ℤ◌, ◌≤ℤ◌, if◌then◌else◌}
 use Rattle.std.specs.Ordering.{is_eq}
@@ -9,7 +9,6 @@ use Rattle.ledger_types.specs.declared.asset.Asset.TheVariants as asset
 use Rattle.ledger_types.specs.Ids.{account_of}
 use Rattle.ledger_types.specs.KeyOrder.{asset_cmp}
 use Rattle.entry_map.specs.EntryMap.{EntryMap}
-use Rattle.entry_slots.specs.Accounts.{HasAccount}
 use Rattle.sponsor_rules.specs.declared.context.Ctx.{Ctx}
 use Rattle.sponsor_rules.specs.Payers.{is_same_account}
 use Rattle.sponsor_rules.proofs.Ids.{same_account}
@@ -25,10 +24,10 @@ use Rattle.op_payment.specs.Payment.{answer, destination_tests, paid, payment_in
 use Rattle.op_payment.specs.Payment.{taken_and_given}
 use Rattle.op_laws.specs.Laws.{IsLawful, AreLawful}
 use Rattle.op_laws.specs.Underway.{IsUnderway}
-use Rattle.op_laws.proofs.Lawful.{KeepsLegal, lawful_here}
+use Rattle.op_laws.proofs.Lawful.{lawful_here}
 use Rattle.op_laws.proofs.Lumens.{lumens_move, lumens_gained, nothing_gained, none_issued}
 use Rattle.op_laws.proofs.Paying.{taken, given, taken_legal, taken_left, given_legal, given_left, given_back}
-use Rattle.op_laws.proofs.Standing.{for_one, none_more, leaves_itself, leaves_both}
+use Rattle.op_laws.proofs.Standing.{none_more, leaves_itself, leaves_both}
 use Rattle.op_laws.proofs.Tests.{went_on, first_passed, went_after_some}
 
 above : (n : ℤ) → int_le n (pos 0) ≡ false → pos 0 ≤ℤ n

@@ -1,19 +1,18 @@
 -- What an account can spend after counts of it change: what adding, moving and removing do to available balances.
-use Rattle.std.proofs.Common.{◌≡◌, ◌≢◌, ◌⊎◌, inl, inr, refl, sym, ap, subst, ◌∙◌, ℕ, ◌+◌, ◌-◌, ◌*◌, ◌≤◌, false, length}
-use Rattle.std.proofs.Common.{Bool, true, Option, Some, None, arith}
+use Rattle.std.proofs.Common.{◌≡◌, ◌⊎◌, inl, inr, refl, sym, ap, subst, ◌∙◌, ℕ, ◌+◌, ◌-◌, ◌*◌, ◌≤◌, false, length}
+use Rattle.std.proofs.Common.{Option, Some, None, arith}
 use Rattle.std.proofs.lemmas.Int.{ints}
 use Rattle.std.specs.Prelude.{ℤ, pos, neg_ℤ, ◌+ℤ◌, ◌-ℤ◌, ◌*ℤ◌, ◌≤ℤ◌}
 use Rattle.std.specs.Ordering.{is_lt, int_cmp}
 use Rattle.ledger_types.specs.declared.ids.AccountId.{AccountId}
 use Rattle.ledger_types.specs.declared.account.AccountEntry.{AccountEntry}
-use Rattle.ledger_types.specs.declared.price.Liabilities.{Liabilities}
 use Rattle.entry_slots.specs.AccountExtensions.{account_liabilities, num_sponsoring, num_sponsored}
 use Rattle.reserve_rules.specs.Reserve.{available}
 use Rattle.sponsor_rules.specs.declared.count.Count.{Count}
 use Rattle.sponsor_rules.specs.declared.count.Count.TheVariants as count
 use Rattle.sponsor_rules.specs.Counting.{count_in, with_count, with_more, with_less}
 use Rattle.sponsor_rules.specs.Keeping.{KeepsMeans}
-use Rattle.sponsor_rules.specs.Paying.{with_more_paid, with_less_paid, with_subentry, without_subentry}
+use Rattle.sponsor_rules.specs.Paying.{with_subentry, without_subentry}
 use Rattle.sponsor_rules.specs.Paying.{with_other_payer}
 use Rattle.sponsor_rules.specs.Payers.{is_short}
 use Rattle.sponsor_rules.proofs.Keeping.{with_count_is, with_count_keeps, with_count_means, means_kept}

@@ -1,8 +1,7 @@
 -- REVOKE_SPONSORSHIP is lawful.
-use Rattle.std.proofs.Common.{◌≡◌, ◌≢◌, refl, sym, ap, subst, ◌∙◌, ℕ, ◌+◌, ◌*◌, ◌≤◌, Bool, true, false, [], ◌∷◌, length}
-use Rattle.std.proofs.Common.{List, Option, Some, None, Ok, slice_set, arith, inl, inr}
-use Rattle.std.proofs.lemmas.Int.{ints}
-use Rattle.std.specs.Prelude.{ℤ, pos, ◌≤ℤ◌}
+use Rattle.std.proofs.Common.{◌≡◌, subst, ℕ, [], ◌∷◌}
+use Rattle.std.proofs.Common.{List, Option, Some, None, Ok, slice_set}
+use Rattle.std.specs.Prelude.{pos}
 use Rattle.std.specs.FinMap.{get}
 use Rattle.ledger_types.specs.declared.ids.AccountId.{AccountId}
 use Rattle.ledger_types.specs.declared.account.AccountEntry.{AccountEntry}
@@ -16,24 +15,21 @@ use Rattle.entry_slots.specs.Tests.{first_fault}
 use Rattle.sponsor_rules.specs.declared.charge.Charge.{Charge}
 use Rattle.sponsor_rules.specs.declared.charge.Charge.TheVariants as charge
 use Rattle.sponsor_rules.specs.declared.context.Ctx.{Ctx}
-use Rattle.sponsor_rules.specs.declared.count.Count.{Count}
 use Rattle.sponsor_rules.specs.declared.signer_place.FoundSigner.{FoundSigner}
 use Rattle.sponsor_rules.specs.Charge.{charge_of}
 use Rattle.sponsor_rules.specs.Moving.{map_with_sponsor, map_after_moving_balance, map_after_moving_by}
 use Rattle.sponsor_rules.specs.Moving.{map_after_moving_entry, map_after_moving}
 use Rattle.sponsor_rules.specs.Paying.{map_after_exchange, with_other_payer}
 use Rattle.sponsor_rules.specs.Payers.{open_sponsor, payer_other_than, payer_tests_at, move_tests_at}
-use Rattle.sponsor_rules.specs.SignerPlace.{found_signer, with_signer_sponsor}
+use Rattle.sponsor_rules.specs.SignerPlace.{found_signer}
 use Rattle.sponsor_rules.specs.Signers.{with_moved_signer, map_after_moving_signer_between, map_after_moving_found}
 use Rattle.sponsor_rules.specs.Signers.{map_after_moving_signer}
 use Rattle.sponsor_rules.proofs.Keeping.{counts_edited, with_sponsors_means}
-use Rattle.reserve_rules.specs.Reserve.{available}
 use Rattle.legal_rules.specs.Owing.{nothing_owed}
 use Rattle.legal_rules.proofs.Given.{sponsors_ready}
 use Rattle.legal_rules.proofs.Kept.{entry_moved_so}
 use Rattle.legal_rules.proofs.PaidFor.{nothing_settled}
 use Rattle.legal_rules.proofs.SignersKept.{signer_moved as signer_moved_so}
-use Rattle.op_types.specs.declared.operation_result.OperationResult.{OperationResult}
 use Rattle.op_types.specs.declared.sponsor_ops.RevokeSponsorshipOp.{RevokeSponsorshipOp}
 use Rattle.op_types.specs.declared.sponsor_ops.RevokeSponsorshipOp.TheVariants as revoked
 use Rattle.op_types.specs.declared.sponsor_results.RevokeSponsorshipResult.TheVariants as revoke
@@ -42,7 +38,7 @@ use Rattle.op_sponsor.specs.RevokeSponsorship.{answer, is_malformed, entry_tests
 use Rattle.op_sponsor.specs.RevokeSponsorship.{signer_tests, signer_moved, revoke_sponsorship}
 use Rattle.op_laws.specs.Laws.{IsLawful, AreLawful}
 use Rattle.op_laws.specs.Underway.{IsUnderway}
-use Rattle.op_laws.proofs.Charges.{exchanged_kept, exchange_kept, payers_had, next_payer, payer_had, moved_between}
+use Rattle.op_laws.proofs.Charges.{exchanged_kept, exchange_kept, payers_had, next_payer, moved_between}
 use Rattle.op_laws.proofs.Charges.{sponsor_kept}
 use Rattle.op_laws.proofs.Lawful.{lawful_still}
 use Rattle.op_laws.proofs.Reserves.{next_edited}

@@ -1,5 +1,5 @@
 -- SET_OPTIONS is lawful.
-use Rattle.std.proofs.Common.{◌≡◌, ◌≢◌, ◌⊎◌, inl, inr, refl, sym, ap, subst, ◌∙◌, ℕ, ◌+◌, ◌<◌, ◌≤◌, Bool, true, false}
+use Rattle.std.proofs.Common.{◌≡◌, ◌≢◌, inl, inr, refl, sym, ap, subst, ◌∙◌, ℕ, ◌<◌, ◌≤◌, Bool, true, false}
 use Rattle.std.proofs.Common.{cond, not, ◌&&◌, ◌||◌, nat_eq, nat_lt, nat_le, bit_and, List, [], ◌∷◌, length, get_or}
 use Rattle.std.proofs.Common.{All}
 use Rattle.std.proofs.Common.{insert, Option, Some, None, Result, Ok, arith}
@@ -8,12 +8,11 @@ use Rattle.std.proofs.lemmas.List.Edits.{length-insert}
 use Rattle.std.proofs.lemmas.List.Quantifiers.{position-Some}
 use Rattle.std.proofs.lemmas.List.Sums.{prefix_len-le-length, fails_before_first}
 use borrow.Author.Tests.{ltb-false}
-use Rattle.std.specs.Prelude.{ℤ, pos, unwrap_or, ◌+ℤ◌, ◌≤ℤ◌, if◌then◌else◌}
-use Rattle.std.specs.List.{position, position_or_len}
+use Rattle.std.specs.Prelude.{ℤ, pos, unwrap_or, ◌+ℤ◌, if◌then◌else◌}
+use Rattle.std.specs.List.{position_or_len}
 use Rattle.std.specs.Ordering.{is_lt, is_eq, ordering_reverse}
 use Rattle.std.specs.declared.cmp.Ordering.{Ordering}
 use Rattle.std.specs.declared.cmp.Ordering.TheVariants.{Less, Equal, Greater}
-use Rattle.std.specs.Str.{bytes_eq}
 use Rattle.std.proofs.lemmas.Slice.Eq.{bytes_eq-Decides}
 use Rattle.ledger_types.specs.declared.ids.AccountId.{AccountId}
 use Rattle.ledger_types.specs.declared.account.AccountEntry.{AccountEntry}
@@ -24,17 +23,16 @@ use Rattle.ledger_types.specs.KeyOrder.{signer_key_cmp}
 use Rattle.ledger_types.proofs.KeyOrdering.{signer_keys_total, signer_keys_exact}
 use Rattle.valid_values.specs.Texts.{is_valid_text}
 use Rattle.entry_map.specs.EntryMap.{EntryMap}
-use Rattle.entry_slots.specs.Accounts.{account_at, with_account, HasAccount}
+use Rattle.entry_slots.specs.Accounts.{account_at, with_account}
 use Rattle.entry_slots.specs.AccountExtensions.{signer_sponsor}
 use Rattle.entry_slots.specs.Tests.{Tests, first_fault}
 use Rattle.sponsor_rules.specs.declared.context.Ctx.{Ctx}
 use Rattle.sponsor_rules.specs.declared.count.Count.TheVariants as count
-use Rattle.sponsor_rules.specs.declared.signer_place.FoundSigner.{FoundSigner}
 use Rattle.sponsor_rules.specs.Counting.{with_more}
 use Rattle.sponsor_rules.specs.Keeping.{KeepsMeans}
-use Rattle.sponsor_rules.specs.Paying.{map_after_charging, map_after_releasing, with_subentry, without_subentry}
+use Rattle.sponsor_rules.specs.Paying.{map_after_charging, map_after_releasing, with_subentry}
 use Rattle.sponsor_rules.specs.Payers.{open_sponsor, subentry_tests_at}
-use Rattle.sponsor_rules.specs.SignerPlace.{place_for, place_of, found_at, found_signer, with_signer, without_signer}
+use Rattle.sponsor_rules.specs.SignerPlace.{place_for, place_of, found_at, found_signer}
 use Rattle.sponsor_rules.specs.Signers.{with_counted_signer, map_with_signer, map_after_adding_signer}
 use Rattle.sponsor_rules.specs.Signers.{without_counted_signer, map_without_signer, map_after_removing_signer}
 use Rattle.sponsor_rules.proofs.Keeping.{counts_edited, with_sponsors_means, means_kept_twice}
@@ -60,7 +58,7 @@ use Rattle.op_types.specs.declared.operation_result.OperationResult.{OperationRe
 use Rattle.op_types.specs.declared.operation_result.OperationResult.TheVariants.{NoAccount}
 use Rattle.op_form.specs.Done.{Done}
 use Rattle.op_form.specs.Steps.{unless_refused, after_charge}
-use Rattle.op_options.specs.OptionSigner.{with_signer_set, count_tests, map_after_new_signer, map_after_weighing}
+use Rattle.op_options.specs.OptionSigner.{with_signer_set, count_tests, map_after_weighing}
 use Rattle.op_options.specs.OptionSigner.{map_after_signer}
 use Rattle.op_options.specs.OptionTests.{answer, flags_in, has_unknown, is_out_of_range, is_own_key, is_bad_signer}
 use Rattle.op_options.specs.OptionTests.{is_bad_domain, given_tests, inflation_tests, new_flags, source_tests}

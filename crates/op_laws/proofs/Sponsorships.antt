@@ -1,13 +1,12 @@
 -- BEGIN_SPONSORING_FUTURE_RESERVES and END_SPONSORING_FUTURE_RESERVES are lawful.
-use Rattle.std.proofs.Common.{◌≡◌, ◌≢◌, refl, sym, ap, subst, ◌∙◌, ℕ, suc, take, drop, ◌<◌, Bool, true, false, cond}
+use Rattle.std.proofs.Common.{◌≡◌, ◌≢◌, refl, sym, subst, ℕ, suc, take, drop, ◌<◌, Bool, true, false, cond}
 use Rattle.std.proofs.Common.{◌||◌, is_some, List}
-use Rattle.std.proofs.Common.{[], ◌∷◌, ◌++◌, length, get_or, All, AllPairs, Option, Some, None, Ok, arith}
+use Rattle.std.proofs.Common.{[], ◌∷◌, ◌++◌, length, get_or, All, Option, Some, None}
 use Rattle.std.proofs.lemmas.List.Elements.{All-nil, All-cons, All-append, All-take, All-drop, All-push}
 use Rattle.std.proofs.lemmas.List.Quantifiers.{all_pairs_push, all_pairs_remove, position-Some}
-use Rattle.std.specs.List.{find, position, remove}
+use Rattle.std.specs.List.{find, remove}
 use Rattle.std.specs.Option.{option_map}
 use Rattle.ledger_types.specs.declared.ids.AccountId.{AccountId}
-use Rattle.ledger_types.specs.declared.asset.Asset.TheVariants as asset
 use Rattle.entry_map.specs.EntryMap.{EntryMap}
 use Rattle.entry_slots.specs.Accounts.{HasAccount, account_at}
 use Rattle.entry_slots.specs.Tests.{Tests}
@@ -26,7 +25,7 @@ use Rattle.op_form.specs.Steps.{success}
 use Rattle.op_sponsor.specs.BeginSponsoringFutureReserves as begins
 use Rattle.op_sponsor.specs.EndSponsoringFutureReserves as ends
 use Rattle.op_laws.specs.Laws.{IsLawful, AreLawful}
-use Rattle.op_laws.specs.Underway.{IsUnderway, KeepsTerms}
+use Rattle.op_laws.specs.Underway.{IsUnderway}
 use Rattle.op_laws.proofs.Lawful.{lawful_by}
 use Rattle.op_laws.proofs.Lumens.{no_moves, nothing_issued}
 use Rattle.op_laws.proofs.Standing.{none_more, is_itself_after}

@@ -1,6 +1,6 @@
 -- What a change leaves of the accounts of a map: who stands, with which lumens, with what is available, and with how
 -- many signers.
-use Rattle.std.proofs.Common.{◌≡◌, ◌≢◌, ◌⊎◌, inl, inr, refl, sym, ap, subst, ◌∙◌, ℕ, ◌≤◌, Bool, true, false, length}
+use Rattle.std.proofs.Common.{◌≡◌, ◌⊎◌, inl, inr, refl, sym, ap, subst, ◌∙◌, ℕ, ◌≤◌, Bool, true, false, length}
 use Rattle.std.proofs.Common.{Option, Some, None, arith}
 use Rattle.std.proofs.lemmas.Int.{ints}
 use Rattle.std.specs.Prelude.{ℤ, pos, ◌+ℤ◌, ◌≤ℤ◌, if◌then◌else◌}
@@ -10,9 +10,8 @@ use Rattle.ledger_types.specs.declared.account.AccountEntry.{AccountEntry}
 use Rattle.ledger_types.specs.declared.entry.LedgerEntry.{LedgerEntry}
 use Rattle.ledger_types.specs.declared.entry.LedgerEntryBody.{LedgerEntryBody}
 use Rattle.ledger_types.specs.declared.entry.LedgerEntryBody.TheVariants as body
-use Rattle.ledger_types.specs.declared.key.LedgerKey.{LedgerKey}
 use Rattle.ledger_types.specs.declared.key.LedgerKey.TheVariants as key
-use Rattle.ledger_types.specs.Keys.{key_of, key_of_body}
+use Rattle.ledger_types.specs.Keys.{key_of}
 use Rattle.entry_map.specs.EntryMap.{EntryMap, put}
 use Rattle.entry_map.proofs.KeyMaps.{same_keys, same_itself}
 use Rattle.entry_slots.specs.Accounts.{account_in, account_of, account_at, with_account, with_account_in}
@@ -22,11 +21,11 @@ use Rattle.entry_sums.specs.Sums.{EachEntry}
 use Rattle.entry_sums.proofs.Lookups.{put_each, put_there, put_elsewhere}
 use Rattle.reserve_rules.specs.Reserve.{available}
 use Rattle.sponsor_rules.specs.Payers.{is_same_account}
-use Rattle.sponsor_rules.proofs.Ids.{same_account, apart_accounts, is_itself}
+use Rattle.sponsor_rules.proofs.Ids.{same_account, apart_accounts}
 use Rattle.legal_rules.specs.EntryKeys.{is_key}
 use Rattle.legal_rules.proofs.Places.{account_after, account_elsewhere}
 use Rattle.legal_rules.proofs.Steps.{account_entry, with_account_is, with_body}
-use Rattle.op_laws.specs.Moves.{lumens_in, lumens_at}
+use Rattle.op_laws.specs.Moves.{lumens_in}
 
 abbrev pub IsKeyed : EntryMap → Type 0
 IsKeyed m = EachEntry (λ k e. key_of e ≡ k) m

@@ -1,6 +1,5 @@
 -- What has passed: tests that let a step through, and steps of operations that went on.
 use Rattle.std.proofs.Common.{◌≡◌, refl, Bool, true, false, ◌||◌, ◌∷◌, Option, Some, None, Result, Ok, Err}
-use Rattle.std.specs.Prelude.{if◌then◌else◌}
 use Rattle.op_types.specs.declared.operation_result.OperationResult.{OperationResult}
 use Rattle.entry_map.specs.EntryMap.{EntryMap}
 use Rattle.entry_slots.specs.Tests.{Tests, first_fault, unless_fault, unless_first}

@@ -1,0 +1,136 @@
+//! Ledgers to which operations may be applied: every account is in its ranges, and others may pay for it.
+
+ghost use Rattle.std.specs.Prelude.{◌≡◌, ◌<◌, true, Some, [], IfOk, OnOk};
+ghost use Rattle.std.specs.FinMap.{from_entries};
+ghost use Rattle.ledger_types.specs.declared.account.AccountEntry.{AccountEntry as AnAccount};
+ghost use Rattle.entry_slots.specs.Accounts.{account_in, HasAccount};
+ghost use Rattle.reserve_rules.specs.Reserve.{IsInRange};
+ghost use Rattle.sponsor_rules.specs.Payers.{IsReadyAccount};
+ghost use Rattle.op_cases.specs.Ready.{IsReadyLedger};
+
+use entry_map::{Entries, MapBase};
+use entry_slots::{account_liabilities, num_sponsored};
+use ledger_types::{AccountEntry, LedgerEntry, LedgerEntryBody};
+use op_form::stands;
+use op_types::{Operation, OperationBody, OperationResult};
+use sponsor_rules::Ctx;
+use std::alloc::{AllocError, Global};
+
+/// A base without entries.
+pub fn no_entries(alloc: Global) -> Result<MapBase, AllocError>
+    ensures { IfOk result (λ base. base ≡ from_entries []) }
+{
+    MapBase::from_entries(Vec::new(alloc))
+}
+
+/// Whether balance and liabilities are in their ranges.
+fn is_in_range(account: &AccountEntry) -> bool
+    ensures { result ≡ true → IsInRange account.now }
+{
+    let liabilities = account_liabilities(account);
+    if account.balance < 0 {
+        return false;
+    }
+    if liabilities.buying < 0 {
+        return false;
+    }
+    if liabilities.selling < 0 {
+        return false;
+    }
+    account.balance <= i64::MAX - liabilities.buying
+}
+
+/// Whether others may pay for an account.
+fn is_ready(account: &AccountEntry) -> bool
+    ensures { result ≡ true → IsReadyAccount account.now }
+{
+    num_sponsored(account) <= u32::MAX - 2
+}
+
+fn is_fine_account(account: &AccountEntry) -> bool
+    ensures ready { result ≡ true → IsReadyAccount account.now }
+    ensures range { result ≡ true → IsInRange account.now }
+{
+    is_ready(account) && is_in_range(account)
+}
+
+fn is_fine(entry: &LedgerEntry) -> bool
+    ensures ready { result ≡ true →
+        (account : AnAccount) → account_in entry.now.body ≡ Some account → IsReadyAccount account }
+    ensures range { result ≡ true →
+        (account : AnAccount) → account_in entry.now.body ≡ Some account → IsInRange account }
+{
+    match &entry.body {
+        LedgerEntryBody::Account(account) => is_fine_account(account),
+        _ => true,
+    }
+}
+
+/// Puts an entry, or answers false where operations could not be applied beside it.
+fn put(entries: &mut Entries<'_, MapBase>, entry: LedgerEntry) -> Result<bool, AllocError>
+    requires { IsReadyLedger entries.old.current }
+    ensures { OnOk result (IsReadyLedger entries.new.current) }
+{
+    if !is_fine(&entry) {
+        return Ok(false);
+    }
+    entries.put(entry)?;
+    Ok(true)
+}
+
+/// Puts entries, or answers false where operations could not be applied beside one of them.
+pub fn put_all(
+    entries: &mut Entries<'_, MapBase>,
+    list: Vec<LedgerEntry>,
+) -> Result<bool, AllocError>
+    requires { IsReadyLedger entries.old.current }
+    ensures { OnOk result (IsReadyLedger entries.new.current) }
+{
+    for entry in list {
+        if !put(entries, entry)? {
+            return Ok(false);
+        }
+    }
+    Ok(true)
+}
+
+/// Applies an operation, or answers none where it may not be: its source doesn't stand, or the ledger is the last.
+pub fn applied(
+    op: &Operation,
+    ctx: &mut Ctx,
+    entries: &mut Entries<'_, MapBase>,
+) -> Result<Option<OperationResult>, AllocError>
+    requires { IsReadyLedger entries.old.current }
+{
+    if ctx.seq >= 2_147_483_647 {
+        return Ok(None);
+    }
+    if !stands(entries, &ctx.op_source)? {
+        return Ok(None);
+    }
+    applied_by_type(op, ctx, entries).map(Some)
+}
+
+fn applied_by_type(
+    op: &Operation,
+    ctx: &mut Ctx,
+    entries: &mut Entries<'_, MapBase>,
+) -> Result<OperationResult, AllocError>
+    requires seq { ctx.old.seq < 2147483647 }
+    requires source { HasAccount entries.old.current ctx.old.op_source }
+    requires ready { IsReadyLedger entries.old.current }
+{
+    match &op.body {
+        OperationBody::CreateAccount(_)
+        | OperationBody::AccountMerge(_)
+        | OperationBody::Inflation
+        | OperationBody::BumpSequence(_) => op_account::apply(op, ctx, entries),
+        OperationBody::SetOptions(_) | OperationBody::ManageData(_) => {
+            op_options::apply(op, ctx, entries)
+        }
+        OperationBody::BeginSponsoringFutureReserves(_)
+        | OperationBody::EndSponsoringFutureReserves
+        | OperationBody::RevokeSponsorship(_) => op_sponsor::apply(op, ctx, entries),
+        _ => op_payment::apply(op, ctx, entries),
+    }
+}

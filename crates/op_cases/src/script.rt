@@ -1,0 +1,278 @@
+//! Cases, read line by line: `case NAME`, `ledger BASE_RESERVE SEQ`, entries, open sponsorships, and the operation.
+
+ghost use Rattle.std.specs.Prelude.{◌≡◌, []};
+ghost use Rattle.std.specs.FinMap.{from_entries};
+ghost use Rattle.op_cases.specs.Ready.{IsReadyLedger};
+
+use crate::answers::answer;
+use crate::changes::tell_changes;
+use crate::entries::{account_entry, balance_entry, data_entry};
+use crate::ledger::{applied, no_entries, put_all};
+use crate::operations::operation;
+use crate::words::{account_named, bytes_named, letter_of};
+use entry_map::{Batch, Entries, MapBase};
+use item_list::ItemList;
+use ledger_types::{AccountId, LedgerEntry};
+use op_types::{Operation, OperationResult};
+use sponsor_rules::{Ctx, Sponsorship};
+use std::alloc::{AllocError, Global};
+use std::{io, mem};
+
+/// What the lines so far say.
+#[derive(Drop)]
+pub struct Script {
+    pub entries: Vec<LedgerEntry>,
+    pub ctx: Ctx,
+}
+
+impl Script {
+    /// No entries, in a ledger of which each thing costs half a lumen.
+    pub fn new(alloc: Global) -> Script {
+        Script {
+            entries: Vec::new(alloc),
+            ctx: Ctx {
+                seq: 2,
+                version: 18,
+                base_reserve: 5_000_000,
+                flags: 0,
+                close_time: 0,
+                tx_source: AccountId([0; 32]),
+                tx_seq: 0,
+                op_index: 0,
+                op_source: AccountId([0; 32]),
+                id_pool: 0,
+                sponsorships: ItemList::new(alloc),
+            },
+        }
+    }
+}
+
+/// Takes a base reserve and the number of a ledger. Answers whether they are some.
+fn take_ledger(ctx: &mut Ctx, base_reserve: &str, seq: &str) -> bool {
+    let (Ok(base_reserve), Ok(seq)) = (base_reserve.parse(), seq.parse()) else {
+        return false;
+    };
+    ctx.base_reserve = base_reserve;
+    ctx.seq = seq;
+    true
+}
+
+/// Takes an open sponsorship. Answers whether it is one.
+fn take_open(ctx: &mut Ctx, sponsored: &str, sponsor: &str) -> Result<bool, AllocError> {
+    let (Some(sponsored), Some(sponsor)) = (account_named(sponsored), account_named(sponsor)) else {
+        return Ok(false);
+    };
+    ctx.sponsorships.push(Sponsorship { sponsored, sponsor })?;
+    Ok(true)
+}
+
+fn account_in(
+    alloc: Global,
+    id: &str,
+    balance: &str,
+    fields: &[&str],
+) -> Result<Option<LedgerEntry>, AllocError> {
+    let (Some(id), Ok(balance)) = (account_named(id), balance.parse()) else {
+        return Ok(None);
+    };
+    account_entry(alloc, id, balance, fields)
+}
+
+fn data_in(
+    alloc: Global,
+    id: &str,
+    name: &str,
+    value: &str,
+) -> Result<Option<LedgerEntry>, AllocError> {
+    match account_named(id) {
+        None => Ok(None),
+        Some(id) => data_entry(alloc, id, name, value, None).map(Some),
+    }
+}
+
+fn sponsored_data_in(
+    alloc: Global,
+    id: &str,
+    name: &str,
+    value: &str,
+    sponsor: &str,
+) -> Result<Option<LedgerEntry>, AllocError> {
+    let (Some(id), Some(sponsor)) = (account_named(id), account_named(sponsor)) else {
+        return Ok(None);
+    };
+    data_entry(alloc, id, name, value, Some(sponsor)).map(Some)
+}
+
+fn balance_in(alloc: Global, id: &str, sponsor: &str) -> Result<Option<LedgerEntry>, AllocError> {
+    let (Some(id), Some(sponsor)) = (bytes_named(id), account_named(sponsor)) else {
+        return Ok(None);
+    };
+    balance_entry(alloc, id, Some(sponsor)).map(Some)
+}
+
+/// The entry that a line says, if it says one.
+fn entry_in(alloc: Global, words: &[&str]) -> Result<Option<LedgerEntry>, AllocError> {
+    match *words {
+        ["account", id, balance, ref fields @ ..] => account_in(alloc, id, balance, fields),
+        ["data", id, name, value] => data_in(alloc, id, name, value),
+        ["data", id, name, value, "by", sponsor] => {
+            sponsored_data_in(alloc, id, name, value, sponsor)
+        }
+        ["balance", id, "by", sponsor] => balance_in(alloc, id, sponsor),
+        _ => Ok(None),
+    }
+}
+
+/// Tells an open sponsorship.
+fn tell_open<R: Print>(rt: &R, sponsorship: &Sponsorship) -> io::Result<()> {
+    let sponsored = letter_of(&sponsorship.sponsored.0);
+    let sponsor = letter_of(&sponsorship.sponsor.0);
+    println!(rt; "  open {sponsored} by {sponsor}")
+}
+
+/// Tells the open sponsorships, where their number changed.
+fn tell_sponsorships<R: Print>(rt: &R, ctx: &Ctx, before: usize) -> io::Result<()> {
+    if ctx.sponsorships.len() == before {
+        return Ok(());
+    }
+    if ctx.sponsorships.is_empty() {
+        return println!(rt; "  none open");
+    }
+    for sponsorship in ctx.sponsorships.as_slice() {
+        tell_open(rt, sponsorship)?;
+    }
+    Ok(())
+}
+
+fn tell_answer<R: Print>(rt: &R, answered: &OperationResult) -> io::Result<()> {
+    let (name, code) = answer(answered);
+    println!(rt; "{name} {code}")
+}
+
+/// Tells what an operation answered, and what it changed.
+fn tell_all<R: Print>(
+    rt: &R,
+    answered: &OperationResult,
+    before: &Batch,
+    entries: &Entries<'_, MapBase>,
+) -> io::Result<()> {
+    tell_answer(rt, answered)?;
+    let after = entries.changes()?;
+    tell_changes(rt, before, &after)
+}
+
+/// Applies an operation, and tells what it answers and what changed.
+fn apply_and_tell<R: Print>(
+    rt: &R,
+    before: &Batch,
+    entries: &mut Entries<'_, MapBase>,
+    ctx: &mut Ctx,
+    op: &Operation,
+) -> io::Result<()>
+    requires { IsReadyLedger entries.old.current }
+{
+    match applied(op, ctx, entries)? {
+        None => println!(rt; "not applied"),
+        Some(answered) => tell_all(rt, &answered, before, entries),
+    }
+}
+
+/// Runs the operation of a case, in its ledger.
+fn run_ready<R: Print>(
+    rt: &R,
+    entries: &mut Entries<'_, MapBase>,
+    ctx: &mut Ctx,
+    op: &Operation,
+) -> io::Result<()>
+    requires { IsReadyLedger entries.old.current }
+{
+    let before = entries.changes()?;
+    let open = ctx.sponsorships.len();
+    apply_and_tell(rt, &before, entries, ctx, op)?;
+    tell_sponsorships(rt, ctx, open)
+}
+
+/// Runs the operation of a case, in a ledger of its entries.
+fn run_within<R: Print>(
+    rt: &R,
+    entries: &mut Entries<'_, MapBase>,
+    list: Vec<LedgerEntry>,
+    ctx: &mut Ctx,
+    op: &Operation,
+) -> io::Result<()>
+    requires { entries.old.current ≡ from_entries [] }
+{
+    if !put_all(entries, list)? {
+        return println!(rt; "no ledger for operations");
+    }
+    run_ready(rt, entries, ctx, op)
+}
+
+/// Runs a case.
+fn run<R: Print + AllocGlobal>(rt: &R, script: &mut Script, op: &Operation) -> io::Result<()> {
+    let list = mem::replace(&mut script.entries, Vec::new(rt.alloc()));
+    let base = no_entries(rt.alloc())?;
+    let mut entries = Entries::new(rt.alloc(), &base)?;
+    run_within(rt, &mut entries, list, &mut script.ctx, op)
+}
+
+/// Takes the line of the operation, and runs the case. Answers whether it is one.
+fn run_line<R: Print + AllocGlobal>(
+    rt: &R,
+    script: &mut Script,
+    source: &str,
+    words: &[&str],
+) -> io::Result<bool> {
+    let Some(source) = account_named(source) else {
+        return Ok(false);
+    };
+    let Some(body) = operation(rt.alloc(), words)? else {
+        return Ok(false);
+    };
+    script.ctx.op_source = source;
+    let op = Operation {
+        source_account: None,
+        body,
+    };
+    run(rt, script, &op)?;
+    Ok(true)
+}
+
+/// Takes the line of an entry. Answers whether it is one.
+fn take_entry(alloc: Global, script: &mut Script, words: &[&str]) -> Result<bool, AllocError> {
+    let Some(entry) = entry_in(alloc, words)? else {
+        return Ok(false);
+    };
+    script.entries.push(entry)?;
+    Ok(true)
+}
+
+/// Takes a line that says something of the ledger. Answers whether it is one.
+fn take_line(alloc: Global, script: &mut Script, words: &[&str]) -> Result<bool, AllocError> {
+    match *words {
+        ["ledger", base_reserve, seq] => Ok(take_ledger(&mut script.ctx, base_reserve, seq)),
+        ["open", sponsored, "by", sponsor] => take_open(&mut script.ctx, sponsored, sponsor),
+        _ => take_entry(alloc, script, words),
+    }
+}
+
+/// Begins a case.
+fn begin<R: Print + AllocGlobal>(rt: &R, script: &mut Script, name: &str) -> io::Result<bool> {
+    *script = Script::new(rt.alloc());
+    println!(rt; "{name}")?;
+    Ok(true)
+}
+
+/// Takes a line. Answers whether it is one.
+pub fn read_line<R: Print + AllocGlobal>(
+    rt: &R,
+    script: &mut Script,
+    words: &[&str],
+) -> io::Result<bool> {
+    match *words {
+        [] => Ok(true),
+        ["case", name] => begin(rt, script, name),
+        ["op", source, ref words @ ..] => run_line(rt, script, source, words),
+        _ => Ok(take_line(rt.alloc(), script, words)?),
+    }
+}

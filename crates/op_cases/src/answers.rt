@@ -1,6 +1,6 @@
 //! What operations answer, by the protocol's names and numbers.
 
-use op_types::{Coded, OperationResult, OperationResultTr};
+use op_types::{AccountMergeResult, Coded, OperationResult, OperationResultTr};
 
 /// The operation's name and the code of its result.
 fn own_answer(answer: &OperationResultTr) -> (&'static str, i32) {
@@ -15,6 +15,16 @@ fn own_answer(answer: &OperationResultTr) -> (&'static str, i32) {
         OperationResultTr::EndSponsoringFutureReserves(code) => ("end_sponsoring", code.code()),
         OperationResultTr::RevokeSponsorship(code) => ("revoke", code.code()),
         _ => ("another operation", 0),
+    }
+}
+
+/// The lumens that a merge says it moved.
+pub fn moved_balance(answered: &OperationResult) -> Option<i64> {
+    match answered {
+        OperationResult::Inner(
+            OperationResultTr::AccountMerge(AccountMergeResult::Success(moved)),
+        ) => Some(*moved),
+        _ => None,
     }
 }
 

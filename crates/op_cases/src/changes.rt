@@ -2,10 +2,11 @@
 
 use crate::words::letter_of;
 use entry_map::Batch;
-use entry_slots::{account_liabilities, num_sponsored, num_sponsoring, signer_sponsor, sponsor_in};
+use entry_slots::{account_liabilities, signer_sponsor};
 use ledger_types::{
-    AccountEntry, AccountId, ClaimableBalanceEntry, DataEntry, LedgerEntry, LedgerEntryBody,
-    Signer, SignerKey,
+    AccountEntry, AccountEntryExtensionV2, AccountId, ClaimableBalanceEntry, DataEntry,
+    LedgerEntry, LedgerEntryBody, LedgerEntryExtensionV1, OfferEntry, Signer, SignerKey,
+    TrustLineAsset, TrustLineEntry,
 };
 use std::alloc::AllocError;
 use std::io;
@@ -38,14 +39,32 @@ fn tell_sponsor<R: Print>(rt: &R, sponsor: Option<AccountId>) -> io::Result<()> 
     }
 }
 
+/// Who pays for an entry, where it has the extension for a sponsor.
+fn tell_payer<R: Print>(rt: &R, ext: &Option<LedgerEntryExtensionV1>) -> io::Result<()> {
+    match ext {
+        None => Ok(()),
+        Some(
+            LedgerEntryExtensionV1 {
+                sponsoring_id: None,
+            },
+        ) => print!(rt; " by nobody"),
+        Some(ext) => tell_sponsor(rt, ext.sponsoring_id),
+    }
+}
+
+/// A signer's kind and letter.
+fn kind_and_letter(key: &SignerKey) -> (&'static str, char) {
+    match key {
+        SignerKey::Ed25519(key) => ("key", letter_of(key)),
+        SignerKey::PreAuthTx(hash) => ("preauth", letter_of(&hash.0)),
+        SignerKey::HashX(hash) => ("signer", letter_of(&hash.0)),
+    }
+}
+
 fn tell_signer<R: Print>(rt: &R, signer: &Signer, sponsor: Option<AccountId>) -> io::Result<()> {
-    let letter = match &signer.key {
-        SignerKey::Ed25519(key) => letter_of(key),
-        SignerKey::PreAuthTx(hash) => letter_of(&hash.0),
-        SignerKey::HashX(hash) => letter_of(&hash.0),
-    };
+    let (kind, letter) = kind_and_letter(&signer.key);
     let weight = signer.weight;
-    print!(rt; " signer {letter}:{weight}")?;
+    print!(rt; " {kind} {letter}:{weight}")?;
     tell_sponsor(rt, sponsor)
 }
 
@@ -82,7 +101,8 @@ fn tell_inflation<R: Print>(rt: &R, account: &AccountEntry) -> io::Result<()> {
     }
 }
 
-/// What an account has, but nothing that is 0 or none.
+/// What an account has, but nothing that is 0 or none. Where it has the extension for counts of sponsorship, both are
+/// told.
 fn tell_account<R: Print>(rt: &R, account: &AccountEntry) -> io::Result<()> {
     let letter = letter_of(&account.account_id.0);
     print!(rt; "account {letter}")?;
@@ -105,11 +125,43 @@ fn tell_options<R: Print>(rt: &R, account: &AccountEntry) -> io::Result<()> {
     tell_thresholds(rt, account)
 }
 
+/// The extension for counts of sponsorship.
+fn counts_of(account: &AccountEntry) -> Option<&AccountEntryExtensionV2> {
+    account.ext.as_ref()?.ext.as_ref()
+}
+
+fn tell_counts<R: Print>(rt: &R, account: &AccountEntry) -> io::Result<()> {
+    let Some(counts) = counts_of(account) else {
+        return Ok(());
+    };
+    let sponsored = counts.num_sponsored;
+    let sponsoring = counts.num_sponsoring;
+    print!(rt; " sponsored {sponsored} sponsoring {sponsoring}")
+}
+
 fn tell_extensions<R: Print>(rt: &R, account: &AccountEntry) -> io::Result<()> {
-    tell_number(rt, "sponsored", i64::from(num_sponsored(account)))?;
-    tell_number(rt, "sponsoring", i64::from(num_sponsoring(account)))?;
+    tell_counts(rt, account)?;
     tell_number(rt, "buying", account_liabilities(account).buying)?;
     tell_number(rt, "selling", account_liabilities(account).selling)
+}
+
+/// Whose line it is, and of which pool or issuer.
+fn tell_line<R: Print>(rt: &R, line: &TrustLineEntry) -> io::Result<()> {
+    let letter = letter_of(&line.account_id.0);
+    match line.asset {
+        TrustLineAsset::Alphanum4 { code: _, issuer } => {
+            let issuer = letter_of(&issuer.0);
+            print!(rt; "line {letter} {issuer}")
+        }
+        TrustLineAsset::PoolShare(_) => print!(rt; "line {letter} pool"),
+        _ => print!(rt; "line {letter}"),
+    }
+}
+
+fn tell_offer<R: Print>(rt: &R, offer: &OfferEntry) -> io::Result<()> {
+    let letter = letter_of(&offer.seller_id.0);
+    let id = offer.offer_id;
+    print!(rt; "offer {letter} {id}")
 }
 
 fn tell_data<R: Print>(rt: &R, data: &DataEntry) -> io::Result<()> {
@@ -128,6 +180,8 @@ fn tell_balance<R: Print>(rt: &R, balance: &ClaimableBalanceEntry) -> io::Result
 fn tell_body<R: Print>(rt: &R, body: &LedgerEntryBody) -> io::Result<()> {
     match body {
         LedgerEntryBody::Account(account) => tell_account(rt, account),
+        LedgerEntryBody::TrustLine(line) => tell_line(rt, line),
+        LedgerEntryBody::Offer(offer) => tell_offer(rt, offer),
         LedgerEntryBody::Data(data) => tell_data(rt, data),
         LedgerEntryBody::ClaimableBalance(balance) => tell_balance(rt, balance),
         _ => print!(rt; "another entry"),
@@ -138,7 +192,7 @@ fn tell_body<R: Print>(rt: &R, body: &LedgerEntryBody) -> io::Result<()> {
 fn tell_entry<R: Print>(rt: &R, word: &str, entry: &LedgerEntry) -> io::Result<()> {
     print!(rt; "  {word} ")?;
     tell_body(rt, &entry.body)?;
-    tell_sponsor(rt, sponsor_in(&entry.ext))?;
+    tell_payer(rt, &entry.ext)?;
     println!(rt; "")
 }
 

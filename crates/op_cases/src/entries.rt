@@ -1,11 +1,12 @@
 //! Entries, read from words.
 
-use crate::words::{account_named, text_of};
+use crate::words::{account_named, signer_key, text_of};
 use item_list::ItemList;
 use ledger_types::{
     AccountEntry, AccountEntryExtensionV1, AccountEntryExtensionV2, AccountId, Asset,
     ClaimPredicate, ClaimableBalanceEntry, ClaimableBalanceId, Claimant, DataEntry, Hash,
-    LedgerEntry, LedgerEntryBody, LedgerEntryExtensionV1, Liabilities, Signer, SignerKey,
+    LedgerEntry, LedgerEntryBody, LedgerEntryExtensionV1, Liabilities, OfferEntry, Price, Signer,
+    SignerKey, TrustLineAsset, TrustLineEntry,
 };
 use std::alloc::{AllocError, Global};
 
@@ -70,33 +71,39 @@ fn set_sponsor(fields: &mut Fields, value: &str) -> bool {
     fields.sponsor.is_some()
 }
 
-/// Adds a hash-x signer of weight 1.
+/// Adds a signer of weight 1.
 fn push_signer(
     fields: &mut Fields,
-    letter: u8,
+    key: SignerKey,
     sponsor: Option<AccountId>,
 ) -> Result<(), AllocError> {
-    fields.signers.push(Signer {
-        key: SignerKey::HashX(Hash([letter; 32])),
-        weight: 1,
-    })?;
+    fields.signers.push(Signer { key, weight: 1 })?;
     fields.sponsors.push(sponsor)
 }
 
-/// Adds a signer: a letter, and the one of its sponsor where it has one. Answers whether it is one.
-fn add_signer(fields: &mut Fields, value: &str) -> Result<bool, AllocError> {
-    match *value.as_bytes() {
-        [letter] => push_signer(fields, letter, None)?,
-        [letter, sponsor] => push_signer(fields, letter, Some(AccountId([sponsor; 32])))?,
-        _ => return Ok(false),
+/// A signer: a letter, or its letter, a comma and the letter of its sponsor.
+fn signer_in(kind: &str, value: &str) -> Option<(SignerKey, Option<AccountId>)> {
+    match value.split_once(',') {
+        None => Some((signer_key(kind, value)?, None)),
+        Some((letter, sponsor)) => {
+            Some((signer_key(kind, letter)?, Some(account_named(sponsor)?)))
+        }
     }
+}
+
+/// Adds a signer. Answers whether it is one.
+fn add_signer(fields: &mut Fields, kind: &str, value: &str) -> Result<bool, AllocError> {
+    let Some((key, sponsor)) = signer_in(kind, value) else {
+        return Ok(false);
+    };
+    push_signer(fields, key, sponsor)?;
     Ok(true)
 }
 
 /// Sets a field. Answers whether it is one.
 fn set_field(fields: &mut Fields, name: &str, value: &str) -> Result<bool, AllocError> {
     match name {
-        "signer" => add_signer(fields, value),
+        "signer" | "key" | "preauth" => add_signer(fields, name, value),
         "seq" => Ok(set_seq(fields, value)),
         "by" => Ok(set_sponsor(fields, value)),
         _ => Ok(set_number(fields, name, value)),
@@ -223,17 +230,64 @@ pub fn data_entry(
     ))
 }
 
-/// The entry of a claimable balance of one stroop, which one account can claim.
+/// The entry of a line without a balance.
+pub fn line_entry(
+    account_id: AccountId,
+    asset: TrustLineAsset,
+    sponsor: Option<AccountId>,
+) -> LedgerEntry {
+    entry_of(
+        LedgerEntryBody::TrustLine(TrustLineEntry {
+            account_id,
+            asset,
+            balance: 0,
+            limit: 1,
+            flags: 0,
+            ext: None,
+        }),
+        sponsor,
+    )
+}
+
+/// The entry of an offer that sells a stroop for one of an asset of the seller's own.
+pub fn offer_entry(seller_id: AccountId, offer_id: i64, sponsor: Option<AccountId>) -> LedgerEntry {
+    entry_of(
+        LedgerEntryBody::Offer(OfferEntry {
+            seller_id,
+            offer_id,
+            selling: Asset::Native,
+            buying: Asset::Alphanum4 {
+                code: *b"USD\0",
+                issuer: seller_id,
+            },
+            amount: 1,
+            price: Price { n: 1, d: 1 },
+            flags: 0,
+        }),
+        sponsor,
+    )
+}
+
+/// So many claimants.
+fn claimants_of(alloc: Global, number: u8) -> Result<ItemList<Claimant>, AllocError> {
+    let mut claimants = ItemList::new(alloc);
+    for letter in 0..number {
+        claimants.push(Claimant {
+            destination: AccountId([letter; 32]),
+            predicate: ClaimPredicate::Unconditional,
+        })?;
+    }
+    Ok(claimants)
+}
+
+/// The entry of a claimable balance of one stroop, which so many accounts can claim.
 pub fn balance_entry(
     alloc: Global,
     id: [u8; 32],
+    claimants: u8,
     sponsor: Option<AccountId>,
 ) -> Result<LedgerEntry, AllocError> {
-    let mut claimants = ItemList::new(alloc);
-    claimants.push(Claimant {
-        destination: AccountId(id),
-        predicate: ClaimPredicate::Unconditional,
-    })?;
+    let claimants = claimants_of(alloc, claimants)?;
     Ok(entry_of(
         LedgerEntryBody::ClaimableBalance(ClaimableBalanceEntry {
             balance_id: ClaimableBalanceId(Hash(id)),

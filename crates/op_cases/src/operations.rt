@@ -1,17 +1,14 @@
 //! Operations, read from words.
 
-use crate::words::{account_named, bytes_named, text_of};
-use ledger_types::{
-    AccountId, Asset, ClaimableBalanceId, Hash, LedgerKey, MuxedAccount, Signer, SignerKey,
-    TrustLineAsset,
-};
+use crate::words::{account_named, bytes_named, line_asset, signer_key, text_of};
+use ledger_types::{Asset, ClaimableBalanceId, Hash, LedgerKey, MuxedAccount, Signer};
 use op_types::{
     AccountMergeOp, BeginSponsoringFutureReservesOp, BumpSequenceOp, CreateAccountOp, ManageDataOp,
     OperationBody, PaymentOp, RevokeSponsorshipOp, SetOptionsOp,
 };
 use std::alloc::{AllocError, Global};
 
-/// USD of I.
+/// A code.
 const USD: [u8; 4] = *b"USD\0";
 
 fn create_account(id: &str, amount: &str) -> Option<OperationBody> {
@@ -25,11 +22,28 @@ fn create_account(id: &str, amount: &str) -> Option<OperationBody> {
     }
 }
 
+/// One of the customers that share an account: `X#NUMBER`.
+fn customer(key: &str, number: &str) -> Option<MuxedAccount> {
+    let ed25519 = bytes_named(key)?;
+    match number.parse() {
+        Ok(id) => Some(MuxedAccount::MuxedEd25519 { id, ed25519 }),
+        Err(_) => None,
+    }
+}
+
+/// An account, or one of its customers.
+fn muxed(word: &str) -> Option<MuxedAccount> {
+    match word.split_once('#') {
+        None => Some(MuxedAccount::Ed25519(bytes_named(word)?)),
+        Some((key, number)) => customer(key, number),
+    }
+}
+
 fn payment(id: &str, asset: Asset, amount: &str) -> Option<OperationBody> {
-    let key = bytes_named(id)?;
+    let destination = muxed(id)?;
     match amount.parse() {
         Ok(amount) => Some(OperationBody::Payment(PaymentOp {
-            destination: MuxedAccount::Ed25519(key),
+            destination,
             asset,
             amount,
         })),
@@ -38,10 +52,8 @@ fn payment(id: &str, asset: Asset, amount: &str) -> Option<OperationBody> {
 }
 
 fn merge(id: &str) -> Option<OperationBody> {
-    let key = bytes_named(id)?;
-    Some(OperationBody::AccountMerge(AccountMergeOp {
-        destination: MuxedAccount::Ed25519(key),
-    }))
+    let destination = muxed(id)?;
+    Some(OperationBody::AccountMerge(AccountMergeOp { destination }))
 }
 
 fn bump(to: &str) -> Option<OperationBody> {
@@ -62,30 +74,19 @@ fn revoke(key: LedgerKey) -> OperationBody {
     OperationBody::RevokeSponsorship(RevokeSponsorshipOp::LedgerEntry(key))
 }
 
-fn revoke_signer(id: &str, key: &str) -> Option<OperationBody> {
+/// A signer of a kind, of an account.
+fn revoke_signer(kind: &str, id: &str, key: &str) -> Option<OperationBody> {
     let account_id = account_named(id)?;
-    let key = bytes_named(key)?;
+    let signer_key = signer_key(kind, key)?;
     Some(OperationBody::RevokeSponsorship(RevokeSponsorshipOp::Signer {
         account_id,
-        signer_key: SignerKey::HashX(Hash(key)),
+        signer_key,
     }))
 }
 
-fn line_in(issuer: &str, code: [u8; 4]) -> Option<TrustLineAsset> {
-    let issuer = account_named(issuer)?;
-    Some(TrustLineAsset::Alphanum4 { code, issuer })
-}
-
-/// The key of a line: `native`, `pool`, `bad X` with a code that isn't valid, or the issuer of USD.
 fn line_key(id: &str, asset: &[&str]) -> Option<LedgerKey> {
     let account_id = account_named(id)?;
-    let asset = match *asset {
-        ["native"] => TrustLineAsset::Native,
-        ["pool"] => TrustLineAsset::PoolShare(Hash([7; 32])),
-        ["bad", issuer] => line_in(issuer, *b"U-D\0")?,
-        [issuer] => line_in(issuer, USD)?,
-        _ => return None,
-    };
+    let asset = line_asset(asset)?;
     Some(LedgerKey::TrustLine { account_id, asset })
 }
 
@@ -165,20 +166,11 @@ fn number(value: &str) -> Option<u32> {
     }
 }
 
-/// A signer `X:WEIGHT`, of hash-x.
-fn signer(value: &str) -> Option<Signer> {
+/// A signer `X:WEIGHT` of a kind.
+fn signer(kind: &str, value: &str) -> Option<Signer> {
     let (key, weight) = value.split_once(':')?;
     Some(Signer {
-        key: SignerKey::HashX(Hash(bytes_named(key)?)),
-        weight: number(weight)?,
-    })
-}
-
-/// A signer `X:WEIGHT`, of Ed25519.
-fn key_signer(value: &str) -> Option<Signer> {
-    let (key, weight) = value.split_once(':')?;
-    Some(Signer {
-        key: SignerKey::Ed25519(bytes_named(key)?),
+        key: signer_key(kind, key)?,
         weight: number(weight)?,
     })
 }
@@ -223,9 +215,7 @@ fn set_plain(op: &mut SetOptionsOp, name: &str, value: &str) -> bool {
         "low" => set_number(&mut op.low_threshold, value),
         "med" => set_number(&mut op.med_threshold, value),
         "high" => set_number(&mut op.high_threshold, value),
-        "signer" => set_signer(op, signer(value)),
-        "key" => set_signer(op, key_signer(value)),
-        _ => false,
+        _ => set_signer(op, signer(name, value)),
     }
 }
 
@@ -271,12 +261,18 @@ fn payment_in(issuer: &str, id: &str, amount: &str) -> Option<OperationBody> {
     payment(id, Asset::Alphanum4 { code: USD, issuer }, amount)
 }
 
-fn revoke_plain(words: &[&str]) -> Option<OperationBody> {
-    let [kind, words @ ..] = words else {
-        return None;
-    };
+fn revoke_plain(kind: &str, words: &[&str]) -> Option<OperationBody> {
     let key = plain_key(kind, words)?;
     Some(revoke(key))
+}
+
+/// A signer or a key that needs no memory.
+fn revoke_other(words: &[&str]) -> Option<OperationBody> {
+    match *words {
+        [kind @ ("signer" | "key" | "preauth"), id, key] => revoke_signer(kind, id, key),
+        [kind, ref words @ ..] => revoke_plain(kind, words),
+        [] => None,
+    }
 }
 
 /// An operation that needs no memory, by its name and the words behind it: one that moves lumens, or another.
@@ -295,8 +291,7 @@ fn plain_on_sponsorships(name: &str, words: &[&str]) -> Option<OperationBody> {
     match (name, words) {
         ("begin_sponsoring", [id]) => begin(id),
         ("end_sponsoring", []) => Some(OperationBody::EndSponsoringFutureReserves),
-        ("revoke_signer", [id, key]) => revoke_signer(id, key),
-        ("revoke", key) => revoke_plain(key),
+        ("revoke", of) => revoke_other(of),
         _ => plain_without_account(name, words),
     }
 }

@@ -4,12 +4,12 @@ ghost use Rattle.std.specs.Prelude.{◌≡◌, []};
 ghost use Rattle.std.specs.FinMap.{from_entries};
 ghost use Rattle.op_cases.specs.Ready.{IsReadyLedger};
 
-use crate::answers::answer;
+use crate::answers::{answer, moved_balance};
 use crate::changes::tell_changes;
-use crate::entries::{account_entry, balance_entry, data_entry};
+use crate::entries::{account_entry, balance_entry, data_entry, line_entry, offer_entry};
 use crate::ledger::{applied, no_entries, put_all};
 use crate::operations::operation;
-use crate::words::{account_named, bytes_named, letter_of};
+use crate::words::{account_named, bytes_named, letter_of, line_asset};
 use entry_map::{Batch, Entries, MapBase};
 use item_list::ItemList;
 use ledger_types::{AccountId, LedgerEntry};
@@ -78,47 +78,67 @@ fn account_in(
     account_entry(alloc, id, balance, fields)
 }
 
+/// Who pays for an entry: nobody but its owner, or the sponsor behind `by`.
+fn sponsor_in(words: &[&str]) -> Option<Option<AccountId>> {
+    match *words {
+        [] => Some(None),
+        ["by", sponsor] => Some(Some(account_named(sponsor)?)),
+        _ => None,
+    }
+}
+
+fn line_in(id: &str, asset: &str, payer: &[&str]) -> Option<LedgerEntry> {
+    let id = account_named(id)?;
+    let asset = line_asset(&[asset])?;
+    let sponsor = sponsor_in(payer)?;
+    Some(line_entry(id, asset, sponsor))
+}
+
+fn offer_in(id: &str, number: &str, payer: &[&str]) -> Option<LedgerEntry> {
+    let id = account_named(id)?;
+    let sponsor = sponsor_in(payer)?;
+    match number.parse() {
+        Ok(number) => Some(offer_entry(id, number, sponsor)),
+        Err(_) => None,
+    }
+}
+
 fn data_in(
     alloc: Global,
     id: &str,
     name: &str,
     value: &str,
+    payer: &[&str],
 ) -> Result<Option<LedgerEntry>, AllocError> {
-    match account_named(id) {
-        None => Ok(None),
-        Some(id) => data_entry(alloc, id, name, value, None).map(Some),
-    }
+    let (Some(id), Some(sponsor)) = (account_named(id), sponsor_in(payer)) else {
+        return Ok(None);
+    };
+    data_entry(alloc, id, name, value, sponsor).map(Some)
 }
 
-fn sponsored_data_in(
+fn balance_in(
     alloc: Global,
     id: &str,
-    name: &str,
-    value: &str,
-    sponsor: &str,
+    claimants: &str,
+    payer: &[&str],
 ) -> Result<Option<LedgerEntry>, AllocError> {
-    let (Some(id), Some(sponsor)) = (account_named(id), account_named(sponsor)) else {
+    let (Some(id), Ok(claimants)) = (bytes_named(id), claimants.parse()) else {
         return Ok(None);
     };
-    data_entry(alloc, id, name, value, Some(sponsor)).map(Some)
-}
-
-fn balance_in(alloc: Global, id: &str, sponsor: &str) -> Result<Option<LedgerEntry>, AllocError> {
-    let (Some(id), Some(sponsor)) = (bytes_named(id), account_named(sponsor)) else {
-        return Ok(None);
-    };
-    balance_entry(alloc, id, Some(sponsor)).map(Some)
+    match sponsor_in(payer) {
+        None => Ok(None),
+        Some(sponsor) => balance_entry(alloc, id, claimants, sponsor).map(Some),
+    }
 }
 
 /// The entry that a line says, if it says one.
 fn entry_in(alloc: Global, words: &[&str]) -> Result<Option<LedgerEntry>, AllocError> {
     match *words {
         ["account", id, balance, ref fields @ ..] => account_in(alloc, id, balance, fields),
-        ["data", id, name, value] => data_in(alloc, id, name, value),
-        ["data", id, name, value, "by", sponsor] => {
-            sponsored_data_in(alloc, id, name, value, sponsor)
-        }
-        ["balance", id, "by", sponsor] => balance_in(alloc, id, sponsor),
+        ["line", id, asset, ref payer @ ..] => Ok(line_in(id, asset, payer)),
+        ["offer", id, number, ref payer @ ..] => Ok(offer_in(id, number, payer)),
+        ["data", id, name, value, ref payer @ ..] => data_in(alloc, id, name, value, payer),
+        ["balance", id, claimants, ref payer @ ..] => balance_in(alloc, id, claimants, payer),
         _ => Ok(None),
     }
 }
@@ -146,7 +166,10 @@ fn tell_sponsorships<R: Print>(rt: &R, ctx: &Ctx, before: usize) -> io::Result<(
 
 fn tell_answer<R: Print>(rt: &R, answered: &OperationResult) -> io::Result<()> {
     let (name, code) = answer(answered);
-    println!(rt; "{name} {code}")
+    match moved_balance(answered) {
+        None => println!(rt; "{name} {code}"),
+        Some(moved) => println!(rt; "{name} {code} moved {moved}"),
+    }
 }
 
 /// Tells what an operation answered, and what it changed.

@@ -1,7 +1,8 @@
-//! Words: accounts and keys are named by a letter, which stands for 32 times that letter; `_` is the empty text.
+//! Words: accounts and keys are named by a letter, which stands for 32 times that letter; `_` is the empty text, and
+//! `#NUMBER` the text of one byte.
 
 use item_list::ItemList;
-use ledger_types::AccountId;
+use ledger_types::{AccountId, Hash, SignerKey, TrustLineAsset};
 use std::alloc::{AllocError, Global};
 
 /// 32 times the letter.
@@ -19,14 +20,62 @@ pub fn account_named(word: &str) -> Option<AccountId> {
     }
 }
 
+/// A signer's key of a kind: `key`, `preauth`, or `signer` for hash-x.
+pub fn signer_key(kind: &str, word: &str) -> Option<SignerKey> {
+    let bytes = bytes_named(word)?;
+    match kind {
+        "key" => Some(SignerKey::Ed25519(bytes)),
+        "preauth" => Some(SignerKey::PreAuthTx(Hash(bytes))),
+        "signer" => Some(SignerKey::HashX(Hash(bytes))),
+        _ => None,
+    }
+}
+
+/// A code of four bytes, of an issuer.
+fn short_asset(code: [u8; 4], issuer: &str) -> Option<TrustLineAsset> {
+    let issuer = account_named(issuer)?;
+    Some(TrustLineAsset::Alphanum4 { code, issuer })
+}
+
+/// A code of twelve bytes, of an issuer.
+fn long_asset(code: [u8; 12], issuer: &str) -> Option<TrustLineAsset> {
+    let issuer = account_named(issuer)?;
+    Some(TrustLineAsset::Alphanum12 { code, issuer })
+}
+
+/// What a line is in: `native`, `pool`, or an issuer, of USD. Behind `long` the issuer's code has five letters; behind
+/// `bad` and `bad_long` its code isn't valid, with a sign that is no letter or with three letters in twelve bytes.
+pub fn line_asset(words: &[&str]) -> Option<TrustLineAsset> {
+    match *words {
+        ["native"] => Some(TrustLineAsset::Native),
+        ["pool"] => Some(TrustLineAsset::PoolShare(Hash([7; 32]))),
+        [issuer] => short_asset(*b"USD\0", issuer),
+        ["bad", issuer] => short_asset(*b"U-D\0", issuer),
+        ["long", issuer] => long_asset(*b"EUROS\0\0\0\0\0\0\0", issuer),
+        ["bad_long", issuer] => long_asset(*b"USD\0\0\0\0\0\0\0\0\0", issuer),
+        _ => None,
+    }
+}
+
 /// The letter that 32 bytes stand for.
 pub fn letter_of(bytes: &[u8; 32]) -> char {
     bytes[0] as char
+}
+
+/// The byte that `#NUMBER` names.
+fn byte_in(word: &str) -> Option<u8> {
+    match word.strip_prefix("#")?.parse() {
+        Ok(byte) => Some(byte),
+        Err(_) => None,
+    }
 }
 
 pub fn text_of(alloc: Global, word: &str) -> Result<ItemList<u8>, AllocError> {
     if word == "_" {
         return Ok(ItemList::new(alloc));
     }
-    ItemList::from_slice(alloc, word.as_bytes())
+    match byte_in(word) {
+        Some(byte) => ItemList::from_slice(alloc, &[byte]),
+        None => ItemList::from_slice(alloc, word.as_bytes()),
+    }
 }

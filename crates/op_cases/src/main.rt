@@ -16,6 +16,7 @@ mod words;
 
 use script::{Script, read_line};
 use std::io::Eprint;
+use std::rt::Files;
 use std::{env, fs, io};
 
 /// Ends the program at a line that isn't understood.
@@ -49,10 +50,15 @@ fn read_all<R: Print + Eprint + AllocGlobal>(rt: &R, text: &str) -> io::Result<(
     Ok(())
 }
 
+/// The text of the cases in a folder.
+fn text_in<R: Files + AllocGlobal>(rt: &R, folder: &str) -> io::Result<String> {
+    let path = format!(in rt.alloc(); "{folder}/cases.txt")?;
+    fs::read_to_string(rt, path.as_str())
+}
+
 fn main(rt: HostRuntime) -> io::Result<()> {
     let given = env::args(&rt)?.nth(1);
     let folder = given.as_ref().map_or("data", |it| it.as_str());
-    let path = format!(in rt.alloc(); "{folder}/cases.txt")?;
-    let text = fs::read_to_string(&rt, path.as_str())?;
+    let text = text_in(&rt, folder)?;
     read_all(&rt, text.as_str())
 }

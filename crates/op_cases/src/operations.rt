@@ -305,11 +305,19 @@ fn plain_without_account(name: &str, words: &[&str]) -> Option<OperationBody> {
     }
 }
 
+/// MANAGE_DATA: a name, and a value where it isn't to be removed.
+fn data_change(alloc: Global, words: &[&str]) -> Result<Option<OperationBody>, AllocError> {
+    match *words {
+        [name] => removal(alloc, name),
+        [name, value] => addition(alloc, name, value),
+        _ => Ok(None),
+    }
+}
+
 /// The operation that words name, if they name one.
 pub fn operation(alloc: Global, words: &[&str]) -> Result<Option<OperationBody>, AllocError> {
     match *words {
-        ["manage_data", name] => removal(alloc, name),
-        ["manage_data", name, value] => addition(alloc, name, value),
+        ["manage_data", ref of @ ..] => data_change(alloc, of),
         ["set_options", ref fields @ ..] => options(alloc, fields),
         ["revoke", "data", id, name] => revoke_data(alloc, id, name),
         [name, ref words @ ..] => Ok(plain(name, words)),

@@ -131,15 +131,22 @@ fn balance_in(
     }
 }
 
+/// The entry that needs no memory.
+fn plain_entry_in(words: &[&str]) -> Option<LedgerEntry> {
+    match *words {
+        ["line", id, asset, ref payer @ ..] => line_in(id, asset, payer),
+        ["offer", id, number, ref payer @ ..] => offer_in(id, number, payer),
+        _ => None,
+    }
+}
+
 /// The entry that a line says, if it says one.
 fn entry_in(alloc: Global, words: &[&str]) -> Result<Option<LedgerEntry>, AllocError> {
     match *words {
         ["account", id, balance, ref fields @ ..] => account_in(alloc, id, balance, fields),
-        ["line", id, asset, ref payer @ ..] => Ok(line_in(id, asset, payer)),
-        ["offer", id, number, ref payer @ ..] => Ok(offer_in(id, number, payer)),
         ["data", id, name, value, ref payer @ ..] => data_in(alloc, id, name, value, payer),
         ["balance", id, claimants, ref payer @ ..] => balance_in(alloc, id, claimants, payer),
-        _ => Ok(None),
+        _ => Ok(plain_entry_in(words)),
     }
 }
 
@@ -184,6 +191,19 @@ fn tell_all<R: Print>(
     tell_changes(rt, before, &after)
 }
 
+/// Tells what an operation answered and changed, or that it was not applied.
+fn tell_applied<R: Print>(
+    rt: &R,
+    answered: &Option<OperationResult>,
+    before: &Batch,
+    entries: &Entries<'_, MapBase>,
+) -> io::Result<()> {
+    match answered {
+        None => println!(rt; "not applied"),
+        Some(answered) => tell_all(rt, answered, before, entries),
+    }
+}
+
 /// Applies an operation, and tells what it answers and what changed.
 fn apply_and_tell<R: Print>(
     rt: &R,
@@ -194,10 +214,8 @@ fn apply_and_tell<R: Print>(
 ) -> io::Result<()>
     requires { IsReadyLedger entries.old.current }
 {
-    match applied(op, ctx, entries)? {
-        None => println!(rt; "not applied"),
-        Some(answered) => tell_all(rt, &answered, before, entries),
-    }
+    let answered = applied(op, ctx, entries)?;
+    tell_applied(rt, &answered, before, entries)
 }
 
 /// Runs the operation of a case, in its ledger.
@@ -216,27 +234,38 @@ fn run_ready<R: Print>(
 }
 
 /// Runs the operation of a case, in a ledger of its entries.
-fn run_within<R: Print>(
+fn run_within<R: Print + AllocGlobal>(
     rt: &R,
     entries: &mut Entries<'_, MapBase>,
-    list: Vec<LedgerEntry>,
-    ctx: &mut Ctx,
+    script: &mut Script,
     op: &Operation,
 ) -> io::Result<()>
     requires { entries.old.current ≡ from_entries [] }
 {
+    let list = mem::replace(&mut script.entries, Vec::new(rt.alloc()));
     if !put_all(entries, list)? {
         return println!(rt; "no ledger for operations");
     }
-    run_ready(rt, entries, ctx, op)
+    run_ready(rt, entries, &mut script.ctx, op)
+}
+
+/// Runs a case, in entries over a base without any.
+fn run_over<R: Print + AllocGlobal>(
+    rt: &R,
+    base: &MapBase,
+    script: &mut Script,
+    op: &Operation,
+) -> io::Result<()>
+    requires { base.now ≡ from_entries [] }
+{
+    let mut entries = Entries::new(rt.alloc(), base)?;
+    run_within(rt, &mut entries, script, op)
 }
 
 /// Runs a case.
 fn run<R: Print + AllocGlobal>(rt: &R, script: &mut Script, op: &Operation) -> io::Result<()> {
-    let list = mem::replace(&mut script.entries, Vec::new(rt.alloc()));
     let base = no_entries(rt.alloc())?;
-    let mut entries = Entries::new(rt.alloc(), &base)?;
-    run_within(rt, &mut entries, list, &mut script.ctx, op)
+    run_over(rt, &base, script, op)
 }
 
 /// Takes the line of the operation, and runs the case. Answers whether it is one.

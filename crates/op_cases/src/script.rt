@@ -171,9 +171,11 @@ fn tell_sponsorships<R: Print>(rt: &R, ctx: &Ctx, before: usize) -> io::Result<(
     Ok(())
 }
 
-fn tell_answer<R: Print>(rt: &R, answered: &OperationResult) -> io::Result<()> {
-    let (name, code) = answer(answered);
-    match moved_balance(answered) {
+fn tell_answer<R: Print>(rt: &R, answered: OperationResult) -> io::Result<()> {
+    let (name, code) = answer(&answered);
+    let moved = moved_balance(&answered);
+    drop(answered);
+    match moved {
         None => println!(rt; "{name} {code}"),
         Some(moved) => println!(rt; "{name} {code} moved {moved}"),
     }
@@ -182,7 +184,7 @@ fn tell_answer<R: Print>(rt: &R, answered: &OperationResult) -> io::Result<()> {
 /// Tells what an operation answered, and what it changed.
 fn tell_all<R: Print>(
     rt: &R,
-    answered: &OperationResult,
+    answered: OperationResult,
     before: &Batch,
     entries: &Entries<'_, MapBase>,
 ) -> io::Result<()> {
@@ -194,7 +196,7 @@ fn tell_all<R: Print>(
 /// Tells what an operation answered and changed, or that it was not applied.
 fn tell_applied<R: Print>(
     rt: &R,
-    answered: &Option<OperationResult>,
+    answered: Option<OperationResult>,
     before: &Batch,
     entries: &Entries<'_, MapBase>,
 ) -> io::Result<()> {
@@ -215,7 +217,7 @@ fn apply_and_tell<R: Print>(
     requires { IsReadyLedger entries.old.current }
 {
     let answered = applied(op, ctx, entries)?;
-    tell_applied(rt, &answered, before, entries)
+    tell_applied(rt, answered, before, entries)
 }
 
 /// Runs the operation of a case, in its ledger.

@@ -1,0 +1,9 @@
+pub mod Spills
+pub mod Pairs
+pub mod Step
+pub mod Work
+pub mod Hash
+pub mod Meaning
+pub mod Fresh
+pub mod Laws
+pub mod Levels

@@ -6,10 +6,12 @@ use Rattle.xdr_core.specs.Place.{Place, Reading, start_of}
 use Rattle.ledger_types.specs.declared.key.LedgerKey.{LedgerKey}
 use Rattle.ledger_types.specs.declared.bucket.BucketEntry.{BucketEntry}
 use Rattle.ledger_types.specs.declared.bucket.BucketEntry.TheVariants as bucket
+use Rattle.ledger_types.specs.declared.ids.Hash.{Hash}
 use Rattle.ledger_types.specs.Keys.{key_of}
 use Rattle.bucket_items.specs.MarkedItem.{item_at}
 use Rattle.bucket_core.specs.Bucket.{Change, Init, Live, Dead, Contents}
 use Rattle.bucket_core.specs.File.{file_of, HasFile}
+use Rattle.bucket_core.specs.Hash.{file_hash}
 
 -- an item that was read, and those behind it
 abbrev pub item_then : (Place → List BucketEntry) → Reading XdrFault BucketEntry → List BucketEntry
@@ -47,3 +49,8 @@ contents_of bytes = contents_with (items_ahead (start_of bytes))
 pub record IsFile (bytes : List ℕ) : Type 0 where
   pub is : bytes ≡ file_of (contents_of bytes)
   pub has : HasFile (contents_of bytes)
+
+-- what a bucket keeps: a file with its hash
+pub record IsFileWithHash (bytes : List ℕ) (hash : Hash) : Type 0 where
+  pub file : IsFile bytes
+  pub hashed : hash ≡ file_hash bytes

@@ -7,6 +7,7 @@ ghost use Rattle.bucket_core.specs.Bucket.{Contents, change_at, version_of};
 ghost use Rattle.bucket_core.specs.File.{HasFile, file_of, item_of, items_of};
 ghost use Rattle.bucket_core.specs.Faults.{first_fault, JudgedBy};
 ghost use Rattle.bucket_core.specs.Hash.{file_hash};
+ghost use Rattle.bucket_core.specs.Reading.{contents_of, IsFile};
 
 use crate::cursor::BucketCursor;
 use crate::fault::BucketFault;
@@ -19,17 +20,18 @@ use std::marker::Model;
 use std::sync::Arc;
 use xdr_core::Cursor;
 
-/// A bucket: nothing, or a protocol version and what became of the entries under some keys. It keeps its file, and
-/// contracts see what the file holds.
+/// A bucket: nothing, or a protocol version and what became of the entries under some keys. It keeps its file with the
+/// file's hash, and contracts see what the file holds.
 #[derive(Drop)]
 pub struct Bucket {
     bytes: Vec<u8>,
+    hash: Hash,
 }
 
 impl Model for Bucket {
     ghost use Rattle.bucket_core.specs.Bucket.{Contents};
     ghost use Rattle.bucket_core.specs.Code.{contents_code};
-    ghost use Rattle.bucket_core.specs.Reading.{contents_of, IsFile};
+    ghost use Rattle.bucket_core.specs.Reading.{contents_of, IsFileWithHash};
 
     ghost Value = { Contents };
 
@@ -37,7 +39,7 @@ impl Model for Bucket {
 
     ghost view = { λ b. contents_of b.bytes.items };
 
-    ghost invariant = { λ b. IsFile b.bytes.items };
+    ghost invariant = { λ b. IsFileWithHash b.bytes.items b.hash };
 }
 
 impl Bucket {
@@ -45,8 +47,7 @@ impl Bucket {
     pub fn empty(alloc: Global) -> Result<Arc<Bucket>, AllocError>
         ensures { IfOk result (λ bucket. bucket.value ≡ None) }
     {
-        let bytes = Vec::new(alloc);
-        let bucket = shared(alloc, Bucket { bytes })?;
+        let bucket = shared(alloc, bucket_of(Vec::new(alloc)))?;
         Ok(bucket)
     }
 
@@ -57,7 +58,7 @@ impl Bucket {
     {
         let alloc = *bytes.allocator();
         judge(alloc, bytes.as_slice())?;
-        let bucket = shared(alloc, Bucket { bytes })?;
+        let bucket = shared(alloc, bucket_of(bytes))?;
         Ok(bucket)
     }
 
@@ -68,7 +69,7 @@ impl Bucket {
             → IfOk result (λ bucket. bucket.value ≡ contents) }
     {
         let alloc = *file.allocator();
-        let bucket = shared(alloc, Bucket { bytes: file })?;
+        let bucket = shared(alloc, bucket_of(file))?;
         Ok(bucket)
     }
 
@@ -88,7 +89,7 @@ impl Bucket {
     pub fn hash(&self) -> Hash
         ensures { result ≡ file_hash (file_of self.now) }
     {
-        hash_of_file(self.bytes())
+        self.hash
     }
 
     /// The protocol version, `None` of the empty bucket alone.
@@ -117,6 +118,15 @@ impl Bucket {
     {
         BucketCursor::new(self.bytes.as_slice())
     }
+}
+
+/// The bucket that keeps a file. The file is hashed here, and nowhere else.
+fn bucket_of(bytes: Vec<u8>) -> Bucket
+    requires { IsFile bytes.items }
+    ensures { result ≡ contents_of bytes.items }
+{
+    let hash = hash_of_file(bytes.as_slice());
+    Bucket { bytes, hash }
 }
 
 /// A bucket that has several owners.

@@ -1,6 +1,7 @@
 //! The eleven levels of a ledger's buckets (BucketList in stellar-core): two files each, of which a close moves some.
 #![tactic(auto)]
 
+mod hash;
 mod laws;
 mod levels;
 mod pair;

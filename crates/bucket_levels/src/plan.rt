@@ -1,18 +1,131 @@
 //! The step that a close makes, before the levels take it.
 
 ghost use Rattle.std.specs.Prelude.{◌≡◌, ◌≤◌, ◌+◌, IfOk};
-ghost use Rattle.bucket_levels.specs.Step.{IsStep};
-ghost use Rattle.bucket_levels.specs.Work.{work};
+ghost use Rattle.bucket_core.specs.File.{count_of};
+ghost use Rattle.bucket_merge.specs.Merge.{IsMerge};
+ghost use Rattle.bucket_levels.specs.Step.{base_at, snap_after, IsCurrAfter, IsPairAfter, IsStep};
+ghost use Rattle.bucket_levels.specs.Work.{work, work_at};
+ghost use Rattle.bucket_levels.specs.Levels.{pair_of};
+
+use crate::levels::Levels;
+use crate::pair::LevelPair;
+use crate::spills::spills;
+use bucket_core::Bucket;
+use bucket_merge::{MergeJob, merge_fresh};
+use outside::Steps;
+use std::alloc::AllocError;
+use std::marker::Model;
+use std::sync::Arc;
+use std::sync::ledger::Ledger;
 
 /// The files that levels have behind a step, and the number of the ledger that it closes.
 #[derive(Drop)]
 pub struct LevelStep {
-    pairs: Vec<LevelPair>,
-    seq: u32,
+    pub(crate) pairs: Vec<LevelPair>,
+    pub(crate) seq: u32,
 }
-// its Model's value is LevelsAt, as that of Levels
+
+impl Model for LevelStep {
+    ghost use Rattle.std.specs.Prelude.{map};
+    ghost use Rattle.bucket_levels.specs.Levels.{LevelsAt, levels_code, pair_of};
+
+    ghost Value = { LevelsAt };
+
+    ghost coded = { levels_code };
+
+    ghost view = { λ s. record { pairs = map pair_of s.pairs.items; seq = s.seq } };
+}
+
+/// Makes a merge. One that is handed back is want of memory.
+fn merged<L: Ledger>(job: MergeJob, steps: &mut Steps<L>) -> Result<Arc<Bucket>, AllocError>
+    ensures merge { IfOk result (λ bucket. IsMerge job.level job.curr job.snap bucket.value) }
+    ensures most { steps.new ≤ steps.old + count_of job.curr + count_of job.snap }
+{
+    match job.run(steps) {
+        Ok(out) => out.bucket().clone(),
+        Err(_) => Err(AllocError),
+    }
+}
 
 impl Levels {
+    /// What is merged onto in a level, 0 to 10.
+    fn base(&self, level: u32, seq: u32) -> &Arc<Bucket>
+        requires { level ≤ 10 }
+        ensures { result.now.value ≡ base_at seq self.now.pairs level }
+    {
+        if spills(level, seq) {
+            return self.empty();
+        }
+        &self.pair(level).curr
+    }
+
+    /// The snap of a level, 0 to 10, behind a step.
+    fn snap_after(&self, level: u32, seq: u32) -> &Arc<Bucket>
+        requires { level ≤ 10 }
+        ensures { result.now.value ≡ snap_after seq self.now.pairs level }
+    {
+        if spills(level, seq) {
+            return &self.pair(level).curr;
+        }
+        &self.pair(level).snap
+    }
+
+    /// The curr of a level from 1 to 10 behind a step, onto which the snap above is merged where the level above spills.
+    fn curr_below<L: Ledger>(
+        &self,
+        level: u32,
+        seq: u32,
+        steps: &mut Steps<L>,
+    ) -> Result<Arc<Bucket>, AllocError>
+        requires low { 1 ≤ level }
+        requires high { level ≤ 10 }
+        ensures curr { (fresh : Contents)
+            → IfOk result (λ curr. IsCurrAfter seq fresh self.now.pairs level curr.value) }
+        ensures most { (fresh : Contents) → steps.new ≤ steps.old + work_at seq fresh self.now.pairs level }
+    {
+        if !spills(level - 1, seq) {
+            return self.pair(level).curr.clone();
+        }
+        let base = self.base(level, seq).clone()?;
+        let snap = self.pair(level - 1).snap.clone()?;
+        merged(MergeJob::new(level, seq, base, snap), steps)
+    }
+
+    /// The curr of a level, 0 to 10, behind a step.
+    fn curr_after<L: Ledger>(
+        &self,
+        level: u32,
+        seq: u32,
+        fresh: &Bucket,
+        steps: &mut Steps<L>,
+    ) -> Result<Arc<Bucket>, AllocError>
+        requires { level ≤ 10 }
+        ensures curr { IfOk result (λ curr. IsCurrAfter seq fresh.now self.now.pairs level curr.value) }
+        ensures most { steps.new ≤ steps.old + work_at seq fresh.now self.now.pairs level }
+    {
+        if level == 0 {
+            return merge_fresh(self.base(0, seq), fresh, steps);
+        }
+        self.curr_below(level, seq, steps)
+    }
+
+    /// The files of a level, 0 to 10, behind a step.
+    fn pair_after<L: Ledger>(
+        &self,
+        level: u32,
+        seq: u32,
+        fresh: &Bucket,
+        steps: &mut Steps<L>,
+    ) -> Result<LevelPair, AllocError>
+        requires { level ≤ 10 }
+        ensures pair { IfOk result (λ pair. IsPairAfter seq fresh.now self.now.pairs level (pair_of pair)) }
+        ensures most { steps.new ≤ steps.old + work_at seq fresh.now self.now.pairs level }
+    {
+        let curr = self.curr_after(level, seq, fresh, steps)?;
+        let snap = self.snap_after(level, seq).clone()?;
+        Ok(LevelPair { curr, snap })
+    }
+
     /// The step of ledger `seq`, the one behind the levels' own, with the bucket of what it changed. It raises the steps
     /// by at most the items of the files that it merges. The levels stay as they are.
     pub fn plan_batch<L: Ledger>(
@@ -25,4 +138,11 @@ impl Levels {
         ensures seq { IfOk result (λ step. step.seq ≡ seq) }
         ensures step { IfOk result (λ step. IsStep seq fresh.value self.now.pairs step.pairs) }
         ensures most { steps.new ≤ steps.old + work seq fresh.value self.now.pairs }
+    {
+        let mut pairs = Vec::with_capacity(self.empty().allocator(), 11)?;
+        for level in 0..11u32 {
+            pairs.push(self.pair_after(level, seq, &fresh, steps)?)?;
+        }
+        Ok(LevelStep { pairs, seq })
+    }
 }

@@ -6,8 +6,8 @@ use Rattle.bucket_core.specs.Reading.{IsFile}
 use Rattle.bucket_core.proofs.Files.{no_fault_is_file}
 use Rattle.bucket_core.proofs.bucket.Bucket.read.Goals as goal
 
-pub invariant_of-shared : goal.invariant_of-shared
-invariant_of-shared c =
+pub bucket_of-requires : goal.bucket_of-requires
+bucket_of-requires c =
     subst IsFile c.as_slice.ensures.value
     (no_fault_is_file c.as_slice.result.now c.in_ok-judge.ensures.bytes c.in_ok-judge.ensures.fault)
 
@@ -15,4 +15,4 @@ pub returns-clause-file : goal.returns-clause-file
 returns-clause-file c =
     let is = subst IsFile c.as_slice.ensures.value
     (no_fault_is_file c.as_slice.result.now c.in_ok-judge.ensures.bytes c.in_ok-judge.ensures.fault) in
-    ap file_of c.in_ok-bucket.ensures ∙ sym is.is
+    ap file_of (c.in_ok-bucket.ensures ∙ c.bucket_of.ensures) ∙ sym is.is

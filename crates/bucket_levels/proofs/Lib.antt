@@ -1,0 +1,5 @@
+pub mod Halves
+pub mod Marks
+pub mod Joined
+pub mod Climb
+pub mod Standing

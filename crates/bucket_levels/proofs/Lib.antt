@@ -3,3 +3,4 @@ pub mod Marks
 pub mod Joined
 pub mod Climb
 pub mod Standing
+pub mod Planning

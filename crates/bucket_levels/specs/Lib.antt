@@ -7,3 +7,4 @@ pub mod Meaning
 pub mod Fresh
 pub mod Laws
 pub mod Levels
+pub mod Planned

@@ -57,35 +57,45 @@ on_removed Dead was xs ys i m = absurd m
 both_replaced : (older newer : Change) (xs : List Change)
     → Replaces (newer ∷ older ∷ xs) (in_front (joined older newer) xs)
 unfolding AreMarkedWell
-both_replaced Dead (Init e) xs = record { by = λ w. record {
-  well = (live_where_dead e xs w.1.0, w.1.1);
-  entry = refl;
-  carries = λ c m. on_made_or_live c e e (Dead ∷ xs) xs m;
-} }
+both_replaced Dead (Init e) xs = record {
+  by = λ w. record {
+    well = (live_where_dead e xs w.1.0, w.1.1);
+    entry = refl;
+    carries = λ c m. on_made_or_live c e e (Dead ∷ xs) xs m;
+  };
+}
 both_replaced Dead (Live e) xs = record { by = λ w. absurd w.0 }
 both_replaced Dead Dead xs = record { by = λ w. absurd w.0 }
 both_replaced (Init was) (Init e) xs = record { by = λ w. absurd w.0 }
-both_replaced (Init was) (Live e) xs = record { by = λ w. record {
-  well = (w.1.0, w.1.1);
-  entry = refl;
-  carries = λ c m. on_live_or_made c e e (Init was ∷ xs) xs m;
-} }
-both_replaced (Init was) Dead xs = record { by = λ w. record {
-  well = w.1.1;
-  entry = none_where_made was xs w.1.0;
-  carries = λ c m. on_removed c was xs (Init was ∷ xs) w.1.0 m;
-} }
+both_replaced (Init was) (Live e) xs = record {
+  by = λ w. record {
+    well = (w.1.0, w.1.1);
+    entry = refl;
+    carries = λ c m. on_live_or_made c e e (Init was ∷ xs) xs m;
+  };
+}
+both_replaced (Init was) Dead xs = record {
+  by = λ w. record {
+    well = w.1.1;
+    entry = none_where_made was xs w.1.0;
+    carries = λ c m. on_removed c was xs (Init was ∷ xs) w.1.0 m;
+  };
+}
 both_replaced (Live was) (Init e) xs = record { by = λ w. absurd w.0 }
-both_replaced (Live was) (Live e) xs = record { by = λ w. record {
-  well = (live_where_dead e xs (dead_where_live was xs w.1.0), w.1.1);
-  entry = refl;
-  carries = λ c m. on_same_newest c (Live e) (Live was ∷ xs) xs m;
-} }
-both_replaced (Live was) Dead xs = record { by = λ w. record {
-  well = (dead_where_live was xs w.1.0, w.1.1);
-  entry = refl;
-  carries = λ c m. on_same_newest c Dead (Live was ∷ xs) xs m;
-} }
+both_replaced (Live was) (Live e) xs = record {
+  by = λ w. record {
+    well = (live_where_dead e xs (dead_where_live was xs w.1.0), w.1.1);
+    entry = refl;
+    carries = λ c m. on_same_newest c (Live e) (Live was ∷ xs) xs m;
+  };
+}
+both_replaced (Live was) Dead xs = record {
+  by = λ w. record {
+    well = (dead_where_live was xs w.1.0, w.1.1);
+    entry = refl;
+    carries = λ c m. on_same_newest c Dead (Live was ∷ xs) xs m;
+  };
+}
 
 -- ---- what a level keeps
 

@@ -17,14 +17,16 @@ pub itself : (xs : List Change) → Replaces xs xs
 itself xs = record { by = λ w. record { well = w; entry = refl; carries = λ c m. m } }
 
 pub in_turn : (xs ys zs : List Change) → Replaces xs ys → Replaces ys zs → Replaces xs zs
-in_turn xs ys zs a b = record { by = λ w.
-    let first = a.by w in
-    let second = b.by first.well in
-    record {
-      well = second.well;
-      entry = second.entry ∙ first.entry;
-      carries = λ c m. second.carries c (first.carries c m);
-    } }
+in_turn xs ys zs a b = record {
+  by = λ w.
+      let first = a.by w in
+      let second = b.by first.well in
+      record {
+        well = second.well;
+        entry = second.entry ∙ first.entry;
+        carries = λ c m. second.carries c (first.carries c m);
+      };
+}
 
 -- what a change may stand on is told by the newest one
 pub on_same_newest : (c d : Change) (xs ys : List Change) → MayStandOn c (d ∷ xs) → MayStandOn c (d ∷ ys)
@@ -40,13 +42,15 @@ on_same_newest Dead Dead xs ys m = m
 
 behind_change : (c : Change) (xs ys : List Change) → Replaces xs ys → Replaces (c ∷ xs) (c ∷ ys)
 unfolding AreMarkedWell
-behind_change c xs ys a = record { by = λ w.
-    let rest = a.by w.1 in
-    record {
-      well = (rest.carries c w.0, rest.well);
-      entry = refl;
-      carries = λ d m. on_same_newest d c xs ys m;
-    } }
+behind_change c xs ys a = record {
+  by = λ w.
+      let rest = a.by w.1 in
+      record {
+        well = (rest.carries c w.0, rest.well);
+        entry = refl;
+        carries = λ d m. on_same_newest d c xs ys m;
+      };
+}
 
 -- behind the same newer change, where there is one
 pub behind : (o : Option Change) (xs ys : List Change) → Replaces xs ys → Replaces (in_front o xs) (in_front o ys)

@@ -18,21 +18,6 @@ pub pair_is_at : (items : List LevelPair) (i : ℕ) (pair : LevelPair) → i < l
     → pair_of pair ≡ pair_at (map pair_of items) i
 pair_is_at items i pair lt is = ap pair_of is ∙ sym (get_or-map pair_of items i pair empty_pair lt)
 
--- a level below the first takes the snap of the one above, where that one spills
-pub curr_below : (seq : ℕ) (fresh : Contents) (old : List Pair) (above level : ℕ) (new : Contents) → level ≡ suc above
-    → IsMergedIf (spills above seq) level (base_at seq old level) (pair_at old above).snap (pair_at old level).curr new
-    → IsCurrAfter seq fresh old level new
-curr_below seq fresh old above level new e = subst
-    (λ (n : ℕ). IsMergedIf (spills above seq) n (base_at seq old n) (pair_at old above).snap (pair_at old n).curr new
-    → IsCurrAfter seq fresh old n new) (sym e) (λ m. m)
-
-pub work_below : (seq : ℕ) (fresh : Contents) (old : List Pair) (above level : ℕ) → level ≡ suc above
-    → work_at seq fresh old level
-    ≡ cond (spills above seq) (count_of (base_at seq old level) + count_of (pair_at old above).snap) 0
-work_below seq fresh old above level e = subst
-    (λ (n : ℕ). work_at seq fresh old n
-    ≡ cond (spills above seq) (count_of (base_at seq old n) + count_of (pair_at old above).snap) 0) (sym e) refl
-
 -- ---- level by level
 
 pub none_planned : (seq : ℕ) (fresh : Contents) (old : List Pair) → ArePlanned seq fresh old 0 []
@@ -49,16 +34,10 @@ one_more_planned seq fresh old level new pair p here = record {
       (subst (IsPairAfter seq fresh old level) (sym (get_or_push new pair empty_pair level p.count)) here);
 }
 
-pub pushed : (items : List LevelPair) (pair : LevelPair)
-    → map pair_of (items ++ pair ∷ []) ≡ map pair_of items ++ pair_of pair ∷ []
-pushed items pair = map-append pair_of items (pair ∷ [])
-
-pub step_is_planned : (seq : ℕ) (fresh : Contents) (old : List Pair) (level : ℕ) (new : List Pair)
-    → level ≡ level_count → ArePlanned seq fresh old level new → IsStep seq fresh old new
-step_is_planned seq fresh old level new e p = record {
-  count = p.count ∙ e;
-  pairs = λ i lt. p.pairs i (omega (arith, e));
-}
+pub pushed : (items after : List LevelPair) (pair : LevelPair) → after ≡ items ++ pair ∷ []
+    → map pair_of after ≡ map pair_of items ++ pair_of pair ∷ []
+pushed items after pair e =
+    ap (λ (pairs : List LevelPair). map pair_of pairs) e ∙ map-append pair_of items (pair ∷ [])
 
 -- ---- the work
 
@@ -66,10 +45,6 @@ pub work_more : (seq : ℕ) (fresh : Contents) (old : List Pair) (level : ℕ)
     → work_above seq fresh old (level + 1) ≡ work_above seq fresh old level + work_at seq fresh old level
 unfolding work_above
 work_more seq fresh old level = ap (work_above seq fresh old) (add-one level)
-
-pub no_work : (seq : ℕ) (fresh : Contents) (old : List Pair) → work_above seq fresh old 0 ≡ 0
-unfolding work_above
-no_work seq fresh old = refl
 
 work_within : (seq : ℕ) (fresh : Contents) (old : List Pair) (n level : ℕ) → level + n ≡ level_count
     → work_above seq fresh old level ≤ work_above seq fresh old level_count
@@ -81,7 +56,24 @@ work_within seq fresh old (suc n) level e =
     omega (arith, more, rest)
 
 -- the work of the first levels is within that of all
-pub work_is_within : (seq : ℕ) (fresh : Contents) (old : List Pair) (level : ℕ) → level ≤ level_count
+work_is_within : (seq : ℕ) (fresh : Contents) (old : List Pair) (level : ℕ) → level ≤ level_count
     → work_above seq fresh old level ≤ work_above seq fresh old level_count
 work_is_within seq fresh old level le =
     work_within seq fresh old (level_count - level) level (omega (arith, le))
+
+-- the work of one level more
+pub work_follows : (seq : ℕ) (seen fresh : Contents) (old : List Pair) (level start before now : ℕ) → seen ≡ fresh
+    → before ≤ start + work_above seq fresh old level → now ≤ before + work_at seq seen old level
+    → now ≤ start + work_above seq fresh old (level + 1)
+work_follows seq seen fresh old level start before now e was more =
+    let same = ap (λ (c : Contents). work_at seq c old level) e in
+    let next = work_more seq fresh old level in
+    omega (arith, same, next, was, more)
+
+pub work_stays_within : (seq : ℕ) (seen fresh : Contents) (old : List Pair) (level start before now : ℕ)
+    → level < level_count → seen ≡ fresh → before ≤ start + work_above seq fresh old level
+    → now ≤ before + work_at seq seen old level → now ≤ start + work_above seq fresh old level_count
+work_stays_within seq seen fresh old level start before now lt e was more =
+    let here = work_follows seq seen fresh old level start before now e was more in
+    let all = work_is_within seq fresh old (level + 1) (omega (arith, lt)) in
+    omega (arith, here, all)

@@ -1,6 +1,7 @@
 //! The step that a close makes, before the levels take it.
 
 ghost use Rattle.std.specs.Prelude.{◌≡◌, ◌≤◌, ◌+◌, IfOk};
+ghost use Rattle.bucket_core.specs.Bucket.{Contents};
 ghost use Rattle.bucket_core.specs.File.{count_of};
 ghost use Rattle.bucket_merge.specs.Merge.{IsMerge};
 ghost use Rattle.bucket_levels.specs.Step.{base_at, snap_after, IsCurrAfter, IsPairAfter, IsStep};

@@ -2,6 +2,3 @@ use Rattle.bucket_levels.proofs.tests.go_on_alike.Given as goal
 
 abbrev pub ghosts-close : goal.ghosts-close
 ghosts-close a = record { name = a.blank.name; parts = a.blank.parts }
-
-abbrev pub ghosts-close-2 : goal.ghosts-close-2
-ghosts-close-2 a = record { name = a.blank.name; parts = a.blank.parts }

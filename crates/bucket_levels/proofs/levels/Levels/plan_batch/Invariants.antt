@@ -2,7 +2,7 @@ use Rattle.std.proofs.Common.{◌+◌, ◌≤◌, map}
 use Rattle.bucket_levels.specs.Levels.{pair_of}
 use Rattle.bucket_levels.specs.Work.{work_above}
 use Rattle.bucket_levels.specs.Planned.{ArePlanned}
-use Rattle.bucket_levels.proofs.plan.Levels.plan_batch.Given as goal
+use Rattle.bucket_levels.proofs.levels.Levels.plan_batch.Given as goal
 
 abbrev pub invariant-loop-level : goal.invariant-loop-level
 invariant-loop-level g l = record {

@@ -1,6 +1,6 @@
 //! Levels that take closes.
 
-ghost use Rattle.std.specs.Prelude.{◌≡◌, ◌+◌, ◌<◌, IfOk};
+ghost use Rattle.std.specs.Prelude.{◌≡◌, ◌+◌, ◌<◌, ◌^◌};
 
 use bucket_core::Bucket;
 use bucket_levels::{LevelPair, Levels};
@@ -66,7 +66,11 @@ impl Closing {
 }
 
 /// Takes the close of the next ledger, and counts its steps in a ledger of their own.
-fn close_in<L: Ledger>(closing: &mut Closing, fresh: Arc<Bucket>, blank: Blank) -> Result<(), AllocError>
+fn close_in<L: Ledger>(
+    closing: &mut Closing,
+    fresh: Arc<Bucket>,
+    blank: Blank,
+) -> Result<(), AllocError>
     requires name { blank.name ≡ L.name }
     requires parts { blank.parts ≡ L.parts }
     requires some { 0 < L.parts }

@@ -5,7 +5,7 @@ use Rattle.ledger_types.specs.declared.entry.LedgerEntry.{LedgerEntry}
 use Rattle.bucket_core.specs.Bucket.{Change, Init, Live, Dead}
 use Rattle.bucket_merge.specs.Merge.{joined, kept, merged_change}
 use Rattle.bucket_levels.specs.Meaning.{in_front, entry_by, MayStandOn, AreMarkedWell}
-use Rattle.bucket_levels.proofs.Marks.{StandsFor, Replaces, itself, in_turn, on_same_newest}
+use Rattle.bucket_levels.proofs.Marks.{Replaces, itself, in_turn, on_same_newest}
 
 -- ---- what may stand on a list
 

@@ -1,5 +1,5 @@
 -- The hash of the levels, which stands in the header (BucketLevel::getHash and BucketList::getHash in stellar-core).
-use Rattle.std.specs.Prelude.{ℕ, List, ◌++◌}
+use Rattle.std.specs.Prelude.{List, ◌++◌}
 use Rattle.std.specs.List.{flat_map}
 use Rattle.ledger_types.specs.declared.ids.Hash.{Hash}
 use Rattle.hash_ids.specs.Ids.{hash_of}

@@ -1,5 +1,5 @@
 -- What the levels stand for: of each key, what the newest file says that says something of it.
-use Rattle.std.specs.Prelude.{◌≡◌, ℕ, List, [], ◌∷◌, ◌++◌, Option, Some, None}
+use Rattle.std.specs.Prelude.{◌≡◌, List, [], ◌∷◌, Option, Some, None}
 use Rattle.std.specs.List.{flat_map}
 use Rattle.std.specs.FinMap.{get}
 use Rattle.ledger_types.specs.declared.entry.LedgerEntry.{LedgerEntry}

@@ -1,5 +1,5 @@
 -- When a level spills into the one below it (BucketList::levelShouldSpill in stellar-core).
-use Rattle.std.specs.Prelude.{ℕ, ◌+◌, ◌*◌, ◌/◌, ◌^◌, ◌%◌, ◌&&◌, nat_eq, nat_lt, Bool}
+use Rattle.std.specs.Prelude.{ℕ, ◌+◌, ◌/◌, ◌^◌, ◌%◌, ◌&&◌, nat_eq, nat_lt, Bool}
 
 abbrev pub level_count : ℕ
 level_count = 11

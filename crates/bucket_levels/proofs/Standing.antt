@@ -79,7 +79,7 @@ deepest_stays : (seq : ℕ) (fresh : Contents) (old new : List Pair) → IsStep 
 deepest_stays seq fresh old new step = (step.pairs 10 (lit< tt)).snap
 
 pub steps_stand : StepsStand
-steps_stand seq fresh old new before after count w is keyed f step =
+steps_stand seq fresh old new before after count w is f step =
     let at = stands_after seq fresh old new before after count w is f step in (
       record {
         marks = λ k. (at k).0;

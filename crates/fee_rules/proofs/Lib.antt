@@ -5,3 +5,4 @@ pub mod Ranks
 pub mod Places
 pub mod Longer
 pub mod Spelled
+pub mod Ordered

@@ -1,0 +1,124 @@
+-- Whole sets: what they leave is settled, by the moves that they list, and their operations are lawful.
+use Rattle.std.proofs.Common.{◌≡◌, ℕ, suc, ◌<◌, ℤ, pos, ◌+ℤ◌, ◌-ℤ◌, List, [], ◌∷◌, All}
+use Rattle.std.proofs.Common.{Option, Some, None, refl, ap, subst, ◌∙◌, arith}
+use Rattle.std.proofs.lemmas.Int.{ints}
+use Rattle.std.proofs.lemmas.List.Elements.{All-nil, All-cons, All-append}
+use Rattle.std.proofs.lemmas.Option.{slice_get_within, get_or_from_slice_get}
+use Rattle.std.specs.Prelude.{slice_get}
+use Rattle.ledger_types.specs.declared.asset.Asset.TheVariants as asset
+use Rattle.op_types.specs.declared.transaction.TransactionEnvelope.{TransactionEnvelope}
+use Rattle.op_types.specs.declared.transaction.TransactionSet.{TransactionSet}
+use Rattle.entry_map.specs.EntryMap.{EntryMap}
+use Rattle.fee_rules.specs.Fees.{set_base_fee}
+use Rattle.fee_rules.specs.Ranking.{at_most_one}
+use Rattle.fee_rules.specs.Turns.{apply_order_of}
+use Rattle.legal_rules.proofs.Legality.{owing_nothing}
+use Rattle.op_laws.specs.Laws.{IsLawful}
+use Rattle.op_laws.specs.Moves.{issued}
+use Rattle.op_laws.specs.Steps.{TransactionLaws, LegalSettles}
+use Rattle.op_laws.specs.Underway.{IsSettled, LeavesSettled}
+use Rattle.op_laws.proofs.Issued.{lumens_not_issued}
+use Rattle.tx_apply.specs.Built.{operations_of}
+use Rattle.tx_apply.specs.Laws.{AreFit, AreAllFit, AreLawful, CanClose, TransactionsConserve, IsConserved, SetsConserve}
+use Rattle.tx_apply.specs.Laws.{OperationsAreLawful}
+use Rattle.tx_apply.specs.Places.{envelopes_at}
+use Rattle.tx_apply.specs.Running.{Step}
+use Rattle.tx_apply.specs.Set.{Closing, envelope_applied, SetApplied, none_applied, all_applied, envelopes_in_order}
+use Rattle.tx_apply.specs.Set.{charges_of, set_applied}
+use Rattle.tx_apply.proofs.Charging.{AreCharged, all_charged}
+use Rattle.tx_apply.proofs.Settling.{leaves_itself, leaves_twice, no_steps}
+use Rattle.tx_apply.proofs.Sound.{envelope_sound}
+
+-- ---- what holds of all of a list holds of those at places
+
+one_at : {X : Type 0} (P : X → Type 0) (xs : List X) (place : ℕ) (found : Option X) → slice_get xs place ≡ found
+    → All P xs → All P (at_most_one found)
+one_at P xs place None e all = All-nil P
+one_at P xs place (Some x) e all =
+    All-cons P x [] (subst P (get_or_from_slice_get xs place x x e) (all place x (slice_get_within xs place x e)))
+    (All-nil P)
+
+pub all_at : (P : TransactionEnvelope → Type 0) (envelopes : List TransactionEnvelope) (places : List ℕ)
+    → All P envelopes → All P (envelopes_at envelopes places)
+unfolding envelopes_at
+all_at P envelopes [] all = All-nil P
+all_at P envelopes (place ∷ places) all =
+    All-append P (at_most_one (slice_get envelopes place)) (envelopes_at envelopes places)
+    (one_at P envelopes place (slice_get envelopes place) refl all) (all_at P envelopes places all)
+
+-- ---- the transactions
+
+first_of : (P : TransactionEnvelope → Type 0) (whole : TransactionEnvelope) (others : List TransactionEnvelope)
+    → All P (whole ∷ others) → P whole
+first_of P whole others all = all 0 whole (omega arith)
+
+rest_of : (P : TransactionEnvelope → Type 0) (whole : TransactionEnvelope) (others : List TransactionEnvelope)
+    → All P (whole ∷ others) → All P others
+rest_of P whole others all = λ k d within. all (suc k) d (let h = within in omega (arith, h))
+
+pub record AreSound (m : EntryMap) (done : SetApplied) : Type 0 where
+  pub left : LeavesSettled done.id_pool m done.entries done.moves
+  pub steps : AreLawful done.steps
+
+none_sound : (id_pool : ℕ) (m : EntryMap) → IsSettled id_pool m → AreSound m (none_applied id_pool m)
+none_sound id_pool m settled = record { left = leaves_itself id_pool m settled; steps = no_steps }
+
+module _ (laws : TransactionLaws) (closing : Closing) (seq : closing.header.ledger_seq < 2147483647) where
+  pub all_sound : (id_pool : ℕ) (envelopes : List TransactionEnvelope) (charges : List ℤ) (m : EntryMap)
+      → IsSettled id_pool m → AreAllFit envelopes → AreSound m (all_applied closing id_pool envelopes charges m)
+  unfolding all_applied
+  all_sound id_pool [] charges m settled fit = none_sound id_pool m settled
+  all_sound id_pool (whole ∷ others) [] m settled fit = none_sound id_pool m settled
+  all_sound id_pool (whole ∷ others) (charge ∷ charges) m settled fit =
+      let P = λ (w : TransactionEnvelope). AreFit (operations_of w) in
+      let first = envelope_applied closing id_pool whole m in
+      let sound = envelope_sound laws closing id_pool whole m settled seq (first_of P whole others fit) in
+      let rest = all_sound first.id_pool others charges first.entries sound.left.settled (rest_of P whole others fit) in
+      let after = all_applied closing first.id_pool others charges first.entries in
+      record {
+        left = leaves_twice first.id_pool after.id_pool m first.entries after.entries first.moves after.moves sound.left
+            rest.left;
+        steps = All-append (λ (step : Step). IsLawful step.ctx step.entries step.done) first.steps after.steps
+            sound.steps rest.steps;
+      }
+
+pub transactions_conserve : TransactionLaws → TransactionsConserve
+transactions_conserve laws closing id_pool whole m settled seq fit =
+    (envelope_sound laws closing id_pool whole m settled seq fit).left
+
+-- ---- the set
+
+all_lumens : (last between none first pool sum coins : ℤ) → last ≡ (between +ℤ none) → none ≡ pos 0
+    → (between +ℤ sum) ≡ first → first ≡ (coins -ℤ pool) → (last +ℤ (pool +ℤ sum)) ≡ coins
+all_lumens last between none first pool sum coins e nothing h g = omega (arith, ints)
+
+module _ (laws : TransactionLaws) (settles : LegalSettles) (closing : Closing) (set : TransactionSet) (m : EntryMap)
+    (can : CanClose closing set m) where
+  charges_sound : AreCharged closing.header.id_pool m (charges_of closing set m)
+  charges_sound = all_charged laws closing.header.id_pool (set_base_fee closing.header set.txs) (envelopes_in_order set)
+      m
+      (settles closing.header m can.legal can.signers)
+
+  sound : AreSound (charges_of closing set m).entries (set_applied closing set m)
+  sound = all_sound laws closing can.seq closing.header.id_pool (envelopes_in_order set)
+      (charges_of closing set m).charges (charges_of closing set m).entries charges_sound.settled
+      (all_at (λ (w : TransactionEnvelope). AreFit (operations_of w)) set.txs (apply_order_of set) can.fit)
+
+  pub set_conserved : IsConserved closing set m
+  set_conserved = record {
+    settled = sound.left.settled;
+    lumens = all_lumens _ _ _ _ _ _ _ (sound.left.supply asset.Native)
+        (lumens_not_issued (set_applied closing set m).moves) charges_sound.lumens
+        (owing_nothing closing.header m can.legal).supply;
+    supply = λ x apart. sound.left.supply x
+        ∙ ap (λ (n : ℤ). n +ℤ issued x (set_applied closing set m).moves) (charges_sound.others x apart);
+  }
+
+  pub set_lawful : AreLawful (set_applied closing set m).steps
+  set_lawful = sound.steps
+
+pub sets_conserve : TransactionLaws → LegalSettles → SetsConserve
+sets_conserve laws settles closing set m can = set_conserved laws settles closing set m can
+
+pub operations_are_lawful : TransactionLaws → LegalSettles → OperationsAreLawful
+operations_are_lawful laws settles closing set m can = set_lawful laws settles closing set m can

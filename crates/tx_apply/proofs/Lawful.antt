@@ -1,0 +1,117 @@
+-- Operations in their order: each is lawful, and a transaction that is under way before it is under way behind it.
+use Rattle.std.proofs.Common.{◌≡◌, ℕ, suc, ◌+◌, List, [], ◌∷◌, length, nat_eq}
+use Rattle.std.proofs.Common.{refl, ap, arith, Option, Some, None}
+use Rattle.std.proofs.lemmas.List.Elements.{All-cons}
+use Rattle.ledger_types.specs.declared.ids.AccountId.{AccountId}
+use Rattle.ledger_types.specs.declared.account.AccountEntry.{AccountEntry}
+use Rattle.op_types.specs.declared.operation.Operation.{Operation}
+use Rattle.op_types.specs.declared.operation_result.OperationResult.TheVariants.{NoAccount}
+use Rattle.op_types.specs.declared.transaction.Transaction.{Transaction}
+use Rattle.op_types.specs.declared.transaction_result.TransactionOutcome.TheVariants as outcome
+use Rattle.entry_map.specs.EntryMap.{EntryMap}
+use Rattle.entry_slots.specs.Accounts.{account_at}
+use Rattle.sponsor_rules.specs.declared.context.Ctx.{Ctx}
+use Rattle.legal_rules.specs.Sponsorships.{AreSponsorshipsSound}
+use Rattle.op_form.specs.Done.{Done}
+use Rattle.op_laws.specs.Underway.{IsUnderway, LeavesSettled}
+use Rattle.op_laws.specs.Laws.{IsFit, IsLawful, AllLawful}
+use Rattle.op_laws.proofs.AllOperations.{failed_is_lawful}
+use Rattle.tx_apply.specs.Laws.{AreFit, AreLawful}
+use Rattle.tx_apply.specs.Signing.{source_of}
+use Rattle.tx_apply.specs.Checks.{source_account}
+use Rattle.tx_apply.specs.Running.{Step, placed, done_by, done_at, Ran, run}
+use Rattle.tx_apply.specs.Transaction.{operations_applied}
+use Rattle.tx_apply.proofs.Settling.{leaves_itself, leaves_twice, no_steps, IsSound}
+use Rattle.tx_apply.proofs.Settling.{undone_sound, either_sound}
+
+-- ---- one operation
+
+lawful_by : AllLawful → (ctx : Ctx) (operation : Operation) (m : EntryMap) (account : Option AccountEntry)
+    → account_at m ctx.op_source ≡ account → IsFit operation.body → IsUnderway ctx m
+    → IsLawful ctx m (done_by ctx operation m account)
+lawful_by all ctx operation m None e fit underway = failed_is_lawful ctx m underway NoAccount
+lawful_by all ctx operation m (Some account) e fit underway = all ctx operation.body m fit underway (account, e)
+
+-- the same context at another place
+pub underway_placed : (ctx : Ctx) (place : ℕ) (source : AccountId) (m : EntryMap) → IsUnderway ctx m
+    → IsUnderway (placed ctx place source) m
+underway_placed ctx place source m underway = record {
+  settled = underway.settled;
+  sponsorships = record {
+    once = underway.sponsorships.once;
+    other = underway.sponsorships.other;
+    stand = underway.sponsorships.stand;
+  };
+  seq = underway.seq;
+}
+
+pub lawful_at : AllLawful → (ctx : Ctx) (source : AccountId) (place : ℕ) (operation : Operation) (m : EntryMap)
+    → IsFit operation.body → IsUnderway ctx m
+    → IsLawful (placed ctx place (source_of source operation)) m (done_at ctx source place operation m)
+lawful_at all ctx source place operation m fit underway =
+    lawful_by all (placed ctx place (source_of source operation)) operation m
+    (account_at m (source_of source operation)) refl fit
+    (underway_placed ctx place (source_of source operation) m underway)
+
+-- ---- all of them
+
+-- the first of operations whose numbers fit, and the others
+first_fits : (operation : Operation) (operations : List Operation) → AreFit (operation ∷ operations)
+    → IsFit operation.body
+first_fits operation operations fit = fit 0 operation (omega arith)
+
+others_fit : (operation : Operation) (operations : List Operation) → AreFit (operation ∷ operations)
+    → AreFit operations
+others_fit operation operations fit = λ k d within. fit (suc k) d (let h = within in omega (arith, h))
+
+-- what holds of operations that were run
+pub record GoesOn (m : EntryMap) (ran : Ran) : Type 0 where
+  pub underway : IsUnderway ran.ctx ran.entries
+  pub left : LeavesSettled ran.ctx.id_pool m ran.entries ran.moves
+  pub steps : AreLawful ran.steps
+
+-- what a lawful operation leaves
+left_by : (ctx : Ctx) (m : EntryMap) (done : Done) → IsLawful ctx m done
+    → LeavesSettled done.ctx.id_pool m done.entries done.moves
+left_by ctx m done lawful = record { settled = lawful.legal.settled; supply = lawful.supply }
+
+pub goes_on : AllLawful → (ctx : Ctx) (source : AccountId) (place : ℕ) (operations : List Operation) (m : EntryMap)
+    → AreFit operations → IsUnderway ctx m → GoesOn m (run ctx source place operations m)
+unfolding run
+goes_on all ctx source place [] m fit underway =
+    record { underway = underway; left = leaves_itself ctx.id_pool m underway.settled; steps = no_steps }
+goes_on all ctx source place (operation ∷ operations) m fit underway =
+    let own = placed ctx place (source_of source operation) in
+    let first = done_at ctx source place operation m in
+    let lawful = lawful_at all ctx source place operation m (first_fits operation operations fit) underway in
+    let rest = goes_on all first.ctx source (place + 1) operations first.entries (others_fit operation operations fit)
+    lawful.legal in
+    let after = run first.ctx source (place + 1) operations first.entries in
+    record {
+      underway = rest.underway;
+      left = leaves_twice first.ctx.id_pool after.ctx.id_pool m first.entries after.entries first.moves after.moves
+          (left_by own m first lawful) rest.left;
+      steps = All-cons (λ (step : Step). IsLawful step.ctx step.entries step.done)
+          (record { ctx = own; entries = m; done = first }) after.steps lawful rest.steps;
+    }
+
+-- ---- the operations of a transaction
+
+pub operations_sound : AllLawful → (ctx : Ctx) (tx : Transaction) (m : EntryMap) → AreFit tx.operations
+    → IsUnderway ctx m → IsSound m (operations_applied ctx tx m)
+operations_sound all ctx tx m fit underway =
+    let ran = run ctx (source_account tx) 0 tx.operations m in
+    let on = goes_on all ctx (source_account tx) 0 tx.operations m fit underway in
+    either_sound m ran.succeeds _ _
+    (either_sound m (nat_eq (length ran.ctx.sponsorships) 0) _ _
+    (record { left = on.left; steps = on.steps })
+    (undone_sound outcome.BadSponsorship ctx m ran.steps underway.settled on.steps))
+    (undone_sound (outcome.Failed ran.results) ctx m ran.steps underway.settled on.steps)
+
+-- where no sponsorship is open
+pub none_open : (ctx : Ctx) (m : EntryMap) → ctx.sponsorships ≡ [] → AreSponsorshipsSound ctx m
+none_open ctx m closed = record {
+  once = λ i j d h g. absurd (let none : length ctx.sponsorships ≡ 0 = ap length closed in omega (arith, none, h, g));
+  other = λ i d h. absurd (let none : length ctx.sponsorships ≡ 0 = ap length closed in omega (arith, none, h));
+  stand = λ i d h. absurd (let none : length ctx.sponsorships ≡ 0 = ap length closed in omega (arith, none, h));
+}

@@ -1,0 +1,12 @@
+pub mod Settling
+pub mod Lawful
+pub mod Judging
+pub mod Sound
+pub mod Placed
+pub mod Spelled
+pub mod Charging
+pub mod Applying
+pub mod Conserving
+pub mod Missing
+pub mod Fitting
+pub mod Unbuilt

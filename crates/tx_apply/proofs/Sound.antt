@@ -1,0 +1,121 @@
+-- Transactions are sound: what they leave is settled, by the moves that they list, and their operations are lawful.
+use Rattle.std.proofs.Common.{◌≡◌, ℕ, ◌<◌, Bool, false, true, not, List, [], Option, Some, None, refl}
+use Rattle.ledger_types.specs.declared.ids.AccountId.{AccountId}
+use Rattle.ledger_types.specs.declared.ids.Hash.{Hash}
+use Rattle.op_types.specs.declared.transaction.Transaction.{Transaction}
+use Rattle.op_types.specs.declared.transaction.TransactionV0.{TransactionV0}
+use Rattle.op_types.specs.declared.transaction.FeeBumpTransaction.{FeeBumpTransaction}
+use Rattle.op_types.specs.declared.transaction.TransactionEnvelope.{TransactionEnvelope}
+use Rattle.op_types.specs.declared.transaction.TransactionEnvelope.TheVariants as envelope
+use Rattle.op_types.specs.declared.transaction_result.TransactionOutcome.{TransactionOutcome}
+use Rattle.op_types.specs.declared.transaction_result.TransactionOutcome.TheVariants as outcome
+use Rattle.entry_map.specs.EntryMap.{EntryMap}
+use Rattle.entry_slots.specs.Accounts.{account_at}
+use Rattle.entry_slots.specs.Tests.{first_fault}
+use Rattle.sponsor_rules.specs.declared.context.Ctx.{Ctx}
+use Rattle.sponsor_rules.specs.Signers.{map_after_removing_preauth}
+use Rattle.signer_check.specs.declared.held.HeldSignature.{HeldSignature}
+use Rattle.op_laws.specs.Steps.{TransactionLaws}
+use Rattle.op_laws.specs.Underway.{IsSettled, IsUnderway}
+use Rattle.op_form.specs.declared.levels.ThresholdLevel.TheVariants.{Low}
+use Rattle.value_hashes.specs.Hashes.{signed_hash_of, transaction_hash_of}
+use Rattle.tx_apply.specs.Built.{operations_of}
+use Rattle.tx_apply.specs.Checks.{source_account, judged, is_poor}
+use Rattle.tx_apply.specs.FeeBump as bump
+use Rattle.tx_apply.specs.Laws.{AreFit}
+use Rattle.tx_apply.specs.Set.{Closing, ctx_in, all_held, envelope_applied}
+use Rattle.tx_apply.specs.Signing.{Auth, auth_of, are_used}
+use Rattle.tx_apply.specs.Transaction as spec
+use Rattle.tx_apply.proofs.Judging.{without_used, settled_judged}
+use Rattle.tx_apply.proofs.Lawful.{operations_sound, none_open}
+use Rattle.tx_apply.proofs.Settling.{IsSound, ended_sound, either_sound, sound_behind}
+
+-- a transaction that is under way before its first operation
+underway_by : (ctx : Ctx) (m : EntryMap) → IsSettled ctx.id_pool m → ctx.sponsorships ≡ [] → ctx.seq < 2147483647
+    → IsUnderway ctx m
+underway_by ctx m settled closed seq =
+    record { settled = settled; sponsorships = none_open ctx m closed; seq = seq }
+
+module _ (laws : TransactionLaws) where
+  by_outcome : (ctx : Ctx) (tx : Transaction) (m : EntryMap) (end : Option TransactionOutcome) → IsUnderway ctx m
+      → AreFit tx.operations → IsSound m (spec.applied_or_ended ctx tx m end)
+  by_outcome ctx tx m (Some end) underway fit = ended_sound end ctx m underway.settled
+  by_outcome ctx tx m None underway fit = operations_sound laws.operations ctx tx m fit underway
+
+  pub transaction_sound : (pays : Bool) (base_fee : ℕ) (ctx : Ctx) (hash : Hash) (signatures : List HeldSignature)
+      (tx : Transaction) (m : EntryMap) → IsSettled ctx.id_pool m → ctx.sponsorships ≡ [] → ctx.seq < 2147483647
+      → AreFit tx.operations → IsSound m (spec.transaction_applied pays base_fee ctx hash signatures tx m)
+  transaction_sound pays base_fee ctx hash signatures tx m settled closed seq fit =
+      let checked = judged pays base_fee ctx hash signatures tx m in
+      let first = settled_judged laws.seq_nums pays base_fee ctx.id_pool ctx hash signatures tx m settled in
+      let used = without_used laws.preauths ctx.id_pool hash (source_account tx) tx.operations checked.entries
+      first.settled in
+      let after = spec.map_without_used hash (source_account tx) tx.operations checked.entries in
+      let applied = spec.applied_or_ended ctx tx after checked.outcome in
+      sound_behind ctx.id_pool m checked.entries applied first
+      (sound_behind ctx.id_pool checked.entries after applied used
+      (by_outcome ctx tx after checked.outcome (underway_by ctx after used.settled closed seq) fit))
+
+  v0_sound : (ctx : Ctx) (hash : Hash) (tx : TransactionV0) (m : EntryMap) → IsSettled ctx.id_pool m
+      → IsSound m (spec.v0_applied ctx hash tx m)
+  v0_sound ctx hash tx m settled =
+      let source : AccountId = record { 0 = tx.source_account_ed25519 } in
+      let used = without_used laws.preauths ctx.id_pool hash source tx.operations m settled in
+      let after = spec.map_without_used hash source tx.operations m in
+      sound_behind ctx.id_pool m after (spec.ended outcome.NotSupported ctx after) used
+      (ended_sound outcome.NotSupported ctx after used.settled)
+
+  -- ---- fee bumps
+
+  module _ (base_fee : ℕ) (ctx : Ctx) (signed : bump.BumpSigned) (tx : FeeBumpTransaction)
+      (closed : ctx.sponsorships ≡ []) (seq : ctx.seq < 2147483647) (fit : AreFit tx.inner_tx.tx.operations) where
+    inner_sound : (m : EntryMap) → IsSettled ctx.id_pool m → IsSound m (bump.inner_applied base_fee ctx signed tx m)
+    inner_sound m settled =
+        let sound = transaction_sound false base_fee ctx signed.inner_hash signed.inner_signatures tx.inner_tx.tx m
+        settled closed seq fit in
+        record { left = sound.left; steps = sound.steps }
+
+    behind_auth_sound : (after : List HeldSignature) (m : EntryMap) → IsSettled ctx.id_pool m
+        → IsSound m (bump.applied_behind_auth base_fee ctx signed tx after m)
+    behind_auth_sound after m settled =
+        either_sound m (is_poor ctx (account_at m (bump.payer_of tx))) _ _
+        (ended_sound outcome.InsufficientBalance ctx m settled)
+        (either_sound m (are_used after) _ _ (inner_sound m settled) (ended_sound outcome.BadAuthExtra ctx m settled))
+
+    by_auth_sound : (m : EntryMap) (auth : Auth) → IsSettled ctx.id_pool m
+        → IsSound m (bump.applied_by_auth base_fee ctx signed tx m auth)
+    by_auth_sound m auth settled =
+        let used = laws.preauths ctx.id_pool m (bump.payer_of tx) signed.hash settled in
+        let after = map_after_removing_preauth (bump.payer_of tx) signed.hash m in
+        either_sound m (not auth.passes) _ _ (ended_sound outcome.BadAuth ctx m settled)
+        (sound_behind ctx.id_pool m after (bump.applied_behind_auth base_fee ctx signed tx auth.signatures after) used
+        (behind_auth_sound auth.signatures after used.settled))
+
+    by_fault_sound : (m : EntryMap) (fault : Option TransactionOutcome) → IsSettled ctx.id_pool m
+        → IsSound m (bump.applied_by_fault base_fee ctx signed tx m fault)
+    by_fault_sound m (Some fault) settled = ended_sound fault ctx m settled
+    by_fault_sound m None settled =
+        by_auth_sound m (auth_of signed.hash Low signed.signatures m (bump.payer_of tx)) settled
+
+    pub bump_sound : (m : EntryMap) → IsSettled ctx.id_pool m → IsSound m (bump.bump_applied base_fee ctx signed tx m)
+    bump_sound m settled =
+        by_fault_sound m (first_fault (bump.payer_tests base_fee tx (account_at m (bump.payer_of tx)))) settled
+
+  -- ---- any envelope
+
+  pub envelope_sound : (closing : Closing) (id_pool : ℕ) (whole : TransactionEnvelope) (m : EntryMap)
+      → IsSettled id_pool m → closing.header.ledger_seq < 2147483647 → AreFit (operations_of whole)
+      → IsSound m (envelope_applied closing id_pool whole m)
+  unfolding envelope_applied
+  envelope_sound closing id_pool (envelope.V0 signed) m settled seq fit =
+      v0_sound (ctx_in closing id_pool (envelope.V0 signed)) (signed_hash_of closing.network (envelope.V0 signed))
+      signed.tx m settled
+  envelope_sound closing id_pool (envelope.V1 signed) m settled seq fit =
+      transaction_sound true closing.header.base_fee (ctx_in closing id_pool (envelope.V1 signed))
+      (signed_hash_of closing.network (envelope.V1 signed)) (all_held signed.signatures) signed.tx m settled refl seq
+      fit
+  envelope_sound closing id_pool (envelope.FeeBump signed) m settled seq fit =
+      bump_sound closing.header.base_fee (ctx_in closing id_pool (envelope.FeeBump signed))
+      (bump.signed_by (signed_hash_of closing.network (envelope.FeeBump signed)) (all_held signed.signatures)
+      (transaction_hash_of closing.network signed.tx.inner_tx.tx) (all_held signed.tx.inner_tx.signatures)) signed.tx
+      refl seq fit m settled

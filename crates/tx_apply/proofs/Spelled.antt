@@ -1,0 +1,29 @@
+-- What an envelope that has a spelling says of its transaction.
+use Rattle.std.proofs.Common.{◌≤◌, length}
+use Rattle.xdr_core.specs.Combinators.{list}
+use Rattle.op_types.specs.declared.transaction.Transaction.{Transaction}
+use Rattle.op_types.specs.declared.transaction.TransactionV1Envelope.{TransactionV1Envelope}
+use Rattle.op_types.specs.declared.transaction.FeeBumpTransactionEnvelope.{FeeBumpTransactionEnvelope}
+use Rattle.xdr_tx.specs.Transactions.{behind_source, transaction, transaction_v1_envelope, fee_bump_transaction}
+use Rattle.xdr_tx.specs.Transactions.{fee_bump_envelope}
+
+-- at most 100 operations
+few_operations : (tx : Transaction) → transaction.within tx → length tx.operations ≤ 100
+unfolding transaction behind_source list
+few_operations tx within = within.1.1.1.1.1.0.0
+
+pub few_of_v1 : (signed : TransactionV1Envelope) → transaction_v1_envelope.within signed
+    → length signed.tx.operations ≤ 100
+unfolding transaction_v1_envelope
+few_of_v1 signed within = few_operations signed.tx within.0
+
+-- the inner transaction of a fee bump has a spelling
+inner_within_by : (signed : FeeBumpTransactionEnvelope) → fee_bump_transaction.within signed.tx
+    → transaction_v1_envelope.within signed.tx.inner_tx
+unfolding fee_bump_transaction
+inner_within_by signed within = within.1.1.0.1
+
+pub inner_within : (signed : FeeBumpTransactionEnvelope) → fee_bump_envelope.within signed
+    → transaction_v1_envelope.within signed.tx.inner_tx
+unfolding fee_bump_envelope
+inner_within signed within = inner_within_by signed within.0

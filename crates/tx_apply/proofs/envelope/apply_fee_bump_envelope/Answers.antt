@@ -1,0 +1,67 @@
+use Rattle.std.proofs.Common.{◌≡◌, List, IfOk, OnOk, map, ap, subst, ◌∙◌}
+use Rattle.ledger_types.specs.declared.ids.Hash.{Hash}
+use Rattle.entry_map.specs.Undo.{with_current}
+use Rattle.signer_check.specs.declared.held.HeldSignature.{HeldSignature}
+use Rattle.signer_check.specs.Checks.{Checks}
+use Rattle.signer_check.specs.Weight.{held}
+use Rattle.value_hashes.specs.Hashes.{transaction_hash_of}
+use Rattle.tx_apply.specs.FeeBump.{BumpSigned, signed_by, bump_applied}
+use Rattle.tx_apply.proofs.Spelled.{few_of_v1, inner_within}
+use Rattle.tx_apply.proofs.envelope.apply_fee_bump_envelope.Goals as goal
+
+pub transaction_hash-requires : goal.transaction_hash-requires
+transaction_hash-requires g c = inner_within c.args.envelope.now c.requires.within
+
+pub apply_fee_bump-requires-clause-few : goal.apply_fee_bump-requires-clause-few
+apply_fee_bump-requires-clause-few g c =
+    few_of_v1 c.args.envelope.now.tx.inner_tx (inner_within c.args.envelope.now c.requires.within)
+
+same_signed : (hash inner known : Hash) (outer_signed outer inner_signed own : List HeldSignature) → outer_signed ≡
+    outer
+    → inner ≡ known → inner_signed ≡ own
+    → signed_by hash outer_signed inner inner_signed ≡ signed_by hash outer known own
+same_signed hash inner known outer_signed outer inner_signed own e h g =
+    ap (λ (ss : List HeldSignature). signed_by hash ss inner inner_signed) e
+    ∙ ap (λ (x : Hash). signed_by hash outer x inner_signed) h
+    ∙ ap (λ (ss : List HeldSignature). signed_by hash outer known ss) g
+
+pub returns-clause-outcome : goal.returns-clause-outcome
+returns-clause-outcome g c =
+    let same = same_signed c.args.hash.now c.in_ok-inner_hash.inner_hash
+    (transaction_hash_of c.args.network.now c.args.envelope.now.tx.inner_tx.tx) c.in_ok-outer.outer.signatures
+    (map held c.args.envelope.now.signatures) c.in_ok-inner.inner.signatures
+    (map held c.args.envelope.now.tx.inner_tx.signatures)
+    (ap (λ (k : Checks). k.signatures) c.in_ok-outer.ensures ∙ ap (map held) c.as_slice.ensures)
+    c.in_ok-inner_hash.ensures
+    (ap (λ (k : Checks). k.signatures) c.in_ok-inner.ensures ∙ ap (map held) c.as_slice-2.ensures) in
+    subst (λ (s : BumpSigned). IfOk c.apply_fee_bump.result (λ outcome. outcome ≡ (bump_applied c.args.base_fee
+    c.args.ctx.now s c.args.envelope.now.tx c.args.entries.now.current).outcome)) same
+    c.apply_fee_bump.ensures.outcome
+
+pub returns-clause-entries : goal.returns-clause-entries
+returns-clause-entries g c =
+    let same = same_signed c.args.hash.now c.in_ok-inner_hash.inner_hash
+    (transaction_hash_of c.args.network.now c.args.envelope.now.tx.inner_tx.tx) c.in_ok-outer.outer.signatures
+    (map held c.args.envelope.now.signatures) c.in_ok-inner.inner.signatures
+    (map held c.args.envelope.now.tx.inner_tx.signatures)
+    (ap (λ (k : Checks). k.signatures) c.in_ok-outer.ensures ∙ ap (map held) c.as_slice.ensures)
+    c.in_ok-inner_hash.ensures
+    (ap (λ (k : Checks). k.signatures) c.in_ok-inner.ensures ∙ ap (map held) c.as_slice-2.ensures) in
+    subst (λ (s : BumpSigned). OnOk c.apply_fee_bump.result
+    (c.apply_fee_bump.new.entries ≡ with_current c.args.entries.now
+    (bump_applied c.args.base_fee c.args.ctx.now s c.args.envelope.now.tx c.args.entries.now.current).entries)) same
+    c.apply_fee_bump.ensures.entries
+
+pub returns-clause-id_pool : goal.returns-clause-id_pool
+returns-clause-id_pool g c =
+    let same = same_signed c.args.hash.now c.in_ok-inner_hash.inner_hash
+    (transaction_hash_of c.args.network.now c.args.envelope.now.tx.inner_tx.tx) c.in_ok-outer.outer.signatures
+    (map held c.args.envelope.now.signatures) c.in_ok-inner.inner.signatures
+    (map held c.args.envelope.now.tx.inner_tx.signatures)
+    (ap (λ (k : Checks). k.signatures) c.in_ok-outer.ensures ∙ ap (map held) c.as_slice.ensures)
+    c.in_ok-inner_hash.ensures
+    (ap (λ (k : Checks). k.signatures) c.in_ok-inner.ensures ∙ ap (map held) c.as_slice-2.ensures) in
+    subst (λ (s : BumpSigned). OnOk c.apply_fee_bump.result
+    (c.apply_fee_bump.new.ctx.id_pool ≡ (bump_applied c.args.base_fee
+    c.args.ctx.now s c.args.envelope.now.tx c.args.entries.now.current).id_pool)) same
+    c.apply_fee_bump.ensures.id_pool

@@ -1,0 +1,35 @@
+use Rattle.std.proofs.Common.{◌≡◌, true, List, IfOk, OnOk, map, ap, subst, ◌∙◌}
+use Rattle.entry_map.specs.Undo.{with_current}
+use Rattle.signer_check.specs.declared.held.HeldSignature.{HeldSignature}
+use Rattle.signer_check.specs.Checks.{Checks}
+use Rattle.signer_check.specs.Weight.{held}
+use Rattle.tx_apply.specs.Transaction.{transaction_applied}
+use Rattle.tx_apply.proofs.Spelled.{few_of_v1}
+use Rattle.tx_apply.proofs.envelope.apply_v1_envelope.Goals as goal
+
+pub apply_transaction-requires-clause-few : goal.apply_transaction-requires-clause-few
+apply_transaction-requires-clause-few g c = few_of_v1 c.args.envelope.now c.requires.within
+
+pub returns-clause-outcome : goal.returns-clause-outcome
+returns-clause-outcome g c =
+    let signed : c.in_ok-checker.checker.signatures ≡ map held c.args.envelope.now.signatures =
+    ap (λ (k : Checks). k.signatures) c.in_ok-checker.ensures ∙ ap (map held) c.as_slice.ensures in
+    subst (λ (ss : List HeldSignature). IfOk c.apply_transaction.result (λ outcome. outcome ≡
+    (transaction_applied true c.args.base_fee c.args.ctx.now c.args.hash.now ss c.args.envelope.now.tx
+    c.args.entries.now.current).outcome)) signed c.apply_transaction.ensures.outcome
+
+pub returns-clause-entries : goal.returns-clause-entries
+returns-clause-entries g c =
+    let signed : c.in_ok-checker.checker.signatures ≡ map held c.args.envelope.now.signatures =
+    ap (λ (k : Checks). k.signatures) c.in_ok-checker.ensures ∙ ap (map held) c.as_slice.ensures in
+    subst (λ (ss : List HeldSignature). OnOk c.apply_transaction.result (c.apply_transaction.new.entries ≡
+    with_current c.args.entries.now (transaction_applied true c.args.base_fee c.args.ctx.now c.args.hash.now ss
+    c.args.envelope.now.tx c.args.entries.now.current).entries)) signed c.apply_transaction.ensures.entries
+
+pub returns-clause-id_pool : goal.returns-clause-id_pool
+returns-clause-id_pool g c =
+    let signed : c.in_ok-checker.checker.signatures ≡ map held c.args.envelope.now.signatures =
+    ap (λ (k : Checks). k.signatures) c.in_ok-checker.ensures ∙ ap (map held) c.as_slice.ensures in
+    subst (λ (ss : List HeldSignature). OnOk c.apply_transaction.result (c.apply_transaction.new.ctx.id_pool ≡
+    (transaction_applied true c.args.base_fee c.args.ctx.now c.args.hash.now ss c.args.envelope.now.tx
+    c.args.entries.now.current).id_pool)) signed c.apply_transaction.ensures.id_pool

@@ -1,0 +1,7 @@
+use Rattle.std.proofs.Common.{take}
+use Rattle.tx_apply.specs.Laws.{AreFit}
+use Rattle.tx_apply.proofs.fit.numbers_fit.Given as goal
+
+-- those so far fit
+abbrev pub invariant-loop-operation : goal.invariant-loop-operation
+invariant-loop-operation l = AreFit (take l.operation-index l.operations)

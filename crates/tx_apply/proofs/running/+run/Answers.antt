@@ -1,0 +1,28 @@
+use Rattle.std.proofs.Common.{◌-◌, length, drop, sym, ap, subst, rules}
+use Rattle.std.proofs.lemmas.List.Elements.{All-take, All-drop}
+use Rattle.entry_map.specs.EntryMap.{EntryMap}
+use Rattle.entry_map.specs.Undo.{Undo}
+use Rattle.sponsor_rules.specs.declared.context.Ctx.{Ctx}
+use Rattle.op_types.specs.declared.operation.Operation.{Operation}
+use Rattle.op_laws.specs.Laws.{IsFit}
+use Rattle.op_laws.specs.Underway.{IsUnderway}
+use Rattle.tx_apply.specs.Running.{done_at}
+use Rattle.tx_apply.proofs.Lawful.{lawful_at}
+use Rattle.tx_apply.proofs.running.+run.Goals as goal
+
+pub run-requires : goal.run-requires
+run-requires g t c =
+    let ctx = c.args.ctx.now in
+    let m = c.args.entries.now.current in
+    let first = done_at ctx c.args.source.now c.args.place c.first-item.result m in
+    let fits : IsFit c.first-item.result.body = search rules in
+    let after = (lawful_at c.requires.laws.operations ctx c.args.source.now c.args.place c.first-item.result m fits
+    c.requires.underway).legal in
+    let underway : IsUnderway c.apply_at.new.ctx c.apply_at.new.entries.current =
+    subst (λ (x : Ctx). IsUnderway x c.apply_at.new.entries.current) (sym c.in_ok-answer-in-len1-up.ensures.ctx_is)
+    (subst (λ (x : EntryMap). IsUnderway first.ctx x)
+    (ap (λ (u : Undo). u.current) (sym c.in_ok-answer-in-len1-up.ensures.entries_are)) after) in
+    let rest = All-take (λ (operation : Operation). IsFit operation.body) (length c.args.operations.now - 1)
+    (drop 1 c.args.operations.now)
+    (All-drop (λ (operation : Operation). IsFit operation.body) 1 c.args.operations.now c.requires.fit) in
+    search (rules, underway, rest)

@@ -1,0 +1,37 @@
+use Rattle.std.proofs.Common.{length, sym, ap, ◌∙◌, rules}
+use Rattle.fee_rules.proofs.Spelled.{envelopes_few}
+use Rattle.tx_apply.specs.Set.{closing_of}
+use Rattle.tx_apply.proofs.Unbuilt.{unbuilt_within}
+use Rattle.tx_apply.proofs.Conserving.{set_conserved, set_lawful}
+use Rattle.fee_rules.proofs.Ordered.{places_stand}
+use Rattle.tx_apply.proofs.set.apply_set.Goals as goal
+
+pub overflow_cast-result : goal.overflow_cast-result
+overflow_cast-result g c =
+    let within = unbuilt_within c.as_slice-envelopes.result.now c.in-Some.index
+    (sym c.unbuilt_place.ensures ∙ c.in-Some.is) in
+    let few = envelopes_few c.args.set.now c.requires.within in
+    let same = ap length c.as_slice-envelopes.ensures in
+    search (rules, within, few, same)
+
+pub missing_among-requires : goal.missing_among-requires
+missing_among-requires g c =
+    let stand = places_stand c.args.set.now in
+    search (rules, stand)
+
+pub apply_in_order-requires-clause-places : goal.apply_in_order-requires-clause-places
+apply_in_order-requires-clause-places g c =
+    let stand = places_stand c.args.set.now in
+    search (rules, stand)
+
+pub returns-clause-conserved : goal.returns-clause-conserved
+returns-clause-conserved g c =
+    set_conserved c.transaction_laws.ensures c.legal_settles.ensures
+    (closing_of c.args.network.now c.args.header.now c.args.close_time) c.args.set.now c.args.entries.now.current
+    (record { legal = c.requires.legal; signers = c.requires.signers; seq = c.requires.seq; fit = search rules })
+
+pub returns-clause-lawful : goal.returns-clause-lawful
+returns-clause-lawful g c =
+    set_lawful c.transaction_laws.ensures c.legal_settles.ensures
+    (closing_of c.args.network.now c.args.header.now c.args.close_time) c.args.set.now c.args.entries.now.current
+    (record { legal = c.requires.legal; signers = c.requires.signers; seq = c.requires.seq; fit = search rules })

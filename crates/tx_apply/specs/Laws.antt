@@ -1,0 +1,74 @@
+-- The laws of whole sets: what they leave is settled, lumens are conserved, the supply of each other asset changes by
+-- what is issued and redeemed alone, and each operation leaves each account what it needs.
+use Rattle.std.specs.Prelude.{◌≡◌, ◌≢◌, ℕ, ℤ, ◌<◌, ◌+ℤ◌, All, List}
+use Rattle.ledger_types.specs.declared.asset.Asset.{Asset}
+use Rattle.ledger_types.specs.declared.asset.Asset.TheVariants as asset
+use Rattle.op_types.specs.declared.operation.Operation.{Operation}
+use Rattle.op_types.specs.declared.transaction.TransactionEnvelope.{TransactionEnvelope}
+use Rattle.op_types.specs.declared.transaction.TransactionSet.{TransactionSet}
+use Rattle.entry_map.specs.EntryMap.{EntryMap}
+use Rattle.entry_sums.specs.Sums.{total}
+use Rattle.legal_rules.specs.Legal.{IsLegal}
+use Rattle.legal_rules.specs.Supply.{held}
+use Rattle.op_laws.specs.Laws.{IsFit, IsLawful}
+use Rattle.op_laws.specs.Moves.{issued}
+use Rattle.op_laws.specs.Underway.{AreSignersFew, IsSettled, LeavesSettled}
+use Rattle.tx_apply.specs.Built.{operations_of}
+use Rattle.tx_apply.specs.Fees.{charge_of, map_after_charge}
+use Rattle.tx_apply.specs.Running.{Step}
+use Rattle.tx_apply.specs.Set.{Closing, envelope_applied, set_applied, fee_pool_after}
+
+-- ---- what sets are applied to
+
+-- the operations' numbers are those of their types
+abbrev pub AreFit : List Operation → Type 0
+AreFit operations = All (λ operation. IsFit operation.body) operations
+
+abbrev pub AreAllFit : List TransactionEnvelope → Type 0
+AreAllFit envelopes = All (λ whole. AreFit (operations_of whole)) envelopes
+
+-- a legal state and a set, between which and the ledger after the header's nothing stands but the rules
+pub record CanClose (closing : Closing) (set : TransactionSet) (m : EntryMap) : Type 0 where
+  pub legal : IsLegal closing.header m
+  pub signers : AreSignersFew m
+  pub seq : closing.header.ledger_seq < 2147483647
+  pub fit : AreAllFit set.txs
+
+-- ---- the laws
+
+-- a charge is moved to the fee pool, and nothing else is moved
+pub record IsCharged (m after : EntryMap) (charge : ℤ) : Type 0 where
+  pub lumens : (total (held asset.Native) after +ℤ charge) ≡ total (held asset.Native) m
+  pub others : (x : Asset) → x ≢ asset.Native → total (held x) after ≡ total (held x) m
+
+abbrev pub ChargesConserve : Type 0
+ChargesConserve = (id_pool base_fee : ℕ) (whole : TransactionEnvelope) (m : EntryMap) → IsSettled id_pool m
+    → IsCharged m (map_after_charge base_fee whole m) (charge_of base_fee whole m)
+
+-- behind its charge a transaction moves what its moves say, and no lumens are made or lost
+abbrev pub TransactionsConserve : Type 0
+TransactionsConserve = (closing : Closing) (id_pool : ℕ) (whole : TransactionEnvelope) (m : EntryMap)
+    → IsSettled id_pool m → closing.header.ledger_seq < 2147483647 → AreFit (operations_of whole)
+    → LeavesSettled (envelope_applied closing id_pool whole m).id_pool m
+    (envelope_applied closing id_pool whole m).entries (envelope_applied closing id_pool whole m).moves
+
+-- what a set leaves
+pub record IsConserved (closing : Closing) (set : TransactionSet) (m : EntryMap) : Type 0 where
+  pub settled : IsSettled (set_applied closing set m).id_pool (set_applied closing set m).entries
+  pub lumens : (total (held asset.Native) (set_applied closing set m).entries +ℤ fee_pool_after closing set m)
+      ≡ closing.header.total_coins
+  pub supply : (x : Asset) → x ≢ asset.Native → total (held x) (set_applied closing set m).entries
+      ≡ total (held x) m +ℤ issued x (set_applied closing set m).moves
+
+abbrev pub SetsConserve : Type 0
+SetsConserve = (closing : Closing) (set : TransactionSet) (m : EntryMap) → CanClose closing set m
+    → IsConserved closing set m
+
+-- Each operation that is run leaves each account an available balance of at least 0, or of what it had; also one whose
+-- transaction is undone.
+abbrev pub AreLawful : List Step → Type 0
+AreLawful steps = All (λ step. IsLawful step.ctx step.entries step.done) steps
+
+abbrev pub OperationsAreLawful : Type 0
+OperationsAreLawful = (closing : Closing) (set : TransactionSet) (m : EntryMap) → CanClose closing set m
+    → AreLawful (set_applied closing set m).steps

@@ -1,0 +1,13 @@
+pub mod Success
+pub mod Signing
+pub mod Checks
+pub mod Running
+pub mod Transaction
+pub mod InnerResult
+pub mod FeeBump
+pub mod Fees
+pub mod Contexts
+pub mod Built
+pub mod Places
+pub mod Set
+pub mod Laws

@@ -1,0 +1,173 @@
+-- A whole set: all fees first, and then the transactions, both in the order in which they are applied
+-- (LedgerManagerImpl::processFeesSeqNums and applyTransactions in stellar-core).
+use Rattle.std.specs.Prelude.{◌≡◌, ℕ, ℤ, ◌+ℤ◌, Bool, true, false, not, List, [], ◌∷◌, ◌++◌, map, slice_get}
+use Rattle.std.specs.Prelude.{Option, Some, None, is_some, Result, Ok, Err}
+use Rattle.std.specs.List.{find}
+use Rattle.ledger_types.specs.declared.ids.Hash.{Hash}
+use Rattle.ledger_types.specs.declared.header.LedgerHeader.{LedgerHeader}
+use Rattle.op_types.specs.declared.transaction.DecoratedSignature.{DecoratedSignature}
+use Rattle.op_types.specs.declared.transaction.TransactionV1Envelope.{TransactionV1Envelope}
+use Rattle.op_types.specs.declared.transaction.FeeBumpTransactionEnvelope.{FeeBumpTransactionEnvelope}
+use Rattle.op_types.specs.declared.transaction.TransactionEnvelope.{TransactionEnvelope}
+use Rattle.op_types.specs.declared.transaction.TransactionEnvelope.TheVariants as envelope
+use Rattle.op_types.specs.declared.transaction.TransactionSet.{TransactionSet}
+use Rattle.op_types.specs.declared.transaction_result.TransactionOutcome.{TransactionOutcome}
+use Rattle.op_types.specs.declared.transaction_result.TransactionResultPair.{TransactionResultPair}
+use Rattle.entry_map.specs.EntryMap.{EntryMap}
+use Rattle.entry_map.specs.Undo.{Undo, with_current}
+use Rattle.tx_apply.specs.declared.set.SetDone.{SetDone}
+use Rattle.tx_apply.specs.declared.fault.SetFault.{SetFault}
+use Rattle.tx_apply.specs.declared.fault.SetFault.TheVariants as fault
+use Rattle.entry_slots.specs.Accounts.{account_at}
+use Rattle.signer_check.specs.declared.held.HeldSignature.{HeldSignature}
+use Rattle.signer_check.specs.Weight.{held}
+use Rattle.value_hashes.specs.Hashes.{signed_hash_of, transaction_hash_of}
+use Rattle.fee_rules.specs.Envelopes.{source_of, seq_num_of, fee_source_of}
+use Rattle.fee_rules.specs.Fees.{set_base_fee}
+use Rattle.fee_rules.specs.Turns.{apply_order_of}
+use Rattle.op_form.specs.Done.{Move}
+use Rattle.tx_apply.specs.Running.{Step}
+use Rattle.tx_apply.specs.Transaction.{Applied, transaction_applied, v0_applied}
+use Rattle.tx_apply.specs.FeeBump.{signed_by, bump_applied}
+use Rattle.sponsor_rules.specs.declared.context.Ctx.{Ctx}
+use Rattle.tx_apply.specs.Places.{envelopes_at}
+use Rattle.tx_apply.specs.Contexts.{ctx_of}
+use Rattle.tx_apply.specs.Fees.{Charged, charged, sum_of}
+use Rattle.tx_apply.specs.Built.{unbuilt_place}
+
+-- ---- what a set closes over
+
+-- the network, the header of the ledger before, and the time at which the set closes
+pub record Closing : Type 0 where
+  pub network : Hash
+  pub header : LedgerHeader
+  pub close_time : ℕ
+
+abbrev pub closing_of : Hash → LedgerHeader → ℕ → Closing
+closing_of network header close_time = record { network = network; header = header; close_time = close_time }
+
+-- the context of a transaction before its operations
+abbrev pub ctx_in : Closing → (id_pool : ℕ) → TransactionEnvelope → Ctx
+ctx_in closing id_pool whole = ctx_of closing.header closing.close_time id_pool (source_of whole) (seq_num_of whole)
+
+-- ---- one envelope
+
+-- signatures before any check
+abbrev pub all_held : List DecoratedSignature → List HeldSignature
+all_held signatures = map held signatures
+
+abbrev pub v1_applied : (base_fee : ℕ) → Ctx → Hash → TransactionV1Envelope → EntryMap → Applied
+v1_applied base_fee ctx hash signed m =
+    transaction_applied true base_fee ctx hash (all_held signed.signatures) signed.tx m
+
+abbrev pub fee_bump_applied : (network : Hash) → (base_fee : ℕ) → Ctx → Hash → FeeBumpTransactionEnvelope → EntryMap
+    → Applied
+fee_bump_applied network base_fee ctx hash signed m =
+    bump_applied base_fee ctx
+    (signed_by hash (all_held signed.signatures) (transaction_hash_of network signed.tx.inner_tx.tx)
+    (all_held signed.tx.inner_tx.signatures)) signed.tx m
+
+-- by the kind of the envelope, with the hash that its signatures are made over
+abbrev pub envelope_by : (network : Hash) → (base_fee : ℕ) → Ctx → Hash → TransactionEnvelope → EntryMap → Applied
+envelope_by network base_fee ctx hash (envelope.V0 signed) m = v0_applied ctx hash signed.tx m
+envelope_by network base_fee ctx hash (envelope.V1 signed) m = v1_applied base_fee ctx hash signed m
+envelope_by network base_fee ctx hash (envelope.FeeBump signed) m = fee_bump_applied network base_fee ctx hash signed m
+
+-- one transaction, over the entries and ids that those before it left
+unfoldable pub envelope_applied : Closing → (id_pool : ℕ) → TransactionEnvelope → EntryMap → Applied
+envelope_applied closing id_pool whole m =
+    envelope_by closing.network closing.header.base_fee (ctx_in closing id_pool whole)
+    (signed_hash_of closing.network whole) whole m
+
+-- ---- all of them
+
+abbrev pub pair_of : Hash → (charge : ℤ) → TransactionOutcome → TransactionResultPair
+pair_of hash charge end =
+    record { transaction_hash = hash; result = record { fee_charged = charge; outcome = end } }
+
+abbrev pub result_pair : Closing → TransactionEnvelope → (charge : ℤ) → TransactionOutcome → TransactionResultPair
+result_pair closing whole charge end = pair_of (signed_hash_of closing.network whole) charge end
+
+-- what a set does: the results, the entries and the ids that it leaves, what it moves, and the operations that were run
+pub record SetApplied : Type 0 where
+  pub results : List TransactionResultPair
+  pub entries : EntryMap
+  pub id_pool : ℕ
+  pub moves : List Move
+  pub steps : List Step
+
+abbrev pub none_applied : (id_pool : ℕ) → EntryMap → SetApplied
+none_applied id_pool m = record { results = []; entries = m; id_pool = id_pool; moves = []; steps = [] }
+
+abbrev pub behind_transaction : TransactionResultPair → Applied → SetApplied → SetApplied
+behind_transaction pair first rest =
+    record {
+      results = pair ∷ rest.results;
+      entries = rest.entries;
+      id_pool = rest.id_pool;
+      moves = first.moves ++ rest.moves;
+      steps = first.steps ++ rest.steps;
+    }
+
+-- each in turn, with what it was charged
+unfoldable pub all_applied : Closing → (id_pool : ℕ) → List TransactionEnvelope → (charges : List ℤ) → EntryMap
+    → SetApplied
+all_applied closing id_pool [] charges m = none_applied id_pool m
+all_applied closing id_pool (whole ∷ others) [] m = none_applied id_pool m
+all_applied closing id_pool (whole ∷ others) (charge ∷ charges) m =
+    let first = envelope_applied closing id_pool whole m in
+    behind_transaction (result_pair closing whole charge first.outcome) first
+    (all_applied closing first.id_pool others charges first.entries)
+
+-- ---- the set
+
+-- the envelopes of a set in the order in which they are applied
+abbrev pub envelopes_in_order : TransactionSet → List TransactionEnvelope
+envelopes_in_order set = envelopes_at set.txs (apply_order_of set)
+
+abbrev pub charges_of : Closing → TransactionSet → EntryMap → Charged
+charges_of closing set m = charged (set_base_fee closing.header set.txs) (envelopes_in_order set) m
+
+abbrev pub set_applied : Closing → TransactionSet → EntryMap → SetApplied
+set_applied closing set m =
+    all_applied closing closing.header.id_pool (envelopes_in_order set) (charges_of closing set m).charges
+    (charges_of closing set m).entries
+
+-- the fee pool behind the set, in stroops
+abbrev pub fee_pool_after : Closing → TransactionSet → EntryMap → ℤ
+fee_pool_after closing set m = closing.header.fee_pool +ℤ sum_of (charges_of closing set m).charges
+
+-- ---- sets that can't be applied
+
+abbrev pub lacks_fee_source : EntryMap → Option TransactionEnvelope → Bool
+lacks_fee_source m None = false
+lacks_fee_source m (Some whole) = not (is_some (account_at m (fee_source_of whole)))
+
+-- the first of these places at which a transaction stands whose fee source has no account
+unfoldable pub missing_among : EntryMap → List TransactionEnvelope → List ℕ → Option ℕ
+missing_among m envelopes places = find (λ place. lacks_fee_source m (slice_get envelopes place)) places
+
+abbrev pub missing_place : EntryMap → TransactionSet → Option ℕ
+missing_place m set = missing_among m set.txs (apply_order_of set)
+
+-- ---- what a call answers
+
+-- the set was applied
+pub record IsApplied (closing : Closing) (set : TransactionSet) (old new : Undo) (done : SetDone) : Type 0 where
+  pub results : done.results.results ≡ (set_applied closing set old.current).results
+  pub entries : new ≡ with_current old (set_applied closing set old.current).entries
+  pub fee_pool : done.fee_pool ≡ fee_pool_after closing set old.current
+  pub id_pool : done.id_pool ≡ (set_applied closing set old.current).id_pool
+
+-- every operation of the set can be applied, and every fee source has an account
+pub record IsApplicable (set : TransactionSet) (m : EntryMap) : Type 0 where
+  pub built : unbuilt_place set.txs ≡ None
+  pub payable : missing_place m set ≡ None
+
+-- Want of memory is the one free answer. A set that is refused leaves the entries.
+abbrev pub IsAnswer : Closing → TransactionSet → (old new : Undo) → Result SetDone SetFault → Type 0
+IsAnswer closing set old new (Ok done) = IsApplicable set old.current × IsApplied closing set old new done
+IsAnswer closing set old new (Err (fault.NotBuilt index)) = (unbuilt_place set.txs ≡ Some index) × (new ≡ old)
+IsAnswer closing set old new (Err (fault.FeeSourceMissing index)) =
+    (unbuilt_place set.txs ≡ None) × (missing_place old.current set ≡ Some index) × (new ≡ old)
+IsAnswer closing set old new (Err fault.NoMemory) = Unit {0}

@@ -1,0 +1,43 @@
+//! Each operation with the code of its kind.
+
+ghost use Rattle.std.specs.Prelude.{◌<◌, IfOk};
+ghost use Rattle.entry_slots.specs.Accounts.{HasAccount};
+ghost use Rattle.op_form.specs.Done.{Does};
+ghost use Rattle.op_form.specs.Premises as premises;
+ghost use Rattle.op_laws.specs.AnyOperation as spec;
+
+use entry_map::{Base, Entries};
+use op_types::{Operation, OperationBody, OperationResult};
+use sponsor_rules::Ctx;
+use std::alloc::AllocError;
+
+/// Applies an operation of `ctx.op_source`, which is an account that stands. Where the operation fails, nothing has
+/// changed.
+#[tactic(auto, unfolding(op_laws::specs::AnyOperation::any_operation))]
+pub(crate) fn apply_operation<B: Base>(
+    operation: &Operation,
+    ctx: &mut Ctx,
+    entries: &mut Entries<'_, B>,
+) -> Result<OperationResult, AllocError>
+    requires seq { ctx.old.seq < 2147483647 }
+    requires source { HasAccount entries.old.current ctx.old.op_source }
+    requires ready { premises.AccountsAreReady entries.old.current }
+    requires in_range { premises.AccountsAreInRange entries.old.current }
+    ensures { IfOk result (λ answer. Does answer ctx.new entries.old entries.new
+        (spec.any_operation ctx.old operation.now.body entries.old.current)) }
+{
+    match &operation.body {
+        OperationBody::CreateAccount(_)
+        | OperationBody::AccountMerge(_)
+        | OperationBody::Inflation
+        | OperationBody::BumpSequence(_) => op_account::apply(operation, ctx, entries),
+        OperationBody::SetOptions(_) | OperationBody::ManageData(_) => {
+            op_options::apply(operation, ctx, entries)
+        }
+        OperationBody::Payment(_) => op_payment::apply(operation, ctx, entries),
+        OperationBody::BeginSponsoringFutureReserves(_)
+        | OperationBody::EndSponsoringFutureReserves
+        | OperationBody::RevokeSponsorship(_) => op_sponsor::apply(operation, ctx, entries),
+        _ => Ok(OperationResult::NotSupported),
+    }
+}

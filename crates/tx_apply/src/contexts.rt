@@ -1,0 +1,46 @@
+//! What a transaction is applied in.
+
+ghost use Rattle.std.specs.Prelude.{◌≡◌};
+ghost use Rattle.tx_apply.specs.Contexts as spec;
+ghost use Rattle.legal_rules.specs.Headers.{header_flags as flags_of};
+
+use item_list::ItemList;
+use ledger_types::{AccountId, LedgerHeader};
+use sponsor_rules::Ctx;
+use std::alloc::Global;
+
+/// The flags of a header, 0 without its extension (CAP-0038).
+fn header_flags(header: &LedgerHeader) -> u32
+    ensures { result ≡ flags_of header.now }
+{
+    match &header.ext {
+        None => 0,
+        Some(ext) => ext.flags,
+    }
+}
+
+/// The context of a transaction before its operations. It takes no memory.
+pub(crate) fn ctx_of(
+    alloc: Global,
+    header: &LedgerHeader,
+    close_time: u64,
+    id_pool: u64,
+    source: AccountId,
+    seq_num: i64,
+) -> Ctx
+    ensures { result ≡ spec.ctx_of header.now close_time id_pool source seq_num }
+{
+    Ctx {
+        seq: header.ledger_seq,
+        version: header.ledger_version,
+        base_reserve: header.base_reserve,
+        flags: header_flags(header),
+        close_time,
+        tx_source: source,
+        tx_seq: seq_num,
+        op_index: 0,
+        op_source: source,
+        id_pool,
+        sponsorships: ItemList::new(alloc),
+    }
+}

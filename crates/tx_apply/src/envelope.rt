@@ -1,0 +1,202 @@
+//! One envelope of a set, whose fee has been charged.
+
+ghost use Rattle.std.specs.Prelude.{◌≡◌, ◌<◌, ◌++◌, [], ◌∷◌, map, IfOk, OnOk};
+ghost use Rattle.entry_map.specs.Undo.{with_current};
+ghost use Rattle.value_hashes.specs.Hashes.{signed_hash_of};
+ghost use Rattle.xdr_tx.specs.Transactions as xdr;
+ghost use Rattle.op_laws.specs.Underway.{IsSettled};
+ghost use Rattle.op_laws.specs.Steps.{TransactionLaws};
+ghost use Rattle.tx_apply.specs.Built.{operations_of};
+ghost use Rattle.tx_apply.specs.Laws.{AreFit};
+ghost use Rattle.tx_apply.specs.Set as spec;
+
+use crate::contexts::ctx_of;
+use crate::fee_bump::apply_fee_bump;
+use crate::transaction::{apply_transaction, apply_v0};
+use entry_map::{Base, Entries};
+use fee_rules::{seq_num, source};
+use item_list::ItemList;
+use ledger_types::{Hash, LedgerHeader};
+use op_types::{
+    FeeBumpTransactionEnvelope, TransactionEnvelope, TransactionOutcome, TransactionResult,
+    TransactionResultPair, TransactionV1Envelope,
+};
+use signer_check::Checker;
+use sponsor_rules::Ctx;
+use std::alloc::{AllocError, Global};
+use value_hashes::{signed_hash, transaction_hash};
+
+/// Applies a transaction with its signatures.
+#[tactic(auto, unfolding(xdr_tx::specs::Transactions::transaction_v1_envelope))]
+fn apply_v1_envelope<B: Base>(
+    alloc: Global,
+    base_fee: u32,
+    ctx: &mut Ctx,
+    hash: &Hash,
+    envelope: &TransactionV1Envelope,
+    entries: &mut Entries<'_, B>,
+) -> Result<TransactionOutcome, AllocError>
+    requires settled { IsSettled ctx.old.id_pool entries.old.current }
+    requires closed { ctx.old.sponsorships ≡ [] }
+    requires seq { ctx.old.seq < 2147483647 }
+    requires laws { TransactionLaws }
+    requires within { xdr.transaction_v1_envelope.within envelope.now }
+    requires fit { AreFit envelope.now.tx.operations }
+    ensures outcome { IfOk result (λ outcome. outcome ≡
+        (spec.v1_applied base_fee ctx.old hash.now envelope.now entries.old.current).outcome) }
+    ensures entries { OnOk result (entries.new ≡ with_current entries.old
+        (spec.v1_applied base_fee ctx.old hash.now envelope.now entries.old.current).entries) }
+    ensures id_pool { OnOk result (ctx.new.id_pool ≡
+        (spec.v1_applied base_fee ctx.old hash.now envelope.now entries.old.current).id_pool) }
+{
+    let mut checker = Checker::new(alloc, hash, envelope.signatures.as_slice())?;
+    apply_transaction(
+        true,
+        base_fee,
+        ctx,
+        &mut checker,
+        hash,
+        &envelope.tx,
+        entries,
+    )
+}
+
+/// Applies a fee bump with its signatures.
+#[tactic(auto, unfolding(xdr_tx::specs::Transactions::fee_bump_envelope))]
+fn apply_fee_bump_envelope<B: Base>(
+    alloc: Global,
+    network: &Hash,
+    base_fee: u32,
+    ctx: &mut Ctx,
+    hash: &Hash,
+    envelope: &FeeBumpTransactionEnvelope,
+    entries: &mut Entries<'_, B>,
+) -> Result<TransactionOutcome, AllocError>
+    requires settled { IsSettled ctx.old.id_pool entries.old.current }
+    requires closed { ctx.old.sponsorships ≡ [] }
+    requires seq { ctx.old.seq < 2147483647 }
+    requires laws { TransactionLaws }
+    requires within { xdr.fee_bump_envelope.within envelope.now }
+    requires fit { AreFit envelope.now.tx.inner_tx.tx.operations }
+    ensures outcome { IfOk result (λ outcome. outcome ≡
+        (spec.fee_bump_applied network.now base_fee ctx.old hash.now envelope.now entries.old.current).outcome) }
+    ensures entries { OnOk result (entries.new ≡ with_current entries.old
+        (spec.fee_bump_applied network.now base_fee ctx.old hash.now envelope.now entries.old.current).entries) }
+    ensures id_pool { OnOk result (ctx.new.id_pool ≡
+        (spec.fee_bump_applied network.now base_fee ctx.old hash.now envelope.now entries.old.current).id_pool) }
+{
+    let inner_hash = transaction_hash(alloc, network, &envelope.tx.inner_tx)?;
+    let mut outer = Checker::new(alloc, hash, envelope.signatures.as_slice())?;
+    let mut inner = Checker::new(
+        alloc,
+        &inner_hash,
+        envelope.tx.inner_tx.signatures.as_slice(),
+    )?;
+    apply_fee_bump(
+        base_fee,
+        ctx,
+        hash,
+        &mut outer,
+        &inner_hash,
+        &mut inner,
+        &envelope.tx,
+        entries,
+    )
+}
+
+/// Applies a transaction, whose signatures are made over this hash.
+#[tactic(auto, unfolding(xdr_tx::specs::Transactions::transaction_envelope))]
+fn apply_envelope<B: Base>(
+    alloc: Global,
+    network: &Hash,
+    base_fee: u32,
+    ctx: &mut Ctx,
+    hash: &Hash,
+    envelope: &TransactionEnvelope,
+    entries: &mut Entries<'_, B>,
+) -> Result<TransactionOutcome, AllocError>
+    requires settled { IsSettled ctx.old.id_pool entries.old.current }
+    requires closed { ctx.old.sponsorships ≡ [] }
+    requires seq { ctx.old.seq < 2147483647 }
+    requires laws { TransactionLaws }
+    requires within { xdr.transaction_envelope.within envelope.now }
+    requires fit { AreFit (operations_of envelope.now) }
+    ensures outcome { IfOk result (λ outcome. outcome ≡
+        (spec.envelope_by network.now base_fee ctx.old hash.now envelope.now entries.old.current).outcome) }
+    ensures entries { OnOk result (entries.new ≡ with_current entries.old
+        (spec.envelope_by network.now base_fee ctx.old hash.now envelope.now entries.old.current).entries) }
+    ensures id_pool { OnOk result (ctx.new.id_pool ≡
+        (spec.envelope_by network.now base_fee ctx.old hash.now envelope.now entries.old.current).id_pool) }
+{
+    match envelope {
+        TransactionEnvelope::V0(envelope) => apply_v0(ctx, hash, &envelope.tx, entries),
+        TransactionEnvelope::V1(envelope) => {
+            apply_v1_envelope(alloc, base_fee, ctx, hash, envelope, entries)
+        }
+        TransactionEnvelope::FeeBump(envelope) => {
+            apply_fee_bump_envelope(alloc, network, base_fee, ctx, hash, envelope, entries)
+        }
+    }
+}
+
+/// A transaction's hash, and its result with what it was charged.
+fn result_pair(hash: Hash, charge: i64, outcome: TransactionOutcome) -> TransactionResultPair
+    ensures { result ≡ spec.pair_of hash charge outcome }
+{
+    TransactionResultPair {
+        transaction_hash: hash,
+        result: TransactionResult {
+            fee_charged: charge,
+            outcome,
+        },
+    }
+}
+
+/// Applies the transaction of an envelope, which was charged so much. It puts its result at the end of a list, and
+/// answers the greatest offer id then.
+#[tactic(auto, unfolding(crate::specs::Set::envelope_applied))]
+pub(crate) fn apply_one<B: Base>(
+    network: &Hash,
+    header: &LedgerHeader,
+    close_time: u64,
+    id_pool: u64,
+    envelope: &TransactionEnvelope,
+    charge: i64,
+    entries: &mut Entries<'_, B>,
+    results: &mut ItemList<TransactionResultPair>,
+) -> Result<u64, AllocError>
+    requires settled { IsSettled id_pool entries.old.current }
+    requires seq { header.now.ledger_seq < 2147483647 }
+    requires laws { TransactionLaws }
+    requires within { xdr.transaction_envelope.within envelope.now }
+    requires fit { AreFit (operations_of envelope.now) }
+    ensures results { OnOk result (results.new ≡ results.old ++ spec.result_pair
+        (spec.closing_of network.now header.now close_time) envelope.now charge (spec.envelope_applied
+        (spec.closing_of network.now header.now close_time) id_pool envelope.now entries.old.current).outcome ∷ []) }
+    ensures entries { OnOk result (entries.new ≡ with_current entries.old (spec.envelope_applied
+        (spec.closing_of network.now header.now close_time) id_pool envelope.now entries.old.current).entries) }
+    ensures id_pool { IfOk result (λ after. after ≡ (spec.envelope_applied
+        (spec.closing_of network.now header.now close_time) id_pool envelope.now entries.old.current).id_pool) }
+{
+    let alloc = results.allocator();
+    let hash = signed_hash(alloc, network, envelope)?;
+    let mut ctx = ctx_of(
+        alloc,
+        header,
+        close_time,
+        id_pool,
+        source(envelope),
+        seq_num(envelope),
+    );
+    let outcome = apply_envelope(
+        alloc,
+        network,
+        header.base_fee,
+        &mut ctx,
+        &hash,
+        envelope,
+        entries,
+    )?;
+    results.push(result_pair(hash, charge, outcome))?;
+    Ok(ctx.id_pool)
+}

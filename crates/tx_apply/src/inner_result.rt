@@ -1,0 +1,62 @@
+//! How a transaction ended, as the inner one of a fee bump.
+
+ghost use Rattle.std.specs.Prelude.{◌≡◌};
+ghost use Rattle.tx_apply.specs.InnerResult as spec;
+
+use ledger_types::Hash;
+use op_types::{
+    InnerTransactionOutcome, InnerTransactionResult, InnerTransactionResultPair, TransactionOutcome,
+};
+
+/// The same end, of an inner transaction.
+fn inner_outcome(outcome: TransactionOutcome) -> InnerTransactionOutcome
+    ensures { result ≡ spec.inner_outcome outcome }
+{
+    match outcome {
+        TransactionOutcome::Success(results) => InnerTransactionOutcome::Success(results),
+        TransactionOutcome::Failed(results) => InnerTransactionOutcome::Failed(results),
+        TransactionOutcome::TooEarly => InnerTransactionOutcome::TooEarly,
+        TransactionOutcome::TooLate => InnerTransactionOutcome::TooLate,
+        TransactionOutcome::MissingOperation => InnerTransactionOutcome::MissingOperation,
+        TransactionOutcome::BadSeq => InnerTransactionOutcome::BadSeq,
+        TransactionOutcome::BadAuth => InnerTransactionOutcome::BadAuth,
+        TransactionOutcome::InsufficientBalance => InnerTransactionOutcome::InsufficientBalance,
+        TransactionOutcome::NoAccount => InnerTransactionOutcome::NoAccount,
+        TransactionOutcome::InsufficientFee => InnerTransactionOutcome::InsufficientFee,
+        TransactionOutcome::BadAuthExtra => InnerTransactionOutcome::BadAuthExtra,
+        TransactionOutcome::InternalError => InnerTransactionOutcome::InternalError,
+        TransactionOutcome::NotSupported => InnerTransactionOutcome::NotSupported,
+        TransactionOutcome::FeeBumpInnerFailed(_) => InnerTransactionOutcome::FeeBumpInnerFailed,
+        TransactionOutcome::BadSponsorship => InnerTransactionOutcome::BadSponsorship,
+        TransactionOutcome::FeeBumpInnerSuccess(_) => InnerTransactionOutcome::FeeBumpInnerSuccess,
+    }
+}
+
+/// The hash and the result of an inner transaction, which is charged nothing.
+fn inner_pair(hash: &Hash, outcome: TransactionOutcome) -> InnerTransactionResultPair
+    ensures { result ≡ spec.inner_pair hash.now outcome }
+{
+    InnerTransactionResultPair {
+        transaction_hash: *hash,
+        result: InnerTransactionResult {
+            fee_charged: 0,
+            outcome: inner_outcome(outcome),
+        },
+    }
+}
+
+/// How a fee bump ended whose inner transaction was applied, and ended so.
+pub(crate) fn bump_outcome(hash: &Hash, outcome: TransactionOutcome) -> TransactionOutcome
+    ensures { result ≡ spec.bump_outcome hash.now outcome }
+{
+    let is_success = match &outcome {
+        TransactionOutcome::Success(_) => true,
+        _ => false,
+    };
+    let pair = inner_pair(hash, outcome);
+    if is_success {
+        TransactionOutcome::FeeBumpInnerSuccess(pair)
+    } else {
+        TransactionOutcome::FeeBumpInnerFailed(pair)
+    }
+}

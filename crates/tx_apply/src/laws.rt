@@ -1,0 +1,37 @@
+//! What holds of whole sets, over their definition.
+
+ghost use Rattle.tx_apply.specs.Laws as spec;
+
+use op_laws::steps::{legal_settles, transaction_laws};
+
+/// What a transaction is charged goes to the fee pool.
+pub fn charges_conserve()
+    ensures { spec.ChargesConserve }
+{
+    transaction_laws();
+}
+
+/// Behind its charge a transaction makes and loses no lumens, and the supply of each asset changes by what is issued and
+/// redeemed.
+pub fn transactions_conserve()
+    ensures { spec.TransactionsConserve }
+{
+    transaction_laws();
+}
+
+/// A set that closes over a legal state makes and loses no lumens, the supply of each other asset changes by what is
+/// issued and redeemed, and what it leaves is settled.
+pub fn sets_conserve()
+    ensures { spec.SetsConserve }
+{
+    legal_settles();
+    transaction_laws();
+}
+
+/// Each operation of a set leaves each account an available balance of at least 0, or of what it had.
+pub fn operations_are_lawful()
+    ensures { spec.OperationsAreLawful }
+{
+    legal_settles();
+    transaction_laws();
+}

@@ -1,0 +1,25 @@
+//! Sets of transactions, applied to the entries of a ledger: fees, checks, signatures and operations
+//! (LedgerManagerImpl, TransactionFrame and FeeBumpTransactionFrame in stellar-core).
+#![tactic(auto)]
+
+mod any_operation;
+mod built;
+mod checks;
+mod contexts;
+mod envelope;
+mod fault;
+mod fee_bump;
+mod fees;
+mod fit;
+mod inner_result;
+mod laws;
+mod preauths;
+mod running;
+mod set;
+mod signing;
+mod success;
+mod transaction;
+
+pub use fault::SetFault;
+pub use laws::{charges_conserve, operations_are_lawful, sets_conserve, transactions_conserve};
+pub use set::{SetDone, apply_set};

@@ -1,0 +1,180 @@
+//! A whole set.
+
+ghost use Rattle.std.specs.Prelude.{◌≡◌, ◌<◌, ◌≤ℤ◌, ◌+ℤ◌, pos, ◌++◌, length, All, IfOk, OnOk};
+ghost use Rattle.ledger_types.specs.declared.asset.Asset.TheVariants as asset;
+ghost use Rattle.entry_map.specs.Undo.{with_current};
+ghost use Rattle.entry_sums.specs.Sums.{total};
+ghost use Rattle.fee_rules.specs.Turns.{apply_order_of};
+ghost use Rattle.legal_rules.specs.Supply.{held};
+ghost use Rattle.xdr_tx.specs.Transactions as xdr;
+ghost use Rattle.legal_rules.specs.Legal.{IsLegal};
+ghost use Rattle.op_laws.specs.Underway.{AreSignersFew, IsSettled};
+ghost use Rattle.op_laws.specs.Steps.{TransactionLaws};
+ghost use Rattle.tx_apply.specs.Laws as laws;
+ghost use Rattle.tx_apply.specs.Places.{envelopes_at};
+ghost use Rattle.tx_apply.specs.Set as spec;
+
+use crate::built::unbuilt_place;
+use crate::envelope::apply_one;
+use crate::fault::SetFault;
+use crate::fees::charge_all;
+use crate::fit::all_numbers_fit;
+use entry_map::{Base, Entries};
+use fee_rules::{apply_order, fee_source, set_base_fee};
+use item_list::ItemList;
+use ledger_types::{Hash, LedgerHeader};
+use op_form::stands;
+use op_laws::steps::{legal_settles, transaction_laws};
+use op_types::{TransactionEnvelope, TransactionResultPair, TransactionResultSet, TransactionSet};
+use std::alloc::AllocError;
+
+/// What a set leaves beside the entries.
+#[derive(Drop)]
+pub struct SetDone {
+    /// In the order in which the transactions were applied.
+    pub results: TransactionResultSet,
+    /// The header's fee pool and what was charged, in stroops.
+    pub fee_pool: i64,
+    /// The greatest offer id so far.
+    pub id_pool: u64,
+}
+
+/// The first of these places at which a transaction stands whose fee source has no account.
+fn missing_among<B: Base>(
+    entries: &Entries<'_, B>,
+    envelopes: &[TransactionEnvelope],
+    places: &[u32],
+) -> Result<Option<u32>, AllocError>
+    requires { All (λ place. place < length envelopes.now) places.now }
+    ensures { IfOk result (λ place. place ≡ spec.missing_among entries.now.current envelopes.now places.now) }
+{
+    for place in places {
+        if !stands(entries, &fee_source(&envelopes[*place as usize]))? {
+            return Ok(Some(*place));
+        }
+    }
+    Ok(None)
+}
+
+/// Applies the transactions at places of a list, each in turn, with what it was charged. It puts their results at the
+/// end of a list, and answers the greatest offer id then.
+fn apply_all<B: Base>(
+    network: &Hash,
+    header: &LedgerHeader,
+    close_time: u64,
+    envelopes: &[TransactionEnvelope],
+    order: &[u32],
+    charges: &[i64],
+    entries: &mut Entries<'_, B>,
+    results: &mut ItemList<TransactionResultPair>,
+) -> Result<u64, AllocError>
+    requires settled { IsSettled header.now.id_pool entries.old.current }
+    requires seq { header.now.ledger_seq < 2147483647 }
+    requires laws { TransactionLaws }
+    requires within { All (λ envelope. xdr.transaction_envelope.within envelope) envelopes.now }
+    requires places { All (λ place. place < length envelopes.now) order.now }
+    requires fit { laws.AreAllFit envelopes.now }
+    requires charges { length charges.now ≡ length order.now }
+    ensures results { OnOk result (results.new ≡ results.old ++ (spec.all_applied
+        (spec.closing_of network.now header.now close_time) header.now.id_pool
+        (envelopes_at envelopes.now order.now) charges.now entries.old.current).results) }
+    ensures entries { OnOk result (entries.new ≡ with_current entries.old (spec.all_applied
+        (spec.closing_of network.now header.now close_time) header.now.id_pool
+        (envelopes_at envelopes.now order.now) charges.now entries.old.current).entries) }
+    ensures id_pool { IfOk result (λ after. after ≡ (spec.all_applied
+        (spec.closing_of network.now header.now close_time) header.now.id_pool
+        (envelopes_at envelopes.now order.now) charges.now entries.old.current).id_pool) }
+{
+    let mut id_pool = header.id_pool;
+    let mut i = 0;
+    while i < order.len() {
+        let envelope = &envelopes[order[i] as usize];
+        id_pool = apply_one(
+            network, header, close_time, id_pool, envelope, charges[i], entries, results,
+        )?;
+        i += 1;
+    }
+    Ok(id_pool)
+}
+
+/// Charges and applies the transactions of a set, all of which can be applied.
+fn apply_in_order<B: Base>(
+    entries: &mut Entries<'_, B>,
+    header: &LedgerHeader,
+    close_time: u64,
+    network: &Hash,
+    set: &TransactionSet,
+    order: &[u32],
+) -> Result<SetDone, AllocError>
+    requires settled { IsSettled header.now.id_pool entries.old.current }
+    requires lumens { (total (held asset.Native) entries.old.current +ℤ header.now.fee_pool) ≡ header.now.total_coins }
+    requires fee_pool { pos 0 ≤ℤ header.now.fee_pool }
+    requires seq { header.now.ledger_seq < 2147483647 }
+    requires laws { TransactionLaws }
+    requires within { xdr.transaction_set.within set.now }
+    requires fit { laws.AreAllFit set.now.txs }
+    requires order { order.now ≡ apply_order_of set.now }
+    requires places { All (λ place. place < length set.now.txs) order.now }
+    ensures { IfOk result (λ done. spec.IsApplied (spec.closing_of network.now header.now close_time) set.now
+        entries.old entries.new done) }
+{
+    let alloc = set.txs.allocator();
+    let envelopes = set.txs.as_slice();
+    let base_fee = set_base_fee(header, set);
+    let mut charges = ItemList::new(alloc);
+    let fee_pool = charge_all(entries, header, base_fee, envelopes, order, &mut charges)?;
+    let mut results = ItemList::new(alloc);
+    let id_pool = apply_all(
+        network,
+        header,
+        close_time,
+        envelopes,
+        order,
+        charges.as_slice(),
+        entries,
+        &mut results,
+    )?;
+    Ok(SetDone {
+        results: TransactionResultSet { results },
+        fee_pool,
+        id_pool,
+    })
+}
+
+/// Applies a set to the entries of the ledger before: all fees are charged first, and then the transactions are applied,
+/// both in the order of application (LedgerManagerImpl in stellar-core). `header` is that of the ledger before, and
+/// `close_time` that of the set's value, in seconds since 1970-01-01T00:00:00Z. A set that is refused leaves the
+/// entries.
+pub fn apply_set<B: Base>(
+    entries: &mut Entries<'_, B>,
+    header: &LedgerHeader,
+    close_time: u64,
+    network: &Hash,
+    set: &TransactionSet,
+) -> Result<SetDone, SetFault>
+    requires legal { IsLegal header.now entries.old.current }
+    requires signers { AreSignersFew entries.old.current }
+    requires seq { header.now.ledger_seq < 2147483647 }
+    requires within { xdr.transaction_set.within set.now }
+    ensures answer { spec.IsAnswer (spec.closing_of network.now header.now close_time) set.now entries.old entries.new result }
+    ensures conserved { OnOk result (
+        laws.IsConserved (spec.closing_of network.now header.now close_time) set.now entries.old.current) }
+    ensures lawful { OnOk result (
+        laws.AreLawful (spec.set_applied (spec.closing_of network.now header.now close_time) set.now
+        entries.old.current).steps) }
+{
+    legal_settles();
+    transaction_laws();
+    let envelopes = set.txs.as_slice();
+    if let Some(index) = unbuilt_place(envelopes) {
+        return Err(SetFault::NotBuilt {
+            index: index as u32,
+        });
+    }
+    all_numbers_fit(envelopes);
+    let order = apply_order(set.txs.allocator(), set)?;
+    if let Some(index) = missing_among(entries, envelopes, order.as_slice())? {
+        return Err(SetFault::FeeSourceMissing { index });
+    }
+    Ok(apply_in_order(entries, header, close_time, network, set, order.as_slice())?)
+}

@@ -23,7 +23,7 @@ use Rattle.legal_rules.proofs.Steps.{same_id_at}
 use Rattle.op_form.specs.Done.{Done, Move}
 use Rattle.op_laws.specs.Laws.{IsCovered, IsLawful}
 use Rattle.op_laws.specs.Moves.{gained, issued, lumens_at}
-use Rattle.op_laws.specs.Underway.{AreEntriesLegal, IsUnderway, KeepsTerms}
+use Rattle.op_laws.specs.Underway.{AreEntriesLegal, IsUnderway, AreDrawn, KeepsTerms}
 use Rattle.op_laws.proofs.Lumens.{no_moves, nothing_issued}
 use Rattle.op_laws.proofs.Payments.{few_left}
 use Rattle.op_laws.proofs.Settled.{entries_legal, owing_of}
@@ -47,6 +47,9 @@ terms_kept ctx = record {
   tx_source = refl;
   tx_seq = refl;
 }
+
+pub none_drawn : (count was now : ℕ) → now ≡ was → AreDrawn count was now
+none_drawn count was now same = record { low = omega arith; high = omega arith }
 
 plus_none : (x y n : ℤ) → x ≡ y → n ≡ pos 0 → x ≡ (y +ℤ n)
 plus_none x y n same none = omega (arith, ints)
@@ -79,6 +82,7 @@ module _ (ctx : Ctx) (m : EntryMap) (under : IsUnderway ctx m) (more : AccountId
           seq = subst (λ n. n < 2147483647) (sym terms.seq) under.seq;
         };
         terms = terms;
+        ids = none_drawn 1 ctx.id_pool done.ctx.id_pool pool;
         lumens = λ id. (each id).lumens ∙ ap (λ n. lumens_at m id +ℤ n) (gains id);
         supply = λ x. plus_none _ _ _
             (keeps (view_of x m) (total (held x) m) (owing_of x ctx.id_pool m under.settled.legal)).supply (none x);

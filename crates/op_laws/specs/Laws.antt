@@ -16,7 +16,7 @@ use Rattle.sponsor_rules.specs.declared.context.Ctx.{Ctx}
 use Rattle.legal_rules.specs.Supply.{held}
 use Rattle.op_form.specs.Done.{Done, Attempt}
 use Rattle.op_laws.specs.AnyOperation.{any_operation}
-use Rattle.op_laws.specs.Underway.{IsUnderway, KeepsTerms}
+use Rattle.op_laws.specs.Underway.{IsUnderway, AreDrawn, KeepsTerms}
 use Rattle.op_laws.specs.Moves.{gained, issued, lumens_at}
 
 -- an account's available balance is at least 0, or at least what it was
@@ -31,6 +31,7 @@ pub record IsLawful (ctx : Ctx) (m : EntryMap) (done : Done) : Type 0 where
   -- the next operation can begin
   pub legal : IsUnderway done.ctx done.entries
   pub terms : KeepsTerms ctx done.ctx
+  pub ids : AreDrawn 1 ctx.id_pool done.ctx.id_pool
   -- each account has what it had and what the moves give it
   pub lumens : (id : AccountId) → lumens_at done.entries id ≡ lumens_at m id +ℤ gained asset.Native id done.moves
   -- the supply changes by what is issued and redeemed

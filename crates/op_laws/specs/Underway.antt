@@ -1,5 +1,5 @@
 -- What holds before and behind each operation of a transaction.
-use Rattle.std.specs.Prelude.{◌≡◌, ℕ, ◌<◌, ◌≤◌, ◌+ℤ◌, List, length, Some}
+use Rattle.std.specs.Prelude.{◌≡◌, ℕ, ◌+◌, ◌<◌, ◌≤◌, ◌+ℤ◌, List, length, Some}
 use Rattle.ledger_types.specs.declared.ids.AccountId.{AccountId}
 use Rattle.ledger_types.specs.declared.account.AccountEntry.{AccountEntry}
 use Rattle.ledger_types.specs.declared.asset.Asset.{Asset}
@@ -39,6 +39,11 @@ pub record IsUnderway (ctx : Ctx) (m : EntryMap) : Type 0 where
   pub sponsorships : AreSponsorshipsSound ctx m
   -- a ledger can close above the header's
   pub seq : ctx.seq < 2147483647
+
+-- at most so many ids were drawn
+pub record AreDrawn (count was now : ℕ) : Type 0 where
+  pub low : was ≤ now
+  pub high : now ≤ was + count
 
 -- the terms that all operations of a transaction share
 pub record KeepsTerms (was ctx : Ctx) : Type 0 where

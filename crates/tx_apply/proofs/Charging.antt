@@ -132,7 +132,7 @@ given_back after m charge is = grind (arith, ints, is)
 pub charges_conserve : TransactionLaws → ChargesConserve
 charges_conserve laws id_pool base envelope m settled =
     let kept = keeps laws id_pool base envelope m settled in
-    record { lumens = given_back _ _ _ kept.lumens; others = kept.others }
+    record { settled = kept.settled; lumens = given_back _ _ _ kept.lumens; others = kept.others }
 
 -- ---- all charges
 

@@ -1,6 +1,6 @@
 -- Whole sets: what they leave is settled, by the moves that they list, and their operations are lawful.
 use Rattle.std.proofs.Common.{◌≡◌, ℕ, suc, ◌<◌, ℤ, pos, ◌+ℤ◌, ◌-ℤ◌, List, [], ◌∷◌, All}
-use Rattle.std.proofs.Common.{Option, Some, None, refl, ap, subst, ◌∙◌, arith}
+use Rattle.std.proofs.Common.{Option, Some, None, refl, ap, subst, ◌∙◌, arith, length}
 use Rattle.std.proofs.lemmas.Int.{ints}
 use Rattle.std.proofs.lemmas.List.Elements.{All-nil, All-cons, All-append}
 use Rattle.std.proofs.lemmas.Option.{slice_get_within, get_or_from_slice_get}
@@ -16,17 +16,19 @@ use Rattle.legal_rules.proofs.Legality.{owing_nothing}
 use Rattle.op_laws.specs.Laws.{IsLawful}
 use Rattle.op_laws.specs.Moves.{issued}
 use Rattle.op_laws.specs.Steps.{TransactionLaws, LegalSettles}
-use Rattle.op_laws.specs.Underway.{IsSettled, LeavesSettled}
+use Rattle.op_laws.specs.Underway.{IsSettled, LeavesSettled, AreDrawn}
+use Rattle.op_laws.proofs.Lawful.{none_drawn}
 use Rattle.op_laws.proofs.Issued.{lumens_not_issued}
 use Rattle.tx_apply.specs.Built.{operations_of}
-use Rattle.tx_apply.specs.Laws.{AreFit, AreAllFit, AreLawful, CanClose, TransactionsConserve, IsConserved, SetsConserve}
+use Rattle.tx_apply.specs.Laws.{operation_total, AreFit, AreAllFit, AreLawful, CanClose, TransactionsConserve}
+use Rattle.tx_apply.specs.Laws.{IsConserved, SetsConserve}
 use Rattle.tx_apply.specs.Laws.{OperationsAreLawful}
 use Rattle.tx_apply.specs.Places.{envelopes_at}
 use Rattle.tx_apply.specs.Running.{Step}
 use Rattle.tx_apply.specs.Set.{Closing, envelope_applied, SetApplied, none_applied, all_applied, envelopes_in_order}
 use Rattle.tx_apply.specs.Set.{charges_of, set_applied}
 use Rattle.tx_apply.proofs.Charging.{AreCharged, all_charged}
-use Rattle.tx_apply.proofs.Settling.{leaves_itself, leaves_twice, no_steps}
+use Rattle.tx_apply.proofs.Settling.{leaves_itself, leaves_twice, no_steps, drawn_twice}
 use Rattle.tx_apply.proofs.Sound.{envelope_sound}
 
 -- ---- what holds of all of a list holds of those at places
@@ -56,19 +58,26 @@ rest_of : (P : TransactionEnvelope → Type 0) (whole : TransactionEnvelope) (ot
     → All P (whole ∷ others) → All P others
 rest_of P whole others all = λ k d within. all (suc k) d (let h = within in omega (arith, h))
 
-pub record AreSound (m : EntryMap) (done : SetApplied) : Type 0 where
+pub record AreSound (count first : ℕ) (m : EntryMap) (done : SetApplied) : Type 0 where
+  pub ids : AreDrawn count first done.id_pool
   pub left : LeavesSettled done.id_pool m done.entries done.moves
   pub steps : AreLawful done.steps
 
-none_sound : (id_pool : ℕ) (m : EntryMap) → IsSettled id_pool m → AreSound m (none_applied id_pool m)
-none_sound id_pool m settled = record { left = leaves_itself id_pool m settled; steps = no_steps }
+none_sound : (count id_pool : ℕ) (m : EntryMap) → IsSettled id_pool m
+    → AreSound count id_pool m (none_applied id_pool m)
+none_sound count id_pool m settled = record {
+  ids = none_drawn count id_pool id_pool refl;
+  left = leaves_itself id_pool m settled;
+  steps = no_steps;
+}
 
 module _ (laws : TransactionLaws) (closing : Closing) (seq : closing.header.ledger_seq < 2147483647) where
   pub all_sound : (id_pool : ℕ) (envelopes : List TransactionEnvelope) (charges : List ℤ) (m : EntryMap)
-      → IsSettled id_pool m → AreAllFit envelopes → AreSound m (all_applied closing id_pool envelopes charges m)
-  unfolding all_applied
-  all_sound id_pool [] charges m settled fit = none_sound id_pool m settled
-  all_sound id_pool (whole ∷ others) [] m settled fit = none_sound id_pool m settled
+      → IsSettled id_pool m → AreAllFit envelopes
+      → AreSound (operation_total envelopes) id_pool m (all_applied closing id_pool envelopes charges m)
+  unfolding all_applied operation_total
+  all_sound id_pool [] charges m settled fit = none_sound 0 id_pool m settled
+  all_sound id_pool (whole ∷ others) [] m settled fit = none_sound _ id_pool m settled
   all_sound id_pool (whole ∷ others) (charge ∷ charges) m settled fit =
       let P = λ (w : TransactionEnvelope). AreFit (operations_of w) in
       let first = envelope_applied closing id_pool whole m in
@@ -76,6 +85,8 @@ module _ (laws : TransactionLaws) (closing : Closing) (seq : closing.header.ledg
       let rest = all_sound first.id_pool others charges first.entries sound.left.settled (rest_of P whole others fit) in
       let after = all_applied closing first.id_pool others charges first.entries in
       record {
+        ids = drawn_twice (length (operations_of whole)) (operation_total others) id_pool first.id_pool after.id_pool
+            sound.ids rest.ids;
         left = leaves_twice first.id_pool after.id_pool m first.entries after.entries first.moves after.moves sound.left
             rest.left;
         steps = All-append (λ (step : Step). IsLawful step.ctx step.entries step.done) first.steps after.steps
@@ -99,7 +110,8 @@ module _ (laws : TransactionLaws) (settles : LegalSettles) (closing : Closing) (
       m
       (settles closing.header m can.legal can.signers)
 
-  sound : AreSound (charges_of closing set m).entries (set_applied closing set m)
+  sound : AreSound (operation_total (envelopes_in_order set)) closing.header.id_pool
+      (charges_of closing set m).entries (set_applied closing set m)
   sound = all_sound laws closing can.seq closing.header.id_pool (envelopes_in_order set)
       (charges_of closing set m).charges (charges_of closing set m).entries charges_sound.settled
       (all_at (λ (w : TransactionEnvelope). AreFit (operations_of w)) set.txs (apply_order_of set) can.fit)
@@ -107,6 +119,7 @@ module _ (laws : TransactionLaws) (settles : LegalSettles) (closing : Closing) (
   pub set_conserved : IsConserved closing set m
   set_conserved = record {
     settled = sound.left.settled;
+    ids = sound.ids;
     lumens = all_lumens _ _ _ _ _ _ _ (sound.left.supply asset.Native)
         (lumens_not_issued (set_applied closing set m).moves) charges_sound.lumens
         (owing_nothing closing.header m can.legal).supply;

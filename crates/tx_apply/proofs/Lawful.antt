@@ -13,16 +13,17 @@ use Rattle.entry_slots.specs.Accounts.{account_at}
 use Rattle.sponsor_rules.specs.declared.context.Ctx.{Ctx}
 use Rattle.legal_rules.specs.Sponsorships.{AreSponsorshipsSound}
 use Rattle.op_form.specs.Done.{Done}
-use Rattle.op_laws.specs.Underway.{IsUnderway, LeavesSettled}
+use Rattle.op_laws.specs.Underway.{IsUnderway, LeavesSettled, AreDrawn}
 use Rattle.op_laws.specs.Laws.{IsFit, IsLawful, AllLawful}
 use Rattle.op_laws.proofs.AllOperations.{failed_is_lawful}
+use Rattle.op_laws.proofs.Lawful.{none_drawn}
 use Rattle.tx_apply.specs.Laws.{AreFit, AreLawful}
 use Rattle.tx_apply.specs.Signing.{source_of}
 use Rattle.tx_apply.specs.Checks.{source_account}
 use Rattle.tx_apply.specs.Running.{Step, placed, done_by, done_at, Ran, run}
 use Rattle.tx_apply.specs.Transaction.{operations_applied}
 use Rattle.tx_apply.proofs.Settling.{leaves_itself, leaves_twice, no_steps, IsSound}
-use Rattle.tx_apply.proofs.Settling.{undone_sound, either_sound}
+use Rattle.tx_apply.proofs.Settling.{drawn_next, undone_sound, either_sound}
 
 -- ---- one operation
 
@@ -65,7 +66,8 @@ others_fit : (operation : Operation) (operations : List Operation) → AreFit (o
 others_fit operation operations fit = λ k d within. fit (suc k) d (let h = within in omega (arith, h))
 
 -- what holds of operations that were run
-pub record GoesOn (m : EntryMap) (ran : Ran) : Type 0 where
+pub record GoesOn (count first : ℕ) (m : EntryMap) (ran : Ran) : Type 0 where
+  pub ids : AreDrawn count first ran.ctx.id_pool
   pub underway : IsUnderway ran.ctx ran.entries
   pub left : LeavesSettled ran.ctx.id_pool m ran.entries ran.moves
   pub steps : AreLawful ran.steps
@@ -76,10 +78,16 @@ left_by : (ctx : Ctx) (m : EntryMap) (done : Done) → IsLawful ctx m done
 left_by ctx m done lawful = record { settled = lawful.legal.settled; supply = lawful.supply }
 
 pub goes_on : AllLawful → (ctx : Ctx) (source : AccountId) (place : ℕ) (operations : List Operation) (m : EntryMap)
-    → AreFit operations → IsUnderway ctx m → GoesOn m (run ctx source place operations m)
+    → AreFit operations → IsUnderway ctx m
+    → GoesOn (length operations) ctx.id_pool m (run ctx source place operations m)
 unfolding run
 goes_on all ctx source place [] m fit underway =
-    record { underway = underway; left = leaves_itself ctx.id_pool m underway.settled; steps = no_steps }
+    record {
+      ids = none_drawn 0 ctx.id_pool ctx.id_pool refl;
+      underway = underway;
+      left = leaves_itself ctx.id_pool m underway.settled;
+      steps = no_steps;
+    }
 goes_on all ctx source place (operation ∷ operations) m fit underway =
     let own = placed ctx place (source_of source operation) in
     let first = done_at ctx source place operation m in
@@ -88,6 +96,7 @@ goes_on all ctx source place (operation ∷ operations) m fit underway =
     lawful.legal in
     let after = run first.ctx source (place + 1) operations first.entries in
     record {
+      ids = drawn_next (length operations) ctx.id_pool first.ctx.id_pool after.ctx.id_pool lawful.ids rest.ids;
       underway = rest.underway;
       left = leaves_twice first.ctx.id_pool after.ctx.id_pool m first.entries after.entries first.moves after.moves
           (left_by own m first lawful) rest.left;
@@ -98,15 +107,16 @@ goes_on all ctx source place (operation ∷ operations) m fit underway =
 -- ---- the operations of a transaction
 
 pub operations_sound : AllLawful → (ctx : Ctx) (tx : Transaction) (m : EntryMap) → AreFit tx.operations
-    → IsUnderway ctx m → IsSound m (operations_applied ctx tx m)
+    → IsUnderway ctx m → IsSound (length tx.operations) ctx.id_pool m (operations_applied ctx tx m)
 operations_sound all ctx tx m fit underway =
+    let count = length tx.operations in
     let ran = run ctx (source_account tx) 0 tx.operations m in
     let on = goes_on all ctx (source_account tx) 0 tx.operations m fit underway in
-    either_sound m ran.succeeds _ _
-    (either_sound m (nat_eq (length ran.ctx.sponsorships) 0) _ _
-    (record { left = on.left; steps = on.steps })
-    (undone_sound outcome.BadSponsorship ctx m ran.steps underway.settled on.steps))
-    (undone_sound (outcome.Failed ran.results) ctx m ran.steps underway.settled on.steps)
+    either_sound count ctx.id_pool m ran.succeeds _ _
+    (either_sound count ctx.id_pool m (nat_eq (length ran.ctx.sponsorships) 0) _ _
+    (record { ids = on.ids; left = on.left; steps = on.steps })
+    (undone_sound outcome.BadSponsorship count ctx m ran.steps underway.settled on.steps))
+    (undone_sound (outcome.Failed ran.results) count ctx m ran.steps underway.settled on.steps)
 
 -- where no sponsorship is open
 pub none_open : (ctx : Ctx) (m : EntryMap) → ctx.sponsorships ≡ [] → AreSponsorshipsSound ctx m

@@ -1,5 +1,5 @@
 -- Parts of a transaction that leave settled entries, one behind the other.
-use Rattle.std.proofs.Common.{ℕ, Bool, true, false, if◌then◌else◌, List, [], ◌++◌, sym, ap, ◌∙◌}
+use Rattle.std.proofs.Common.{ℕ, suc, ◌+◌, ◌≤◌, Bool, true, false, if◌then◌else◌, List, [], ◌++◌, refl, sym, ap, ◌∙◌, arith}
 use Rattle.std.specs.Prelude.{◌+ℤ◌}
 use Rattle.std.proofs.lemmas.List.Elements.{All-nil}
 use Rattle.op_types.specs.declared.transaction_result.TransactionOutcome.{TransactionOutcome}
@@ -10,7 +10,8 @@ use Rattle.legal_rules.specs.Supply.{held}
 use Rattle.op_form.specs.Done.{Move}
 use Rattle.op_laws.specs.Laws.{IsLawful}
 use Rattle.op_laws.specs.Moves.{issued}
-use Rattle.op_laws.specs.Underway.{IsSettled, LeavesSettled}
+use Rattle.op_laws.specs.Underway.{IsSettled, LeavesSettled, AreDrawn}
+use Rattle.op_laws.proofs.Lawful.{none_drawn}
 use Rattle.op_laws.proofs.Issued.{none_moved, issued_behind, plus_assoc}
 use Rattle.tx_apply.specs.Laws.{AreLawful}
 use Rattle.tx_apply.specs.Running.{Step}
@@ -30,30 +31,51 @@ leaves_twice between id_pool a b c moves more first next = record {
 }
 
 -- what holds of a transaction, or of a part of it
-pub record IsSound (m : EntryMap) (applied : Applied) : Type 0 where
+pub record IsSound (count first : ℕ) (m : EntryMap) (applied : Applied) : Type 0 where
+  pub ids : AreDrawn count first applied.id_pool
   pub left : LeavesSettled applied.id_pool m applied.entries applied.moves
   pub steps : AreLawful applied.steps
 
 pub no_steps : AreLawful []
 no_steps = All-nil (λ (step : Step). IsLawful step.ctx step.entries step.done)
 
-pub undone_sound : (end : TransactionOutcome) (ctx : Ctx) (m : EntryMap) (steps : List Step) → IsSettled ctx.id_pool m
-    → AreLawful steps → IsSound m (undone end ctx m steps)
-undone_sound end ctx m steps settled lawful = record { left = leaves_itself ctx.id_pool m settled; steps = lawful }
+pub drawn_twice : (count more a b c : ℕ) → AreDrawn count a b → AreDrawn more b c → AreDrawn (count + more) a c
+drawn_twice count more a b c first next =
+    both first.low first.high next.low next.high
+  where
+    both : a ≤ b → b ≤ a + count → b ≤ c → c ≤ b + more → AreDrawn (count + more) a c
+    both low high least most = record { low = omega arith; high = omega arith }
 
-pub ended_sound : (end : TransactionOutcome) (ctx : Ctx) (m : EntryMap) → IsSettled ctx.id_pool m
-    → IsSound m (ended end ctx m)
-ended_sound end ctx m settled = undone_sound end ctx m [] settled no_steps
+pub drawn_next : (more a b c : ℕ) → AreDrawn 1 a b → AreDrawn more b c → AreDrawn (suc more) a c
+drawn_next more a b c first next =
+    let both = drawn_twice 1 more a b c first next in
+    record { low = both.low; high = one_more both.high }
+  where
+    one_more : c ≤ a + (1 + more) → c ≤ a + suc more
+    one_more le = omega arith
 
-pub either_sound : (m : EntryMap) (b : Bool) (x y : Applied) → IsSound m x → IsSound m y
-    → IsSound m (if b then x else y)
-either_sound m true x y sound other = sound
-either_sound m false x y sound other = other
+pub undone_sound : (end : TransactionOutcome) (count : ℕ) (ctx : Ctx) (m : EntryMap) (steps : List Step)
+    → IsSettled ctx.id_pool m → AreLawful steps → IsSound count ctx.id_pool m (undone end ctx m steps)
+undone_sound end count ctx m steps settled lawful = record {
+  ids = none_drawn count ctx.id_pool ctx.id_pool refl;
+  left = leaves_itself ctx.id_pool m settled;
+  steps = lawful;
+}
 
--- behind a part that moves nothing
-pub sound_behind : (id_pool : ℕ) (m between : EntryMap) (applied : Applied) → LeavesSettled id_pool m between []
-    → IsSound between applied → IsSound m applied
-sound_behind id_pool m between applied first sound = record {
+pub ended_sound : (end : TransactionOutcome) (count : ℕ) (ctx : Ctx) (m : EntryMap) → IsSettled ctx.id_pool m
+    → IsSound count ctx.id_pool m (ended end ctx m)
+ended_sound end count ctx m settled = undone_sound end count ctx m [] settled no_steps
+
+pub either_sound : (count first : ℕ) (m : EntryMap) (b : Bool) (x y : Applied) → IsSound count first m x
+    → IsSound count first m y → IsSound count first m (if b then x else y)
+either_sound count first m true x y sound other = sound
+either_sound count first m false x y sound other = other
+
+-- behind a part that moves nothing and draws no ids
+pub sound_behind : (count id_pool : ℕ) (m between : EntryMap) (applied : Applied) → LeavesSettled id_pool m between []
+    → IsSound count id_pool between applied → IsSound count id_pool m applied
+sound_behind count id_pool m between applied first sound = record {
+  ids = sound.ids;
   left = leaves_twice id_pool applied.id_pool m between applied.entries [] applied.moves first sound.left;
   steps = sound.steps;
 }

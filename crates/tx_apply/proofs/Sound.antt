@@ -1,5 +1,5 @@
 -- Transactions are sound: what they leave is settled, by the moves that they list, and their operations are lawful.
-use Rattle.std.proofs.Common.{◌≡◌, ℕ, ◌<◌, Bool, false, true, not, List, [], Option, Some, None, refl}
+use Rattle.std.proofs.Common.{◌≡◌, ℕ, ◌<◌, Bool, false, true, not, List, [], Option, Some, None, refl, length}
 use Rattle.ledger_types.specs.declared.ids.AccountId.{AccountId}
 use Rattle.ledger_types.specs.declared.ids.Hash.{Hash}
 use Rattle.op_types.specs.declared.transaction.Transaction.{Transaction}
@@ -38,13 +38,14 @@ underway_by ctx m settled closed seq =
 
 module _ (laws : TransactionLaws) where
   by_outcome : (ctx : Ctx) (tx : Transaction) (m : EntryMap) (end : Option TransactionOutcome) → IsUnderway ctx m
-      → AreFit tx.operations → IsSound m (spec.applied_or_ended ctx tx m end)
-  by_outcome ctx tx m (Some end) underway fit = ended_sound end ctx m underway.settled
+      → AreFit tx.operations → IsSound (length tx.operations) ctx.id_pool m (spec.applied_or_ended ctx tx m end)
+  by_outcome ctx tx m (Some end) underway fit = ended_sound end (length tx.operations) ctx m underway.settled
   by_outcome ctx tx m None underway fit = operations_sound laws.operations ctx tx m fit underway
 
   pub transaction_sound : (pays : Bool) (base_fee : ℕ) (ctx : Ctx) (hash : Hash) (signatures : List HeldSignature)
       (tx : Transaction) (m : EntryMap) → IsSettled ctx.id_pool m → ctx.sponsorships ≡ [] → ctx.seq < 2147483647
-      → AreFit tx.operations → IsSound m (spec.transaction_applied pays base_fee ctx hash signatures tx m)
+      → AreFit tx.operations → IsSound (length tx.operations) ctx.id_pool m
+      (spec.transaction_applied pays base_fee ctx hash signatures tx m)
   transaction_sound pays base_fee ctx hash signatures tx m settled closed seq fit =
       let checked = judged pays base_fee ctx hash signatures tx m in
       let first = settled_judged laws.seq_nums pays base_fee ctx.id_pool ctx hash signatures tx m settled in
@@ -52,52 +53,61 @@ module _ (laws : TransactionLaws) where
       first.settled in
       let after = spec.map_without_used hash (source_account tx) tx.operations checked.entries in
       let applied = spec.applied_or_ended ctx tx after checked.outcome in
-      sound_behind ctx.id_pool m checked.entries applied first
-      (sound_behind ctx.id_pool checked.entries after applied used
+      sound_behind (length tx.operations) ctx.id_pool m checked.entries applied first
+      (sound_behind (length tx.operations) ctx.id_pool checked.entries after applied used
       (by_outcome ctx tx after checked.outcome (underway_by ctx after used.settled closed seq) fit))
 
   v0_sound : (ctx : Ctx) (hash : Hash) (tx : TransactionV0) (m : EntryMap) → IsSettled ctx.id_pool m
-      → IsSound m (spec.v0_applied ctx hash tx m)
+      → IsSound (length tx.operations) ctx.id_pool m (spec.v0_applied ctx hash tx m)
   v0_sound ctx hash tx m settled =
       let source : AccountId = record { 0 = tx.source_account_ed25519 } in
       let used = without_used laws.preauths ctx.id_pool hash source tx.operations m settled in
       let after = spec.map_without_used hash source tx.operations m in
-      sound_behind ctx.id_pool m after (spec.ended outcome.NotSupported ctx after) used
-      (ended_sound outcome.NotSupported ctx after used.settled)
+      sound_behind (length tx.operations) ctx.id_pool m after (spec.ended outcome.NotSupported ctx after) used
+      (ended_sound outcome.NotSupported (length tx.operations) ctx after used.settled)
 
   -- ---- fee bumps
 
   module _ (base_fee : ℕ) (ctx : Ctx) (signed : bump.BumpSigned) (tx : FeeBumpTransaction)
       (closed : ctx.sponsorships ≡ []) (seq : ctx.seq < 2147483647) (fit : AreFit tx.inner_tx.tx.operations) where
-    inner_sound : (m : EntryMap) → IsSettled ctx.id_pool m → IsSound m (bump.inner_applied base_fee ctx signed tx m)
+    abbrev count : ℕ
+    count = length tx.inner_tx.tx.operations
+
+    inner_sound : (m : EntryMap) → IsSettled ctx.id_pool m → IsSound (length tx.inner_tx.tx.operations) ctx.id_pool m
+        (bump.inner_applied base_fee ctx signed tx m)
     inner_sound m settled =
         let sound = transaction_sound false base_fee ctx signed.inner_hash signed.inner_signatures tx.inner_tx.tx m
         settled closed seq fit in
-        record { left = sound.left; steps = sound.steps }
+        record { ids = sound.ids; left = sound.left; steps = sound.steps }
 
     behind_auth_sound : (after : List HeldSignature) (m : EntryMap) → IsSettled ctx.id_pool m
-        → IsSound m (bump.applied_behind_auth base_fee ctx signed tx after m)
+        → IsSound (length tx.inner_tx.tx.operations) ctx.id_pool m
+        (bump.applied_behind_auth base_fee ctx signed tx after m)
     behind_auth_sound after m settled =
-        either_sound m (is_poor ctx (account_at m (bump.payer_of tx))) _ _
-        (ended_sound outcome.InsufficientBalance ctx m settled)
-        (either_sound m (are_used after) _ _ (inner_sound m settled) (ended_sound outcome.BadAuthExtra ctx m settled))
+        either_sound count ctx.id_pool m (is_poor ctx (account_at m (bump.payer_of tx))) _ _
+        (ended_sound outcome.InsufficientBalance count ctx m settled)
+        (either_sound count ctx.id_pool m (are_used after) _ _ (inner_sound m settled)
+        (ended_sound outcome.BadAuthExtra count ctx m settled))
 
     by_auth_sound : (m : EntryMap) (auth : Auth) → IsSettled ctx.id_pool m
-        → IsSound m (bump.applied_by_auth base_fee ctx signed tx m auth)
+        → IsSound (length tx.inner_tx.tx.operations) ctx.id_pool m (bump.applied_by_auth base_fee ctx signed tx m auth)
     by_auth_sound m auth settled =
         let used = laws.preauths ctx.id_pool m (bump.payer_of tx) signed.hash settled in
         let after = map_after_removing_preauth (bump.payer_of tx) signed.hash m in
-        either_sound m (not auth.passes) _ _ (ended_sound outcome.BadAuth ctx m settled)
-        (sound_behind ctx.id_pool m after (bump.applied_behind_auth base_fee ctx signed tx auth.signatures after) used
+        either_sound count ctx.id_pool m (not auth.passes) _ _ (ended_sound outcome.BadAuth count ctx m settled)
+        (sound_behind count ctx.id_pool m after (bump.applied_behind_auth base_fee ctx signed tx auth.signatures after)
+        used
         (behind_auth_sound auth.signatures after used.settled))
 
     by_fault_sound : (m : EntryMap) (fault : Option TransactionOutcome) → IsSettled ctx.id_pool m
-        → IsSound m (bump.applied_by_fault base_fee ctx signed tx m fault)
-    by_fault_sound m (Some fault) settled = ended_sound fault ctx m settled
+        → IsSound (length tx.inner_tx.tx.operations) ctx.id_pool m
+        (bump.applied_by_fault base_fee ctx signed tx m fault)
+    by_fault_sound m (Some fault) settled = ended_sound fault count ctx m settled
     by_fault_sound m None settled =
         by_auth_sound m (auth_of signed.hash Low signed.signatures m (bump.payer_of tx)) settled
 
-    pub bump_sound : (m : EntryMap) → IsSettled ctx.id_pool m → IsSound m (bump.bump_applied base_fee ctx signed tx m)
+    pub bump_sound : (m : EntryMap) → IsSettled ctx.id_pool m → IsSound (length tx.inner_tx.tx.operations) ctx.id_pool m
+        (bump.bump_applied base_fee ctx signed tx m)
     bump_sound m settled =
         by_fault_sound m (first_fault (bump.payer_tests base_fee tx (account_at m (bump.payer_of tx)))) settled
 
@@ -105,7 +115,7 @@ module _ (laws : TransactionLaws) where
 
   pub envelope_sound : (closing : Closing) (id_pool : ℕ) (whole : TransactionEnvelope) (m : EntryMap)
       → IsSettled id_pool m → closing.header.ledger_seq < 2147483647 → AreFit (operations_of whole)
-      → IsSound m (envelope_applied closing id_pool whole m)
+      → IsSound (length (operations_of whole)) id_pool m (envelope_applied closing id_pool whole m)
   unfolding envelope_applied
   envelope_sound closing id_pool (envelope.V0 signed) m settled seq fit =
       v0_sound (ctx_in closing id_pool (envelope.V0 signed)) (signed_hash_of closing.network (envelope.V0 signed))

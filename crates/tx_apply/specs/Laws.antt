@@ -1,6 +1,6 @@
 -- The laws of whole sets: what they leave is settled, lumens are conserved, the supply of each other asset changes by
 -- what is issued and redeemed alone, and each operation leaves each account what it needs.
-use Rattle.std.specs.Prelude.{◌≡◌, ◌≢◌, ℕ, ℤ, ◌<◌, ◌+ℤ◌, All, List}
+use Rattle.std.specs.Prelude.{◌≡◌, ◌≢◌, ℕ, ◌+◌, ℤ, ◌<◌, ◌+ℤ◌, All, List, [], ◌∷◌, length}
 use Rattle.ledger_types.specs.declared.asset.Asset.{Asset}
 use Rattle.ledger_types.specs.declared.asset.Asset.TheVariants as asset
 use Rattle.op_types.specs.declared.operation.Operation.{Operation}
@@ -12,11 +12,11 @@ use Rattle.legal_rules.specs.Legal.{IsLegal}
 use Rattle.legal_rules.specs.Supply.{held}
 use Rattle.op_laws.specs.Laws.{IsFit, IsLawful}
 use Rattle.op_laws.specs.Moves.{issued}
-use Rattle.op_laws.specs.Underway.{AreSignersFew, IsSettled, LeavesSettled}
+use Rattle.op_laws.specs.Underway.{AreSignersFew, IsSettled, LeavesSettled, AreDrawn}
 use Rattle.tx_apply.specs.Built.{operations_of}
 use Rattle.tx_apply.specs.Fees.{charge_of, map_after_charge}
 use Rattle.tx_apply.specs.Running.{Step}
-use Rattle.tx_apply.specs.Set.{Closing, envelope_applied, set_applied, fee_pool_after}
+use Rattle.tx_apply.specs.Set.{Closing, envelope_applied, envelopes_in_order, set_applied, fee_pool_after}
 
 -- ---- what sets are applied to
 
@@ -37,13 +37,14 @@ pub record CanClose (closing : Closing) (set : TransactionSet) (m : EntryMap) : 
 -- ---- the laws
 
 -- a charge is moved to the fee pool, and nothing else is moved
-pub record IsCharged (m after : EntryMap) (charge : ℤ) : Type 0 where
+pub record IsCharged (id_pool : ℕ) (m after : EntryMap) (charge : ℤ) : Type 0 where
+  pub settled : IsSettled id_pool after
   pub lumens : (total (held asset.Native) after +ℤ charge) ≡ total (held asset.Native) m
   pub others : (x : Asset) → x ≢ asset.Native → total (held x) after ≡ total (held x) m
 
 abbrev pub ChargesConserve : Type 0
 ChargesConserve = (id_pool base_fee : ℕ) (whole : TransactionEnvelope) (m : EntryMap) → IsSettled id_pool m
-    → IsCharged m (map_after_charge base_fee whole m) (charge_of base_fee whole m)
+    → IsCharged id_pool m (map_after_charge base_fee whole m) (charge_of base_fee whole m)
 
 -- behind its charge a transaction moves what its moves say, and no lumens are made or lost
 abbrev pub TransactionsConserve : Type 0
@@ -52,9 +53,16 @@ TransactionsConserve = (closing : Closing) (id_pool : ℕ) (whole : TransactionE
     → LeavesSettled (envelope_applied closing id_pool whole m).id_pool m
     (envelope_applied closing id_pool whole m).entries (envelope_applied closing id_pool whole m).moves
 
+-- the operations of all transactions
+unfoldable pub operation_total : List TransactionEnvelope → ℕ
+operation_total [] = 0
+operation_total (whole ∷ others) = length (operations_of whole) + operation_total others
+
 -- what a set leaves
 pub record IsConserved (closing : Closing) (set : TransactionSet) (m : EntryMap) : Type 0 where
   pub settled : IsSettled (set_applied closing set m).id_pool (set_applied closing set m).entries
+  pub ids : AreDrawn (operation_total (envelopes_in_order set)) closing.header.id_pool
+      (set_applied closing set m).id_pool
   pub lumens : (total (held asset.Native) (set_applied closing set m).entries +ℤ fee_pool_after closing set m)
       ≡ closing.header.total_coins
   pub supply : (x : Asset) → x ≢ asset.Native → total (held x) (set_applied closing set m).entries

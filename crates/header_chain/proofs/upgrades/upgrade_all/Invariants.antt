@@ -1,0 +1,12 @@
+use Rattle.std.proofs.Common.{◌≡◌, ◌≤◌, ◌-◌, length, map, drop}
+use Rattle.header_chain.specs.Upgrades.{upgrade_in, all_upgraded}
+use Rattle.header_chain.proofs.upgrades.upgrade_all.Given as goal
+
+-- those so far and those that are left make the whole
+abbrev pub invariant-loop-i : goal.invariant-loop-i
+invariant-loop-i l =
+    (all_upgraded l.header (map upgrade_in (drop l.i l.upgrades))
+    ≡ all_upgraded l.fn.header (map upgrade_in l.upgrades)) × (l.i ≤ length l.upgrades)
+
+abbrev pub decreases-loop-i : goal.decreases-loop-i
+decreases-loop-i l = length l.upgrades - l.i

@@ -103,6 +103,18 @@ fn say_something(levels: &Levels) -> bool {
     false
 }
 
+/// How long the files of the first two levels are.
+fn lengths(levels: &Levels) -> [usize; 4] {
+    let first = levels.pair(0);
+    let second = levels.pair(1);
+    [
+        first.curr.bytes().len(),
+        first.snap.bytes().len(),
+        second.curr.bytes().len(),
+        second.snap.bytes().len(),
+    ]
+}
+
 /// Whether levels that are restarted behind a ledger go on as the others do.
 fn go_on_alike(alloc: Global, seq: u32) -> Option<bool>
     requires above { 2 ≤ seq }
@@ -126,6 +138,14 @@ fn a_key_made_and_removed_stands_in_no_file_once_both_met(rt: HostRuntime) {
     let before = levels_at(rt.alloc(), 23).map(|levels| say_something(&levels));
     let behind = levels_at(rt.alloc(), 24).map(|levels| say_something(&levels));
     assert!(rt; before == Some(true) && behind == Some(false));
+}
+
+// The file that a key is made in has 92 bytes, that in which it is gone 72, and META alone has 16.
+#[test]
+fn the_second_level_spills_before_it_takes_what_the_first_one_held(rt: HostRuntime) {
+    let before = levels_at(rt.alloc(), 6).map(|levels| lengths(&levels));
+    let behind = levels_at(rt.alloc(), 8).map(|levels| lengths(&levels));
+    assert!(rt; before == Some([16, 72, 92, 0]) && behind == Some([16, 16, 72, 92]));
 }
 
 #[test]

@@ -16,65 +16,65 @@ use Rattle.tx_apply.proofs.Placed.{first_left}
 
 -- so far: the results and those that are left make the whole, and so do the entries and the ids
 pub record SoFar (closing : Closing) (first_id : ℕ) (envelopes : List TransactionEnvelope) (order : List ℕ)
-    (charges : List ℤ) (first told : List TransactionResultPair) (old now : Undo) (id_pool : ℕ) (i : ℕ)
+    (fees : List ℤ) (first told : List TransactionResultPair) (old now : Undo) (id_pool : ℕ) (i : ℕ)
     : Type 0 where
   pub results : told
-      ++ (all_applied closing id_pool (envelopes_at envelopes (drop i order)) (drop i charges) now.current).results
-      ≡ first ++ (all_applied closing first_id (envelopes_at envelopes order) charges old.current).results
-  pub entries : (all_applied closing id_pool (envelopes_at envelopes (drop i order)) (drop i charges)
+      ++ (all_applied closing id_pool (envelopes_at envelopes (drop i order)) (drop i fees) now.current).results
+      ≡ first ++ (all_applied closing first_id (envelopes_at envelopes order) fees old.current).results
+  pub entries : (all_applied closing id_pool (envelopes_at envelopes (drop i order)) (drop i fees)
       now.current).entries
-      ≡ (all_applied closing first_id (envelopes_at envelopes order) charges old.current).entries
-  pub ids : (all_applied closing id_pool (envelopes_at envelopes (drop i order)) (drop i charges)
+      ≡ (all_applied closing first_id (envelopes_at envelopes order) fees old.current).entries
+  pub ids : (all_applied closing id_pool (envelopes_at envelopes (drop i order)) (drop i fees)
       now.current).id_pool
-      ≡ (all_applied closing first_id (envelopes_at envelopes order) charges old.current).id_pool
+      ≡ (all_applied closing first_id (envelopes_at envelopes order) fees old.current).id_pool
   pub undo : now ≡ with_current old now.current
   pub settled : IsSettled id_pool now.current
 
-behind : (closing : Closing) (id_pool : ℕ) (envelope : TransactionEnvelope) (charge : ℤ)
-    (left : List TransactionEnvelope) (charges : List ℤ) (m : EntryMap)
-    → all_applied closing id_pool (envelope ∷ left) (charge ∷ charges) m
-    ≡ behind_transaction (result_pair closing envelope charge (envelope_applied closing id_pool envelope m).outcome)
+behind : (closing : Closing) (id_pool : ℕ) (envelope : TransactionEnvelope) (fee : ℤ)
+    (left : List TransactionEnvelope) (fees : List ℤ) (m : EntryMap)
+    → all_applied closing id_pool (envelope ∷ left) (fee ∷ fees) m
+    ≡ behind_transaction (result_pair closing envelope fee (envelope_applied closing id_pool envelope m).outcome)
     (envelope_applied closing id_pool envelope m)
-    (all_applied closing (envelope_applied closing id_pool envelope m).id_pool left charges
+    (all_applied closing (envelope_applied closing id_pool envelope m).id_pool left fees
     (envelope_applied closing id_pool envelope m).entries)
 unfolding all_applied
-behind closing id_pool envelope charge left charges m = refl
+behind closing id_pool envelope fee left fees m = refl
 
 -- what is left begins with one transaction
 one_left : (closing : Closing) (id_pool : ℕ) (envelopes : List TransactionEnvelope) (order : List ℕ)
-    (charges : List ℤ) (i : ℕ) (envelope : TransactionEnvelope) (charge : ℤ) (m : EntryMap) → i < length order
-    → i < length charges → get_or order i 0 < length envelopes
-    → envelope ≡ get_or envelopes (get_or order i 0) envelope → charge ≡ get_or charges i charge
-    → all_applied closing id_pool (envelopes_at envelopes (drop i order)) (drop i charges) m
-    ≡ behind_transaction (result_pair closing envelope charge (envelope_applied closing id_pool envelope m).outcome)
+    (fees : List ℤ) (i : ℕ) (envelope : TransactionEnvelope) (fee : ℤ) (m : EntryMap) → i < length order
+    → i < length fees → get_or order i 0 < length envelopes
+    → envelope ≡ get_or envelopes (get_or order i 0) envelope → fee ≡ get_or fees i fee
+    → all_applied closing id_pool (envelopes_at envelopes (drop i order)) (drop i fees) m
+    ≡ behind_transaction (result_pair closing envelope fee (envelope_applied closing id_pool envelope m).outcome)
     (envelope_applied closing id_pool envelope m)
     (all_applied closing (envelope_applied closing id_pool envelope m).id_pool
-    (envelopes_at envelopes (drop (i + 1) order)) (drop (i + 1) charges)
+    (envelopes_at envelopes (drop (i + 1) order)) (drop (i + 1) fees)
     (envelope_applied closing id_pool envelope m).entries)
-one_left closing id_pool envelopes order charges i envelope charge m within inside there e at =
-    ap (λ (left : List TransactionEnvelope). all_applied closing id_pool left (drop i charges) m)
+one_left closing id_pool envelopes order fees i envelope fee m within inside there e at =
+    ap (λ (left : List TransactionEnvelope). all_applied closing id_pool left (drop i fees) m)
     (first_left envelopes order i envelope within there
     ∙ ap (λ (x : TransactionEnvelope). x ∷ envelopes_at envelopes (drop (i + 1) order)) (sym e))
     ∙ ap (λ (cs : List ℤ). all_applied closing id_pool
     (envelope ∷ envelopes_at envelopes (drop (i + 1) order)) cs m)
-    (drop_more charges i charge inside ∙ ap (λ (c : ℤ). c ∷ drop (i + 1) charges) (sym at))
-    ∙ behind closing id_pool envelope charge (envelopes_at envelopes (drop (i + 1) order)) (drop (i + 1) charges) m
+    (drop_more fees i fee inside ∙ ap (λ (c : ℤ). c ∷ drop (i + 1) fees) (sym at))
+    ∙ behind closing id_pool envelope fee (envelopes_at envelopes (drop (i + 1) order)) (drop (i + 1) fees) m
 
 -- one transaction more
 pub step : (closing : Closing) (first_id : ℕ) (envelopes : List TransactionEnvelope) (order : List ℕ)
-    (charges : List ℤ) (first results : List TransactionResultPair) (old now : Undo) (id_pool : ℕ) (i : ℕ)
-    (envelope : TransactionEnvelope) (charge : ℤ) (after : Undo)
-    → SoFar closing first_id envelopes order charges first results old now id_pool i → i < length order
-    → i < length charges → get_or order i 0 < length envelopes
-    → envelope ≡ get_or envelopes (get_or order i 0) envelope → charge ≡ get_or charges i charge
+    (fees : List ℤ) (first results : List TransactionResultPair) (old now : Undo) (id_pool : ℕ) (i : ℕ)
+    (envelope : TransactionEnvelope) (fee : ℤ) (after : Undo)
+    → SoFar closing first_id envelopes order fees first results old now id_pool i → i < length order
+    → i < length fees → get_or order i 0 < length envelopes
+    → envelope ≡ get_or envelopes (get_or order i 0) envelope → fee ≡ get_or fees i fee
     → after ≡ with_current now (envelope_applied closing id_pool envelope now.current).entries
     → IsSettled (envelope_applied closing id_pool envelope now.current).id_pool
     (envelope_applied closing id_pool envelope now.current).entries
-    → SoFar closing first_id envelopes order charges first
-    (results ++ result_pair closing envelope charge
+    → SoFar closing first_id envelopes order fees first
+    (results ++ result_pair closing envelope fee
     (envelope_applied closing id_pool envelope now.current).outcome ∷ []) old after
     (envelope_applied closing id_pool envelope now.current).id_pool (i + 1)
-step closing first_id envelopes order charges first results old now id_pool i envelope charge after so_far within inside
+step closing first_id envelopes order fees first results old now id_pool i envelope fee after so_far within inside
     there e at is settled = record {
       results = append_assoc results (pair ∷ []) (left after.current).results
           ∙ ap (λ (s : SetApplied). results ++ s.results) (sym one_after) ∙ so_far.results;
@@ -89,69 +89,69 @@ step closing first_id envelopes order charges first results old now id_pool i en
     done = envelope_applied closing id_pool envelope now.current
 
     pair : TransactionResultPair
-    pair = result_pair closing envelope charge done.outcome
+    pair = result_pair closing envelope fee done.outcome
 
     left : EntryMap → SetApplied
     left m = all_applied closing done.id_pool (envelopes_at envelopes (drop (i + 1) order))
-        (drop (i + 1) charges) m
+        (drop (i + 1) fees) m
 
     same : after.current ≡ done.entries
     same = ap (λ (u : Undo). u.current) is
 
-    one_after : all_applied closing id_pool (envelopes_at envelopes (drop i order)) (drop i charges) now.current
+    one_after : all_applied closing id_pool (envelopes_at envelopes (drop i order)) (drop i fees) now.current
         ≡ behind_transaction pair done (left after.current)
-    one_after = one_left closing id_pool envelopes order charges i envelope charge now.current within inside there e at
+    one_after = one_left closing id_pool envelopes order fees i envelope fee now.current within inside there e at
         ∙ ap (λ (m : EntryMap). behind_transaction pair done (left m)) (sym same)
 
 -- the same, by what the transaction left
 pub step_to : (closing : Closing) (first_id : ℕ) (envelopes : List TransactionEnvelope) (order : List ℕ)
-    (charges : List ℤ) (first told : List TransactionResultPair) (old now : Undo) (id_pool : ℕ) (i : ℕ)
-    (envelope : TransactionEnvelope) (charge : ℤ) (after : Undo) (told_after : List TransactionResultPair)
-    (id_pool_after : ℕ) → SoFar closing first_id envelopes order charges first told old now id_pool i
-    → i < length order → i < length charges → get_or order i 0 < length envelopes
-    → envelope ≡ get_or envelopes (get_or order i 0) envelope → charge ≡ get_or charges i charge
+    (fees : List ℤ) (first told : List TransactionResultPair) (old now : Undo) (id_pool : ℕ) (i : ℕ)
+    (envelope : TransactionEnvelope) (fee : ℤ) (after : Undo) (told_after : List TransactionResultPair)
+    (id_pool_after : ℕ) → SoFar closing first_id envelopes order fees first told old now id_pool i
+    → i < length order → i < length fees → get_or order i 0 < length envelopes
+    → envelope ≡ get_or envelopes (get_or order i 0) envelope → fee ≡ get_or fees i fee
     → after ≡ with_current now (envelope_applied closing id_pool envelope now.current).entries
-    → told_after ≡ told ++ result_pair closing envelope charge
+    → told_after ≡ told ++ result_pair closing envelope fee
     (envelope_applied closing id_pool envelope now.current).outcome ∷ []
     → id_pool_after ≡ (envelope_applied closing id_pool envelope now.current).id_pool
     → IsSettled (envelope_applied closing id_pool envelope now.current).id_pool
     (envelope_applied closing id_pool envelope now.current).entries
-    → SoFar closing first_id envelopes order charges first told_after old after id_pool_after (i + 1)
-step_to closing first_id envelopes order charges first told old now id_pool i envelope charge after told_after
+    → SoFar closing first_id envelopes order fees first told_after old after id_pool_after (i + 1)
+step_to closing first_id envelopes order fees first told old now id_pool i envelope fee after told_after
     id_pool_after so_far within inside there e at is listed drawn settled =
     let done = envelope_applied closing id_pool envelope now.current in
-    let pair = result_pair closing envelope charge done.outcome in
-    subst (λ (ps : List TransactionResultPair). SoFar closing first_id envelopes order charges first ps old after
+    let pair = result_pair closing envelope fee done.outcome in
+    subst (λ (ps : List TransactionResultPair). SoFar closing first_id envelopes order fees first ps old after
     id_pool_after (i + 1)) (sym listed)
-    (subst (λ (n : ℕ). SoFar closing first_id envelopes order charges first (told ++ pair ∷ []) old after n (i + 1))
+    (subst (λ (n : ℕ). SoFar closing first_id envelopes order fees first (told ++ pair ∷ []) old after n (i + 1))
     (sym drawn)
-    (step closing first_id envelopes order charges first told old now id_pool i envelope charge after so_far within
+    (step closing first_id envelopes order fees first told old now id_pool i envelope fee after so_far within
     inside there e at is settled))
 
 -- nothing is left behind the last place
 nothing_left : (closing : Closing) (id_pool : ℕ) (envelopes : List TransactionEnvelope) (order : List ℕ)
-    (charges : List ℤ) (i : ℕ) (m : EntryMap) → length order ≤ i
-    → all_applied closing id_pool (envelopes_at envelopes (drop i order)) charges m ≡ none_applied id_pool m
+    (fees : List ℤ) (i : ℕ) (m : EntryMap) → length order ≤ i
+    → all_applied closing id_pool (envelopes_at envelopes (drop i order)) fees m ≡ none_applied id_pool m
 unfolding all_applied envelopes_at
-nothing_left closing id_pool envelopes order charges i m past =
-    ap (λ (places : List ℕ). all_applied closing id_pool (envelopes_at envelopes places) charges m)
+nothing_left closing id_pool envelopes order fees i m past =
+    ap (λ (places : List ℕ). all_applied closing id_pool (envelopes_at envelopes places) fees m)
     (drop_all i order past)
 
 -- all are applied
-pub record IsFinished (closing : Closing) (envelopes : List TransactionEnvelope) (order : List ℕ) (charges : List ℤ)
+pub record IsFinished (closing : Closing) (envelopes : List TransactionEnvelope) (order : List ℕ) (fees : List ℤ)
     (first_id : ℕ) (first told : List TransactionResultPair) (old now : Undo) (id_pool : ℕ) : Type 0 where
   pub results : told
-      ≡ first ++ (all_applied closing first_id (envelopes_at envelopes order) charges old.current).results
+      ≡ first ++ (all_applied closing first_id (envelopes_at envelopes order) fees old.current).results
   pub entries : now
-      ≡ with_current old (all_applied closing first_id (envelopes_at envelopes order) charges old.current).entries
-  pub ids : id_pool ≡ (all_applied closing first_id (envelopes_at envelopes order) charges old.current).id_pool
+      ≡ with_current old (all_applied closing first_id (envelopes_at envelopes order) fees old.current).entries
+  pub ids : id_pool ≡ (all_applied closing first_id (envelopes_at envelopes order) fees old.current).id_pool
 
 pub finished : (closing : Closing) (first_id : ℕ) (envelopes : List TransactionEnvelope) (order : List ℕ)
-    (charges : List ℤ) (first told : List TransactionResultPair) (old now : Undo) (id_pool : ℕ) (i : ℕ)
-    → SoFar closing first_id envelopes order charges first told old now id_pool i → length order ≤ i
-    → IsFinished closing envelopes order charges first_id first told old now id_pool
-finished closing first_id envelopes order charges first told old now id_pool i so_far past =
-    let none = nothing_left closing id_pool envelopes order (drop i charges) i now.current past in
+    (fees : List ℤ) (first told : List TransactionResultPair) (old now : Undo) (id_pool : ℕ) (i : ℕ)
+    → SoFar closing first_id envelopes order fees first told old now id_pool i → length order ≤ i
+    → IsFinished closing envelopes order fees first_id first told old now id_pool
+finished closing first_id envelopes order fees first told old now id_pool i so_far past =
+    let none = nothing_left closing id_pool envelopes order (drop i fees) i now.current past in
     record {
       results = sym (append-nil told) ∙ ap (λ (s : SetApplied). told ++ s.results) (sym none) ∙ so_far.results;
       entries = so_far.undo ∙ ap (λ (m : EntryMap). with_current old m)

@@ -26,8 +26,8 @@ use Rattle.tx_apply.specs.Laws.{OperationsAreLawful}
 use Rattle.tx_apply.specs.Places.{envelopes_at}
 use Rattle.tx_apply.specs.Running.{Step}
 use Rattle.tx_apply.specs.Set.{Closing, envelope_applied, SetApplied, none_applied, all_applied, envelopes_in_order}
-use Rattle.tx_apply.specs.Set.{charges_of, set_applied}
-use Rattle.tx_apply.proofs.Charging.{AreCharged, all_charged}
+use Rattle.tx_apply.specs.Set.{fees_taken_of, set_applied}
+use Rattle.tx_apply.proofs.TakenFees.{AreTaken, all_taken}
 use Rattle.tx_apply.proofs.Settling.{leaves_itself, leaves_twice, no_steps, drawn_twice}
 use Rattle.tx_apply.proofs.Sound.{envelope_sound}
 
@@ -72,18 +72,18 @@ none_sound count id_pool m settled = record {
 }
 
 module _ (laws : TransactionLaws) (closing : Closing) (seq : closing.header.ledger_seq < 2147483647) where
-  pub all_sound : (id_pool : ℕ) (envelopes : List TransactionEnvelope) (charges : List ℤ) (m : EntryMap)
+  pub all_sound : (id_pool : ℕ) (envelopes : List TransactionEnvelope) (fees : List ℤ) (m : EntryMap)
       → IsSettled id_pool m → AreAllFit envelopes
-      → AreSound (operation_total envelopes) id_pool m (all_applied closing id_pool envelopes charges m)
+      → AreSound (operation_total envelopes) id_pool m (all_applied closing id_pool envelopes fees m)
   unfolding all_applied operation_total
-  all_sound id_pool [] charges m settled fit = none_sound 0 id_pool m settled
+  all_sound id_pool [] fees m settled fit = none_sound 0 id_pool m settled
   all_sound id_pool (whole ∷ others) [] m settled fit = none_sound _ id_pool m settled
-  all_sound id_pool (whole ∷ others) (charge ∷ charges) m settled fit =
+  all_sound id_pool (whole ∷ others) (fee ∷ fees) m settled fit =
       let P = λ (w : TransactionEnvelope). AreFit (operations_of w) in
       let first = envelope_applied closing id_pool whole m in
       let sound = envelope_sound laws closing id_pool whole m settled seq (first_of P whole others fit) in
-      let rest = all_sound first.id_pool others charges first.entries sound.left.settled (rest_of P whole others fit) in
-      let after = all_applied closing first.id_pool others charges first.entries in
+      let rest = all_sound first.id_pool others fees first.entries sound.left.settled (rest_of P whole others fit) in
+      let after = all_applied closing first.id_pool others fees first.entries in
       record {
         ids = drawn_twice (length (operations_of whole)) (operation_total others) id_pool first.id_pool after.id_pool
             sound.ids rest.ids;
@@ -105,15 +105,15 @@ all_lumens last between none first pool sum coins e nothing h g = omega (arith, 
 
 module _ (laws : TransactionLaws) (settles : LegalSettles) (closing : Closing) (set : TransactionSet) (m : EntryMap)
     (can : CanClose closing set m) where
-  charges_sound : AreCharged closing.header.id_pool m (charges_of closing set m)
-  charges_sound = all_charged laws closing.header.id_pool (set_base_fee closing.header set.txs) (envelopes_in_order set)
+  fees_sound : AreTaken closing.header.id_pool m (fees_taken_of closing set m)
+  fees_sound = all_taken laws closing.header.id_pool (set_base_fee closing.header set.txs) (envelopes_in_order set)
       m
       (settles closing.header m can.legal can.signers)
 
   sound : AreSound (operation_total (envelopes_in_order set)) closing.header.id_pool
-      (charges_of closing set m).entries (set_applied closing set m)
+      (fees_taken_of closing set m).entries (set_applied closing set m)
   sound = all_sound laws closing can.seq closing.header.id_pool (envelopes_in_order set)
-      (charges_of closing set m).charges (charges_of closing set m).entries charges_sound.settled
+      (fees_taken_of closing set m).fees (fees_taken_of closing set m).entries fees_sound.settled
       (all_at (λ (w : TransactionEnvelope). AreFit (operations_of w)) set.txs (apply_order_of set) can.fit)
 
   pub set_conserved : IsConserved closing set m
@@ -121,10 +121,10 @@ module _ (laws : TransactionLaws) (settles : LegalSettles) (closing : Closing) (
     settled = sound.left.settled;
     ids = sound.ids;
     lumens = all_lumens _ _ _ _ _ _ _ (sound.left.supply asset.Native)
-        (lumens_not_issued (set_applied closing set m).moves) charges_sound.lumens
+        (lumens_not_issued (set_applied closing set m).moves) fees_sound.lumens
         (owing_nothing closing.header m can.legal).supply;
     supply = λ x apart. sound.left.supply x
-        ∙ ap (λ (n : ℤ). n +ℤ issued x (set_applied closing set m).moves) (charges_sound.others x apart);
+        ∙ ap (λ (n : ℤ). n +ℤ issued x (set_applied closing set m).moves) (fees_sound.others x apart);
   }
 
   pub set_lawful : AreLawful (set_applied closing set m).steps

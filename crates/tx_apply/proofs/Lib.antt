@@ -4,7 +4,7 @@ pub mod Judging
 pub mod Sound
 pub mod Placed
 pub mod Spelled
-pub mod Charging
+pub mod TakenFees
 pub mod Applying
 pub mod Conserving
 pub mod Missing

@@ -26,7 +26,7 @@ inner_outcome (outcome.FeeBumpInnerFailed pair) = inner.FeeBumpInnerFailed
 inner_outcome outcome.BadSponsorship = inner.BadSponsorship
 inner_outcome (outcome.FeeBumpInnerSuccess pair) = inner.FeeBumpInnerSuccess
 
--- the fee bump pays, so the inner transaction is charged nothing
+-- the fee bump pays, so the fee of the inner transaction is 0
 abbrev pub inner_pair : Hash → TransactionOutcome → InnerTransactionResultPair
 inner_pair hash end =
     record { transaction_hash = hash; result = record { fee_charged = pos 0; outcome = inner_outcome end } }

@@ -14,7 +14,7 @@ use Rattle.op_laws.specs.Laws.{IsFit, IsLawful}
 use Rattle.op_laws.specs.Moves.{issued}
 use Rattle.op_laws.specs.Underway.{AreSignersFew, IsSettled, LeavesSettled, AreDrawn}
 use Rattle.tx_apply.specs.Built.{operations_of}
-use Rattle.tx_apply.specs.Fees.{charge_of, map_after_charge}
+use Rattle.tx_apply.specs.Fees.{fee_of, map_after_fee}
 use Rattle.tx_apply.specs.Running.{Step}
 use Rattle.tx_apply.specs.Set.{Closing, envelope_applied, envelopes_in_order, set_applied, fee_pool_after}
 
@@ -36,17 +36,17 @@ pub record CanClose (closing : Closing) (set : TransactionSet) (m : EntryMap) : 
 
 -- ---- the laws
 
--- a charge is moved to the fee pool, and nothing else is moved
-pub record IsCharged (id_pool : ℕ) (m after : EntryMap) (charge : ℤ) : Type 0 where
+-- a fee is moved to the fee pool, and nothing else is moved
+pub record IsTaken (id_pool : ℕ) (m after : EntryMap) (fee : ℤ) : Type 0 where
   pub settled : IsSettled id_pool after
-  pub lumens : (total (held asset.Native) after +ℤ charge) ≡ total (held asset.Native) m
+  pub lumens : (total (held asset.Native) after +ℤ fee) ≡ total (held asset.Native) m
   pub others : (x : Asset) → x ≢ asset.Native → total (held x) after ≡ total (held x) m
 
-abbrev pub ChargesConserve : Type 0
-ChargesConserve = (id_pool base_fee : ℕ) (whole : TransactionEnvelope) (m : EntryMap) → IsSettled id_pool m
-    → IsCharged id_pool m (map_after_charge base_fee whole m) (charge_of base_fee whole m)
+abbrev pub FeesConserve : Type 0
+FeesConserve = (id_pool base_fee : ℕ) (whole : TransactionEnvelope) (m : EntryMap) → IsSettled id_pool m
+    → IsTaken id_pool m (map_after_fee base_fee whole m) (fee_of base_fee whole m)
 
--- behind its charge a transaction moves what its moves say, and no lumens are made or lost
+-- behind its fee a transaction moves what its moves say, and no lumens are made or lost
 abbrev pub TransactionsConserve : Type 0
 TransactionsConserve = (closing : Closing) (id_pool : ℕ) (whole : TransactionEnvelope) (m : EntryMap)
     → IsSettled id_pool m → closing.header.ledger_seq < 2147483647 → AreFit (operations_of whole)

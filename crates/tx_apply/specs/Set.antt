@@ -32,7 +32,7 @@ use Rattle.tx_apply.specs.FeeBump.{signed_by, bump_applied}
 use Rattle.sponsor_rules.specs.declared.context.Ctx.{Ctx}
 use Rattle.tx_apply.specs.Places.{envelopes_at}
 use Rattle.tx_apply.specs.Contexts.{ctx_of}
-use Rattle.tx_apply.specs.Fees.{Charged, charged, sum_of}
+use Rattle.tx_apply.specs.Fees.{FeesTaken, fees_taken, sum_of}
 use Rattle.tx_apply.specs.Built.{unbuilt_place}
 
 -- ---- what a set closes over
@@ -81,12 +81,12 @@ envelope_applied closing id_pool whole m =
 
 -- ---- all of them
 
-abbrev pub pair_of : Hash → (charge : ℤ) → TransactionOutcome → TransactionResultPair
-pair_of hash charge end =
-    record { transaction_hash = hash; result = record { fee_charged = charge; outcome = end } }
+abbrev pub pair_of : Hash → (fee : ℤ) → TransactionOutcome → TransactionResultPair
+pair_of hash fee end =
+    record { transaction_hash = hash; result = record { fee_charged = fee; outcome = end } }
 
-abbrev pub result_pair : Closing → TransactionEnvelope → (charge : ℤ) → TransactionOutcome → TransactionResultPair
-result_pair closing whole charge end = pair_of (signed_hash_of closing.network whole) charge end
+abbrev pub result_pair : Closing → TransactionEnvelope → (fee : ℤ) → TransactionOutcome → TransactionResultPair
+result_pair closing whole fee end = pair_of (signed_hash_of closing.network whole) fee end
 
 -- what a set does: the results, the entries and the ids that it leaves, what it moves, and the operations that were run
 pub record SetApplied : Type 0 where
@@ -109,15 +109,15 @@ behind_transaction pair first rest =
       steps = first.steps ++ rest.steps;
     }
 
--- each in turn, with what it was charged
-unfoldable pub all_applied : Closing → (id_pool : ℕ) → List TransactionEnvelope → (charges : List ℤ) → EntryMap
+-- each in turn, with its fee
+unfoldable pub all_applied : Closing → (id_pool : ℕ) → List TransactionEnvelope → (fees : List ℤ) → EntryMap
     → SetApplied
-all_applied closing id_pool [] charges m = none_applied id_pool m
+all_applied closing id_pool [] fees m = none_applied id_pool m
 all_applied closing id_pool (whole ∷ others) [] m = none_applied id_pool m
-all_applied closing id_pool (whole ∷ others) (charge ∷ charges) m =
+all_applied closing id_pool (whole ∷ others) (fee ∷ fees) m =
     let first = envelope_applied closing id_pool whole m in
-    behind_transaction (result_pair closing whole charge first.outcome) first
-    (all_applied closing first.id_pool others charges first.entries)
+    behind_transaction (result_pair closing whole fee first.outcome) first
+    (all_applied closing first.id_pool others fees first.entries)
 
 -- ---- the set
 
@@ -125,17 +125,17 @@ all_applied closing id_pool (whole ∷ others) (charge ∷ charges) m =
 abbrev pub envelopes_in_order : TransactionSet → List TransactionEnvelope
 envelopes_in_order set = envelopes_at set.txs (apply_order_of set)
 
-abbrev pub charges_of : Closing → TransactionSet → EntryMap → Charged
-charges_of closing set m = charged (set_base_fee closing.header set.txs) (envelopes_in_order set) m
+abbrev pub fees_taken_of : Closing → TransactionSet → EntryMap → FeesTaken
+fees_taken_of closing set m = fees_taken (set_base_fee closing.header set.txs) (envelopes_in_order set) m
 
 abbrev pub set_applied : Closing → TransactionSet → EntryMap → SetApplied
 set_applied closing set m =
-    all_applied closing closing.header.id_pool (envelopes_in_order set) (charges_of closing set m).charges
-    (charges_of closing set m).entries
+    all_applied closing closing.header.id_pool (envelopes_in_order set) (fees_taken_of closing set m).fees
+    (fees_taken_of closing set m).entries
 
 -- the fee pool behind the set, in stroops
 abbrev pub fee_pool_after : Closing → TransactionSet → EntryMap → ℤ
-fee_pool_after closing set m = closing.header.fee_pool +ℤ sum_of (charges_of closing set m).charges
+fee_pool_after closing set m = closing.header.fee_pool +ℤ sum_of (fees_taken_of closing set m).fees
 
 -- ---- sets that can't be applied
 

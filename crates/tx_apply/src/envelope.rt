@@ -1,4 +1,4 @@
-//! One envelope of a set, whose fee has been charged.
+//! One envelope of a set, whose fee has been taken.
 
 ghost use Rattle.std.specs.Prelude.{◌≡◌, ◌<◌, ◌++◌, [], ◌∷◌, map, IfOk, OnOk};
 ghost use Rattle.entry_map.specs.Undo.{with_current};
@@ -139,20 +139,20 @@ fn apply_envelope<B: Base>(
     }
 }
 
-/// A transaction's hash, and its result with what it was charged.
-fn result_pair(hash: Hash, charge: i64, outcome: TransactionOutcome) -> TransactionResultPair
-    ensures { result ≡ spec.pair_of hash charge outcome }
+/// A transaction's hash, and its result with its fee.
+fn result_pair(hash: Hash, fee: i64, outcome: TransactionOutcome) -> TransactionResultPair
+    ensures { result ≡ spec.pair_of hash fee outcome }
 {
     TransactionResultPair {
         transaction_hash: hash,
         result: TransactionResult {
-            fee_charged: charge,
+            fee_charged: fee,
             outcome,
         },
     }
 }
 
-/// Applies the transaction of an envelope, which was charged so much. It puts its result at the end of a list, and
+/// Applies the transaction of an envelope, whose fee was so much. It puts its result at the end of a list, and
 /// answers the greatest offer id then.
 #[tactic(auto, unfolding(crate::specs::Set::envelope_applied))]
 pub(crate) fn apply_one<B: Base>(
@@ -161,7 +161,7 @@ pub(crate) fn apply_one<B: Base>(
     close_time: u64,
     id_pool: u64,
     envelope: &TransactionEnvelope,
-    charge: i64,
+    fee: i64,
     entries: &mut Entries<'_, B>,
     results: &mut ItemList<TransactionResultPair>,
 ) -> Result<u64, AllocError>
@@ -171,7 +171,7 @@ pub(crate) fn apply_one<B: Base>(
     requires within { xdr.transaction_envelope.within envelope.now }
     requires fit { AreFit (operations_of envelope.now) }
     ensures results { OnOk result (results.new ≡ results.old ++ spec.result_pair
-        (spec.closing_of network.now header.now close_time) envelope.now charge (spec.envelope_applied
+        (spec.closing_of network.now header.now close_time) envelope.now fee (spec.envelope_applied
         (spec.closing_of network.now header.now close_time) id_pool envelope.now entries.old.current).outcome ∷ []) }
     ensures entries { OnOk result (entries.new ≡ with_current entries.old (spec.envelope_applied
         (spec.closing_of network.now header.now close_time) id_pool envelope.now entries.old.current).entries) }
@@ -197,6 +197,6 @@ pub(crate) fn apply_one<B: Base>(
         envelope,
         entries,
     )?;
-    results.push(result_pair(hash, charge, outcome))?;
+    results.push(result_pair(hash, fee, outcome))?;
     Ok(ctx.id_pool)
 }

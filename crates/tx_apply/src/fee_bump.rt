@@ -1,4 +1,4 @@
-//! Fee bumps, whose fee has been charged.
+//! Fee bumps, whose fee has been taken.
 
 ghost use Rattle.std.specs.Prelude.{◌≡◌, ◌≤◌, ◌<◌, ◌*◌, ◌^◌, [], nat_lt, length, IfOk, OnOk};
 ghost use Rattle.entry_map.specs.Undo.{with_current};

@@ -32,7 +32,7 @@ fn inner_outcome(outcome: TransactionOutcome) -> InnerTransactionOutcome
     }
 }
 
-/// The hash and the result of an inner transaction, which is charged nothing.
+/// The hash and the result of an inner transaction, whose fee is 0.
 fn inner_pair(hash: &Hash, outcome: TransactionOutcome) -> InnerTransactionResultPair
     ensures { result ≡ spec.inner_pair hash.now outcome }
 {

@@ -4,14 +4,14 @@ ghost use Rattle.tx_apply.specs.Laws as spec;
 
 use op_laws::steps::{legal_settles, transaction_laws};
 
-/// What a transaction is charged goes to the fee pool.
-pub fn charges_conserve()
-    ensures { spec.ChargesConserve }
+/// A transaction's fee goes to the fee pool.
+pub fn fees_conserve()
+    ensures { spec.FeesConserve }
 {
     transaction_laws();
 }
 
-/// Behind its charge a transaction makes and loses no lumens, and the supply of each asset changes by what is issued and
+/// Behind its fee a transaction makes and loses no lumens, and the supply of each asset changes by what is issued and
 /// redeemed.
 pub fn transactions_conserve()
     ensures { spec.TransactionsConserve }

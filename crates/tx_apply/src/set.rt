@@ -17,7 +17,7 @@ ghost use Rattle.tx_apply.specs.Set as spec;
 use crate::built::unbuilt_place;
 use crate::envelope::apply_one;
 use crate::fault::SetFault;
-use crate::fees::charge_all;
+use crate::fees::take_fees;
 use crate::fit::all_numbers_fit;
 use entry_map::{Base, Entries};
 use fee_rules::{apply_order, fee_source, set_base_fee};
@@ -33,7 +33,7 @@ use std::alloc::AllocError;
 pub struct SetDone {
     /// In the order in which the transactions were applied.
     pub results: TransactionResultSet,
-    /// The header's fee pool and what was charged, in stroops.
+    /// The header's fee pool and all fees, in stroops.
     pub fee_pool: i64,
     /// The greatest offer id so far.
     pub id_pool: u64,
@@ -56,7 +56,7 @@ fn missing_among<B: Base>(
     Ok(None)
 }
 
-/// Applies the transactions at places of a list, each in turn, with what it was charged. It puts their results at the
+/// Applies the transactions at places of a list, each in turn, with its fee. It puts their results at the
 /// end of a list, and answers the greatest offer id then.
 fn apply_all<B: Base>(
     network: &Hash,
@@ -64,7 +64,7 @@ fn apply_all<B: Base>(
     close_time: u64,
     envelopes: &[TransactionEnvelope],
     order: &[u32],
-    charges: &[i64],
+    fees: &[i64],
     entries: &mut Entries<'_, B>,
     results: &mut ItemList<TransactionResultPair>,
 ) -> Result<u64, AllocError>
@@ -74,30 +74,30 @@ fn apply_all<B: Base>(
     requires within { All (λ envelope. xdr.transaction_envelope.within envelope) envelopes.now }
     requires places { All (λ place. place < length envelopes.now) order.now }
     requires fit { laws.AreAllFit envelopes.now }
-    requires charges { length charges.now ≡ length order.now }
+    requires fees { length fees.now ≡ length order.now }
     ensures results { OnOk result (results.new ≡ results.old ++ (spec.all_applied
         (spec.closing_of network.now header.now close_time) header.now.id_pool
-        (envelopes_at envelopes.now order.now) charges.now entries.old.current).results) }
+        (envelopes_at envelopes.now order.now) fees.now entries.old.current).results) }
     ensures entries { OnOk result (entries.new ≡ with_current entries.old (spec.all_applied
         (spec.closing_of network.now header.now close_time) header.now.id_pool
-        (envelopes_at envelopes.now order.now) charges.now entries.old.current).entries) }
+        (envelopes_at envelopes.now order.now) fees.now entries.old.current).entries) }
     ensures id_pool { IfOk result (λ after. after ≡ (spec.all_applied
         (spec.closing_of network.now header.now close_time) header.now.id_pool
-        (envelopes_at envelopes.now order.now) charges.now entries.old.current).id_pool) }
+        (envelopes_at envelopes.now order.now) fees.now entries.old.current).id_pool) }
 {
     let mut id_pool = header.id_pool;
     let mut i = 0;
     while i < order.len() {
         let envelope = &envelopes[order[i] as usize];
         id_pool = apply_one(
-            network, header, close_time, id_pool, envelope, charges[i], entries, results,
+            network, header, close_time, id_pool, envelope, fees[i], entries, results,
         )?;
         i += 1;
     }
     Ok(id_pool)
 }
 
-/// Charges and applies the transactions of a set, all of which can be applied.
+/// Takes the fees of a set, and applies its transactions, all of which can be applied.
 fn apply_in_order<B: Base>(
     entries: &mut Entries<'_, B>,
     header: &LedgerHeader,
@@ -121,8 +121,8 @@ fn apply_in_order<B: Base>(
     let alloc = set.txs.allocator();
     let envelopes = set.txs.as_slice();
     let base_fee = set_base_fee(header, set);
-    let mut charges = ItemList::new(alloc);
-    let fee_pool = charge_all(entries, header, base_fee, envelopes, order, &mut charges)?;
+    let mut fees = ItemList::new(alloc);
+    let fee_pool = take_fees(entries, header, base_fee, envelopes, order, &mut fees)?;
     let mut results = ItemList::new(alloc);
     let id_pool = apply_all(
         network,
@@ -130,7 +130,7 @@ fn apply_in_order<B: Base>(
         close_time,
         envelopes,
         order,
-        charges.as_slice(),
+        fees.as_slice(),
         entries,
         &mut results,
     )?;
@@ -141,7 +141,7 @@ fn apply_in_order<B: Base>(
     })
 }
 
-/// Applies a set to the entries of the ledger before: all fees are charged first, and then the transactions are applied,
+/// Applies a set to the entries of the ledger before: all fees are taken first, and then the transactions are applied,
 /// both in the order of application (LedgerManagerImpl in stellar-core). `header` is that of the ledger before, and
 /// `close_time` that of the set's value, in seconds since 1970-01-01T00:00:00Z. A set that is refused leaves the
 /// entries.

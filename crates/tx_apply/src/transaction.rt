@@ -1,4 +1,4 @@
-//! One transaction, whose fee has been charged.
+//! One transaction, whose fee has been taken.
 
 ghost use Rattle.std.specs.Prelude.{◌≡◌, ◌≤◌, ◌<◌, [], length, IfOk, OnOk};
 ghost use Rattle.entry_map.specs.Undo.{with_current};
@@ -62,7 +62,7 @@ fn apply_operations<B: Base>(
     Ok(TransactionOutcome::Success(results))
 }
 
-/// Applies a transaction, whose fee has been charged. `pays` says whether its own fee and balance are looked at.
+/// Applies a transaction, whose fee has been taken. `pays` says whether its own fee and balance are looked at.
 pub(crate) fn apply_transaction<B: Base>(
     pays: bool,
     base_fee: u32,

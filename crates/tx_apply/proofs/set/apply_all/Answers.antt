@@ -12,20 +12,20 @@ use Rattle.tx_apply.proofs.set.apply_all.Goals as goal
 pub loop-i-preserved : goal.loop-i-preserved
 loop-i-preserved g c =
     let there : get_or c.args.order.now c.loop-i.i 0 < length c.args.envelopes.now = search rules in
-    let inside : c.loop-i.i < length c.args.charges.now = search rules in
-    let charge = get_or c.args.charges.now c.loop-i.i (pos 0) in
-    let fits : FitsSigned w64 charge = search rules in
+    let inside : c.loop-i.i < length c.args.fees.now = search rules in
+    let fee = get_or c.args.fees.now c.loop-i.i (pos 0) in
+    let fits : FitsSigned w64 fee = search rules in
     let fit : AreFit (operations_of c.index-envelopes-order.result) =
     subst (λ (whole : TransactionEnvelope). AreFit (operations_of whole)) (sym c.index-envelopes-order.is)
     (c.requires.fit (get_or c.args.order.now c.loop-i.i 0) c.index-envelopes-order.result there) in
     let closing = closing_of c.args.network.now c.args.header.now c.args.close_time in
     let told = c.in_ok-id_pool.ensures.results in (
-      step_to closing c.args.header.now.id_pool c.args.envelopes.now c.args.order.now c.args.charges.now
+      step_to closing c.args.header.now.id_pool c.args.envelopes.now c.args.order.now c.args.fees.now
           c.args.results.now c.loop-i.results c.args.entries.now c.loop-i.entries c.loop-i.id_pool c.loop-i.i
-          c.index-envelopes-order.result charge c.apply_one.new.entries c.apply_one.new.results c.in_ok-id_pool.id_pool
+          c.index-envelopes-order.result fee c.apply_one.new.entries c.apply_one.new.results c.in_ok-id_pool.id_pool
           c.loop-i.invariant.0 c.loop-i-test.true inside there c.index-envelopes-order.is
-          (same_inside c.args.charges.now c.loop-i.i (pos 0) charge inside) c.in_ok-id_pool.ensures.entries
-          (rw (sym (to_z-of_z w64 charge fits)) told) c.in_ok-id_pool.ensures.id_pool
+          (same_inside c.args.fees.now c.loop-i.i (pos 0) fee inside) c.in_ok-id_pool.ensures.entries
+          (rw (sym (to_z-of_z w64 fee fits)) told) c.in_ok-id_pool.ensures.id_pool
           (envelope_sound c.requires.laws closing c.loop-i.id_pool c.index-envelopes-order.result
           c.loop-i.entries.current
           c.loop-i.invariant.0.settled c.requires.seq fit).left.settled,
@@ -35,17 +35,17 @@ loop-i-preserved g c =
 pub returns-clause-results : goal.returns-clause-results
 returns-clause-results g c =
     (finished (closing_of c.args.network.now c.args.header.now c.args.close_time) c.args.header.now.id_pool
-    c.args.envelopes.now c.args.order.now c.args.charges.now c.args.results.now c.loop-i.results c.args.entries.now
+    c.args.envelopes.now c.args.order.now c.args.fees.now c.args.results.now c.loop-i.results c.args.entries.now
     c.loop-i.entries c.loop-i.id_pool c.loop-i.i c.loop-i.invariant.0 (search rules)).results
 
 pub returns-clause-entries : goal.returns-clause-entries
 returns-clause-entries g c =
     (finished (closing_of c.args.network.now c.args.header.now c.args.close_time) c.args.header.now.id_pool
-    c.args.envelopes.now c.args.order.now c.args.charges.now c.args.results.now c.loop-i.results c.args.entries.now
+    c.args.envelopes.now c.args.order.now c.args.fees.now c.args.results.now c.loop-i.results c.args.entries.now
     c.loop-i.entries c.loop-i.id_pool c.loop-i.i c.loop-i.invariant.0 (search rules)).entries
 
 pub returns-clause-id_pool : goal.returns-clause-id_pool
 returns-clause-id_pool g c =
     (finished (closing_of c.args.network.now c.args.header.now c.args.close_time) c.args.header.now.id_pool
-    c.args.envelopes.now c.args.order.now c.args.charges.now c.args.results.now c.loop-i.results c.args.entries.now
+    c.args.envelopes.now c.args.order.now c.args.fees.now c.args.results.now c.loop-i.results c.args.entries.now
     c.loop-i.entries c.loop-i.id_pool c.loop-i.i c.loop-i.invariant.0 (search rules)).ids

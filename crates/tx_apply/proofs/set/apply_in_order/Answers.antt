@@ -4,23 +4,23 @@ use Rattle.entry_map.specs.Undo.{Undo}
 use Rattle.fee_rules.proofs.Spelled.{envelopes_within}
 use Rattle.op_laws.specs.Underway.{IsSettled}
 use Rattle.tx_apply.specs.Places.{envelopes_at}
-use Rattle.tx_apply.proofs.Charging.{all_charged, counted}
+use Rattle.tx_apply.proofs.TakenFees.{all_taken, counted}
 use Rattle.tx_apply.proofs.Placed.{as_many}
 use Rattle.tx_apply.proofs.set.apply_in_order.Goals as goal
 
 pub apply_all-requires-clause-settled : goal.apply_all-requires-clause-settled
 apply_all-requires-clause-settled g c =
     subst (IsSettled c.args.header.now.id_pool) (ap (λ (u : Undo). u.current) (sym c.in_ok-fee_pool.ensures.entries))
-    (all_charged c.requires.laws c.args.header.now.id_pool _ _ c.args.entries.now.current c.requires.settled).settled
+    (all_taken c.requires.laws c.args.header.now.id_pool _ _ c.args.entries.now.current c.requires.settled).settled
 
 pub apply_all-requires-clause-within : goal.apply_all-requires-clause-within
 apply_all-requires-clause-within g c =
     let within = envelopes_within c.args.set.now c.requires.within in
     search (rules, within)
 
-pub apply_all-requires-clause-charges : goal.apply_all-requires-clause-charges
-apply_all-requires-clause-charges g c =
-    let many = counted _ _ _ _ _ _ c.in_ok-fee_pool.ensures.charges c.new-charges.ensures
+pub apply_all-requires-clause-fees : goal.apply_all-requires-clause-fees
+apply_all-requires-clause-fees g c =
+    let many = counted _ _ _ _ _ _ c.in_ok-fee_pool.ensures.fees c.new-fees.ensures
     (subst (λ (es : List TransactionEnvelope). length (envelopes_at es c.args.order.now) ≡ length c.args.order.now)
     (sym c.as_slice-envelopes.ensures) (as_many c.args.set.now.txs c.args.order.now c.requires.places)) in
     search (rules, many)

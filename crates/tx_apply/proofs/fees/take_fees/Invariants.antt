@@ -1,10 +1,10 @@
 use Rattle.std.proofs.Common.{◌≤◌, ◌-◌, length, unsigned_abs}
-use Rattle.tx_apply.proofs.Charging.{SoFar}
-use Rattle.tx_apply.proofs.fees.charge_all.Given as goal
+use Rattle.tx_apply.proofs.TakenFees.{SoFar}
+use Rattle.tx_apply.proofs.fees.take_fees.Given as goal
 
 abbrev pub invariant-loop-i : goal.invariant-loop-i
 invariant-loop-i g l =
-    SoFar (unsigned_abs l.base_fee) l.header l.envelopes l.order l.fn.charges l.charges l.fn.entries l.entries
+    SoFar (unsigned_abs l.base_fee) l.header l.envelopes l.order l.fn.fees l.fees l.fn.entries l.entries
     l.fee_pool l.i × (l.i ≤ length l.order)
 
 abbrev pub decreases-loop-i : goal.decreases-loop-i

@@ -1,4 +1,4 @@
--- Charges: what they leave, and what is left of them.
+-- Fees that are taken: what they leave, and which are left.
 use Rattle.std.proofs.Common.{◌≡◌, ◌≢◌, ℕ, suc, ◌+◌, ◌<◌, ◌≤◌, ℤ, pos, negsuc, neg_ℤ, ◌+ℤ◌, ◌≤ℤ◌, List, [], ◌∷◌, ◌++◌}
 use Rattle.std.proofs.Common.{length}
 use Rattle.std.proofs.Common.{get_or, drop, min, unsigned_abs, Option, Some, None, refl, sym, ap, subst, ◌∙◌}
@@ -29,12 +29,12 @@ use Rattle.legal_rules.specs.Supply.{held, lumens_of}
 use Rattle.op_laws.specs.Moves.{lumens_in}
 use Rattle.op_laws.specs.Steps.{TransactionLaws}
 use Rattle.op_laws.specs.Underway.{IsSettled}
-use Rattle.tx_apply.specs.Fees.{charge_of, map_after_charge, Charged, behind_charge, charged, sum_of}
-use Rattle.tx_apply.specs.Laws.{ChargesConserve}
+use Rattle.tx_apply.specs.Fees.{fee_of, map_after_fee, FeesTaken, behind_fee, fees_taken, sum_of}
+use Rattle.tx_apply.specs.Laws.{FeesConserve}
 use Rattle.tx_apply.specs.Places.{envelopes_at}
 use Rattle.tx_apply.proofs.Placed.{first_left}
 
--- ---- one charge
+-- ---- one fee
 
 -- a change of an account that doesn't stand
 not_there : (m : EntryMap) (f : AccountEntry → AccountEntry) (found : Option LedgerEntry) → account_of found ≡ None
@@ -62,22 +62,22 @@ not_above : (balance : ℤ) → pos 0 ≤ℤ balance → pos (not_below_0 balanc
 not_above (pos n) h = refl
 not_above (negsuc n) h = absurd (grind (arith, ints))
 
-charge_low : (n : ℕ) → pos 0 ≤ℤ pos n
-charge_low n = grind (arith, ints)
+fee_low : (n : ℕ) → pos 0 ≤ℤ pos n
+fee_low n = grind (arith, ints)
 
 most : (balance : ℤ) (n : ℕ) → pos 0 ≤ℤ balance → n ≤ not_below_0 balance → pos n ≤ℤ balance
 most balance n low h =
     let same : pos (not_below_0 balance) ≡ balance = not_above balance low in
     subst (λ (b : ℤ). pos n ≤ℤ b) same (grind (arith, ints, h))
 
--- a charge leaves settled entries, of which it takes so many lumens and nothing else
-pub record Keeps (id_pool : ℕ) (m after : EntryMap) (charge : ℤ) : Type 0 where
+-- a fee leaves settled entries, of which it takes so many lumens and nothing else
+pub record Keeps (id_pool : ℕ) (m after : EntryMap) (fee : ℤ) : Type 0 where
   pub settled : IsSettled id_pool after
-  pub lumens : total (held asset.Native) after ≡ total (held asset.Native) m +ℤ neg_ℤ charge
+  pub lumens : total (held asset.Native) after ≡ total (held asset.Native) m +ℤ neg_ℤ fee
   pub others : (x : Asset) → x ≢ asset.Native → total (held x) after ≡ total (held x) m
 
-no_charge : (x : ℤ) → x ≡ x +ℤ neg_ℤ (pos 0)
-no_charge x = grind (arith, ints)
+no_fee : (x : ℤ) → x ≡ x +ℤ neg_ℤ (pos 0)
+no_fee x = grind (arith, ints)
 
 nothing_more : (n : ℤ) → (n +ℤ pos 0) ≡ n
 nothing_more n = grind (arith, ints)
@@ -103,161 +103,161 @@ keeps_by laws id_pool base envelope m None settled e =
     let nothing : pos (fee_charged base envelope (pos 0)) ≡ pos 0 = least_of_none _ in
     record {
       settled = subst (IsSettled id_pool) (sym same) settled;
-      lumens = ap (total (held asset.Native)) same ∙ no_charge (total (held asset.Native) m)
+      lumens = ap (total (held asset.Native)) same ∙ no_fee (total (held asset.Native) m)
           ∙ ap (λ (c : ℤ). total (held asset.Native) m +ℤ neg_ℤ c) (sym nothing);
       others = λ x apart. ap (total (held x)) same;
     }
 keeps_by laws id_pool base envelope m (Some a) settled e =
-    let charge = fee_charged base envelope a.balance in
+    let fee = fee_charged base envelope a.balance in
     let range = (laws.accounts id_pool m (fee_source_of envelope) a settled e).range in
     let both =
-    laws.fees id_pool m (fee_source_of envelope) a (pos charge) settled e (charge_low charge)
-    (most a.balance charge range.balance
+    laws.fees id_pool m (fee_source_of envelope) a (pos fee) settled e (fee_low fee)
+    (most a.balance fee range.balance
     (min_low (not_below_0 a.balance) _)) in
     record {
       settled = both.0;
       lumens = both.1 asset.Native;
-      others = λ x apart. both.1 x ∙ ap (λ (n : ℤ). total (held x) m +ℤ n) (no_lumens x (neg_ℤ (pos charge)) apart)
+      others = λ x apart. both.1 x ∙ ap (λ (n : ℤ). total (held x) m +ℤ n) (no_lumens x (neg_ℤ (pos fee)) apart)
           ∙ nothing_more (total (held x) m);
     }
 
 pub keeps : TransactionLaws → (id_pool base : ℕ) (envelope : TransactionEnvelope) (m : EntryMap) → IsSettled id_pool m
-    → Keeps id_pool m (map_after_charge base envelope m) (charge_of base envelope m)
+    → Keeps id_pool m (map_after_fee base envelope m) (fee_of base envelope m)
 keeps laws id_pool base envelope m settled =
     keeps_by laws id_pool base envelope m (account_at m (fee_source_of envelope)) settled refl
 
-given_back : (after m charge : ℤ) → after ≡ m +ℤ neg_ℤ charge → after +ℤ charge ≡ m
-given_back after m charge is = grind (arith, ints, is)
+given_back : (after m fee : ℤ) → after ≡ m +ℤ neg_ℤ fee → after +ℤ fee ≡ m
+given_back after m fee is = grind (arith, ints, is)
 
-pub charges_conserve : TransactionLaws → ChargesConserve
-charges_conserve laws id_pool base envelope m settled =
+pub fees_conserve : TransactionLaws → FeesConserve
+fees_conserve laws id_pool base envelope m settled =
     let kept = keeps laws id_pool base envelope m settled in
     record { settled = kept.settled; lumens = given_back _ _ _ kept.lumens; others = kept.others }
 
--- ---- all charges
+-- ---- all fees
 
-pub record AreCharged (id_pool : ℕ) (m : EntryMap) (done : Charged) : Type 0 where
+pub record AreTaken (id_pool : ℕ) (m : EntryMap) (done : FeesTaken) : Type 0 where
   pub settled : IsSettled id_pool done.entries
-  pub lumens : (total (held asset.Native) done.entries +ℤ sum_of done.charges) ≡ total (held asset.Native) m
+  pub lumens : (total (held asset.Native) done.entries +ℤ sum_of done.fees) ≡ total (held asset.Native) m
   pub others : (x : Asset) → x ≢ asset.Native → total (held x) done.entries ≡ total (held x) m
 
-sum_up : (last sum charge between first : ℤ) → last +ℤ sum ≡ between → between ≡ first +ℤ neg_ℤ charge
-    → last +ℤ (charge +ℤ sum) ≡ first
-sum_up last sum charge between first e h = omega (arith, ints)
+sum_up : (last sum fee between first : ℤ) → last +ℤ sum ≡ between → between ≡ first +ℤ neg_ℤ fee
+    → last +ℤ (fee +ℤ sum) ≡ first
+sum_up last sum fee between first e h = omega (arith, ints)
 
-pub all_charged : TransactionLaws → (id_pool base : ℕ) (envelopes : List TransactionEnvelope) (m : EntryMap)
-    → IsSettled id_pool m → AreCharged id_pool m (charged base envelopes m)
-unfolding charged sum_of
-all_charged laws id_pool base [] m settled =
+pub all_taken : TransactionLaws → (id_pool base : ℕ) (envelopes : List TransactionEnvelope) (m : EntryMap)
+    → IsSettled id_pool m → AreTaken id_pool m (fees_taken base envelopes m)
+unfolding fees_taken sum_of
+all_taken laws id_pool base [] m settled =
     record { settled = settled; lumens = nothing_more (total (held asset.Native) m); others = λ x apart. refl }
-all_charged laws id_pool base (envelope ∷ envelopes) m settled =
+all_taken laws id_pool base (envelope ∷ envelopes) m settled =
     let kept = keeps laws id_pool base envelope m settled in
-    let rest = all_charged laws id_pool base envelopes (map_after_charge base envelope m) kept.settled in
+    let rest = all_taken laws id_pool base envelopes (map_after_fee base envelope m) kept.settled in
     record {
       settled = rest.settled;
-      lumens = sum_up _ _ (charge_of base envelope m) _ _ rest.lumens kept.lumens;
+      lumens = sum_up _ _ (fee_of base envelope m) _ _ rest.lumens kept.lumens;
       others = λ x apart. rest.others x apart ∙ kept.others x apart;
     }
 
 -- as many as there are envelopes
-pub as_many_charges : (base : ℕ) (envelopes : List TransactionEnvelope) (m : EntryMap)
-    → length (charged base envelopes m).charges ≡ length envelopes
-unfolding charged
-as_many_charges base [] m = refl
-as_many_charges base (envelope ∷ envelopes) m = ap suc
-    (as_many_charges base envelopes (map_after_charge base envelope m))
+pub as_many_fees : (base : ℕ) (envelopes : List TransactionEnvelope) (m : EntryMap)
+    → length (fees_taken base envelopes m).fees ≡ length envelopes
+unfolding fees_taken
+as_many_fees base [] m = refl
+as_many_fees base (envelope ∷ envelopes) m = ap suc
+    (as_many_fees base envelopes (map_after_fee base envelope m))
 
--- ---- the charges that are left
+-- ---- the fees that are left
 
--- so far: what was charged and what is left make the whole, and so do the entries and the fee pool
+-- so far: the fees that were taken and those that are left make the whole, and so do the entries and the fee pool
 pub record SoFar (base : ℕ) (header : LedgerHeader) (envelopes : List TransactionEnvelope) (order : List ℕ)
     (first taken : List ℤ) (old now : Undo) (pool : ℤ) (i : ℕ) : Type 0 where
-  pub charges : taken ++ (charged base (envelopes_at envelopes (drop i order)) now.current).charges
-      ≡ first ++ (charged base (envelopes_at envelopes order) old.current).charges
-  pub entries : (charged base (envelopes_at envelopes (drop i order)) now.current).entries
-      ≡ (charged base (envelopes_at envelopes order) old.current).entries
+  pub fees : taken ++ (fees_taken base (envelopes_at envelopes (drop i order)) now.current).fees
+      ≡ first ++ (fees_taken base (envelopes_at envelopes order) old.current).fees
+  pub entries : (fees_taken base (envelopes_at envelopes (drop i order)) now.current).entries
+      ≡ (fees_taken base (envelopes_at envelopes order) old.current).entries
   pub undo : now ≡ with_current old now.current
   pub fee_pool : pool
-      +ℤ sum_of (charged base (envelopes_at envelopes (drop i order)) now.current).charges
-      ≡ header.fee_pool +ℤ sum_of (charged base (envelopes_at envelopes order) old.current).charges
+      +ℤ sum_of (fees_taken base (envelopes_at envelopes (drop i order)) now.current).fees
+      ≡ header.fee_pool +ℤ sum_of (fees_taken base (envelopes_at envelopes order) old.current).fees
   pub settled : IsSettled header.id_pool now.current
   pub lumens : (total (held asset.Native) now.current +ℤ pool) ≡ header.total_coins
   pub low : pos 0 ≤ℤ pool
 
 behind : (base : ℕ) (envelope : TransactionEnvelope) (left : List TransactionEnvelope) (m : EntryMap)
-    → charged base (envelope ∷ left) m
-    ≡ behind_charge (charge_of base envelope m) (charged base left (map_after_charge base envelope m))
-unfolding charged
+    → fees_taken base (envelope ∷ left) m
+    ≡ behind_fee (fee_of base envelope m) (fees_taken base left (map_after_fee base envelope m))
+unfolding fees_taken
 behind base envelope left m = refl
 
--- what is left begins with one charge
+-- what is left begins with one fee
 one_left : (base : ℕ) (envelopes : List TransactionEnvelope) (order : List ℕ) (i : ℕ) (envelope : TransactionEnvelope)
     (m : EntryMap) → i < length order → get_or order i 0 < length envelopes
     → envelope ≡ get_or envelopes (get_or order i 0) envelope
-    → charged base (envelopes_at envelopes (drop i order)) m
-    ≡ behind_charge (charge_of base envelope m)
-    (charged base (envelopes_at envelopes (drop (i + 1) order)) (map_after_charge base envelope m))
+    → fees_taken base (envelopes_at envelopes (drop i order)) m
+    ≡ behind_fee (fee_of base envelope m)
+    (fees_taken base (envelopes_at envelopes (drop (i + 1) order)) (map_after_fee base envelope m))
 one_left base envelopes order i envelope m within there e =
-    ap (λ (left : List TransactionEnvelope). charged base left m)
+    ap (λ (left : List TransactionEnvelope). fees_taken base left m)
     (first_left envelopes order i envelope within there
     ∙ ap (λ (x : TransactionEnvelope). x ∷ envelopes_at envelopes (drop (i + 1) order)) (sym e))
     ∙ behind base envelope (envelopes_at envelopes (drop (i + 1) order)) m
 
-sum_more : (charge : ℤ) (charges : List ℤ) → sum_of (charge ∷ charges) ≡ charge +ℤ sum_of charges
+sum_more : (fee : ℤ) (fees : List ℤ) → sum_of (fee ∷ fees) ≡ fee +ℤ sum_of fees
 unfolding sum_of
-sum_more charge charges = refl
+sum_more fee fees = refl
 
 plus_assoc : (a b c : ℤ) → (a +ℤ b) +ℤ c ≡ a +ℤ (b +ℤ c)
 plus_assoc a b c = omega (arith, ints)
 
-balanced : (before pool charge coins after : ℤ) → (before +ℤ pool) ≡ coins → after ≡ (before +ℤ neg_ℤ charge)
-    → (after +ℤ (pool +ℤ charge)) ≡ coins
-balanced before pool charge coins after e h = omega (arith, ints)
+balanced : (before pool fee coins after : ℤ) → (before +ℤ pool) ≡ coins → after ≡ (before +ℤ neg_ℤ fee)
+    → (after +ℤ (pool +ℤ fee)) ≡ coins
+balanced before pool fee coins after e h = omega (arith, ints)
 
 sum_low : (a b : ℤ) → pos 0 ≤ℤ a → pos 0 ≤ℤ b → pos 0 ≤ℤ (a +ℤ b)
 sum_low a b h g = omega (arith, ints)
 
--- one charge more
+-- one fee more
 pub step : TransactionLaws → (base : ℕ) (header : LedgerHeader) (envelopes : List TransactionEnvelope) (order : List ℕ)
-    (first charges : List ℤ) (old now : Undo) (fee_pool : ℤ) (i : ℕ) (envelope : TransactionEnvelope) (after : Undo)
-    → SoFar base header envelopes order first charges old now fee_pool i → i < length order
+    (first fees : List ℤ) (old now : Undo) (fee_pool : ℤ) (i : ℕ) (envelope : TransactionEnvelope) (after : Undo)
+    → SoFar base header envelopes order first fees old now fee_pool i → i < length order
     → get_or order i 0 < length envelopes → envelope ≡ get_or envelopes (get_or order i 0) envelope
-    → after ≡ with_current now (map_after_charge base envelope now.current)
-    → SoFar base header envelopes order first (charges ++ charge_of base envelope now.current ∷ []) old after
-    (fee_pool +ℤ charge_of base envelope now.current) (i + 1)
-step laws base header envelopes order first charges old now fee_pool i envelope after so_far within there e is =
-    subst (λ (u : Undo). SoFar base header envelopes order first (charges ++ charge ∷ []) old u
-    (fee_pool +ℤ charge) (i + 1)) (sym is) made
+    → after ≡ with_current now (map_after_fee base envelope now.current)
+    → SoFar base header envelopes order first (fees ++ fee_of base envelope now.current ∷ []) old after
+    (fee_pool +ℤ fee_of base envelope now.current) (i + 1)
+step laws base header envelopes order first fees old now fee_pool i envelope after so_far within there e is =
+    subst (λ (u : Undo). SoFar base header envelopes order first (fees ++ fee ∷ []) old u
+    (fee_pool +ℤ fee) (i + 1)) (sym is) made
   where
-    charge : ℤ
-    charge = charge_of base envelope now.current
+    fee : ℤ
+    fee = fee_of base envelope now.current
 
     m : EntryMap
-    m = map_after_charge base envelope now.current
+    m = map_after_fee base envelope now.current
 
-    left : Charged
-    left = charged base (envelopes_at envelopes (drop (i + 1) order)) m
+    left : FeesTaken
+    left = fees_taken base (envelopes_at envelopes (drop (i + 1) order)) m
 
-    one : charged base (envelopes_at envelopes (drop i order)) now.current ≡ behind_charge charge left
+    one : fees_taken base (envelopes_at envelopes (drop i order)) now.current ≡ behind_fee fee left
     one = one_left base envelopes order i envelope now.current within there e
 
-    kept : Keeps header.id_pool now.current m charge
+    kept : Keeps header.id_pool now.current m fee
     kept = keeps laws header.id_pool base envelope now.current so_far.settled
 
-    made : SoFar base header envelopes order first (charges ++ charge ∷ []) old (with_current now m)
-        (fee_pool +ℤ charge) (i + 1)
+    made : SoFar base header envelopes order first (fees ++ fee ∷ []) old (with_current now m)
+        (fee_pool +ℤ fee) (i + 1)
     made = record {
-      charges = append_assoc charges (charge ∷ []) left.charges
-          ∙ ap (λ (c : Charged). charges ++ c.charges) (sym one) ∙ so_far.charges;
-      entries = ap (λ (c : Charged). c.entries) (sym one) ∙ so_far.entries;
+      fees = append_assoc fees (fee ∷ []) left.fees
+          ∙ ap (λ (c : FeesTaken). fees ++ c.fees) (sym one) ∙ so_far.fees;
+      entries = ap (λ (c : FeesTaken). c.entries) (sym one) ∙ so_far.entries;
       undo = ap (λ (u : Undo). with_current u m) so_far.undo;
-      fee_pool = plus_assoc fee_pool charge (sum_of left.charges)
-          ∙ ap (λ (x : ℤ). fee_pool +ℤ x) (sym (sum_more charge left.charges))
-          ∙ ap (λ (c : Charged). fee_pool +ℤ sum_of c.charges) (sym one) ∙ so_far.fee_pool;
+      fee_pool = plus_assoc fee_pool fee (sum_of left.fees)
+          ∙ ap (λ (x : ℤ). fee_pool +ℤ x) (sym (sum_more fee left.fees))
+          ∙ ap (λ (c : FeesTaken). fee_pool +ℤ sum_of c.fees) (sym one) ∙ so_far.fee_pool;
       settled = kept.settled;
-      lumens = balanced (total (held asset.Native) now.current) fee_pool charge header.total_coins
+      lumens = balanced (total (held asset.Native) now.current) fee_pool fee header.total_coins
           (total (held asset.Native) m) so_far.lumens kept.lumens;
-      low = sum_low fee_pool charge so_far.low (charge_low _);
+      low = sum_low fee_pool fee so_far.low (fee_low _);
     }
 
 -- the fee pool stays within the header's total of lumens
@@ -269,66 +269,66 @@ within_total laws header m fee_pool settled e =
     below : (a b c : ℤ) → pos 0 ≤ℤ a → a +ℤ b ≡ c → b ≤ℤ c
     below a b c h e = grind (arith, ints, h, e)
 
--- the same, by what the charge left
+-- the same, by what the fee left
 pub step_to : TransactionLaws → (base : ℕ) (header : LedgerHeader) (envelopes : List TransactionEnvelope)
     (order : List ℕ) (first taken : List ℤ) (old now : Undo) (pool : ℤ) (i : ℕ) (envelope : TransactionEnvelope)
     (after : Undo) (taken_after : List ℤ) (pool_after : ℤ)
     → SoFar base header envelopes order first taken old now pool i → i < length order
     → get_or order i 0 < length envelopes → envelope ≡ get_or envelopes (get_or order i 0) envelope
-    → after ≡ with_current now (map_after_charge base envelope now.current)
-    → taken_after ≡ taken ++ charge_of base envelope now.current ∷ []
-    → pool_after ≡ pool +ℤ charge_of base envelope now.current
+    → after ≡ with_current now (map_after_fee base envelope now.current)
+    → taken_after ≡ taken ++ fee_of base envelope now.current ∷ []
+    → pool_after ≡ pool +ℤ fee_of base envelope now.current
     → SoFar base header envelopes order first taken_after old after pool_after (i + 1)
 step_to laws base header envelopes order first taken old now pool i envelope after taken_after pool_after so_far within
     there e is listed summed =
     subst (λ (cs : List ℤ). SoFar base header envelopes order first cs old after pool_after (i + 1)) (sym listed)
-    (subst (λ (n : ℤ). SoFar base header envelopes order first (taken ++ charge_of base envelope now.current ∷ []) old
+    (subst (λ (n : ℤ). SoFar base header envelopes order first (taken ++ fee_of base envelope now.current ∷ []) old
     after n (i + 1)) (sym summed)
     (step laws base header envelopes order first taken old now pool i envelope after so_far within there e is))
 
--- one charge more fits into the fee pool
+-- one fee more fits into the fee pool
 pub fits_pool : TransactionLaws → (base : ℕ) (header : LedgerHeader) (envelopes : List TransactionEnvelope)
     (order : List ℕ) (first taken : List ℤ) (old now : Undo) (pool : ℤ) (i : ℕ) (envelope : TransactionEnvelope)
-    (charge : ℤ) → SoFar base header envelopes order first taken old now pool i → i < length order
+    (fee : ℤ) → SoFar base header envelopes order first taken old now pool i → i < length order
     → get_or order i 0 < length envelopes → envelope ≡ get_or envelopes (get_or order i 0) envelope
-    → charge ≡ charge_of base envelope now.current → header.total_coins ≤ℤ greatest_i64
-    → (pool +ℤ charge) ≤ℤ greatest_i64
-fits_pool laws base header envelopes order first taken old now pool i envelope charge so_far within there e is top =
-    let m = map_after_charge base envelope now.current in
+    → fee ≡ fee_of base envelope now.current → header.total_coins ≤ℤ greatest_i64
+    → (pool +ℤ fee) ≤ℤ greatest_i64
+fits_pool laws base header envelopes order first taken old now pool i envelope fee so_far within there e is top =
+    let m = map_after_fee base envelope now.current in
     let next = step laws base header envelopes order first taken old now pool i envelope (with_current now m) so_far
     within there e refl in
     subst (λ (n : ℤ). (pool +ℤ n) ≤ℤ greatest_i64) (sym is)
-    (below _ _ _ (within_total laws header m (pool +ℤ charge_of base envelope now.current) next.settled next.lumens)
+    (below _ _ _ (within_total laws header m (pool +ℤ fee_of base envelope now.current) next.settled next.lumens)
     top)
   where
     below : (a b c : ℤ) → a ≤ℤ b → b ≤ℤ c → a ≤ℤ c
     below a b c h g = omega (arith, ints)
 
--- as many charges as places
+-- as many fees as places
 pub counted : (new first : List ℤ) (base : ℕ) (envelopes : List TransactionEnvelope) (m : EntryMap) (n : ℕ)
-    → new ≡ first ++ (charged base envelopes m).charges → first ≡ [] → length envelopes ≡ n → length new ≡ n
+    → new ≡ first ++ (fees_taken base envelopes m).fees → first ≡ [] → length envelopes ≡ n → length new ≡ n
 counted new first base envelopes m n is none many =
-    ap length is ∙ ap (λ (cs : List ℤ). length (cs ++ (charged base envelopes m).charges)) none
-    ∙ as_many_charges base envelopes m ∙ many
+    ap length is ∙ ap (λ (cs : List ℤ). length (cs ++ (fees_taken base envelopes m).fees)) none
+    ∙ as_many_fees base envelopes m ∙ many
 
 -- nothing is left behind the last place
 nothing_left : (base : ℕ) (envelopes : List TransactionEnvelope) (order : List ℕ) (i : ℕ) (m : EntryMap)
     → length order ≤ i
-    → charged base (envelopes_at envelopes (drop i order)) m ≡ record { charges = []; entries = m }
-unfolding charged envelopes_at
+    → fees_taken base (envelopes_at envelopes (drop i order)) m ≡ record { fees = []; entries = m }
+unfolding fees_taken envelopes_at
 nothing_left base envelopes order i m past =
-    ap (λ (places : List ℕ). charged base (envelopes_at envelopes places) m) (drop_all i order past)
+    ap (λ (places : List ℕ). fees_taken base (envelopes_at envelopes places) m) (drop_all i order past)
 
 no_sum : (n : ℤ) → n ≡ n +ℤ sum_of []
 unfolding sum_of
 no_sum n = sym (nothing_more n)
 
--- all is charged
+-- all fees are taken
 pub record IsFinished (base : ℕ) (header : LedgerHeader) (envelopes : List TransactionEnvelope) (order : List ℕ)
     (first taken : List ℤ) (old now : Undo) (pool : ℤ) : Type 0 where
-  pub charges : taken ≡ first ++ (charged base (envelopes_at envelopes order) old.current).charges
-  pub entries : now ≡ with_current old (charged base (envelopes_at envelopes order) old.current).entries
-  pub fee_pool : pool ≡ header.fee_pool +ℤ sum_of (charged base (envelopes_at envelopes order) old.current).charges
+  pub fees : taken ≡ first ++ (fees_taken base (envelopes_at envelopes order) old.current).fees
+  pub entries : now ≡ with_current old (fees_taken base (envelopes_at envelopes order) old.current).entries
+  pub fee_pool : pool ≡ header.fee_pool +ℤ sum_of (fees_taken base (envelopes_at envelopes order) old.current).fees
 
 pub finished : (base : ℕ) (header : LedgerHeader) (envelopes : List TransactionEnvelope) (order : List ℕ)
     (first taken : List ℤ) (old now : Undo) (pool : ℤ) (i : ℕ)
@@ -337,10 +337,10 @@ pub finished : (base : ℕ) (header : LedgerHeader) (envelopes : List Transactio
 finished base header envelopes order first taken old now pool i so_far past =
     let none = nothing_left base envelopes order i now.current past in
     record {
-      charges = sym (append-nil taken) ∙ ap (λ (c : Charged). taken ++ c.charges) (sym none) ∙ so_far.charges;
+      fees = sym (append-nil taken) ∙ ap (λ (c : FeesTaken). taken ++ c.fees) (sym none) ∙ so_far.fees;
       entries = so_far.undo ∙ ap (λ (m : EntryMap). with_current old m)
-          (ap (λ (c : Charged). c.entries) (sym none) ∙ so_far.entries);
-      fee_pool = no_sum pool ∙ ap (λ (c : Charged). pool +ℤ sum_of c.charges) (sym none) ∙ so_far.fee_pool;
+          (ap (λ (c : FeesTaken). c.entries) (sym none) ∙ so_far.entries);
+      fee_pool = no_sum pool ∙ ap (λ (c : FeesTaken). pool +ℤ sum_of c.fees) (sym none) ∙ so_far.fee_pool;
     }
 
 -- the same, by a fee that is told twice
@@ -353,6 +353,6 @@ finished_by base told header envelopes order first taken old now pool i same so_
     (finished (unsigned_abs told) header envelopes order first taken old now pool i so_far past)
 
 -- a sum, by what it is told as
-pub summed : (total result pool told charge charged : ℤ) → total ≡ result → result ≡ pool +ℤ told → told ≡ charge
-    → charge ≡ charged → total ≡ pool +ℤ charged
-summed total result pool told charge charged e h g k = e ∙ h ∙ ap (λ (n : ℤ). pool +ℤ n) (g ∙ k)
+pub summed : (total result pool told fee fees_taken : ℤ) → total ≡ result → result ≡ pool +ℤ told → told ≡ fee
+    → fee ≡ fees_taken → total ≡ pool +ℤ fees_taken
+summed total result pool told fee fees_taken e h g k = e ∙ h ∙ ap (λ (n : ℤ). pool +ℤ n) (g ∙ k)

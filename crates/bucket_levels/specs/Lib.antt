@@ -3,6 +3,7 @@ pub mod Pairs
 pub mod Step
 pub mod Work
 pub mod Hash
+pub mod Size
 pub mod Meaning
 pub mod Fresh
 pub mod Laws

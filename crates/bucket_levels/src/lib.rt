@@ -6,6 +6,7 @@ mod laws;
 mod levels;
 mod pair;
 mod plan;
+mod size;
 mod spills;
 #[cfg(test)]
 mod tests;
@@ -14,3 +15,4 @@ pub use laws::steps_stand;
 pub use levels::Levels;
 pub use pair::LevelPair;
 pub use plan::LevelStep;
+pub use size::file_total;

@@ -1,18 +1,23 @@
 //! The step that a close makes, before the levels take it.
 
-ghost use Rattle.std.specs.Prelude.{◌≡◌, ◌≤◌, ◌+◌, IfOk};
+ghost use Rattle.std.specs.Prelude.{◌≡◌, ◌≤◌, ◌+◌, length, IfOk};
 ghost use Rattle.bucket_core.specs.Bucket.{Contents};
 ghost use Rattle.bucket_core.specs.File.{count_of};
 ghost use Rattle.bucket_merge.specs.Merge.{IsMerge};
 ghost use Rattle.bucket_levels.specs.Step.{base_at, snap_after, IsCurrAfter, IsPairAfter, IsStep};
 ghost use Rattle.bucket_levels.specs.Work.{work, work_at};
 ghost use Rattle.bucket_levels.specs.Levels.{pair_of};
+ghost use Rattle.bucket_levels.specs.Hash.{list_hash};
+ghost use Rattle.bucket_levels.specs.Size.{file_total as size_of_levels};
 
+use crate::hash::hash_of_levels;
 use crate::levels::Levels;
 use crate::pair::LevelPair;
+use crate::size::file_total;
 use crate::spills::spills;
 use bucket_core::Bucket;
 use bucket_merge::{MergeJob, merge_fresh};
+use ledger_types::Hash;
 use outside::Steps;
 use std::alloc::AllocError;
 use std::marker::Model;
@@ -35,6 +40,23 @@ impl Model for LevelStep {
     ghost coded = { levels_code };
 
     ghost view = { λ s. record { pairs = map pair_of s.pairs.items; seq = s.seq } };
+}
+
+impl LevelStep {
+    /// The hash of the levels behind the step, as `Levels::hash` answers it then.
+    pub fn hash(&self) -> Hash
+        ensures { result ≡ list_hash self.now.pairs }
+    {
+        hash_of_levels(self.pairs.as_slice())
+    }
+
+    /// How many bytes the files behind the step have.
+    pub fn file_total(&self) -> u128
+        requires { length self.now.pairs ≤ 11 }
+        ensures { result ≡ size_of_levels self.now.pairs }
+    {
+        file_total(self.pairs.as_slice())
+    }
 }
 
 /// Makes a merge. One that is handed back is want of memory.

@@ -1,3 +1,7 @@
-pub mod Replies
 pub mod Completing
-pub mod Opened
+pub mod Marking
+pub mod Runs
+pub mod Turning
+pub mod Judging
+pub mod Starts
+pub mod Tellings

@@ -1,2 +1,4 @@
-pub mod Reply
+pub mod Following
+pub mod Starting
+pub mod Telling
 pub mod Completeness

@@ -1,9 +1,11 @@
-//! The program: its commands over sources and sinks of bytes.
+//! The program: its command over sources and sinks of bytes.
 #![tactic(auto)]
 
-mod answer;
+mod catchup;
+mod closes;
+mod ends;
 pub mod laws;
 mod run;
-mod text;
+mod start;
 
-pub use run::{end_without_memory, run_program};
+pub use run::{do_catchup, end_without_memory, run_program};

@@ -1,0 +1,184 @@
+-- The bytes of entries: what no test of an operation says of them, and their formats do.
+use Rattle.std.proofs.Common.{◌≡◌, ℕ, refl, List, [], ◌∷◌, All, Option, Some, None}
+use Rattle.std.proofs.Common.{Bool, true, false, cond}
+use Rattle.std.proofs.lemmas.List.Elements.{All-head, All-tail}
+use Rattle.std.specs.Prelude.{option_map}
+use Rattle.std.specs.List.{find}
+use Rattle.std.specs.FinMap.{get}
+use Rattle.ledger_types.specs.declared.ids.AccountId.{AccountId}
+use Rattle.ledger_types.specs.declared.signer.Signer.{Signer}
+use Rattle.ledger_types.specs.declared.account.AccountEntry.{AccountEntry}
+use Rattle.ledger_types.specs.declared.account.AccountEntryExtensionV2.{AccountEntryExtensionV2}
+use Rattle.ledger_types.specs.declared.data_entry.DataEntry.{DataEntry}
+use Rattle.ledger_types.specs.declared.entry.LedgerEntry.{LedgerEntry}
+use Rattle.ledger_types.specs.declared.entry.LedgerEntryBody.{LedgerEntryBody}
+use Rattle.ledger_types.specs.declared.entry.LedgerEntryBody.TheVariants as body
+use Rattle.ledger_types.specs.declared.entry.LedgerEntryExtensionV1.{LedgerEntryExtensionV1}
+use Rattle.ledger_types.specs.declared.key.LedgerKey.{LedgerKey}
+use Rattle.ledger_types.specs.declared.key.LedgerKey.TheVariants as key
+use Rattle.xdr_core.specs.Leaves.{fixed, var}
+use Rattle.xdr_core.specs.Combinators.{option}
+use Rattle.xdr_core.specs.Xdr.{optional}
+use Rattle.xdr_entries.specs.Basic.{account_id, signer_key}
+use Rattle.entry_map.specs.EntryMap.{EntryMap, put, erase}
+use Rattle.entry_sums.specs.Sums.{EachEntry}
+use Rattle.entry_sums.proofs.Lookups.{put_each, erase_each}
+use Rattle.entry_slots.specs.Accounts.{with_account, with_account_of, with_account_in}
+use Rattle.entry_slots.specs.DataEntries.{with_data, with_data_of, with_data_in}
+use Rattle.entry_slots.specs.AccountExtensions.{second_in}
+use Rattle.entry_slots.specs.EntrySponsor.{sponsor_of, with_sponsor, with_sponsor_in, sponsor_in}
+use Rattle.sponsor_rules.specs.declared.context.Ctx.{Ctx}
+use Rattle.sponsor_rules.specs.declared.context.Sponsorship.{Sponsorship}
+use Rattle.sponsor_rules.specs.Payers.{is_same_account, open_sponsor}
+use Rattle.close_rules.specs.State.{IsSpelled}
+
+-- ---- ids
+
+abbrev pub IsId : AccountId → Type 0
+IsId id = IsSpelled account_id id
+
+-- an account that may be named
+abbrev pub IsIdIf : Option AccountId → Type 0
+IsIdIf found = IsSpelled (optional account_id) found
+
+pub no_id : IsIdIf None
+unfolding option
+no_id = record { within = tt; sized = tt }
+
+pub some_id : (id : AccountId) → IsId id → IsIdIf (Some id)
+unfolding option
+some_id id spelled = record { within = spelled.within; sized = spelled.sized }
+
+pub id_of_some : (id : AccountId) → IsIdIf (Some id) → IsId id
+unfolding option
+id_of_some id spelled = record { within = spelled.within; sized = spelled.sized }
+
+-- ---- entries
+
+abbrev pub sponsors_in : Option AccountEntryExtensionV2 → List (Option AccountId)
+sponsors_in None = []
+sponsors_in (Some ext) = ext.signer_sponsoring_ids
+
+-- the sponsors of its signers that an account records
+abbrev pub recorded : AccountEntry → List (Option AccountId)
+recorded account = sponsors_in (second_in account.ext)
+
+abbrev pub IsKey : Signer → Type 0
+IsKey signer = IsSpelled signer_key signer.key
+
+pub record AreAccountBytes (account : AccountEntry) : Type 0 where
+  pub id : IsId account.account_id
+  pub inflation_dest : IsIdIf account.inflation_dest
+  pub home_domain : IsSpelled (var 32) account.home_domain
+  pub thresholds : IsSpelled (fixed 4) account.thresholds
+  pub signers : All IsKey account.signers
+  pub sponsors : All IsIdIf (recorded account)
+
+pub record AreDataBytes (entry : DataEntry) : Type 0 where
+  pub id : IsId entry.account_id
+  pub name : IsSpelled (var 64) entry.data_name
+  pub value : IsSpelled (var 64) entry.data_value
+
+-- of accounts and data, the entries of which all operations can be applied so far
+abbrev pub AreBodyBytes : LedgerEntryBody → Type 0
+AreBodyBytes (body.Account account) = AreAccountBytes account
+AreBodyBytes (body.Data entry) = AreDataBytes entry
+AreBodyBytes other = ⊥
+
+pub record AreEntryBytes (e : LedgerEntry) : Type 0 where
+  pub body : AreBodyBytes e.body
+  pub sponsor : IsIdIf (sponsor_of e)
+
+abbrev pub AreBytes : EntryMap → Type 0
+AreBytes m = EachEntry (λ k e. AreEntryBytes e) m
+
+-- ---- changes
+
+pub put_bytes : (m : EntryMap) (e : LedgerEntry) → AreBytes m → AreEntryBytes e → AreBytes (put m e)
+put_bytes m e each new = put_each (λ k x. AreEntryBytes x) m e each new
+
+pub erase_bytes : (m : EntryMap) (k : LedgerKey) → AreBytes m → AreBytes (erase m k)
+erase_bytes m k each = erase_each (λ q x. AreEntryBytes x) m k each
+
+-- a change that keeps the bytes of an account
+abbrev pub KeepsAccounts : (AccountEntry → AccountEntry) → Type 0
+KeepsAccounts change = (account : AccountEntry) → AreAccountBytes account → AreAccountBytes (change account)
+
+account_changed : (m : EntryMap) (change : AccountEntry → AccountEntry) (e : LedgerEntry) (of : LedgerEntryBody)
+    → KeepsAccounts change → AreBytes m → AreBodyBytes of → IsIdIf (sponsor_of e)
+    → AreBytes (with_account_in m e change of)
+account_changed m change e (body.Account account) keep each bytes sponsor =
+    put_bytes m (record e { body = body.Account (change account) }) each
+    (record { body = keep account bytes; sponsor = sponsor })
+account_changed m change e other keep each bytes sponsor = each
+
+account_found : (m : EntryMap) (k : LedgerKey) (change : AccountEntry → AccountEntry) (found : Option LedgerEntry)
+    → get m k ≡ found → KeepsAccounts change → AreBytes m → AreBytes (with_account_of m change found)
+account_found m k change None there keep each = each
+account_found m k change (Some e) there keep each =
+    account_changed m change e e.body keep each (each k e there).body (each k e there).sponsor
+
+pub with_account_bytes : (m : EntryMap) (id : AccountId) (change : AccountEntry → AccountEntry) → KeepsAccounts change
+    → AreBytes m → AreBytes (with_account m id change)
+unfolding with_account
+with_account_bytes m id change keep each =
+    account_found m (key.Account id) change (get m (key.Account id)) refl keep each
+
+data_changed : (m : EntryMap) (change : DataEntry → DataEntry) (e : LedgerEntry) (of : LedgerEntryBody)
+    → ((entry : DataEntry) → AreDataBytes entry → AreDataBytes (change entry)) → AreBytes m → AreBodyBytes of
+    → IsIdIf (sponsor_of e) → AreBytes (with_data_in m e change of)
+data_changed m change e (body.Data entry) keep each bytes sponsor =
+    put_bytes m (record e { body = body.Data (change entry) }) each
+    (record { body = keep entry bytes; sponsor = sponsor })
+data_changed m change e other keep each bytes sponsor = each
+
+data_found : (m : EntryMap) (k : LedgerKey) (change : DataEntry → DataEntry) (found : Option LedgerEntry)
+    → get m k ≡ found → ((entry : DataEntry) → AreDataBytes entry → AreDataBytes (change entry)) → AreBytes m
+    → AreBytes (with_data_of m change found)
+data_found m k change None there keep each = each
+data_found m k change (Some e) there keep each =
+    data_changed m change e e.body keep each (each k e there).body (each k e there).sponsor
+
+pub with_data_bytes : (m : EntryMap) (id : AccountId) (name : List ℕ) (change : DataEntry → DataEntry)
+    → ((entry : DataEntry) → AreDataBytes entry → AreDataBytes (change entry)) → AreBytes m
+    → AreBytes (with_data m id name change)
+unfolding with_data
+with_data_bytes m id name change keep each =
+    data_found m (key.Data id name) change (get m (key.Data id name)) refl keep each
+
+-- ---- sponsors
+
+recorded_sponsor : (sponsor : Option AccountId) (ext : Option LedgerEntryExtensionV1) → IsIdIf sponsor
+    → IsIdIf (sponsor_in (with_sponsor_in sponsor ext))
+recorded_sponsor None None named = no_id
+recorded_sponsor None (Some ext) named = named
+recorded_sponsor (Some id) None named = named
+recorded_sponsor (Some id) (Some ext) named = named
+
+pub with_sponsor_bytes : (sponsor : Option AccountId) (e : LedgerEntry) → AreEntryBytes e → IsIdIf sponsor
+    → AreEntryBytes (with_sponsor sponsor e)
+with_sponsor_bytes sponsor e bytes named =
+    record { body = bytes.body; sponsor = recorded_sponsor sponsor e.ext named }
+
+abbrev pub IsOpener : Sponsorship → Type 0
+IsOpener opened = IsId opened.sponsor
+
+-- whoever opened a sponsorship has an id
+pub record AreSponsors (ctx : Ctx) : Type 0 where
+  pub all : All IsOpener ctx.sponsorships
+
+opened_by : (test : Sponsorship → Bool) (opened : List Sponsorship) → All IsOpener opened
+    → IsIdIf (option_map (λ one. one.sponsor) (find test opened))
+opened_by test [] all = no_id
+opened_by test (one ∷ others) all =
+    either (test one) (All-head IsOpener one others all) (opened_by test others (All-tail IsOpener one others all))
+  where
+    either : (b : Bool) → IsId one.sponsor → IsIdIf (option_map (λ x. x.sponsor) (find test others))
+        → IsIdIf (option_map (λ x. x.sponsor) (cond b (Some one) (find test others)))
+    either true here rest = some_id one.sponsor here
+    either false here rest = rest
+
+pub open_sponsor_id : (ctx : Ctx) (id : AccountId) → AreSponsors ctx → IsIdIf (open_sponsor ctx id)
+unfolding open_sponsor
+open_sponsor_id ctx id sponsors =
+    opened_by (λ opened. is_same_account opened.sponsored id) ctx.sponsorships sponsors.all

@@ -1,0 +1,586 @@
+-- Each operation leaves the bytes of entries.
+use Rattle.std.proofs.Common.{◌≡◌, ℕ, zero, suc, ◌<◌, refl, subst, List, [], ◌∷◌, Option, Some}
+use Rattle.std.proofs.Common.{None, Result, Ok, Err, IfOk, ℤ, take, drop, Bool, true, false, if◌then◌else◌, ◌||◌, arith}
+use Rattle.std.proofs.lemmas.Bool.Decides.{nat_tests}
+use Rattle.std.proofs.lemmas.List.Elements.{All-nil, All-cons, All-append, All-set, All-take, All-drop}
+use Rattle.std.specs.Prelude.{pos, not, is_some, bit_and, int_lt, nat_eq, nat_lt, unwrap_or, slice_index}
+use Rattle.std.specs.FinMap.{get}
+use Rattle.ledger_types.specs.declared.ids.AccountId.{AccountId}
+use Rattle.ledger_types.specs.declared.signer.Signer.{Signer}
+use Rattle.ledger_types.specs.declared.signer.SignerKey.{SignerKey}
+use Rattle.ledger_types.specs.declared.account.AccountEntry.{AccountEntry}
+use Rattle.ledger_types.specs.declared.asset.Asset.{Asset}
+use Rattle.ledger_types.specs.declared.asset.Asset.TheVariants as asset
+use Rattle.ledger_types.specs.declared.data_entry.DataEntry.{DataEntry}
+use Rattle.ledger_types.specs.declared.key.LedgerKey.{LedgerKey}
+use Rattle.ledger_types.specs.declared.key.LedgerKey.TheVariants as key
+use Rattle.ledger_types.specs.Ids.{account_of}
+use Rattle.op_types.specs.declared.account_ops.AccountMergeOp.{AccountMergeOp}
+use Rattle.op_types.specs.declared.account_ops.BumpSequenceOp.{BumpSequenceOp}
+use Rattle.op_types.specs.declared.account_ops.CreateAccountOp.{CreateAccountOp}
+use Rattle.op_types.specs.declared.account_ops.ManageDataOp.{ManageDataOp}
+use Rattle.op_types.specs.declared.account_ops.SetOptionsOp.{SetOptionsOp}
+use Rattle.op_types.specs.declared.payment_ops.PaymentOp.{PaymentOp}
+use Rattle.op_types.specs.declared.sponsor_ops.BeginSponsoringFutureReservesOp.{BeginSponsoringFutureReservesOp}
+use Rattle.op_types.specs.declared.sponsor_ops.RevokeSponsorshipOp.{RevokeSponsorshipOp}
+use Rattle.op_types.specs.declared.sponsor_ops.RevokeSponsorshipOp.TheVariants as revoked
+use Rattle.op_types.specs.declared.operation.OperationBody.{OperationBody}
+use Rattle.op_types.specs.declared.operation.OperationBody.TheVariants as body
+use Rattle.op_types.specs.declared.operation_result.OperationResult.{OperationResult}
+use Rattle.op_types.specs.declared.operation_result.OperationResult.TheVariants.{NoAccount}
+use Rattle.op_types.specs.declared.account_results.AccountMergeResult.TheVariants as merge
+use Rattle.op_types.specs.declared.account_results.BumpSequenceResult.TheVariants as bump
+use Rattle.op_types.specs.declared.account_results.ManageDataResult.TheVariants as manage
+use Rattle.op_types.specs.declared.account_results.SetOptionsResult.TheVariants as set
+use Rattle.op_types.specs.declared.payment_results.CreateAccountResult.TheVariants as create
+use Rattle.op_types.specs.declared.payment_results.PaymentResult.TheVariants as pay
+use Rattle.op_types.specs.declared.sponsor_results.EndSponsoringFutureReservesResult.TheVariants as end
+use Rattle.op_types.specs.declared.sponsor_results.RevokeSponsorshipResult.TheVariants as revoke
+use Rattle.xdr_core.specs.Format.{IsBytes}
+use Rattle.xdr_core.specs.Leaves.{fixed, var}
+use Rattle.xdr_core.specs.Combinators.{option}
+use Rattle.xdr_core.specs.Xdr.{optional}
+use Rattle.xdr_entries.specs.Basic.{signer, signer_key}
+use Rattle.xdr_tx.specs.Operations.{operation_body, create_account_op, set_options_op, manage_data_op}
+use Rattle.entry_map.specs.EntryMap.{EntryMap}
+use Rattle.entry_slots.specs.Accounts.{account_at, with_account}
+use Rattle.entry_slots.specs.DataEntries.{data_at}
+use Rattle.entry_slots.specs.Tests.{Tests, first_fault}
+use Rattle.sponsor_rules.specs.declared.context.Ctx.{Ctx}
+use Rattle.sponsor_rules.specs.declared.fault.AddFault.{AddFault}
+use Rattle.sponsor_rules.specs.declared.signer_place.FoundSigner.{FoundSigner}
+use Rattle.sponsor_rules.specs.Payers.{is_same_account, open_sponsor}
+use Rattle.sponsor_rules.specs.SignerPlace.{found_signer}
+use Rattle.sponsor_rules.specs.Signers.{map_after_adding_signer, map_after_removing_signer, map_after_moving_signer}
+use Rattle.sponsor_rules.specs.Adding.{map_after_adding}
+use Rattle.sponsor_rules.specs.Moving.{map_after_moving}
+use Rattle.op_form.specs.Done.{Done, Attempt, done_of}
+use Rattle.op_form.specs.Lumens as lumens
+use Rattle.op_form.specs.Steps.{unless_result, unless_refused, after, after_some, after_charge}
+use Rattle.op_account.specs.AccountMerge as merging
+use Rattle.op_account.specs.BumpSequence as bumping
+use Rattle.op_account.specs.CreateAccount as creating
+use Rattle.op_account.specs.Operations.{account_operation}
+use Rattle.op_options.specs.ManageData as managing
+use Rattle.op_options.specs.OptionSigner as signers
+use Rattle.op_options.specs.OptionTests as tests
+use Rattle.op_options.specs.SetOptions as options
+use Rattle.op_options.specs.Operations.{options_operation}
+use Rattle.op_payment.specs.Payment as paying
+use Rattle.op_payment.specs.Operations.{payment_operation}
+use Rattle.op_sponsor.specs.BeginSponsoringFutureReserves as beginning
+use Rattle.op_sponsor.specs.EndSponsoringFutureReserves as ending
+use Rattle.op_sponsor.specs.RevokeSponsorship as revoking
+use Rattle.op_sponsor.specs.Operations.{sponsor_operation}
+use Rattle.op_laws.specs.AnyOperation.{any_operation}
+use Rattle.close_rules.specs.State.{IsSpelled}
+use Rattle.close_laws.proofs.Bytes.{IsId, IsIdIf, no_id, AreAccountBytes, AreBytes}
+use Rattle.close_laws.proofs.Bytes.{KeepsAccounts, with_account_bytes, with_data_bytes, IsKey, IsOpener, AreSponsors}
+use Rattle.close_laws.proofs.Bytes.{open_sponsor_id}
+use Rattle.close_laws.proofs.BytesMaps.{AreBytesIf, adding_account_bytes, adding_subentry_bytes, removing_bytes}
+use Rattle.close_laws.proofs.BytesMaps.{moving_bytes, adding_signer_bytes, removing_signer_bytes, moving_signer_bytes}
+
+-- ---- steps
+
+-- what an operation leaves
+pub record AreWorkBytes (ctx : Ctx) (m : EntryMap) : Type 0 where
+  pub entries : AreBytes m
+  pub sponsors : AreSponsors ctx
+
+abbrev Work : Done → Type 0
+Work done = AreWorkBytes done.ctx done.entries
+
+-- what holds of what a step gives, if it gives something
+record Gives {A : Type 0} (P : A → Type 0) (made : Result A OperationResult) : Type 0 where
+  gives : IfOk made P
+
+abbrev Leaves : Attempt → Type 0
+Leaves attempt = Gives Work attempt
+
+-- behind tests that find nothing
+tested_by : {A : Type 0} (P : A → Type 0) (found : Option OperationResult) (next : Result A OperationResult)
+    → (found ≡ None → Gives P next) → Gives P (unless_result found next)
+tested_by P None next holds = holds refl
+tested_by P (Some result) next holds = record { gives = tt }
+
+tested : {A : Type 0} (P : A → Type 0) (tests : Tests OperationResult) (next : Result A OperationResult)
+    → (first_fault tests ≡ None → Gives P next) → Gives P (unless_refused tests next)
+tested P tests next holds = tested_by P (first_fault tests) next holds
+
+behind : {A : Type 0} (P : A → Type 0) (tests : Tests OperationResult) (next : Result A OperationResult)
+    → Gives P next → Gives P (unless_refused tests next)
+behind P tests next holds = tested P tests next (λ none. holds)
+
+behind_some : {A B : Type 0} (P : B → Type 0) (found : Option A) (result : OperationResult)
+    (next : A → Result B OperationResult) → ((a : A) → found ≡ Some a → Gives P (next a))
+    → Gives P (after_some found result next)
+behind_some P None result next holds = record { gives = tt }
+behind_some P (Some a) result next holds = holds a refl
+
+behind_charge : {B : Type 0} (P : B → Type 0) (made : Result EntryMap AddFault) (low : OperationResult)
+    (next : EntryMap → Result B OperationResult) → AreBytesIf made → ((m : EntryMap) → AreBytes m → Gives P (next m))
+    → Gives P (after_charge made low next)
+behind_charge P (Err fault) low next made holds = record { gives = tt }
+behind_charge P (Ok m) low next made holds = holds m made
+
+behind_step : {A B : Type 0} (Q : A → Type 0) (P : B → Type 0) (made : Result A OperationResult)
+    (next : A → Result B OperationResult) → Gives Q made → ((a : A) → Q a → Gives P (next a))
+    → Gives P (after made next)
+behind_step Q P (Err result) next made holds = record { gives = tt }
+behind_step Q P (Ok a) next made holds = holds a made.gives
+
+either_leaves : (b : Bool) (x y : Attempt) → Leaves x → Leaves y → Leaves (if b then x else y)
+either_leaves true x y here there = here
+either_leaves false x y here there = there
+
+-- ---- lumens
+
+-- a change of numbers alone
+numbers : (was account : AccountEntry) → AreAccountBytes was
+    → AreAccountBytes (record was { balance = account.balance; seq_num = account.seq_num })
+numbers was account bytes = record {
+  id = bytes.id;
+  inflation_dest = bytes.inflation_dest;
+  home_domain = bytes.home_domain;
+  thresholds = bytes.thresholds;
+  signers = bytes.signers;
+  sponsors = bytes.sponsors;
+}
+
+less_lumens : (amount : ℤ) → KeepsAccounts (lumens.with_less_lumens amount)
+less_lumens amount account bytes = numbers account (lumens.with_less_lumens amount account) bytes
+
+more_lumens : (amount : ℤ) → KeepsAccounts (lumens.with_more_lumens amount)
+more_lumens amount account bytes = numbers account (lumens.with_more_lumens amount account) bytes
+
+if_some : (b : Bool) (m made : EntryMap) → AreBytes made → (if b then None else Some made) ≡ Some m → AreBytes m
+if_some true m made each is = absurd (cc)
+if_some false m made each is = subst AreBytes (some_is is) each
+  where
+    some_is : Some made ≡ Some m → made ≡ m
+    some_is e = cc
+
+debit_of : (ctx : Ctx) (id : AccountId) (amount : ℤ) (m made : EntryMap) (found : Option AccountEntry) → AreBytes m
+    → lumens.map_after_debit_of ctx id amount m found ≡ Some made → AreBytes made
+debit_of ctx id amount m made None each is = absurd (cc)
+debit_of ctx id amount m made (Some account) each is =
+    if_some _ made (with_account m id (lumens.with_less_lumens amount))
+    (with_account_bytes m id (lumens.with_less_lumens amount) (less_lumens amount) each) is
+
+debit_bytes : (ctx : Ctx) (id : AccountId) (amount : ℤ) (m made : EntryMap) → AreBytes m
+    → lumens.map_after_debit ctx id amount m ≡ Some made → AreBytes made
+debit_bytes ctx id amount m made each is = debit_of ctx id amount m made (account_at m id) each is
+
+credit_of : (id : AccountId) (amount : ℤ) (m made : EntryMap) (found : Option AccountEntry) → AreBytes m
+    → lumens.map_after_credit_of id amount m found ≡ Some made → AreBytes made
+credit_of id amount m made None each is = absurd (cc)
+credit_of id amount m made (Some account) each is =
+    if_some _ made (with_account m id (lumens.with_more_lumens amount))
+    (with_account_bytes m id (lumens.with_more_lumens amount) (more_lumens amount) each) is
+
+credit_bytes : (id : AccountId) (amount : ℤ) (m made : EntryMap) → AreBytes m
+    → lumens.map_after_credit id amount m ≡ Some made → AreBytes made
+credit_bytes id amount m made each is = credit_of id amount m made (account_at m id) each is
+
+-- ---- accounts
+
+no_bytes : IsBytes []
+no_bytes i = omega arith
+
+new_domain : IsSpelled (var 32) []
+unfolding var
+new_domain = record { within = omega arith; sized = no_bytes }
+
+four_bytes : (a b c d : ℕ) → a < 256 → b < 256 → c < 256 → d < 256 → IsSpelled (fixed 4) (a ∷ b ∷ c ∷ d ∷ [])
+unfolding fixed
+four_bytes a b c d first second third last = record { within = refl; sized = each }
+  where
+    each : IsBytes (a ∷ b ∷ c ∷ d ∷ [])
+    each zero = first
+    each (suc zero) = second
+    each (suc (suc zero)) = third
+    each (suc (suc (suc zero))) = last
+    each (suc (suc (suc (suc i)))) = no_bytes i
+
+destination_id : (op : CreateAccountOp) → IsSpelled operation_body (body.CreateAccount op) → IsId op.destination
+unfolding operation_body create_account_op
+destination_id op spelled = record { within = spelled.within.0; sized = spelled.sized.0 }
+
+new_account_bytes : (ctx : Ctx) (op : CreateAccountOp) → IsId op.destination
+    → AreAccountBytes (creating.new_account ctx op)
+new_account_bytes ctx op id = record {
+  id = id;
+  inflation_dest = no_id;
+  home_domain = new_domain;
+  thresholds = four_bytes 1 0 0 0 (omega arith) (omega arith) (omega arith) (omega arith);
+  signers = All-nil IsKey;
+  sponsors = All-nil IsIdIf;
+}
+
+created : (ctx : Ctx) (op : CreateAccountOp) (m : EntryMap) → IsId op.destination → AreWorkBytes ctx m
+    → Leaves (creating.create_account ctx op m)
+created ctx op m id work =
+    behind Work (creating.start_tests ctx op m) (creating.added_and_paid ctx op m)
+    (behind_charge Work (map_after_adding ctx op.destination (creating.new_entry ctx op) m)
+    (creating.answer create.LowReserve) _
+    (adding_account_bytes ctx op.destination (creating.new_entry ctx op) (creating.new_account ctx op) m refl
+    (record { body = new_account_bytes ctx op id; sponsor = no_id }) (new_account_bytes ctx op id) work.sponsors
+    work.entries)
+    (λ added each. behind_some Work (lumens.map_after_debit ctx ctx.op_source op.starting_balance added)
+    (creating.answer create.Underfunded) _
+    (λ paid is. record {
+      gives = record {
+        entries = debit_bytes ctx ctx.op_source op.starting_balance added paid each is;
+        sponsors = work.sponsors;
+      };
+    })))
+
+without_signers : (id : AccountId) (all : List Signer) (m : EntryMap) → AreBytes m
+    → AreBytes (merging.map_without_signers id all m)
+unfolding merging.map_without_signers
+without_signers id [] m each = each
+without_signers id (one ∷ others) m each =
+    without_signers id others _ (removing_signer_bytes id one.key m each)
+
+merged : (ctx : Ctx) (op : AccountMergeOp) (m : EntryMap) → AreWorkBytes ctx m
+    → Leaves (merging.account_merge ctx op m)
+merged ctx op m work =
+    behind Work (merging.destination_tests ctx op m) (merging.merge_of ctx op m (account_at m ctx.op_source))
+    (behind_some Work (account_at m ctx.op_source) NoAccount _
+    (λ account there. behind Work (merging.source_tests ctx account) (merging.taken_and_removed ctx op account m)
+    (behind_some Work (lumens.map_after_credit (account_of op.destination) account.balance m)
+    (merging.answer merge.DestFull) _
+    (λ taken is. record {
+      gives = record {
+        entries = removing_bytes (key.Account ctx.op_source)
+            (merging.map_without_signers ctx.op_source account.signers taken)
+            (without_signers ctx.op_source account.signers taken
+            (credit_bytes (account_of op.destination) account.balance m taken work.entries is));
+        sponsors = work.sponsors;
+      };
+    }))))
+
+bumped_account : (least : ℤ) → KeepsAccounts (bumping.with_seq_num_from least)
+bumped_account least account bytes =
+    either (int_lt account.seq_num least)
+  where
+    either : (b : Bool) → AreAccountBytes (if b then record account { seq_num = least } else account)
+    either true = numbers account (record account { seq_num = least }) bytes
+    either false = bytes
+
+bumped : (ctx : Ctx) (op : BumpSequenceOp) (m : EntryMap) → AreWorkBytes ctx m → Leaves (bumping.bump_sequence ctx op m)
+bumped ctx op m work =
+    behind Work ((int_lt op.bump_to (pos 0), bumping.answer bump.BadSeq) ∷ []) _ (record {
+      gives = record {
+        entries = with_account_bytes m ctx.op_source (bumping.with_seq_num_from op.bump_to) (bumped_account op.bump_to)
+            work.entries;
+        sponsors = work.sponsors;
+      };
+    })
+
+-- ---- payments
+
+lumens_paid : (ctx : Ctx) (op : PaymentOp) (m : EntryMap) → AreWorkBytes ctx m → Leaves (paying.lumens_payment ctx op m)
+lumens_paid ctx op m work =
+    behind Work (paying.amount_tests op) _
+    (either_leaves (is_same_account (account_of op.destination) ctx.op_source) (paying.paid ctx op m)
+    (unless_refused (paying.destination_tests op m) (paying.taken_and_given ctx op m))
+    (record { gives = record { entries = work.entries; sponsors = work.sponsors } })
+    (behind Work (paying.destination_tests op m) (paying.taken_and_given ctx op m)
+    (behind_some Work (lumens.map_after_credit (account_of op.destination) op.amount m) (paying.answer pay.LineFull) _
+    (λ taken is. behind_some Work (lumens.map_after_debit ctx ctx.op_source op.amount taken)
+    (paying.answer pay.Underfunded) _
+    (λ given paid. record {
+      gives = record {
+        entries = debit_bytes ctx ctx.op_source op.amount taken given
+            (credit_bytes (account_of op.destination) op.amount m taken work.entries is) paid;
+        sponsors = work.sponsors;
+      };
+    })))))
+
+paid_in : (of : Asset) (ctx : Ctx) (op : PaymentOp) (m : EntryMap) → AreWorkBytes ctx m
+    → Leaves (paying.payment_in of ctx op m)
+paid_in asset.Native ctx op m work = lumens_paid ctx op m work
+paid_in (asset.Alphanum4 code issuer) ctx op m work = record { gives = tt }
+paid_in (asset.Alphanum12 code issuer) ctx op m work = record { gives = tt }
+
+-- ---- data
+
+name_spelled : (op : ManageDataOp) → IsSpelled operation_body (body.ManageData op) → IsSpelled (var 64) op.data_name
+unfolding operation_body manage_data_op
+name_spelled op spelled = record { within = spelled.within.0; sized = spelled.sized.0 }
+
+value_spelled : (op : ManageDataOp) → IsSpelled operation_body (body.ManageData op)
+    → IsSpelled (optional (var 64)) op.data_value
+unfolding operation_body manage_data_op
+value_spelled op spelled = record { within = spelled.within.1; sized = spelled.sized.1 }
+
+given_value : (value : List ℕ) → IsSpelled (optional (var 64)) (Some value) → IsSpelled (var 64) value
+unfolding option
+given_value value spelled = record { within = spelled.within; sized = spelled.sized }
+
+valued : (ctx : Ctx) (name value : List ℕ) (m : EntryMap) (found : Option DataEntry) → IsId ctx.op_source
+    → IsSpelled (var 64) name → IsSpelled (var 64) value → AreWorkBytes ctx m
+    → Leaves (managing.valued ctx name value m found)
+valued ctx name value m None id named spelled work =
+    behind_charge Work (map_after_adding ctx ctx.op_source (managing.new_data ctx name value) m)
+    (managing.answer manage.LowReserve) _
+    (adding_subentry_bytes ctx (managing.new_data ctx name value) ctx.op_source 1 m
+    (record { body = record { id = id; name = named; value = spelled }; sponsor = no_id }) work.sponsors work.entries)
+    (λ added each. record { gives = record { entries = each; sponsors = work.sponsors } })
+valued ctx name value m (Some was) id named spelled work = record {
+  gives = record {
+    entries = with_data_bytes m ctx.op_source name (managing.with_value value)
+        (λ entry bytes. record { id = bytes.id; name = bytes.name; value = spelled }) work.entries;
+    sponsors = work.sponsors;
+  };
+}
+
+managed : (ctx : Ctx) (name : List ℕ) (m : EntryMap) (value : Option (List ℕ)) → IsId ctx.op_source
+    → IsSpelled (var 64) name → IsSpelled (optional (var 64)) value → AreWorkBytes ctx m
+    → Leaves (managing.managed ctx name m value)
+managed ctx name m None id named given work =
+    behind Work ((not (is_some (data_at m ctx.op_source name)), managing.answer manage.NameNotFound) ∷ []) _
+    (record {
+      gives = record {
+        entries = removing_bytes (key.Data ctx.op_source name) m work.entries;
+        sponsors = work.sponsors;
+      };
+    })
+managed ctx name m (Some value) id named given work =
+    valued ctx name value m (data_at m ctx.op_source name) id named (given_value value given) work
+
+data_managed : (ctx : Ctx) (op : ManageDataOp) (m : EntryMap) → IsId ctx.op_source
+    → IsSpelled operation_body (body.ManageData op) → AreWorkBytes ctx m → Leaves (managing.manage_data ctx op m)
+data_managed ctx op m id spelled work =
+    behind Work (managing.name_tests op.data_name) (managing.managed ctx op.data_name m op.data_value)
+    (managed ctx op.data_name m op.data_value id (name_spelled op spelled) (value_spelled op spelled) work)
+
+-- ---- options
+
+pub record AreOptions (op : SetOptionsOp) : Type 0 where
+  pub inflation_dest : IsIdIf op.inflation_dest
+  pub home_domain : IsSpelled (optional (var 32)) op.home_domain
+  pub signer : IsSpelled (optional signer) op.signer
+
+options_spelled : (op : SetOptionsOp) → IsSpelled operation_body (body.SetOptions op) → AreOptions op
+unfolding operation_body set_options_op
+options_spelled op spelled = record {
+  inflation_dest = record { within = spelled.within.0; sized = spelled.sized.0 };
+  home_domain = record { within = spelled.within.1.1.1.1.1.1.1.0; sized = spelled.sized.1.1.1.1.1.1.1.0 };
+  signer = record { within = spelled.within.1.1.1.1.1.1.1.1; sized = spelled.sized.1.1.1.1.1.1.1.1 };
+}
+
+given_signer : (one : Signer) → IsSpelled (optional signer) (Some one) → IsSpelled signer_key one.key
+unfolding option signer
+given_signer one spelled = record { within = spelled.within.0; sized = spelled.sized.0 }
+
+set_signer : (place : ℕ) (one : Signer) → IsSpelled signer_key one.key
+    → KeepsAccounts (signers.with_signer_set place one)
+set_signer place one spelled account bytes = record {
+  id = bytes.id;
+  inflation_dest = bytes.inflation_dest;
+  home_domain = bytes.home_domain;
+  thresholds = bytes.thresholds;
+  signers = All-set IsKey account.signers place one spelled bytes.signers;
+  sponsors = bytes.sponsors;
+}
+
+weighed : (ctx : Ctx) (one : Signer) (account : AccountEntry) (m : EntryMap) (found : Option FoundSigner)
+    → IsSpelled signer_key one.key → AreWorkBytes ctx m
+    → Gives AreBytes (signers.map_after_weighing ctx one account m found)
+weighed ctx one account m None spelled work =
+    behind AreBytes (signers.count_tests account) _
+    (behind_charge AreBytes (map_after_adding_signer ctx ctx.op_source one m) (tests.answer set.LowReserve) _
+    (adding_signer_bytes ctx ctx.op_source one m spelled work.sponsors work.entries)
+    (λ added each. record { gives = each }))
+weighed ctx one account m (Some found) spelled work = record {
+  gives = with_account_bytes m ctx.op_source (signers.with_signer_set found.place one)
+      (set_signer found.place one spelled) work.entries;
+}
+
+signed : (ctx : Ctx) (account : AccountEntry) (m : EntryMap) (given : Option Signer)
+    → IsSpelled (optional signer) given → AreWorkBytes ctx m
+    → Gives AreBytes (signers.map_after_signer ctx account m given)
+signed ctx account m None spelled work = record { gives = work.entries }
+signed ctx account m (Some one) spelled work =
+    either (nat_eq one.weight 0)
+  where
+    either : (b : Bool)
+        → Gives AreBytes (if b then Ok (map_after_removing_signer ctx.op_source one.key m)
+        else signers.map_after_weighing ctx one account m (found_signer one.key (Some account)))
+    either true = record { gives = removing_signer_bytes ctx.op_source one.key m work.entries }
+    either false = weighed ctx one account m (found_signer one.key (Some account)) (given_signer one spelled) work
+
+-- no weight or threshold that is given is above 255
+four_false : (a b c d : Bool) → (((a || b) || c) || d) ≡ false
+    → (a ≡ false) × (b ≡ false) × (c ≡ false) × (d ≡ false)
+four_false true b c d e = absurd (cc)
+four_false false true c d e = absurd (cc)
+four_false false false true d e = absurd (cc)
+four_false false false false true e = absurd (cc)
+four_false false false false false e = (refl, refl, refl, refl)
+
+byte_or : (given : Option ℕ) (was : ℕ) → was < 256 → tests.is_too_great given ≡ false → unwrap_or given was < 256
+byte_or None was below great = below
+byte_or (Some n) was below great = not_above n great
+  where
+    not_above : (n : ℕ) → nat_lt 255 n ≡ false → n < 256
+    not_above n other = grind (arith, nat_tests)
+
+threshold_bytes : (was : List ℕ) → IsSpelled (fixed 4) was → IsBytes was
+unfolding fixed
+threshold_bytes was spelled = spelled.sized
+
+new_thresholds : (op : SetOptionsOp) (was : List ℕ) → tests.is_out_of_range op ≡ false → IsSpelled (fixed 4) was
+    → IsSpelled (fixed 4) (options.new_thresholds op was)
+new_thresholds op was range spelled =
+    let bytes = threshold_bytes was spelled in
+    let none = four_false (tests.is_too_great op.master_weight) (tests.is_too_great op.low_threshold)
+    (tests.is_too_great op.med_threshold) (tests.is_too_great op.high_threshold) range in
+    four_bytes (unwrap_or op.master_weight (slice_index was 0)) (unwrap_or op.low_threshold (slice_index was 1))
+    (unwrap_or op.med_threshold (slice_index was 2)) (unwrap_or op.high_threshold (slice_index was 3))
+    (byte_or op.master_weight (slice_index was 0) (bytes 0) none.0)
+    (byte_or op.low_threshold (slice_index was 1) (bytes 1) none.1)
+    (byte_or op.med_threshold (slice_index was 2) (bytes 2) none.2)
+    (byte_or op.high_threshold (slice_index was 3) (bytes 3) none.3)
+
+given_id : (given was : Option AccountId) → IsIdIf given → IsIdIf was → IsIdIf (options.given_or given was)
+given_id None was new old = old
+given_id (Some id) was new old = new
+
+given_domain : (given : Option (List ℕ)) (was : List ℕ) → IsSpelled (optional (var 32)) given → IsSpelled (var 32) was
+    → IsSpelled (var 32) (unwrap_or given was)
+unfolding option
+given_domain None was new old = old
+given_domain (Some domain) was new old = record { within = new.within; sized = new.sized }
+
+with_options_bytes : (op : SetOptionsOp) → AreOptions op → tests.is_out_of_range op ≡ false
+    → KeepsAccounts (options.with_options op)
+with_options_bytes op given range account bytes = record {
+  id = bytes.id;
+  inflation_dest = given_id op.inflation_dest account.inflation_dest given.inflation_dest bytes.inflation_dest;
+  home_domain = given_domain op.home_domain account.home_domain given.home_domain bytes.home_domain;
+  thresholds = new_thresholds op account.thresholds range bytes.thresholds;
+  signers = bytes.signers;
+  sponsors = bytes.sponsors;
+}
+
+third_passes : {F : Type 0} (a b c : Bool) (x y z : F) (rest : Option F)
+    → (if a then Some x else if b then Some y else if c then Some z else rest) ≡ None → c ≡ false
+third_passes true b c x y z rest e = absurd (cc)
+third_passes false true c x y z rest e = absurd (cc)
+third_passes false false true x y z rest e = absurd (cc)
+third_passes false false false x y z rest e = refl
+
+in_range : (id : AccountId) (op : SetOptionsOp) → first_fault (tests.given_tests id op) ≡ None
+    → tests.is_out_of_range op ≡ false
+in_range id op none =
+    third_passes (tests.has_unknown op.set_flags || tests.has_unknown op.clear_flags)
+    (not (nat_eq (bit_and (tests.flags_in op.set_flags) (tests.flags_in op.clear_flags)) 0)) (tests.is_out_of_range op)
+    _ _ _ _ none
+
+options_set : (ctx : Ctx) (op : SetOptionsOp) (m : EntryMap) → IsSpelled operation_body (body.SetOptions op)
+    → AreWorkBytes ctx m → Leaves (options.set_options ctx op m)
+options_set ctx op m spelled work =
+    let given = options_spelled op spelled in
+    tested Work (tests.given_tests ctx.op_source op) _
+    (λ none. behind Work (tests.inflation_tests op m) (options.options_of ctx op m (account_at m ctx.op_source))
+    (behind_some Work (account_at m ctx.op_source) NoAccount _
+    (λ account there. behind Work (tests.source_tests op account) (options.options_set ctx op account m)
+    (behind_step AreBytes Work (signers.map_after_signer ctx account m op.signer) _
+    (signed ctx account m op.signer given.signer work)
+    (λ after each. record {
+      gives = record {
+        entries = with_account_bytes after ctx.op_source (options.with_options op)
+            (with_options_bytes op given (in_range ctx.op_source op none)) each;
+        sponsors = work.sponsors;
+      };
+    })))))
+
+-- ---- sponsorship
+
+begun : (ctx : Ctx) (op : BeginSponsoringFutureReservesOp) (m : EntryMap) → IsId ctx.op_source → AreWorkBytes ctx m
+    → Leaves (beginning.begin_sponsoring ctx op m)
+begun ctx op m id work =
+    behind Work (beginning.begin_tests ctx op) _ (record {
+      gives = record {
+        entries = work.entries;
+        sponsors = record {
+          all = All-append IsOpener ctx.sponsorships (beginning.new_sponsorship ctx op ∷ [])
+              work.sponsors.all (All-cons IsOpener (beginning.new_sponsorship ctx op) [] id (All-nil IsOpener));
+        };
+      };
+    })
+
+ended : (ctx : Ctx) (m : EntryMap) → AreWorkBytes ctx m → Leaves (ending.end_sponsoring ctx m)
+ended ctx m work =
+    behind_some Work (ending.place_of_sponsorship ctx) (ending.answer end.NotSponsored) _
+    (λ place is. record {
+      gives = record {
+        entries = work.entries;
+        sponsors = record {
+          all = All-append IsOpener (take place ctx.sponsorships) (drop (suc place) ctx.sponsorships)
+              (All-take IsOpener place ctx.sponsorships work.sponsors.all)
+              (All-drop IsOpener (suc place) ctx.sponsorships work.sponsors.all);
+        };
+      };
+    })
+
+entry_revoked : (ctx : Ctx) (k : LedgerKey) (m : EntryMap) → AreWorkBytes ctx m → Leaves (revoking.revoke_entry ctx k m)
+entry_revoked ctx k m work =
+    behind Work ((revoking.is_malformed k, revoking.answer revoke.Malformed) ∷ [])
+    (revoking.entry_revoked ctx k m (get m k))
+    (behind_some Work (get m k) (revoking.answer revoke.DoesNotExist) _
+    (λ entry there. behind Work (revoking.entry_tests ctx entry) (revoking.entry_moved ctx k m)
+    (behind_charge Work (map_after_moving ctx k (open_sponsor ctx ctx.op_source) m)
+    (revoking.answer revoke.LowReserve) _
+    (moving_bytes ctx k (open_sponsor ctx ctx.op_source) m (open_sponsor_id ctx ctx.op_source work.sponsors)
+    work.entries)
+    (λ moved each. record { gives = record { entries = each; sponsors = work.sponsors } }))))
+
+signer_revoked : (ctx : Ctx) (id : AccountId) (k : SignerKey) (m : EntryMap) → AreWorkBytes ctx m
+    → Leaves (revoking.revoke_signer ctx id k m)
+signer_revoked ctx id k m work =
+    behind_some Work (found_signer k (account_at m id)) (revoking.answer revoke.DoesNotExist) _
+    (λ found there. behind Work (revoking.signer_tests ctx id found) (revoking.signer_moved ctx id k m)
+    (behind_charge Work (map_after_moving_signer ctx id k (open_sponsor ctx ctx.op_source) m)
+    (revoking.answer revoke.LowReserve) _
+    (moving_signer_bytes ctx id k (open_sponsor ctx ctx.op_source) m (open_sponsor_id ctx ctx.op_source work.sponsors)
+    work.entries)
+    (λ moved each. record { gives = record { entries = each; sponsors = work.sponsors } })))
+
+sponsorship_revoked : (ctx : Ctx) (op : RevokeSponsorshipOp) (m : EntryMap) → AreWorkBytes ctx m
+    → Leaves (revoking.revoke_sponsorship ctx op m)
+sponsorship_revoked ctx (revoked.LedgerEntry k) m work = entry_revoked ctx k m work
+sponsorship_revoked ctx (revoked.Signer id k) m work = signer_revoked ctx id k m work
+
+-- ---- any operation
+
+done_leaves : (ctx : Ctx) (m : EntryMap) (attempt : Attempt) → AreWorkBytes ctx m → Leaves attempt
+    → AreWorkBytes (done_of ctx m attempt).ctx (done_of ctx m attempt).entries
+done_leaves ctx m (Ok done) work leaves = leaves.gives
+done_leaves ctx m (Err result) work leaves = work
+
+pub any_bytes : (ctx : Ctx) (of : OperationBody) (m : EntryMap) → IsId ctx.op_source → IsSpelled operation_body of
+    → AreWorkBytes ctx m → AreWorkBytes (any_operation ctx of m).ctx (any_operation ctx of m).entries
+unfolding any_operation account_operation options_operation payment_operation sponsor_operation
+any_bytes ctx (body.CreateAccount op) m id spelled work =
+    done_leaves ctx m (creating.create_account ctx op m) work (created ctx op m (destination_id op spelled) work)
+any_bytes ctx (body.AccountMerge op) m id spelled work =
+    done_leaves ctx m (merging.account_merge ctx op m) work (merged ctx op m work)
+any_bytes ctx (body.BumpSequence op) m id spelled work =
+    done_leaves ctx m (bumping.bump_sequence ctx op m) work (bumped ctx op m work)
+any_bytes ctx (body.SetOptions op) m id spelled work = done_leaves ctx m (options.set_options ctx op m) work
+    (options_set ctx op m spelled work)
+any_bytes ctx (body.ManageData op) m id spelled work = done_leaves ctx m (managing.manage_data ctx op m) work
+    (data_managed ctx op m id spelled work)
+any_bytes ctx (body.Payment op) m id spelled work =
+    done_leaves ctx m (paying.payment ctx op m) work (paid_in op.asset ctx op m work)
+any_bytes ctx (body.BeginSponsoringFutureReserves op) m id spelled work =
+    done_leaves ctx m (beginning.begin_sponsoring ctx op m) work (begun ctx op m id work)
+any_bytes ctx body.EndSponsoringFutureReserves m id spelled work =
+    done_leaves ctx m (ending.end_sponsoring ctx m) work (ended ctx m work)
+any_bytes ctx (body.RevokeSponsorship op) m id spelled work =
+    done_leaves ctx m (revoking.revoke_sponsorship ctx op m) work (sponsorship_revoked ctx op m work)
+any_bytes ctx other m id spelled work = work

@@ -1,0 +1,171 @@
+-- Counts and signers that change leave the bytes of accounts.
+use Rattle.std.proofs.Common.{ℕ, suc, take, drop, List, [], ◌∷◌, map, All, Option, Some, None}
+use Rattle.std.proofs.Common.{Bool, true, false, if◌then◌else◌, nat_eq, slice_set}
+use Rattle.std.proofs.lemmas.List.Elements.{All-nil, All-cons, All-append, All-take, All-drop, All-set}
+use Rattle.std.specs.List.{insert, remove}
+use Rattle.ledger_types.specs.declared.ids.AccountId.{AccountId}
+use Rattle.ledger_types.specs.declared.signer.Signer.{Signer}
+use Rattle.ledger_types.specs.declared.account.AccountEntry.{AccountEntry}
+use Rattle.ledger_types.specs.declared.account.AccountEntryExtensionV1.{AccountEntryExtensionV1}
+use Rattle.ledger_types.specs.declared.account.AccountEntryExtensionV2.{AccountEntryExtensionV2}
+use Rattle.xdr_entries.specs.Basic.{signer_key}
+use Rattle.entry_map.specs.EntryMap.{EntryMap}
+use Rattle.entry_slots.specs.AccountExtensions.{second_in, sponsorship_of, sponsorship_in, with_sponsorship}
+use Rattle.sponsor_rules.specs.declared.count.Count.{Count}
+use Rattle.sponsor_rules.specs.declared.count.Count.TheVariants.{SubEntries, Sponsoring, Sponsored}
+use Rattle.sponsor_rules.specs.Counting.{count_in, with_count, with_new_count, with_more, with_less}
+use Rattle.sponsor_rules.specs.Paying as paying
+use Rattle.sponsor_rules.specs.SignerPlace.{with_sponsors_in, with_sponsors, with_signer_at, without_signer}
+use Rattle.sponsor_rules.specs.SignerPlace.{with_signer_sponsor}
+use Rattle.close_rules.specs.State.{IsSpelled}
+use Rattle.close_laws.proofs.Bytes.{IsIdIf, no_id, sponsors_in, IsKey, AreAccountBytes, AreBytes}
+use Rattle.close_laws.proofs.Bytes.{KeepsAccounts, with_account_bytes}
+
+-- ---- counts
+
+none_named : (signers : List Signer) → All IsIdIf (map (λ signer. None) signers)
+none_named [] = All-nil IsIdIf
+none_named (one ∷ others) = All-cons IsIdIf None _ no_id (none_named others)
+
+sponsors_of : (signers : List Signer) (ext : Option AccountEntryExtensionV2) → All IsIdIf (sponsors_in ext)
+    → All IsIdIf (sponsorship_in signers ext).signer_sponsoring_ids
+sponsors_of signers None all = none_named signers
+sponsors_of signers (Some ext) all = all
+
+-- an account that says something else of sponsorship, but has the same sponsors of its signers
+sponsorship_bytes : (sponsorship : AccountEntryExtensionV2) (account : AccountEntry) → AreAccountBytes account
+    → All IsIdIf sponsorship.signer_sponsoring_ids → AreAccountBytes (with_sponsorship sponsorship account)
+sponsorship_bytes sponsorship account bytes all = record {
+  id = bytes.id;
+  inflation_dest = bytes.inflation_dest;
+  home_domain = bytes.home_domain;
+  thresholds = bytes.thresholds;
+  signers = bytes.signers;
+  sponsors = all;
+}
+
+new_count_bytes : (count : Count) (n : ℕ) → KeepsAccounts (with_new_count count n)
+new_count_bytes SubEntries n account bytes = record {
+  id = bytes.id;
+  inflation_dest = bytes.inflation_dest;
+  home_domain = bytes.home_domain;
+  thresholds = bytes.thresholds;
+  signers = bytes.signers;
+  sponsors = bytes.sponsors;
+}
+new_count_bytes Sponsoring n account bytes =
+    sponsorship_bytes (record (sponsorship_of account) { num_sponsoring = n }) account bytes
+    (sponsors_of account.signers (second_in account.ext) bytes.sponsors)
+new_count_bytes Sponsored n account bytes =
+    sponsorship_bytes (record (sponsorship_of account) { num_sponsored = n }) account bytes
+    (sponsors_of account.signers (second_in account.ext) bytes.sponsors)
+
+either_bytes : (b : Bool) (x y : AccountEntry) → AreAccountBytes x → AreAccountBytes y
+    → AreAccountBytes (if b then x else y)
+either_bytes true x y here there = here
+either_bytes false x y here there = there
+
+pub count_bytes : (count : Count) (n : ℕ) → KeepsAccounts (with_count count n)
+unfolding with_count
+count_bytes count n account bytes =
+    either_bytes (nat_eq n (count_in count account)) account (with_new_count count n account) bytes
+    (new_count_bytes count n account bytes)
+
+more_paid : (k : ℕ) (sponsor : Option AccountId) → KeepsAccounts (paying.with_more_paid k sponsor)
+more_paid k None account bytes = bytes
+more_paid k (Some sponsor) account bytes = count_bytes Sponsored _ account bytes
+
+less_paid : (k : ℕ) (sponsor : Option AccountId) → KeepsAccounts (paying.with_less_paid k sponsor)
+less_paid k None account bytes = bytes
+less_paid k (Some sponsor) account bytes = count_bytes Sponsored _ account bytes
+
+pub subentry_bytes : (k : ℕ) (sponsor : Option AccountId) → KeepsAccounts (paying.with_subentry k sponsor)
+subentry_bytes k sponsor account bytes =
+    more_paid k sponsor (with_more SubEntries k account) (count_bytes SubEntries _ account bytes)
+
+pub without_subentry_bytes : (k : ℕ) (sponsor : Option AccountId) → KeepsAccounts (paying.without_subentry k sponsor)
+without_subentry_bytes k sponsor account bytes =
+    less_paid k sponsor (with_less SubEntries k account) (count_bytes SubEntries _ account bytes)
+
+pub other_payer_bytes : (k : ℕ) (old new : Option AccountId) → KeepsAccounts (paying.with_other_payer k old new)
+other_payer_bytes k old new account bytes =
+    more_paid k new (paying.with_less_paid k old account) (less_paid k old account bytes)
+
+-- ---- payers
+
+pub charging_bytes : (k : ℕ) (sponsor : Option AccountId) (m : EntryMap) → AreBytes m
+    → AreBytes (paying.map_after_charging k sponsor m)
+charging_bytes k None m each = each
+charging_bytes k (Some sponsor) m each =
+    with_account_bytes m sponsor (with_more Sponsoring k) (λ account bytes. count_bytes Sponsoring _ account bytes) each
+
+pub releasing_bytes : (k : ℕ) (sponsor : Option AccountId) (m : EntryMap) → AreBytes m
+    → AreBytes (paying.map_after_releasing k sponsor m)
+releasing_bytes k None m each = each
+releasing_bytes k (Some sponsor) m each =
+    with_account_bytes m sponsor (with_less Sponsoring k) (λ account bytes. count_bytes Sponsoring _ account bytes) each
+
+pub exchange_bytes : (k : ℕ) (old new : Option AccountId) (m : EntryMap) → AreBytes m
+    → AreBytes (paying.map_after_exchange k old new m)
+exchange_bytes k old new m each =
+    charging_bytes k new (paying.map_after_releasing k old m) (releasing_bytes k old m each)
+
+-- ---- signers
+
+-- a change of a list that keeps what holds of all of it
+abbrev KeepsAll : (List (Option AccountId) → List (Option AccountId)) → Type 0
+KeepsAll change = (xs : List (Option AccountId)) → All IsIdIf xs → All IsIdIf (change xs)
+
+changed_second : (change : List (Option AccountId) → List (Option AccountId))
+    (second : Option AccountEntryExtensionV2) → KeepsAll change → All IsIdIf (sponsors_in second)
+    → All IsIdIf (sponsors_in (with_sponsors_in change second))
+changed_second change None keep all = all
+changed_second change (Some ext) keep all = keep ext.signer_sponsoring_ids all
+
+changed_sponsors : (change : List (Option AccountId) → List (Option AccountId))
+    (ext : Option AccountEntryExtensionV1) → KeepsAll change → All IsIdIf (sponsors_in (second_in ext))
+    → All IsIdIf (sponsors_in (second_in (with_sponsors change ext)))
+changed_sponsors change None keep all = all
+changed_sponsors change (Some ext) keep all = changed_second change ext.ext keep all
+
+insert_all : {X : Type 0} (P : X → Type 0) (xs : List X) (i : ℕ) (x : X) → All P xs → P x → All P (insert xs i x)
+insert_all P xs i x all here = All-append P (take i xs) (x ∷ drop i xs) (All-take P i xs all)
+    (All-cons P x (drop i xs) here (All-drop P i xs all))
+
+remove_all : {X : Type 0} (P : X → Type 0) (xs : List X) (i : ℕ) → All P xs → All P (remove xs i)
+remove_all P xs i all = All-append P (take i xs) (drop (suc i) xs) (All-take P i xs all) (All-drop P (suc i) xs all)
+
+pub signer_at_bytes : (place : ℕ) (signer : Signer) (sponsor : Option AccountId) → IsSpelled signer_key signer.key
+    → IsIdIf sponsor → KeepsAccounts (with_signer_at place signer sponsor)
+signer_at_bytes place signer sponsor spelled named account bytes = record {
+  id = bytes.id;
+  inflation_dest = bytes.inflation_dest;
+  home_domain = bytes.home_domain;
+  thresholds = bytes.thresholds;
+  signers = insert_all IsKey account.signers place signer bytes.signers spelled;
+  sponsors = changed_sponsors (λ sponsors. insert sponsors place sponsor) account.ext
+      (λ xs all. insert_all IsIdIf xs place sponsor all named) bytes.sponsors;
+}
+
+pub without_signer_bytes : (place : ℕ) → KeepsAccounts (without_signer place)
+without_signer_bytes place account bytes = record {
+  id = bytes.id;
+  inflation_dest = bytes.inflation_dest;
+  home_domain = bytes.home_domain;
+  thresholds = bytes.thresholds;
+  signers = remove_all IsKey account.signers place bytes.signers;
+  sponsors = changed_sponsors (λ sponsors. remove sponsors place) account.ext
+      (λ xs all. remove_all IsIdIf xs place all) bytes.sponsors;
+}
+
+pub signer_sponsor_bytes : (place : ℕ) (sponsor : Option AccountId) → IsIdIf sponsor
+    → KeepsAccounts (with_signer_sponsor place sponsor)
+signer_sponsor_bytes place sponsor named account bytes = record {
+  id = bytes.id;
+  inflation_dest = bytes.inflation_dest;
+  home_domain = bytes.home_domain;
+  thresholds = bytes.thresholds;
+  signers = bytes.signers;
+  sponsors = changed_sponsors (λ sponsors. slice_set sponsors place sponsor) account.ext
+      (λ xs all. All-set IsIdIf xs place sponsor named all) bytes.sponsors;
+}

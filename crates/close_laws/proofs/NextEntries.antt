@@ -1,0 +1,329 @@
+-- What a close leaves can be written, and is of the kinds that are built.
+use Rattle.std.proofs.Common.{◌≡◌, ℕ, ◌+◌, ◌^◌, ◌<◌, ◌≤◌, refl, sym, ap, subst, ◌∙◌, List, [], length, All}
+use Rattle.std.proofs.Common.{Option, Some, None, ℤ, pos, inl, inr, arith}
+use Rattle.std.proofs.lemmas.Int.{ints}
+use Rattle.std.proofs.lemmas.List.Elements.{All-nil, All-weaker}
+use Rattle.std.specs.Prelude.{◌+ℤ◌, ◌≤ℤ◌}
+use Rattle.std.specs.FinMap.{get}
+use Rattle.ledger_types.specs.declared.signer.Signer.{Signer}
+use Rattle.ledger_types.specs.declared.account.AccountEntry.{AccountEntry}
+use Rattle.ledger_types.specs.declared.account.AccountEntryExtensionV1.{AccountEntryExtensionV1}
+use Rattle.ledger_types.specs.declared.account.AccountEntryExtensionV2.{AccountEntryExtensionV2}
+use Rattle.ledger_types.specs.declared.data_entry.DataEntry.{DataEntry}
+use Rattle.ledger_types.specs.declared.entry.LedgerEntry.{LedgerEntry}
+use Rattle.ledger_types.specs.declared.entry.LedgerEntryBody.{LedgerEntryBody}
+use Rattle.ledger_types.specs.declared.entry.LedgerEntryBody.TheVariants as body
+use Rattle.ledger_types.specs.declared.entry.LedgerEntryExtensionV1.{LedgerEntryExtensionV1}
+use Rattle.ledger_types.specs.declared.key.LedgerKey.{LedgerKey}
+use Rattle.ledger_types.specs.Keys.{key_of_body}
+use Rattle.xdr_core.specs.Leaves.{u32}
+use Rattle.xdr_core.specs.Combinators.{extension}
+use Rattle.xdr_core.specs.Xdr.{list_of, optional, extension_of}
+use Rattle.xdr_header.specs.declared.record.CloseRecord.{CloseRecord}
+use Rattle.xdr_entries.specs.Basic.{account_id, signer}
+use Rattle.xdr_entries.specs.Entries.{account_extension_v2, account_extension_v1, account_head, account_tail}
+use Rattle.xdr_entries.specs.Entries.{account_entry}
+use Rattle.xdr_entries.specs.Entries.{data_entry, ledger_entry_body, ledger_entry_extension_v1, ledger_entry}
+use Rattle.entry_map.specs.EntryMap.{EntryMap}
+use Rattle.entry_map.specs.Batch.{parts_of}
+use Rattle.entry_changes.specs.Next.{IsNextAt}
+use Rattle.entry_slots.specs.Accounts.{account_at, account_of, account_in}
+use Rattle.entry_slots.specs.AccountExtensions.{account_liabilities, num_sponsoring, num_sponsored, second_in}
+use Rattle.entry_slots.specs.AccountExtensions.{sponsorship_in}
+use Rattle.entry_slots.specs.EntrySponsor.{sponsor_in}
+use Rattle.entry_sums.specs.Sums.{total}
+use Rattle.entry_sums.proofs.Summing.{total_none}
+use Rattle.reserve_rules.specs.Reserve.{greatest_i64}
+use Rattle.sponsor_rules.specs.Payers.{IsReadyAccount}
+use Rattle.legal_rules.specs.Books.{Selling, counted, stated, stated_at}
+use Rattle.legal_rules.specs.Bounds.{AreSubentriesFew, DoReservesFit}
+use Rattle.legal_rules.specs.Trades.{sells}
+use Rattle.legal_rules.specs.Legal.{view, IsLegal}
+use Rattle.legal_rules.specs.Ranges.{IsAccountInRange, IsBodyInRange}
+use Rattle.op_laws.specs.Steps.{SettledLegal, SettledReady}
+use Rattle.entry_changes.specs.Spellable.{AreSpellable}
+use Rattle.header_chain.specs.SkipList.{finished}
+use Rattle.tx_apply.specs.Laws.{SetsConserve}
+use Rattle.close_rules.specs.State.{ClosingState, IsSpelled, IsBuiltBody, AreBuilt}
+use Rattle.close_rules.specs.Close.{closing_in, applied_in, upgraded_header}
+use Rattle.close_laws.specs.Legal.{IsClosable, AreClosed, EntriesStaySpellable}
+use Rattle.close_laws.proofs.Unmarked.{AreMapsAlike, next_alike, stood}
+use Rattle.close_laws.proofs.Spelled.{each_spelled}
+use Rattle.close_laws.proofs.SpelledEntries.{signers_spelled}
+use Rattle.close_laws.proofs.SpelledSets.{set_spelled}
+use Rattle.close_laws.proofs.Unrefused.{seq_below}
+use Rattle.close_laws.proofs.NextLegal.{next_settled, next_is_legal}
+use Rattle.close_laws.proofs.Bytes.{IsIdIf, no_id, IsKey, sponsors_in, AreAccountBytes, AreDataBytes, AreBodyBytes}
+use Rattle.close_laws.proofs.Bytes.{AreEntryBytes, AreBytes}
+use Rattle.close_laws.proofs.BytesSets.{set_bytes}
+use Rattle.close_laws.proofs.ShortEntries.{AreAccountNumbers, AreBodyNumbers, entry_spellable}
+
+-- ---- the bytes of entries that can be written
+
+signer_key_spelled : (one : Signer) → IsSpelled signer one → IsKey one
+unfolding signer
+signer_key_spelled one spelled = record { within = spelled.within.0; sized = spelled.sized.0 }
+
+all_keys : (all : List Signer) → IsSpelled (list_of 20 signer) all → All IsKey all
+all_keys all spelled = λ k d within. signer_key_spelled _ (each_spelled 20 signer all spelled k d within)
+
+v2_sponsors : (ext : AccountEntryExtensionV2) → IsSpelled account_extension_v2 ext
+    → All IsIdIf ext.signer_sponsoring_ids
+unfolding account_extension_v2
+v2_sponsors ext spelled =
+    each_spelled 20 (optional account_id) ext.signer_sponsoring_ids
+    (record { within = spelled.within.1.1.0; sized = spelled.sized.1.1.0 })
+
+second_sponsors : (second : Option AccountEntryExtensionV2)
+    → IsSpelled (extension_of (pos 2) account_extension_v2) second → All IsIdIf (sponsors_in second)
+unfolding extension
+second_sponsors None spelled = All-nil IsIdIf
+second_sponsors (Some ext) spelled = v2_sponsors ext (record { within = spelled.within; sized = spelled.sized })
+
+v1_second : (ext : AccountEntryExtensionV1) → IsSpelled account_extension_v1 ext
+    → IsSpelled (extension_of (pos 2) account_extension_v2) ext.ext
+unfolding account_extension_v1
+v1_second ext spelled = record { within = spelled.within.1; sized = spelled.sized.1 }
+
+ext_sponsors : (ext : Option AccountEntryExtensionV1) → IsSpelled (extension_of (pos 1) account_extension_v1) ext
+    → All IsIdIf (sponsors_in (second_in ext))
+unfolding extension
+ext_sponsors None spelled = All-nil IsIdIf
+ext_sponsors (Some ext) spelled =
+    second_sponsors ext.ext (v1_second ext (record { within = spelled.within; sized = spelled.sized }))
+
+account_bytes : (account : AccountEntry) → IsSpelled account_entry account → AreAccountBytes account
+unfolding account_entry account_head account_tail
+account_bytes account spelled = record {
+  id = record { within = spelled.within.0.0; sized = spelled.sized.0.0 };
+  inflation_dest = record { within = spelled.within.0.1.1.1.1.0; sized = spelled.sized.0.1.1.1.1.0 };
+  home_domain = record { within = spelled.within.1.0; sized = spelled.sized.1.0 };
+  thresholds = record { within = spelled.within.1.1.0; sized = spelled.sized.1.1.0 };
+  signers = all_keys account.signers (signers_spelled account spelled);
+  sponsors = ext_sponsors account.ext (record { within = spelled.within.1.1.1.1; sized = spelled.sized.1.1.1.1 });
+}
+
+data_bytes : (entry : DataEntry) → IsSpelled data_entry entry → AreDataBytes entry
+unfolding data_entry
+data_bytes entry spelled = record {
+  id = record { within = spelled.within.0; sized = spelled.sized.0 };
+  name = record { within = spelled.within.1.0; sized = spelled.sized.1.0 };
+  value = record { within = spelled.within.1.1.0; sized = spelled.sized.1.1.0 };
+}
+
+body_bytes : (of : LedgerEntryBody) → IsSpelled ledger_entry_body of → IsBuiltBody of → AreBodyBytes of
+unfolding ledger_entry_body
+body_bytes (body.Account account) spelled built =
+    account_bytes account (record { within = spelled.within; sized = spelled.sized })
+body_bytes (body.Data entry) spelled built =
+    data_bytes entry (record { within = spelled.within; sized = spelled.sized })
+body_bytes (body.TrustLine line) spelled built = absurd built
+body_bytes (body.Offer offer) spelled built = absurd built
+body_bytes (body.ClaimableBalance balance) spelled built = absurd built
+body_bytes (body.LiquidityPool pool) spelled built = absurd built
+
+sponsor_id : (ext : LedgerEntryExtensionV1) → IsSpelled ledger_entry_extension_v1 ext → IsIdIf ext.sponsoring_id
+unfolding ledger_entry_extension_v1
+sponsor_id ext spelled = record { within = spelled.within.0; sized = spelled.sized.0 }
+
+sponsor_bytes : (ext : Option LedgerEntryExtensionV1) → IsSpelled (extension_of (pos 1) ledger_entry_extension_v1) ext
+    → IsIdIf (sponsor_in ext)
+unfolding extension
+sponsor_bytes None spelled = no_id
+sponsor_bytes (Some ext) spelled = sponsor_id ext (record { within = spelled.within; sized = spelled.sized })
+
+entry_bytes : (e : LedgerEntry) → IsSpelled ledger_entry e → IsBuiltBody e.body → AreEntryBytes e
+unfolding ledger_entry
+entry_bytes e spelled built = record {
+  body = body_bytes e.body (record { within = spelled.within.1.0; sized = spelled.sized.1.0 }) built;
+  sponsor = sponsor_bytes e.ext (record { within = spelled.within.1.1; sized = spelled.sized.1.1 });
+}
+
+entry_seq : (e : LedgerEntry) → IsSpelled ledger_entry e → e.last_modified_ledger_seq < 4294967296
+unfolding ledger_entry u32
+entry_seq e spelled = below spelled.sized.0
+  where
+    below : {n : ℕ} → n < 256 ^ 4 → n < 4294967296
+    below lt = omega arith
+
+map_bytes : (m : EntryMap) → AreSpellable m → AreBuilt m → AreBytes m
+map_bytes m spellable built = λ k e there.
+    let found = spellable k e there in
+    entry_bytes e (record { within = found.within; sized = found.sized }) (built k e there)
+
+-- ---- behind the close
+
+abbrev Parts : Type 0
+Parts = LedgerEntryBody × Option LedgerEntryExtensionV1
+
+record ArePartsBytes (parts : Parts) : Type 0 where
+  body : AreBodyBytes parts.0
+  sponsor : IsIdIf (sponsor_in parts.1)
+
+bytes_by_parts : (x e : LedgerEntry) → parts_of x ≡ parts_of e → AreEntryBytes x → AreEntryBytes e
+bytes_by_parts x e same bytes =
+    let parts : ArePartsBytes (parts_of e) =
+    subst ArePartsBytes same (record { body = bytes.body; sponsor = bytes.sponsor }) in
+    record { body = parts.body; sponsor = parts.sponsor }
+
+alike_bytes : (m n : EntryMap) → AreMapsAlike m n → AreBytes m → AreBytes n
+alike_bytes m n alike each = λ k e there.
+    let x = stood (get m k) (get n k) e (alike k) there in
+    bytes_by_parts x.0 e x.2 (each k x.0 x.1)
+
+some_is : (a b : LedgerEntry) → Some a ≡ Some b → a ≡ b
+some_is a b e = cc
+
+-- the number of a ledger is that of the closing one, or what it was
+seq_of : (seq : ℕ) (before worked after : Option LedgerEntry) (e : LedgerEntry) → seq < 4294967296
+    → ((was : LedgerEntry) → before ≡ Some was → was.last_modified_ledger_seq < 4294967296)
+    → IsNextAt seq before worked after → after ≡ Some e → e.last_modified_ledger_seq < 4294967296
+seq_of seq None None after e lt old is there = absurd (let none = sym is ∙ there in none_is none)
+  where
+    none_is : None ≡ Some e → ⊥
+    none_is h = absurd (cc)
+seq_of seq (Some was) None after e lt old is there = absurd (let none = sym is ∙ there in none_is none)
+  where
+    none_is : None ≡ Some e → ⊥
+    none_is h = absurd (cc)
+seq_of seq None (Some x) after e lt old is there =
+    subst (λ (z : LedgerEntry). z.last_modified_ledger_seq < 4294967296) (some_is _ e (sym is ∙ there)) lt
+seq_of seq (Some was) (Some x) after e lt old is there =
+    elim is [
+      | inl h ↦ subst (λ (z : LedgerEntry). z.last_modified_ledger_seq < 4294967296) (some_is _ e (sym h.1 ∙ there))
+          (old was refl)
+      | inr h ↦ subst (λ (z : LedgerEntry). z.last_modified_ledger_seq < 4294967296) (some_is _ e (sym h.1 ∙ there)) lt
+    ]
+
+-- ---- the numbers of accounts
+
+-- nothing is sold where no offer stands
+nothing_sold : (m : EntryMap) (k : LedgerKey) → AreBytes m → total (counted (view m) Selling k) m ≡ pos 0
+nothing_sold m k each = total_none (counted (view m) Selling k) m (λ q e there. by e (each q e there).body)
+  where
+    by_body : (of : LedgerEntryBody) → AreBodyBytes of → sells k of ≡ pos 0
+    by_body (body.Account account) bytes = refl
+    by_body (body.Data entry) bytes = refl
+    by_body (body.TrustLine line) bytes = absurd bytes
+    by_body (body.Offer offer) bytes = absurd bytes
+    by_body (body.ClaimableBalance balance) bytes = absurd bytes
+    by_body (body.LiquidityPool pool) bytes = absurd bytes
+
+    by : (e : LedgerEntry) → AreBodyBytes e.body → counted (view m) Selling k e ≡ pos 0
+    by e bytes = by_body e.body bytes
+
+nothing_at_most : (n : ℤ) → n ≡ pos 0 → n ≤ℤ greatest_i64
+nothing_at_most n is = omega (arith, ints)
+
+at_most_whole : (balance buying : ℤ) → pos 0 ≤ℤ buying → (balance +ℤ buying) ≤ℤ greatest_i64 → balance ≤ℤ greatest_i64
+at_most_whole balance buying low fits = omega (arith, ints)
+
+buying_at_most : (balance buying : ℤ) → pos 0 ≤ℤ balance → (balance +ℤ buying) ≤ℤ greatest_i64 → buying ≤ℤ greatest_i64
+buying_at_most balance buying low fits = omega (arith, ints)
+
+few_recorded : (signers : List Signer) (second : Option AccountEntryExtensionV2)
+    → length (sponsorship_in signers second).signer_sponsoring_ids ≡ length signers → length signers ≤ 20
+    → length (sponsors_in second) ≤ 20
+few_recorded signers None same few = omega arith
+few_recorded signers (Some ext) same few = omega (arith, same, few)
+
+account_numbers : (account : AccountEntry) → IsAccountInRange account → account.num_sub_entries ≤ 1000
+    → account.num_sub_entries + num_sponsoring account ≤ 4294967295 → IsReadyAccount account
+    → length account.signers ≤ 20 → (account_liabilities account).selling ≡ pos 0 → AreAccountNumbers account
+account_numbers account range few fits ready signers sold = record {
+  balance_low = range.range.balance;
+  balance_high = at_most_whole account.balance (account_liabilities account).buying range.range.buying range.range.fits;
+  seq_low = range.seq_num;
+  seq_high = range.greatest_seq_num;
+  subentries = few;
+  flags = range.flags.known;
+  signers = signers;
+  weights = All-weaker (λ one. (1 ≤ one.weight) × (one.weight ≤ 255)) (λ one. one.weight ≤ 255) (λ one both. both.1)
+      account.signers range.signers.weights;
+  ext = record {
+    buying_low = range.range.buying;
+    buying_high = buying_at_most account.balance (account_liabilities account).buying range.range.balance
+        range.range.fits;
+    selling_low = range.range.selling;
+    selling_high = nothing_at_most (account_liabilities account).selling sold;
+    sponsored = below_sponsored (num_sponsored account) ready.sponsored;
+    sponsoring = below_sponsoring account.num_sub_entries (num_sponsoring account) fits;
+    few = few_recorded account.signers (second_in account.ext) range.signers.items signers;
+  };
+}
+  where
+    below_sponsored : (n : ℕ) → n ≤ 4294967293 → n < 4294967296
+    below_sponsored n le = omega arith
+
+    below_sponsoring : (k n : ℕ) → k + n ≤ 4294967295 → n < 4294967296
+    below_sponsoring k n le = omega arith
+
+-- ---- all entries
+
+module _ (legal : SettledLegal) (conserve : SetsConserve) (ready : SettledReady) (s : ClosingState)
+    (closing : CloseRecord) (after : EntryMap) (can : IsClosable s closing) (closed : AreClosed s closing after) where
+  next_bytes : AreBytes after
+  next_bytes =
+      alike_bytes (applied_in s closing).entries after
+      (next_alike (s.header.ledger_seq + 1) s.entries (applied_in s closing).entries after closed)
+      (set_bytes (closing_in s closing) closing.tx_set s.entries (set_spelled closing can.spelled)
+      (map_bytes s.entries can.state.entries can.state.built))
+
+  next_seq : (k : LedgerKey) (e : LedgerEntry) → get after k ≡ Some e → e.last_modified_ledger_seq < 4294967296
+  next_seq k e there =
+      seq_of (s.header.ledger_seq + 1) (get s.entries k) (get (applied_in s closing).entries k) (get after k) e
+      (small (seq_below s closing can.unrefused can.state.legal.header.seq_high))
+      (λ was stands. let found = can.state.entries k was stands in
+      entry_seq was (record { within = found.within; sized = found.sized }))
+      (closed.each k) there
+    where
+      small : {n : ℕ} → n < 2147483647 → n + 1 < 4294967296
+      small lt = omega arith
+
+  -- legal under any header, whose hash of the levels says nothing of entries
+  next_legal : IsLegal (finished (upgraded_header s closing) (record { 0 = [] })) after
+  next_legal = next_is_legal legal conserve s closing after (record { 0 = [] }) can closed
+
+  sold : (k : LedgerKey) (e : LedgerEntry) → get after k ≡ Some e → stated_at Selling (Some e) ≡ pos 0
+  sold k e there = ap (stated_at Selling) (sym there) ∙ next_legal.selling k ∙ nothing_sold after k next_bytes
+
+  stands : (k : LedgerKey) (e : LedgerEntry) (account : AccountEntry) → get after k ≡ Some e
+      → e.body ≡ body.Account account → account_at after account.account_id ≡ Some account
+  unfolding account_at
+  stands k e account there is =
+      ap (λ (q : LedgerKey). account_of (get after q)) (ap key_of_body (sym is) ∙ next_legal.keyed k e there)
+      ∙ ap account_of there ∙ ap account_in is
+
+  numbers_of : (k : LedgerKey) (e : LedgerEntry) (of : LedgerEntryBody) → get after k ≡ Some e → e.body ≡ of
+      → AreBodyNumbers of
+  numbers_of k e (body.Account account) there is =
+      let settled = next_settled conserve s closing can after closed in
+      let at = stands k e account there is in
+      let id_pool = (finished (upgraded_header s closing) (record { 0 = [] })).id_pool in
+      account_numbers account (subst (IsBodyInRange id_pool) is (next_legal.entries k e there).body)
+      (subst AreSubentriesFew is (next_legal.few k e there)) (subst DoReservesFit is (next_legal.fits k e there))
+      ((ready (applied_in s closing).id_pool after settled).ready account.account_id account at)
+      (settled.signers.few account.account_id account at)
+      (sym (ap (stated Selling) is) ∙ sold k e there)
+  numbers_of k e other there is = tt
+
+  pub next_spellable : AreSpellable after
+  next_spellable k e there =
+      entry_spellable e (next_seq k e there) (next_bytes k e there) (numbers_of k e e.body there refl)
+
+  pub next_built : AreBuilt after
+  next_built k e there = by e.body (next_bytes k e there).body
+    where
+      by : (of : LedgerEntryBody) → AreBodyBytes of → IsBuiltBody of
+      by (body.Account account) bytes = tt
+      by (body.Data entry) bytes = tt
+      by (body.TrustLine line) bytes = absurd bytes
+      by (body.Offer offer) bytes = absurd bytes
+      by (body.ClaimableBalance balance) bytes = absurd bytes
+      by (body.LiquidityPool pool) bytes = absurd bytes
+
+pub entries_stay_spellable : SettledLegal → SetsConserve → SettledReady → EntriesStaySpellable
+entries_stay_spellable legal conserve ready s closing after can closed = (
+  next_spellable legal conserve ready s closing after can closed,
+  next_built legal conserve ready s closing after can closed,
+)

@@ -1,0 +1,211 @@
+-- The header behind a close is in its ranges.
+use Rattle.std.proofs.Common.{◌≡◌, ℕ, ◌+◌, ◌*◌, ◌^◌, ◌<◌, ◌≤◌, refl, List, [], ◌∷◌, map, All}
+use Rattle.std.proofs.Common.{Option, Some, None, arith}
+use Rattle.std.proofs.lemmas.Int.{ints}
+use Rattle.std.proofs.lemmas.List.Elements.{All-head, All-tail}
+use Rattle.std.specs.Prelude.{ℤ, pos, ◌+ℤ◌, ◌≤ℤ◌}
+use Rattle.ledger_types.specs.declared.ids.Hash.{Hash}
+use Rattle.ledger_types.specs.declared.header.LedgerHeader.{LedgerHeader}
+use Rattle.ledger_types.specs.declared.header.LedgerUpgrade.{LedgerUpgrade}
+use Rattle.ledger_types.specs.declared.header.LedgerUpgrade.TheVariants as upgrade
+use Rattle.xdr_header.specs.declared.record.CloseRecord.{CloseRecord}
+use Rattle.op_types.specs.declared.transaction.TransactionEnvelope.{TransactionEnvelope}
+use Rattle.entry_map.specs.EntryMap.{EntryMap}
+use Rattle.legal_rules.specs.Headers.{IsHeaderInRange}
+use Rattle.header_chain.specs.Upgrades.{upgrade_in, upgraded, upgraded_if, all_upgraded}
+use Rattle.header_chain.specs.SkipList.{finished}
+use Rattle.tx_apply.specs.Fees.{map_after_fee, fees_taken, sum_of}
+use Rattle.tx_apply.specs.Set.{envelopes_in_order, fees_taken_of}
+use Rattle.close_rules.specs.State.{ClosingState}
+use Rattle.close_rules.specs.Refusals.{record_fault}
+use Rattle.close_rules.specs.Close.{closing_in, applied_in, filled_header, upgraded_header}
+use Rattle.close_laws.proofs.Drawn.{all_ids}
+use Rattle.close_laws.proofs.Unrefused.{IsGood, IsGoodRead, upgrades_good}
+
+-- ---- upgrades
+
+range_upgraded : (h : LedgerHeader) (asked : LedgerUpgrade) → IsGood asked → IsHeaderInRange h
+    → IsHeaderInRange (upgraded h asked)
+range_upgraded h (upgrade.Version n) good range = absurd good
+range_upgraded h (upgrade.BaseFee n) good range = record {
+  version = range.version;
+  seq_low = range.seq_low;
+  seq_high = range.seq_high;
+  base_fee = good;
+  base_reserve = range.base_reserve;
+  total_coins = range.total_coins;
+  fee_pool = range.fee_pool;
+  id_pool = range.id_pool;
+  flags = range.flags;
+}
+range_upgraded h (upgrade.MaxTxSetSize n) good range = record {
+  version = range.version;
+  seq_low = range.seq_low;
+  seq_high = range.seq_high;
+  base_fee = range.base_fee;
+  base_reserve = range.base_reserve;
+  total_coins = range.total_coins;
+  fee_pool = range.fee_pool;
+  id_pool = range.id_pool;
+  flags = range.flags;
+}
+range_upgraded h (upgrade.BaseReserve n) good range = record {
+  version = range.version;
+  seq_low = range.seq_low;
+  seq_high = range.seq_high;
+  base_fee = range.base_fee;
+  base_reserve = good;
+  total_coins = range.total_coins;
+  fee_pool = range.fee_pool;
+  id_pool = range.id_pool;
+  flags = range.flags;
+}
+range_upgraded h (upgrade.Flags n) good range = record {
+  version = range.version;
+  seq_low = range.seq_low;
+  seq_high = range.seq_high;
+  base_fee = range.base_fee;
+  base_reserve = range.base_reserve;
+  total_coins = range.total_coins;
+  fee_pool = range.fee_pool;
+  id_pool = range.id_pool;
+  flags = good;
+}
+
+-- what no upgrade changes
+pub record KeepsCounts (was h : LedgerHeader) : Type 0 where
+  pub ledger_seq : h.ledger_seq ≡ was.ledger_seq
+  pub total_coins : h.total_coins ≡ was.total_coins
+  pub fee_pool : h.fee_pool ≡ was.fee_pool
+  pub id_pool : h.id_pool ≡ was.id_pool
+
+counts_upgraded : (was h : LedgerHeader) (asked : LedgerUpgrade) → KeepsCounts was h
+    → KeepsCounts was (upgraded h asked)
+counts_upgraded was h (upgrade.Version n) kept = record {
+  ledger_seq = kept.ledger_seq;
+  total_coins = kept.total_coins;
+  fee_pool = kept.fee_pool;
+  id_pool = kept.id_pool;
+}
+counts_upgraded was h (upgrade.BaseFee n) kept = record {
+  ledger_seq = kept.ledger_seq;
+  total_coins = kept.total_coins;
+  fee_pool = kept.fee_pool;
+  id_pool = kept.id_pool;
+}
+counts_upgraded was h (upgrade.MaxTxSetSize n) kept = record {
+  ledger_seq = kept.ledger_seq;
+  total_coins = kept.total_coins;
+  fee_pool = kept.fee_pool;
+  id_pool = kept.id_pool;
+}
+counts_upgraded was h (upgrade.BaseReserve n) kept = record {
+  ledger_seq = kept.ledger_seq;
+  total_coins = kept.total_coins;
+  fee_pool = kept.fee_pool;
+  id_pool = kept.id_pool;
+}
+counts_upgraded was h (upgrade.Flags n) kept = record {
+  ledger_seq = kept.ledger_seq;
+  total_coins = kept.total_coins;
+  fee_pool = kept.fee_pool;
+  id_pool = kept.id_pool;
+}
+
+-- a header in its ranges, with these counts
+pub record IsUpgradedFrom (was h : LedgerHeader) : Type 0 where
+  pub range : IsHeaderInRange h
+  pub counts : KeepsCounts was h
+
+upgraded_once : (was h : LedgerHeader) (asked : Option LedgerUpgrade) → IsGoodRead asked → IsUpgradedFrom was h
+    → IsUpgradedFrom was (upgraded_if h asked)
+upgraded_once was h None good from = absurd good
+upgraded_once was h (Some asked) good from =
+    record { range = range_upgraded h asked good from.range; counts = counts_upgraded was h asked from.counts }
+
+upgraded_all : (was h : LedgerHeader) (asked : List (Option LedgerUpgrade)) → All IsGoodRead asked
+    → IsUpgradedFrom was h → IsUpgradedFrom was (all_upgraded h asked)
+upgraded_all was h [] good from = from
+upgraded_all was h (first ∷ others) good from =
+    upgraded_all was (upgraded_if h first) others (All-tail IsGoodRead first others good)
+    (upgraded_once was h first (All-head IsGoodRead first others good) from)
+
+-- ---- fees
+
+fee_low : (n : ℕ) (sum : ℤ) → pos 0 ≤ℤ sum → pos 0 ≤ℤ (pos n +ℤ sum)
+fee_low n sum low = grind (arith, ints)
+
+nothing_low : pos 0 ≤ℤ pos 0
+nothing_low = omega (arith, ints)
+
+-- fees come to no less than nothing
+pub fees_low : (base : ℕ) (envelopes : List TransactionEnvelope) (m : EntryMap)
+    → pos 0 ≤ℤ sum_of (fees_taken base envelopes m).fees
+unfolding fees_taken sum_of
+fees_low base [] m = nothing_low
+fees_low base (envelope ∷ envelopes) m = fee_low _ _ (fees_low base envelopes (map_after_fee base envelope m))
+
+-- ---- the header
+
+pool_low : (pool sum : ℤ) → pos 0 ≤ℤ pool → pos 0 ≤ℤ sum → pos 0 ≤ℤ (pool +ℤ sum)
+pool_low pool sum low least = omega (arith, ints)
+
+one_above : (seq : ℕ) → seq < 2147483647 → seq + 1 ≤ 2147483647
+one_above seq below = omega arith
+
+above_0 : (seq : ℕ) → 1 ≤ seq + 1
+above_0 seq = omega arith
+
+ids_few : (seq was now : ℕ) → was ≤ seq * 2 ^ 32 → now ≡ was → now ≤ (seq + 1) * 2 ^ 32
+ids_few seq was now low same = omega arith
+
+filled_range : (s : ClosingState) (closing : CloseRecord) → IsHeaderInRange s.header → s.header.ledger_seq < 2147483647
+    → IsHeaderInRange (filled_header s closing)
+filled_range s closing range seq = record {
+  version = range.version;
+  seq_low = above_0 s.header.ledger_seq;
+  seq_high = one_above s.header.ledger_seq seq;
+  base_fee = range.base_fee;
+  base_reserve = range.base_reserve;
+  total_coins = range.total_coins;
+  fee_pool = pool_low s.header.fee_pool _ range.fee_pool (fees_low _ _ s.entries);
+  id_pool = ids_few s.header.ledger_seq s.header.id_pool (applied_in s closing).id_pool range.id_pool
+      (all_ids (closing_in s closing) s.header.id_pool (envelopes_in_order closing.tx_set)
+      (fees_taken_of (closing_in s closing) closing.tx_set s.entries).fees
+      (fees_taken_of (closing_in s closing) closing.tx_set s.entries).entries);
+  flags = range.flags;
+}
+
+finished_range : (was h : LedgerHeader) (list_hash : Hash) → IsUpgradedFrom was h
+    → IsUpgradedFrom was (finished h list_hash)
+finished_range was h list_hash from = record {
+  range = record {
+    version = from.range.version;
+    seq_low = from.range.seq_low;
+    seq_high = from.range.seq_high;
+    base_fee = from.range.base_fee;
+    base_reserve = from.range.base_reserve;
+    total_coins = from.range.total_coins;
+    fee_pool = from.range.fee_pool;
+    id_pool = from.range.id_pool;
+    flags = from.range.flags;
+  };
+  counts = record {
+    ledger_seq = from.counts.ledger_seq;
+    total_coins = from.counts.total_coins;
+    fee_pool = from.counts.fee_pool;
+    id_pool = from.counts.id_pool;
+  };
+}
+
+-- the header is in its ranges and counts what the set leaves, whatever hash the levels have
+pub next_range : (s : ClosingState) (closing : CloseRecord) (list_hash : Hash) → IsHeaderInRange s.header
+    → record_fault s closing ≡ None → s.header.ledger_seq < 2147483647
+    → IsUpgradedFrom (filled_header s closing) (finished (upgraded_header s closing) list_hash)
+next_range s closing list_hash range none seq =
+    finished_range (filled_header s closing) (upgraded_header s closing) list_hash
+    (upgraded_all (filled_header s closing) (filled_header s closing) (map upgrade_in closing.scp_value.upgrades)
+    (upgrades_good s closing none) record {
+      range = filled_range s closing range seq;
+      counts = record { ledger_seq = refl; total_coins = refl; fee_pool = refl; id_pool = refl };
+    })

@@ -1,0 +1,60 @@
+-- A close leaves a legal state.
+use Rattle.std.proofs.Common.{sym, ap, subst, ◌∙◌}
+use Rattle.std.specs.Prelude.{ℤ, ◌+ℤ◌}
+use Rattle.ledger_types.specs.declared.ids.Hash.{Hash}
+use Rattle.ledger_types.specs.declared.asset.Asset.TheVariants as asset
+use Rattle.xdr_header.specs.declared.record.CloseRecord.{CloseRecord}
+use Rattle.entry_map.specs.EntryMap.{EntryMap}
+use Rattle.entry_sums.specs.Sums.{total}
+use Rattle.legal_rules.specs.Supply.{held}
+use Rattle.op_laws.specs.Steps.{SettledLegal}
+use Rattle.op_laws.specs.Underway.{IsSettled}
+use Rattle.header_chain.specs.SkipList.{finished}
+use Rattle.tx_apply.specs.Laws.{CanClose, IsConserved, SetsConserve}
+use Rattle.close_rules.specs.State.{ClosingState}
+use Rattle.close_rules.specs.Close.{closing_in, applied_in, filled_header, upgraded_header}
+use Rattle.close_laws.specs.Legal.{IsClosable, AreClosed, NextIsLegal}
+use Rattle.close_laws.proofs.Unmarked.{next_alike, total_alike}
+use Rattle.close_laws.proofs.AlikeLegal.{settled_alike}
+use Rattle.close_laws.proofs.SpelledEntries.{signers_few}
+use Rattle.close_laws.proofs.SpelledSets.{set_spelled, set_fit}
+use Rattle.close_laws.proofs.Unrefused.{seq_below}
+use Rattle.close_laws.proofs.NextHeader.{IsUpgradedFrom, next_range}
+
+pub can_close : (s : ClosingState) (closing : CloseRecord) → IsClosable s closing
+    → CanClose (closing_in s closing) closing.tx_set s.entries
+can_close s closing can = record {
+  legal = can.state.legal;
+  signers = signers_few s.entries can.state.entries;
+  seq = seq_below s closing can.unrefused can.state.legal.header.seq_high;
+  fit = set_fit closing.tx_set (set_spelled closing can.spelled);
+}
+
+module _ (conserve : SetsConserve) (s : ClosingState) (closing : CloseRecord) (can : IsClosable s closing) where
+  pub conserved : IsConserved (closing_in s closing) closing.tx_set s.entries
+  conserved = conserve (closing_in s closing) closing.tx_set s.entries (can_close s closing can)
+
+  pub upgraded_from : (list_hash : Hash)
+      → IsUpgradedFrom (filled_header s closing) (finished (upgraded_header s closing) list_hash)
+  upgraded_from list_hash =
+      next_range s closing list_hash can.state.legal.header can.unrefused
+      (seq_below s closing can.unrefused can.state.legal.header.seq_high)
+
+  -- what stands behind the close is settled
+  pub next_settled : (after : EntryMap) → AreClosed s closing after → IsSettled (applied_in s closing).id_pool after
+  next_settled after closed =
+      settled_alike (applied_in s closing).id_pool (applied_in s closing).entries after
+      (next_alike _ s.entries (applied_in s closing).entries after closed) conserved.settled
+
+pub next_is_legal : SettledLegal → SetsConserve → NextIsLegal
+next_is_legal legal conserve s closing after list_hash can closed =
+    let worked = (applied_in s closing).entries in
+    let next = finished (upgraded_header s closing) list_hash in
+    let from = upgraded_from conserve s closing can list_hash in
+    let same = total_alike (held asset.Native) worked after (next_alike _ s.entries worked after closed)
+    (λ e i. held asset.Native e) in
+    legal next after from.range
+    (subst (λ n. IsSettled n after) (sym from.counts.id_pool) (next_settled conserve s closing can after closed))
+    (ap (λ (n : ℤ). n +ℤ next.fee_pool) (sym same)
+    ∙ ap (λ (n : ℤ). total (held asset.Native) worked +ℤ n) from.counts.fee_pool
+    ∙ (conserved conserve s closing can).lumens ∙ sym from.counts.total_coins)

@@ -1,0 +1,388 @@
+-- What operations answer keeps the bounds on lengths.
+use Rattle.std.proofs.Common.{◌≡◌, ℕ, refl, List, [], ◌∷◌, Option, Some, None, Result, Ok, Err, Bool, true, false}
+use Rattle.std.proofs.Common.{if◌then◌else◌, pos}
+use Rattle.std.specs.Prelude.{int_lt, nat_eq, not, is_some}
+use Rattle.std.specs.FinMap.{get}
+use Rattle.ledger_types.specs.declared.ids.AccountId.{AccountId}
+use Rattle.ledger_types.specs.declared.signer.Signer.{Signer}
+use Rattle.ledger_types.specs.declared.signer.SignerKey.{SignerKey}
+use Rattle.ledger_types.specs.declared.account.AccountEntry.{AccountEntry}
+use Rattle.ledger_types.specs.declared.asset.Asset.{Asset}
+use Rattle.ledger_types.specs.declared.asset.Asset.TheVariants as asset
+use Rattle.ledger_types.specs.declared.data_entry.DataEntry.{DataEntry}
+use Rattle.ledger_types.specs.declared.key.LedgerKey.{LedgerKey}
+use Rattle.ledger_types.specs.Ids.{account_of}
+use Rattle.op_types.specs.declared.account_ops.AccountMergeOp.{AccountMergeOp}
+use Rattle.op_types.specs.declared.account_ops.BumpSequenceOp.{BumpSequenceOp}
+use Rattle.op_types.specs.declared.account_ops.CreateAccountOp.{CreateAccountOp}
+use Rattle.op_types.specs.declared.account_ops.ManageDataOp.{ManageDataOp}
+use Rattle.op_types.specs.declared.account_ops.SetOptionsOp.{SetOptionsOp}
+use Rattle.op_types.specs.declared.payment_ops.PaymentOp.{PaymentOp}
+use Rattle.op_types.specs.declared.sponsor_ops.BeginSponsoringFutureReservesOp.{BeginSponsoringFutureReservesOp}
+use Rattle.op_types.specs.declared.sponsor_ops.RevokeSponsorshipOp.{RevokeSponsorshipOp}
+use Rattle.op_types.specs.declared.sponsor_ops.RevokeSponsorshipOp.TheVariants as revoked
+use Rattle.op_types.specs.declared.operation.OperationBody.{OperationBody}
+use Rattle.op_types.specs.declared.operation.OperationBody.TheVariants as body
+use Rattle.op_types.specs.declared.operation_result.OperationResult.{OperationResult}
+use Rattle.op_types.specs.declared.operation_result.OperationResult.TheVariants as operation
+use Rattle.op_types.specs.declared.account_results.AccountMergeResult.{AccountMergeResult}
+use Rattle.op_types.specs.declared.account_results.AccountMergeResult.TheVariants as merge
+use Rattle.op_types.specs.declared.account_results.BumpSequenceResult.{BumpSequenceResult}
+use Rattle.op_types.specs.declared.account_results.BumpSequenceResult.TheVariants as bump
+use Rattle.op_types.specs.declared.account_results.ManageDataResult.{ManageDataResult}
+use Rattle.op_types.specs.declared.account_results.ManageDataResult.TheVariants as manage
+use Rattle.op_types.specs.declared.account_results.SetOptionsResult.{SetOptionsResult}
+use Rattle.op_types.specs.declared.account_results.SetOptionsResult.TheVariants as set
+use Rattle.op_types.specs.declared.payment_results.CreateAccountResult.{CreateAccountResult}
+use Rattle.op_types.specs.declared.payment_results.CreateAccountResult.TheVariants as create
+use Rattle.op_types.specs.declared.payment_results.PaymentResult.{PaymentResult}
+use Rattle.op_types.specs.declared.payment_results.PaymentResult.TheVariants as pay
+use Rattle.op_types.specs.declared.sponsor_results.BeginSponsoringFutureReservesResult.{BeginSponsoringFutureReservesResult}
+use Rattle.op_types.specs.declared.sponsor_results.BeginSponsoringFutureReservesResult.TheVariants as begin
+use Rattle.op_types.specs.declared.sponsor_results.EndSponsoringFutureReservesResult.{EndSponsoringFutureReservesResult}
+use Rattle.op_types.specs.declared.sponsor_results.EndSponsoringFutureReservesResult.TheVariants as end
+use Rattle.op_types.specs.declared.sponsor_results.RevokeSponsorshipResult.{RevokeSponsorshipResult}
+use Rattle.op_types.specs.declared.sponsor_results.RevokeSponsorshipResult.TheVariants as revoke
+use Rattle.xdr_core.specs.Leaves.{i64}
+use Rattle.xdr_results.specs.Answers.{create_account_result, payment_result, set_options_result, account_merge_result}
+use Rattle.xdr_results.specs.Answers.{manage_data_result, bump_sequence_result}
+use Rattle.xdr_results.specs.Answers.{begin_sponsoring_future_reserves_result, end_sponsoring_future_reserves_result}
+use Rattle.xdr_results.specs.Answers.{revoke_sponsorship_result}
+use Rattle.xdr_results.specs.Results.{operation_result_tr, operation_result}
+use Rattle.entry_map.specs.EntryMap.{EntryMap}
+use Rattle.entry_slots.specs.Accounts.{account_at}
+use Rattle.entry_slots.specs.DataEntries.{data_at}
+use Rattle.entry_slots.specs.Tests.{Tests, first_fault}
+use Rattle.sponsor_rules.specs.declared.context.Ctx.{Ctx}
+use Rattle.sponsor_rules.specs.declared.fault.AddFault.{AddFault}
+use Rattle.sponsor_rules.specs.declared.fault.AddFault.TheVariants as fault
+use Rattle.sponsor_rules.specs.declared.signer_place.FoundSigner.{FoundSigner}
+use Rattle.sponsor_rules.specs.Adding.{map_after_adding}
+use Rattle.sponsor_rules.specs.Moving.{map_after_moving}
+use Rattle.sponsor_rules.specs.Payers.{is_same_account, open_sponsor}
+use Rattle.sponsor_rules.specs.SignerPlace.{found_signer}
+use Rattle.sponsor_rules.specs.Signers.{map_after_adding_signer, map_after_moving_signer, map_after_removing_signer}
+use Rattle.op_form.specs.Done.{Done, Attempt, done_of}
+use Rattle.op_form.specs.Faults.{fault_result}
+use Rattle.op_form.specs.Lumens as lumens
+use Rattle.op_form.specs.Steps.{unless_result, unless_refused, after, after_some, after_charge}
+use Rattle.op_account.specs.AccountMerge as merging
+use Rattle.op_account.specs.BumpSequence as bumping
+use Rattle.op_account.specs.CreateAccount as creating
+use Rattle.op_account.specs.Operations.{account_operation}
+use Rattle.op_options.specs.ManageData as managing
+use Rattle.op_options.specs.OptionSigner as signers
+use Rattle.op_options.specs.OptionTests as tests
+use Rattle.op_options.specs.SetOptions as options
+use Rattle.op_options.specs.Operations.{options_operation}
+use Rattle.op_payment.specs.Payment as paying
+use Rattle.op_payment.specs.Operations.{payment_operation}
+use Rattle.op_sponsor.specs.BeginSponsoringFutureReserves as beginning
+use Rattle.op_sponsor.specs.EndSponsoringFutureReserves as ending
+use Rattle.op_sponsor.specs.RevokeSponsorship as revoking
+use Rattle.op_sponsor.specs.Operations.{sponsor_operation}
+use Rattle.op_laws.specs.AnyOperation.{any_operation}
+
+-- ---- results
+
+-- a result that can be written
+pub record IsAnswer (result : OperationResult) : Type 0 where
+  pub within : operation_result.within result
+
+pub no_account : IsAnswer operation.NoAccount
+unfolding operation_result
+no_account = record { within = tt }
+
+pub bad_auth : IsAnswer operation.BadAuth
+unfolding operation_result
+bad_auth = record { within = tt }
+
+not_supported : IsAnswer operation.NotSupported
+unfolding operation_result
+not_supported = record { within = tt }
+
+created : (code : CreateAccountResult) → IsAnswer (creating.answer code)
+unfolding operation_result operation_result_tr create_account_result
+created code = record { within = tt }
+
+paid : (code : PaymentResult) → IsAnswer (paying.answer code)
+unfolding operation_result operation_result_tr payment_result
+paid code = record { within = tt }
+
+optioned : (code : SetOptionsResult) → IsAnswer (tests.answer code)
+unfolding operation_result operation_result_tr set_options_result
+optioned code = record { within = tt }
+
+merged : (code : AccountMergeResult) → IsAnswer (merging.answer code)
+unfolding operation_result operation_result_tr account_merge_result i64
+merged (merge.Success amount) = record { within = tt }
+merged other = record { within = tt }
+
+managed : (code : ManageDataResult) → IsAnswer (managing.answer code)
+unfolding operation_result operation_result_tr manage_data_result
+managed code = record { within = tt }
+
+bumped : (code : BumpSequenceResult) → IsAnswer (bumping.answer code)
+unfolding operation_result operation_result_tr bump_sequence_result
+bumped code = record { within = tt }
+
+begun : (code : BeginSponsoringFutureReservesResult) → IsAnswer (beginning.answer code)
+unfolding operation_result operation_result_tr begin_sponsoring_future_reserves_result
+begun code = record { within = tt }
+
+ended : (code : EndSponsoringFutureReservesResult) → IsAnswer (ending.answer code)
+unfolding operation_result operation_result_tr end_sponsoring_future_reserves_result
+ended code = record { within = tt }
+
+revoked_with : (code : RevokeSponsorshipResult) → IsAnswer (revoking.answer code)
+unfolding operation_result operation_result_tr revoke_sponsorship_result
+revoked_with code = record { within = tt }
+
+charged : (found : AddFault) (low : OperationResult) → IsAnswer low → IsAnswer (fault_result found low)
+unfolding operation_result
+charged fault.TooManySubentries low answers = record { within = tt }
+charged fault.TooManySponsoring low answers = record { within = tt }
+charged fault.LowReserve low answers = answers
+charged fault.NoMemory low answers = answers
+
+-- ---- steps
+
+-- what holds of what a step gives, or of the result that it ends with
+abbrev Ends : {A : Type 0} → (A → Type 0) → Result A OperationResult → Type 0
+Ends P (Ok a) = P a
+Ends P (Err result) = IsAnswer result
+
+record Answers {A : Type 0} (P : A → Type 0) (made : Result A OperationResult) : Type 0 where
+  ends : Ends P made
+
+abbrev Any : {A : Type 0} → A → Type 0
+Any a = Unit {0}
+
+-- what answers, and draws no ids
+abbrev pub IsDone : (ids : ℕ) → Done → Type 0
+IsDone ids done = IsAnswer done.result × (done.ctx.id_pool ≡ ids)
+
+-- each test finds a result that can be written
+abbrev AllAnswer : Tests OperationResult → Type 0
+AllAnswer [] = Unit {0}
+AllAnswer (test ∷ others) = IsAnswer test.1 × AllAnswer others
+
+first_answers : {A : Type 0} (P : A → Type 0) (tests : Tests OperationResult) (next : Result A OperationResult)
+    → AllAnswer tests → Answers P next → Answers P (unless_refused tests next)
+first_answers P [] next all answers = answers
+first_answers P (test ∷ others) next all answers =
+    either test.0 all.0 (first_answers P others next all.1 answers)
+  where
+    either : (b : Bool) → IsAnswer test.1 → Answers P (unless_refused others next)
+        → Answers P (unless_result (if b then Some test.1 else first_fault others) next)
+    either true here rest = record { ends = here }
+    either false here rest = rest
+
+some_answers : {A B : Type 0} (P : B → Type 0) (found : Option A) (result : OperationResult)
+    (next : A → Result B OperationResult) → IsAnswer result → ((a : A) → Answers P (next a))
+    → Answers P (after_some found result next)
+some_answers P None result next here answers = record { ends = here }
+some_answers P (Some a) result next here answers = answers a
+
+charge_answers : {B : Type 0} (P : B → Type 0) (made : Result EntryMap AddFault) (low : OperationResult)
+    (next : EntryMap → Result B OperationResult) → IsAnswer low → ((m : EntryMap) → Answers P (next m))
+    → Answers P (after_charge made low next)
+charge_answers P (Err found) low next here answers = record { ends = charged found low here }
+charge_answers P (Ok m) low next here answers = answers m
+
+step_answers : {A B : Type 0} (P : B → Type 0) (made : Result A OperationResult)
+    (next : A → Result B OperationResult) → Answers Any made → ((a : A) → Answers P (next a))
+    → Answers P (after made next)
+step_answers P (Err result) next made answers = record { ends = made.ends }
+step_answers P (Ok a) next made answers = answers a
+
+either_answers : (ids : ℕ) (b : Bool) (x y : Attempt) → Answers (IsDone ids) x → Answers (IsDone ids) y
+    → Answers (IsDone ids) (if b then x else y)
+either_answers ids true x y here there = here
+either_answers ids false x y here there = there
+
+-- ---- operations
+
+create_answers : (ctx : Ctx) (op : CreateAccountOp) (m : EntryMap)
+    → Answers (IsDone ctx.id_pool) (creating.create_account ctx op m)
+create_answers ctx op m =
+    first_answers (IsDone ctx.id_pool) (creating.start_tests ctx op m) (creating.added_and_paid ctx op m)
+    (created create.Malformed, (created create.AlreadyExist, tt))
+    (charge_answers (IsDone ctx.id_pool) (map_after_adding ctx op.destination (creating.new_entry ctx op) m)
+    (creating.answer create.LowReserve) _ (created create.LowReserve)
+    (λ added. some_answers (IsDone ctx.id_pool) (lumens.map_after_debit ctx ctx.op_source op.starting_balance added)
+    (creating.answer create.Underfunded) _ (created create.Underfunded)
+    (λ given. record { ends = (created create.Success, refl) })))
+
+merge_answers : (ctx : Ctx) (op : AccountMergeOp) (m : EntryMap)
+    → Answers (IsDone ctx.id_pool) (merging.account_merge ctx op m)
+merge_answers ctx op m =
+    first_answers (IsDone ctx.id_pool) (merging.destination_tests ctx op m)
+    (merging.merge_of ctx op m (account_at m ctx.op_source))
+    (merged merge.Malformed, (merged merge.NoAccount, tt))
+    (some_answers (IsDone ctx.id_pool) (account_at m ctx.op_source) operation.NoAccount _ no_account
+    (λ account. first_answers (IsDone ctx.id_pool) (merging.source_tests ctx account)
+    (merging.taken_and_removed ctx op account m)
+    (merged merge.ImmutableSet, (merged merge.HasSubEntries, (merged merge.SeqnumTooFar, (merged merge.IsSponsor, tt))))
+    (some_answers (IsDone ctx.id_pool) (lumens.map_after_credit (account_of op.destination) account.balance m)
+    (merging.answer merge.DestFull) _ (merged merge.DestFull)
+    (λ taken. record { ends = (merged (merge.Success account.balance), refl) }))))
+
+bump_answers : (ctx : Ctx) (op : BumpSequenceOp) (m : EntryMap)
+    → Answers (IsDone ctx.id_pool) (bumping.bump_sequence ctx op m)
+bump_answers ctx op m =
+    first_answers (IsDone ctx.id_pool) ((int_lt op.bump_to (pos 0), bumping.answer bump.BadSeq) ∷ []) _
+    (bumped bump.BadSeq, tt)
+    (record { ends = (bumped bump.Success, refl) })
+
+pay_answers : (of : Asset) (ctx : Ctx) (op : PaymentOp) (m : EntryMap)
+    → Answers (IsDone ctx.id_pool) (paying.payment_in of ctx op m)
+pay_answers asset.Native ctx op m =
+    first_answers (IsDone ctx.id_pool) (paying.amount_tests op) _ (paid pay.Malformed, tt)
+    (either_answers ctx.id_pool (is_same_account (account_of op.destination) ctx.op_source) (paying.paid ctx op m)
+    (unless_refused (paying.destination_tests op m) (paying.taken_and_given ctx op m))
+    (record { ends = (paid pay.Success, refl) })
+    (first_answers (IsDone ctx.id_pool) (paying.destination_tests op m) (paying.taken_and_given ctx op m)
+    (paid pay.NoDestination, tt)
+    (some_answers (IsDone ctx.id_pool) (lumens.map_after_credit (account_of op.destination) op.amount m)
+    (paying.answer pay.LineFull) _
+    (paid pay.LineFull)
+    (λ taken. some_answers (IsDone ctx.id_pool) (lumens.map_after_debit ctx ctx.op_source op.amount taken)
+    (paying.answer pay.Underfunded) _ (paid pay.Underfunded)
+    (λ given. record { ends = (paid pay.Success, refl) })))))
+pay_answers (asset.Alphanum4 code issuer) ctx op m = record { ends = not_supported }
+pay_answers (asset.Alphanum12 code issuer) ctx op m = record { ends = not_supported }
+
+value_answers : (ctx : Ctx) (name value : List ℕ) (m : EntryMap) (found : Option DataEntry)
+    → Answers (IsDone ctx.id_pool) (managing.valued ctx name value m found)
+value_answers ctx name value m None =
+    charge_answers (IsDone ctx.id_pool) (map_after_adding ctx ctx.op_source (managing.new_data ctx name value) m)
+    (managing.answer manage.LowReserve) _ (managed manage.LowReserve)
+    (λ added. record { ends = (managed manage.Success, refl) })
+value_answers ctx name value m (Some was) = record { ends = (managed manage.Success, refl) }
+
+name_answers : (ctx : Ctx) (name : List ℕ) (m : EntryMap) (value : Option (List ℕ))
+    → Answers (IsDone ctx.id_pool) (managing.managed ctx name m value)
+name_answers ctx name m None =
+    first_answers (IsDone ctx.id_pool) ((
+      not (is_some (data_at m ctx.op_source name)),
+      managing.answer
+          manage.NameNotFound,
+    ) ∷ []) _
+    (managed manage.NameNotFound, tt) (record { ends = (managed manage.Success, refl) })
+name_answers ctx name m (Some value) = value_answers ctx name value m (data_at m ctx.op_source name)
+
+data_answers : (ctx : Ctx) (op : ManageDataOp) (m : EntryMap)
+    → Answers (IsDone ctx.id_pool) (managing.manage_data ctx op m)
+data_answers ctx op m =
+    first_answers (IsDone ctx.id_pool) (managing.name_tests op.data_name)
+    (managing.managed ctx op.data_name m op.data_value)
+    (managed manage.InvalidName, tt) (name_answers ctx op.data_name m op.data_value)
+
+weight_answers : (ctx : Ctx) (one : Signer) (account : AccountEntry) (m : EntryMap) (found : Option FoundSigner)
+    → Answers Any (signers.map_after_weighing ctx one account m found)
+weight_answers ctx one account m None =
+    first_answers Any (signers.count_tests account) _ (optioned set.TooManySigners, tt)
+    (charge_answers Any (map_after_adding_signer ctx ctx.op_source one m) (tests.answer set.LowReserve) _
+    (optioned set.LowReserve) (λ added. record { ends = tt }))
+weight_answers ctx one account m (Some found) = record { ends = tt }
+
+signer_answers : (ctx : Ctx) (account : AccountEntry) (m : EntryMap) (given : Option Signer)
+    → Answers Any (signers.map_after_signer ctx account m given)
+signer_answers ctx account m None = record { ends = tt }
+signer_answers ctx account m (Some one) =
+    either (nat_eq one.weight 0)
+  where
+    either : (b : Bool)
+        → Answers Any (if b then Ok (map_after_removing_signer ctx.op_source one.key m)
+        else signers.map_after_weighing ctx one account m (found_signer one.key (Some account)))
+    either true = record { ends = tt }
+    either false = weight_answers ctx one account m (found_signer one.key (Some account))
+
+options_answers : (ctx : Ctx) (op : SetOptionsOp) (m : EntryMap)
+    → Answers (IsDone ctx.id_pool) (options.set_options ctx op m)
+options_answers ctx op m =
+    first_answers (IsDone ctx.id_pool) (tests.given_tests ctx.op_source op) _ (
+      optioned set.UnknownFlag,
+      (
+        optioned set.BadFlags,
+        (
+          optioned set.ThresholdOutOfRange,
+          (optioned set.BadSigner, (optioned set.InvalidHomeDomain, tt)),
+        ),
+      ),
+    )
+    (first_answers (IsDone ctx.id_pool) (tests.inflation_tests op m)
+    (options.options_of ctx op m (account_at m ctx.op_source))
+    (optioned set.InvalidInflation, tt)
+    (some_answers (IsDone ctx.id_pool) (account_at m ctx.op_source) operation.NoAccount _ no_account
+    (λ account. first_answers (IsDone ctx.id_pool) (tests.source_tests op account)
+    (options.options_set ctx op account m)
+    (optioned set.CantChange, (optioned set.AuthRevocableRequired, tt))
+    (step_answers (IsDone ctx.id_pool) (signers.map_after_signer ctx account m op.signer) _
+    (signer_answers ctx account m op.signer)
+    (λ signed. record { ends = (optioned set.Success, refl) })))))
+
+begin_answers : (ctx : Ctx) (op : BeginSponsoringFutureReservesOp) (m : EntryMap)
+    → Answers (IsDone ctx.id_pool) (beginning.begin_sponsoring ctx op m)
+begin_answers ctx op m =
+    first_answers (IsDone ctx.id_pool) (beginning.begin_tests ctx op) _
+    (begun begin.Malformed, (begun begin.AlreadySponsored, (begun begin.Recursive, tt)))
+    (record { ends = (begun begin.Success, refl) })
+
+end_answers : (ctx : Ctx) (m : EntryMap) → Answers (IsDone ctx.id_pool) (ending.end_sponsoring ctx m)
+end_answers ctx m =
+    some_answers (IsDone ctx.id_pool) (ending.place_of_sponsorship ctx) (ending.answer end.NotSponsored) _
+    (ended end.NotSponsored)
+    (λ place. record { ends = (ended end.Success, refl) })
+
+entry_answers : (ctx : Ctx) (k : LedgerKey) (m : EntryMap)
+    → Answers (IsDone ctx.id_pool) (revoking.revoke_entry ctx k m)
+entry_answers ctx k m =
+    first_answers (IsDone ctx.id_pool) ((revoking.is_malformed k, revoking.answer revoke.Malformed) ∷ [])
+    (revoking.entry_revoked ctx k m (get m k)) (revoked_with revoke.Malformed, tt)
+    (some_answers (IsDone ctx.id_pool) (get m k) (revoking.answer revoke.DoesNotExist) _
+    (revoked_with revoke.DoesNotExist)
+    (λ entry. first_answers (IsDone ctx.id_pool) (revoking.entry_tests ctx entry) (revoking.entry_moved ctx k m)
+    (revoked_with revoke.NotSponsor, (revoked_with revoke.OnlyTransferable, tt))
+    (charge_answers (IsDone ctx.id_pool) (map_after_moving ctx k (open_sponsor ctx ctx.op_source) m)
+    (revoking.answer revoke.LowReserve) _ (revoked_with revoke.LowReserve)
+    (λ moved. record { ends = (revoked_with revoke.Success, refl) }))))
+
+signing_answers : (ctx : Ctx) (id : AccountId) (k : SignerKey) (m : EntryMap)
+    → Answers (IsDone ctx.id_pool) (revoking.revoke_signer ctx id k m)
+signing_answers ctx id k m =
+    some_answers (IsDone ctx.id_pool) (found_signer k (account_at m id)) (revoking.answer revoke.DoesNotExist) _
+    (revoked_with revoke.DoesNotExist)
+    (λ found. first_answers (IsDone ctx.id_pool) (revoking.signer_tests ctx id found) (revoking.signer_moved ctx id k m)
+    (revoked_with revoke.NotSponsor, tt)
+    (charge_answers (IsDone ctx.id_pool) (map_after_moving_signer ctx id k (open_sponsor ctx ctx.op_source) m)
+    (revoking.answer revoke.LowReserve) _ (revoked_with revoke.LowReserve)
+    (λ moved. record { ends = (revoked_with revoke.Success, refl) })))
+
+revoke_answers : (ctx : Ctx) (op : RevokeSponsorshipOp) (m : EntryMap)
+    → Answers (IsDone ctx.id_pool) (revoking.revoke_sponsorship ctx op m)
+revoke_answers ctx (revoked.LedgerEntry k) m = entry_answers ctx k m
+revoke_answers ctx (revoked.Signer id k) m = signing_answers ctx id k m
+
+done_answers : (ctx : Ctx) (m : EntryMap) (attempt : Attempt) → Answers (IsDone ctx.id_pool) attempt
+    → IsDone ctx.id_pool (done_of ctx m attempt)
+done_answers ctx m (Ok done) answers = answers.ends
+done_answers ctx m (Err result) answers = (answers.ends, refl)
+
+pub any_answers : (ctx : Ctx) (of : OperationBody) (m : EntryMap) → IsDone ctx.id_pool (any_operation ctx of m)
+unfolding any_operation account_operation options_operation payment_operation sponsor_operation
+any_answers ctx (body.CreateAccount op) m =
+    done_answers ctx m (creating.create_account ctx op m) (create_answers ctx op m)
+any_answers ctx (body.AccountMerge op) m = done_answers ctx m (merging.account_merge ctx op m) (merge_answers ctx op m)
+any_answers ctx (body.BumpSequence op) m = done_answers ctx m (bumping.bump_sequence ctx op m) (bump_answers ctx op m)
+any_answers ctx (body.SetOptions op) m = done_answers ctx m (options.set_options ctx op m) (options_answers ctx op m)
+any_answers ctx (body.ManageData op) m = done_answers ctx m (managing.manage_data ctx op m) (data_answers ctx op m)
+any_answers ctx (body.Payment op) m = done_answers ctx m (paying.payment ctx op m) (pay_answers op.asset ctx op m)
+any_answers ctx (body.BeginSponsoringFutureReserves op) m =
+    done_answers ctx m (beginning.begin_sponsoring ctx op m) (begin_answers ctx op m)
+any_answers ctx body.EndSponsoringFutureReserves m =
+    done_answers ctx m (ending.end_sponsoring ctx m) (end_answers ctx m)
+any_answers ctx (body.RevokeSponsorship op) m =
+    done_answers ctx m (revoking.revoke_sponsorship ctx op m) (revoke_answers ctx op m)
+any_answers ctx other m = (not_supported, refl)

@@ -1,0 +1,488 @@
+-- The results of sets keep the bounds on lengths.
+use Rattle.std.proofs.Common.{◌≡◌, ℕ, zero, suc, ◌+◌, ◌≤◌, refl, ap, ℤ, List, [], ◌∷◌, ◌++◌, length, All}
+use Rattle.std.proofs.Common.{Option, Some, None, Bool, true, false, if◌then◌else◌, not, nat_eq, arith, length-append}
+use Rattle.std.proofs.Common.{◌&&◌}
+use Rattle.std.proofs.lemmas.List.{length-map}
+use Rattle.std.proofs.lemmas.List.Elements.{All-nil, All-cons, All-head, All-tail}
+use Rattle.std.specs.List.{AllByRecursion, list_all}
+use Rattle.std.specs.declared.cmp.Ordering.{Ordering}
+use Rattle.ledger_types.specs.declared.ids.AccountId.{AccountId}
+use Rattle.ledger_types.specs.declared.ids.Hash.{Hash}
+use Rattle.ledger_types.specs.declared.account.AccountEntry.{AccountEntry}
+use Rattle.op_types.specs.declared.operation.Operation.{Operation}
+use Rattle.op_types.specs.declared.operation.OperationBody.{OperationBody}
+use Rattle.op_types.specs.declared.operation.OperationBody.TheVariants as body
+use Rattle.op_types.specs.declared.operation_result.OperationResult.{OperationResult}
+use Rattle.op_types.specs.declared.transaction.Transaction.{Transaction}
+use Rattle.op_types.specs.declared.transaction.FeeBumpTransaction.{FeeBumpTransaction}
+use Rattle.op_types.specs.declared.transaction.TransactionEnvelope.{TransactionEnvelope}
+use Rattle.op_types.specs.declared.transaction.TransactionEnvelope.TheVariants as envelope
+use Rattle.op_types.specs.declared.transaction.TransactionSet.{TransactionSet}
+use Rattle.op_types.specs.declared.transaction_result.TransactionOutcome.{TransactionOutcome}
+use Rattle.op_types.specs.declared.transaction_result.TransactionOutcome.TheVariants as outcome
+use Rattle.op_types.specs.declared.transaction_result.TransactionResultPair.{TransactionResultPair}
+use Rattle.xdr_core.specs.Leaves.{i64, fixed}
+use Rattle.xdr_core.specs.Combinators.{constant, list}
+use Rattle.xdr_core.specs.Xdr.{list_of}
+use Rattle.xdr_entries.specs.Basic.{hash, account_id, claimable_balance_id, asset}
+use Rattle.xdr_tx.specs.Operations.{operation}
+use Rattle.xdr_tx.specs.Transactions.{transaction_set}
+use Rattle.xdr_results.specs.Answers as answer
+use Rattle.xdr_results.specs.Results.{operation_result_tr, operation_result, inner_transaction_outcome}
+use Rattle.xdr_results.specs.Results.{inner_transaction_result, inner_transaction_result_pair, transaction_outcome}
+use Rattle.xdr_results.specs.Results.{transaction_result, transaction_result_pair, transaction_result_set}
+use Rattle.entry_map.specs.EntryMap.{EntryMap}
+use Rattle.entry_slots.specs.Accounts.{account_at}
+use Rattle.entry_slots.specs.Tests.{Tests, first_fault}
+use Rattle.sponsor_rules.specs.declared.context.Ctx.{Ctx}
+use Rattle.sponsor_rules.specs.Signers.{map_after_removing_preauth}
+use Rattle.signer_check.specs.declared.held.HeldSignature.{HeldSignature}
+use Rattle.fee_rules.specs.Ranking.{at_rank, at_most_one, first_ranked}
+use Rattle.fee_rules.specs.Queues.{all_queued_from, all_queued}
+use Rattle.fee_rules.specs.SetHash.{hash_of_set}
+use Rattle.fee_rules.specs.Turns.{turn_cmp, turns_of, places_in_order, apply_order_of}
+use Rattle.fee_rules.proofs.Ordered.{places_stand}
+use Rattle.op_form.specs.declared.levels.ThresholdLevel.TheVariants.{Low}
+use Rattle.op_form.specs.DefaultResults.{default_result}
+use Rattle.value_hashes.specs.Hashes.{signed_hash_of, transaction_hash_of}
+use Rattle.tx_apply.specs.Built.{operations_of}
+use Rattle.tx_apply.specs.Checks as checks
+use Rattle.tx_apply.specs.FeeBump as bump
+use Rattle.tx_apply.specs.InnerResult.{inner_outcome, inner_pair, bump_outcome}
+use Rattle.tx_apply.specs.Running.{placed, done_by, done_at, Ran, run}
+use Rattle.tx_apply.specs.Set.{Closing, ctx_in, all_held, envelope_applied, result_pair, all_applied}
+use Rattle.tx_apply.specs.Set.{envelopes_in_order}
+use Rattle.tx_apply.specs.Set.{fees_taken_of}
+use Rattle.tx_apply.specs.Signing.{Auth, Auths, source_of, auth_of, auths_of, auth_result, auth_results, are_used}
+use Rattle.tx_apply.specs.Transaction as spec
+use Rattle.tx_apply.proofs.Conserving.{all_at}
+use Rattle.tx_apply.proofs.Placed.{as_many}
+use Rattle.close_rules.specs.State.{IsSpelled}
+use Rattle.close_rules.specs.Close.{closing_in}
+use Rattle.close_laws.specs.Results.{ResultsAreSpelled}
+use Rattle.close_laws.proofs.Spelled.{few_spelled}
+use Rattle.close_laws.proofs.SpelledSets.{set_spelled, envelopes_spelled, envelopes_few, all_operations_spelled}
+use Rattle.close_laws.proofs.Digests.{hash_len}
+use Rattle.close_laws.proofs.OperationAnswers.{IsAnswer, no_account, bad_auth, any_answers}
+
+-- ---- results of operations
+
+defaults : (of : OperationBody) → IsAnswer (default_result of)
+unfolding operation_result operation_result_tr list account_id claimable_balance_id asset hash fixed constant i64
+    answer.path_payment_success answer.simple_payment_result answer.manage_offer_success answer.manage_offer_effect
+    answer.create_account_result answer.payment_result answer.path_payment_strict_receive_result
+    answer.path_payment_strict_send_result answer.manage_offer_result answer.set_options_result
+    answer.change_trust_result answer.allow_trust_result answer.account_merge_result answer.inflation_result
+    answer.manage_data_result answer.bump_sequence_result answer.create_claimable_balance_result
+    answer.claim_claimable_balance_result answer.begin_sponsoring_future_reserves_result
+    answer.end_sponsoring_future_reserves_result answer.revoke_sponsorship_result answer.clawback_result
+    answer.clawback_claimable_balance_result answer.set_trust_line_flags_result answer.liquidity_pool_deposit_result
+    answer.liquidity_pool_withdraw_result
+defaults (body.CreateAccount op) = record { within = tt }
+defaults (body.Payment op) = record { within = tt }
+defaults (body.PathPaymentStrictReceive op) =
+    record { within = ((omega arith, tt), ((tt, refl), (tt, tt))) }
+defaults (body.ManageSellOffer op) = record { within = ((omega arith, tt), tt) }
+defaults (body.CreatePassiveSellOffer op) = record { within = ((omega arith, tt), tt) }
+defaults (body.SetOptions op) = record { within = tt }
+defaults (body.ChangeTrust op) = record { within = tt }
+defaults (body.AllowTrust op) = record { within = tt }
+defaults (body.AccountMerge op) = record { within = tt }
+defaults body.Inflation = record { within = (omega arith, tt) }
+defaults (body.ManageData op) = record { within = tt }
+defaults (body.BumpSequence op) = record { within = tt }
+defaults (body.ManageBuyOffer op) = record { within = ((omega arith, tt), tt) }
+defaults (body.PathPaymentStrictSend op) = record { within = ((omega arith, tt), ((tt, refl), (tt, tt))) }
+defaults (body.CreateClaimableBalance op) = record { within = (tt, refl) }
+defaults (body.ClaimClaimableBalance op) = record { within = tt }
+defaults (body.BeginSponsoringFutureReserves op) = record { within = tt }
+defaults body.EndSponsoringFutureReserves = record { within = tt }
+defaults (body.RevokeSponsorship op) = record { within = tt }
+defaults (body.Clawback op) = record { within = tt }
+defaults (body.ClawbackClaimableBalance op) = record { within = tt }
+defaults (body.SetTrustLineFlags op) = record { within = tt }
+defaults (body.LiquidityPoolDeposit op) = record { within = tt }
+defaults (body.LiquidityPoolWithdraw op) = record { within = tt }
+
+-- results that can be written, no more than there are operations
+record AreAnswers (most : ℕ) (results : List OperationResult) : Type 0 where
+  few : length results ≤ most
+  all : All IsAnswer results
+
+one_answer : (most : ℕ) (result : OperationResult) (results : List OperationResult) → IsAnswer result
+    → AreAnswers most results → AreAnswers (suc most) (result ∷ results)
+one_answer most result results here rest = record {
+  few = more rest.few;
+  all = All-cons IsAnswer result results here rest.all;
+}
+  where
+    more : length results ≤ most → suc (length results) ≤ suc most
+    more le = omega arith
+
+no_answers : (most : ℕ) → AreAnswers most []
+no_answers most = record { few = omega arith; all = All-nil IsAnswer }
+
+auth_answers : (passes : List Bool) (operations : List Operation)
+    → AreAnswers (length operations) (auth_results passes operations)
+unfolding auth_results
+auth_answers [] operations = no_answers (length operations)
+auth_answers (passes ∷ more) [] = no_answers 0
+auth_answers (passes ∷ more) (of ∷ operations) =
+    one_answer (length operations) (auth_result passes of) (auth_results more operations) (by passes)
+    (auth_answers more operations)
+  where
+    by : (b : Bool) → IsAnswer (auth_result b of)
+    by true = defaults of.body
+    by false = bad_auth
+
+done_answers : (ctx : Ctx) (of : Operation) (m : EntryMap) (found : Option AccountEntry)
+    → IsAnswer (done_by ctx of m found).result
+done_answers ctx of m None = no_account
+done_answers ctx of m (Some account) = (any_answers ctx of.body m).0
+
+run_answers : (ctx : Ctx) (source : AccountId) (place : ℕ) (operations : List Operation) (m : EntryMap)
+    → AreAnswers (length operations) (run ctx source place operations m).results
+unfolding run
+run_answers ctx source place [] m = no_answers 0
+run_answers ctx source place (of ∷ operations) m =
+    let first = done_at ctx source place of m in
+    one_answer (length operations) first.result (run first.ctx source (place + 1) operations first.entries).results
+    (done_answers (placed ctx place (source_of source of)) of m (account_at m (source_of source of)))
+    (run_answers first.ctx source (place + 1) operations first.entries)
+
+-- ---- outcomes of transactions
+
+-- an outcome that can be written
+record IsOutcome (end : TransactionOutcome) : Type 0 where
+  within : transaction_outcome.within end
+
+-- one that has no fee bump in it
+record IsPlain (end : TransactionOutcome) : Type 0 where
+  itself : transaction_outcome.within end
+  inner : inner_transaction_outcome.within (inner_outcome end)
+
+all_within : (results : List OperationResult) → All IsAnswer results → AllByRecursion operation_result.within results
+all_within [] all = tt
+all_within (result ∷ results) all =
+    ((All-head IsAnswer result results all).within, all_within results (All-tail IsAnswer result results all))
+
+results_within : (results : List OperationResult) → AreAnswers 100 results
+    → (list_of 4294967295 operation_result).within results
+unfolding list
+results_within results answers = (few answers.few, all_within results answers.all)
+  where
+    few : {n : ℕ} → n ≤ 100 → n ≤ 4294967295
+    few le = omega arith
+
+succeeded : (results : List OperationResult) → AreAnswers 100 results → IsPlain (outcome.Success results)
+unfolding transaction_outcome inner_transaction_outcome
+succeeded results answers = record { itself = results_within results answers; inner = results_within results answers }
+
+failed : (results : List OperationResult) → AreAnswers 100 results → IsPlain (outcome.Failed results)
+unfolding transaction_outcome inner_transaction_outcome
+failed results answers = record { itself = results_within results answers; inner = results_within results answers }
+
+fewer : (a b : ℕ) (results : List OperationResult) → a ≤ b → AreAnswers a results → AreAnswers b results
+fewer a b results le answers = record { few = at_most answers.few le; all = answers.all }
+  where
+    at_most : {n : ℕ} → n ≤ a → a ≤ b → n ≤ b
+    at_most low high = omega arith
+
+-- ---- one transaction
+
+abbrev MaybePlain : Option TransactionOutcome → Type 0
+MaybePlain None = Unit {0}
+MaybePlain (Some end) = IsPlain end
+
+abbrev AllPlain : Tests TransactionOutcome → Type 0
+AllPlain [] = Unit {0}
+AllPlain (test ∷ tests) = IsPlain test.1 × AllPlain tests
+
+first_plain : (tests : Tests TransactionOutcome) → AllPlain tests → MaybePlain (first_fault tests)
+first_plain [] all = tt
+first_plain (test ∷ tests) all = either test.0 (first_plain tests all.1)
+  where
+    either : (b : Bool) → MaybePlain (first_fault tests) → MaybePlain (if b then Some test.1 else first_fault tests)
+    either true rest = all.0
+    either false rest = rest
+
+missing_operation : IsPlain outcome.MissingOperation
+unfolding transaction_outcome inner_transaction_outcome
+missing_operation = record { itself = tt; inner = tt }
+
+too_early : IsPlain outcome.TooEarly
+unfolding transaction_outcome inner_transaction_outcome
+too_early = record { itself = tt; inner = tt }
+
+too_late : IsPlain outcome.TooLate
+unfolding transaction_outcome inner_transaction_outcome
+too_late = record { itself = tt; inner = tt }
+
+insufficient_fee : IsPlain outcome.InsufficientFee
+unfolding transaction_outcome inner_transaction_outcome
+insufficient_fee = record { itself = tt; inner = tt }
+
+no_source : IsPlain outcome.NoAccount
+unfolding transaction_outcome inner_transaction_outcome
+no_source = record { itself = tt; inner = tt }
+
+bad_seq : IsPlain outcome.BadSeq
+unfolding transaction_outcome inner_transaction_outcome
+bad_seq = record { itself = tt; inner = tt }
+
+no_auth : IsPlain outcome.BadAuth
+unfolding transaction_outcome inner_transaction_outcome
+no_auth = record { itself = tt; inner = tt }
+
+bad_auth_extra : IsPlain outcome.BadAuthExtra
+unfolding transaction_outcome inner_transaction_outcome
+bad_auth_extra = record { itself = tt; inner = tt }
+
+insufficient_balance : IsPlain outcome.InsufficientBalance
+unfolding transaction_outcome inner_transaction_outcome
+insufficient_balance = record { itself = tt; inner = tt }
+
+bad_sponsorship : IsPlain outcome.BadSponsorship
+unfolding transaction_outcome inner_transaction_outcome
+bad_sponsorship = record { itself = tt; inner = tt }
+
+not_supported : IsPlain outcome.NotSupported
+unfolding transaction_outcome inner_transaction_outcome
+not_supported = record { itself = tt; inner = tt }
+
+fault_plain : (own source : Option TransactionOutcome) → MaybePlain own → MaybePlain source
+    → MaybePlain (checks.fault_or own source)
+fault_plain None source first next = next
+fault_plain (Some fault) source first next = first
+
+early_plain : (pays : Bool) (base_fee : ℕ) (ctx : Ctx) (tx : Transaction) (m : EntryMap)
+    → MaybePlain (checks.early_fault pays base_fee ctx tx m)
+early_plain pays base_fee ctx tx m =
+    fault_plain (first_fault (checks.own_tests pays base_fee ctx tx))
+    (first_fault (checks.source_tests tx.seq_num (account_at m (checks.source_account tx))))
+    (first_plain (checks.own_tests pays base_fee ctx tx)
+    (missing_operation, (too_early, (too_late, (insufficient_fee, tt)))))
+    (first_plain (checks.source_tests tx.seq_num (account_at m (checks.source_account tx))) (no_source, (bad_seq, tt)))
+
+either_plain : (b : Bool) (x y : Option TransactionOutcome) → MaybePlain x → MaybePlain y
+    → MaybePlain (if b then x else y)
+either_plain true x y here there = here
+either_plain false x y here there = there
+
+auths_plain : (operations : List Operation) (auths : Auths) → length operations ≤ 100
+    → MaybePlain (checks.outcome_of_auths operations auths)
+auths_plain operations auths few =
+    either_plain (list_all (λ passes. passes) auths.passes)
+    (if are_used auths.signatures then None else Some outcome.BadAuthExtra)
+    (Some (outcome.Failed (auth_results auths.passes operations)))
+    (either_plain (are_used auths.signatures) None (Some outcome.BadAuthExtra) tt bad_auth_extra)
+    (failed (auth_results auths.passes operations)
+    (fewer (length operations) 100 _ few (auth_answers auths.passes operations)))
+
+late_plain : (pays : Bool) (ctx : Ctx) (hash : Hash) (tx : Transaction) (m : EntryMap) (auth : Auth)
+    → length tx.operations ≤ 100 → MaybePlain (checks.outcome_behind_auth pays ctx hash tx m auth)
+late_plain pays ctx hash tx m auth few =
+    either_plain (not auth.passes) (Some outcome.BadAuth) _ no_auth
+    (either_plain (pays && checks.is_poor ctx (account_at m (checks.source_account tx)))
+    (Some outcome.InsufficientBalance) _ insufficient_balance
+    (auths_plain tx.operations (auths_of hash (checks.source_account tx) m auth.signatures tx.operations) few))
+
+judged_plain : (pays : Bool) (ctx : Ctx) (hash : Hash) (signatures : List HeldSignature) (tx : Transaction)
+    (m : EntryMap) (fault : Option TransactionOutcome) → length tx.operations ≤ 100 → MaybePlain fault
+    → MaybePlain (checks.judged_by pays ctx hash signatures tx m fault).outcome
+judged_plain pays ctx digest signatures tx m (Some fault) few plain = plain
+judged_plain pays ctx digest signatures tx m None few plain =
+    late_plain pays ctx digest tx (checks.map_after_seq_num tx m)
+    (auth_of digest Low signatures (checks.map_after_seq_num tx m) (checks.source_account tx)) few
+
+either_applied : (b : Bool) (x y : spec.Applied) → IsPlain x.outcome → IsPlain y.outcome
+    → IsPlain (if b then x else y).outcome
+either_applied true x y here there = here
+either_applied false x y here there = there
+
+ran_plain : (ctx : Ctx) (m : EntryMap) (ran : Ran) → AreAnswers 100 ran.results
+    → IsPlain (spec.settled ctx m ran).outcome
+ran_plain ctx m ran answers =
+    either_applied ran.succeeds (spec.succeeded ctx m ran) (spec.undone (outcome.Failed ran.results) ctx m ran.steps)
+    (either_applied (nat_eq (length ran.ctx.sponsorships) 0) _
+    (spec.undone outcome.BadSponsorship ctx m ran.steps) (succeeded ran.results answers) bad_sponsorship)
+    (failed ran.results answers)
+
+applied_plain : (ctx : Ctx) (tx : Transaction) (m : EntryMap) (end : Option TransactionOutcome)
+    → length tx.operations ≤ 100 → MaybePlain end → IsPlain (spec.applied_or_ended ctx tx m end).outcome
+applied_plain ctx tx m (Some end) few plain = plain
+applied_plain ctx tx m None few plain =
+    let ran = run ctx (checks.source_account tx) 0 tx.operations m in
+    ran_plain ctx m ran
+    (fewer (length tx.operations) 100 ran.results few (run_answers ctx (checks.source_account tx) 0 tx.operations m))
+
+transaction_plain : (pays : Bool) (base_fee : ℕ) (ctx : Ctx) (hash : Hash) (signatures : List HeldSignature)
+    (tx : Transaction) (m : EntryMap) → length tx.operations ≤ 100
+    → IsPlain (spec.transaction_applied pays base_fee ctx hash signatures tx m).outcome
+transaction_plain pays base_fee ctx hash signatures tx m few =
+    let checked = checks.judged pays base_fee ctx hash signatures tx m in
+    applied_plain ctx tx (spec.map_without_used hash (checks.source_account tx) tx.operations checked.entries)
+    checked.outcome few
+    (judged_plain pays ctx hash signatures tx m (checks.early_fault pays base_fee ctx tx m) few
+    (early_plain pays base_fee ctx tx m))
+
+-- ---- fee bumps
+
+plain_outcome : (end : TransactionOutcome) → IsPlain end → IsOutcome end
+plain_outcome end plain = record { within = plain.itself }
+
+pair_within : (hash_is : Hash) (end : TransactionOutcome) → hash.within hash_is → IsPlain end
+    → inner_transaction_result_pair.within (inner_pair hash_is end)
+unfolding inner_transaction_result_pair inner_transaction_result i64 constant
+pair_within hash_is end len plain = (len, (tt, (plain.inner, tt)))
+
+bump_within : (hash_is : Hash) (end : TransactionOutcome) → hash.within hash_is → IsPlain end
+    → IsOutcome (bump_outcome hash_is end)
+unfolding transaction_outcome
+bump_within hash_is (outcome.Success results) len plain = record { within = pair_within hash_is _ len plain }
+bump_within hash_is other len plain = record { within = pair_within hash_is _ len plain }
+
+either_outcome : (b : Bool) (x y : spec.Applied) → IsOutcome x.outcome → IsOutcome y.outcome
+    → IsOutcome (if b then x else y).outcome
+either_outcome true x y here there = here
+either_outcome false x y here there = there
+
+module _ (base_fee : ℕ) (ctx : Ctx) (signed : bump.BumpSigned) (tx : FeeBumpTransaction)
+    (len : hash.within signed.inner_hash) (few : length tx.inner_tx.tx.operations ≤ 100) where
+  behind_auth : (after : List HeldSignature) (m : EntryMap)
+      → IsOutcome (bump.applied_behind_auth base_fee ctx signed tx after m).outcome
+  behind_auth after m =
+      either_outcome (checks.is_poor ctx (account_at m (bump.payer_of tx)))
+      (spec.ended outcome.InsufficientBalance ctx m)
+      (if are_used after then bump.inner_applied base_fee ctx signed tx m else spec.ended outcome.BadAuthExtra ctx m)
+      (plain_outcome outcome.InsufficientBalance insufficient_balance)
+      (either_outcome (are_used after) (bump.inner_applied base_fee ctx signed tx m)
+      (spec.ended outcome.BadAuthExtra ctx m)
+      (bump_within signed.inner_hash _ len
+      (transaction_plain false base_fee ctx signed.inner_hash signed.inner_signatures tx.inner_tx.tx m few))
+      (plain_outcome outcome.BadAuthExtra bad_auth_extra))
+
+  by_auth : (m : EntryMap) (auth : Auth) → IsOutcome (bump.applied_by_auth base_fee ctx signed tx m auth).outcome
+  by_auth m auth =
+      either_outcome (not auth.passes) (spec.ended outcome.BadAuth ctx m)
+      (bump.applied_behind_auth base_fee ctx signed tx auth.signatures
+      (map_after_removing_preauth (bump.payer_of tx) signed.hash m)) (plain_outcome outcome.BadAuth no_auth)
+      (behind_auth auth.signatures (map_after_removing_preauth (bump.payer_of tx) signed.hash m))
+
+  by_fault : (m : EntryMap) (fault : Option TransactionOutcome) → MaybePlain fault
+      → IsOutcome (bump.applied_by_fault base_fee ctx signed tx m fault).outcome
+  by_fault m (Some fault) plain = plain_outcome fault plain
+  by_fault m None plain = by_auth m (auth_of signed.hash Low signed.signatures m (bump.payer_of tx))
+
+  bump_answers : (m : EntryMap) → IsOutcome (bump.bump_applied base_fee ctx signed tx m).outcome
+  bump_answers m =
+      by_fault m (first_fault (bump.payer_tests base_fee tx (account_at m (bump.payer_of tx))))
+      (first_plain (bump.payer_tests base_fee tx (account_at m (bump.payer_of tx))) (insufficient_fee, (no_source, tt)))
+
+-- ---- envelopes
+
+envelope_answers : (closing : Closing) (id_pool : ℕ) (whole : TransactionEnvelope) (m : EntryMap)
+    → length (operations_of whole) ≤ 100 → IsOutcome (envelope_applied closing id_pool whole m).outcome
+unfolding envelope_applied
+envelope_answers closing id_pool (envelope.V0 signed) m few = plain_outcome outcome.NotSupported not_supported
+envelope_answers closing id_pool (envelope.V1 signed) m few =
+    plain_outcome _ (transaction_plain true closing.header.base_fee (ctx_in closing id_pool (envelope.V1 signed))
+    (signed_hash_of closing.network (envelope.V1 signed)) (all_held signed.signatures) signed.tx m few)
+envelope_answers closing id_pool (envelope.FeeBump signed) m few =
+    bump_answers closing.header.base_fee (ctx_in closing id_pool (envelope.FeeBump signed))
+    (bump.signed_by (signed_hash_of closing.network (envelope.FeeBump signed)) (all_held signed.signatures)
+    (transaction_hash_of closing.network signed.tx.inner_tx.tx) (all_held signed.tx.inner_tx.signatures)) signed.tx
+    (hash_len _) few m
+
+signed_hash_len : (network : Hash) (whole : TransactionEnvelope) → hash.within (signed_hash_of network whole)
+signed_hash_len network (envelope.V0 signed) = hash_len _
+signed_hash_len network (envelope.V1 signed) = hash_len _
+signed_hash_len network (envelope.FeeBump signed) = hash_len _
+
+result_within : (closing : Closing) (whole : TransactionEnvelope) (fee : ℤ) (end : TransactionOutcome) → IsOutcome end
+    → transaction_result_pair.within (result_pair closing whole fee end)
+unfolding transaction_result_pair transaction_result i64 constant
+result_within closing whole fee end within =
+    (signed_hash_len closing.network whole, (tt, (within.within, tt)))
+
+-- results that can be written, no more than there are envelopes
+record AreResults (most : ℕ) (results : List TransactionResultPair) : Type 0 where
+  few : length results ≤ most
+  all : AllByRecursion transaction_result_pair.within results
+
+abbrev HasFew : TransactionEnvelope → Type 0
+HasFew whole = length (operations_of whole) ≤ 100
+
+all_results : (closing : Closing) (id_pool : ℕ) (envelopes : List TransactionEnvelope) (fees : List ℤ) (m : EntryMap)
+    → All HasFew envelopes → AreResults (length envelopes) (all_applied closing id_pool envelopes fees m).results
+unfolding all_applied
+all_results closing id_pool [] fees m few = record { few = omega arith; all = tt }
+all_results closing id_pool (whole ∷ others) [] m few = record { few = omega arith; all = tt }
+all_results closing id_pool (whole ∷ others) (fee ∷ fees) m few =
+    let first = envelope_applied closing id_pool whole m in
+    let rest = all_results closing first.id_pool others fees first.entries (All-tail HasFew whole others few) in
+    record {
+      few = one_more rest.few;
+      all = (
+        result_within closing whole fee first.outcome
+            (envelope_answers closing id_pool whole m (All-head HasFew whole others few)),
+        rest.all,
+      );
+    }
+  where
+    one_more : {n k : ℕ} → n ≤ k → suc n ≤ suc k
+    one_more le = omega arith
+
+-- ---- no more places than envelopes
+
+ranked_len : {X : Type 0} (cmp : X → X → Ordering) (xs : List X) (k : ℕ) → length (first_ranked cmp xs k) ≤ k
+unfolding first_ranked
+ranked_len cmp xs zero = omega arith
+ranked_len {X} cmp xs (suc k) =
+    at_most (first_ranked cmp xs k) (at_rank cmp xs k) (ranked_len cmp xs k)
+  where
+    at_most : (front : List X) (found : Option X) → length front ≤ k → length (front ++ at_most_one found) ≤ suc k
+    at_most front None le = omega (arith, length-append {A = X} front [])
+    at_most front (Some x) le = omega (arith, length-append {A = X} front (x ∷ []))
+
+queued_len : (place : ℕ) (envelopes : List TransactionEnvelope)
+    → length (all_queued_from place envelopes) ≡ length envelopes
+queued_len place [] = refl
+queued_len place (whole ∷ others) = ap suc (queued_len (place + 1) others)
+
+order_len : (set : TransactionSet) → length (apply_order_of set) ≤ length set.txs
+unfolding places_in_order
+order_len set =
+    let txs = all_queued set.txs in
+    let turns = turns_of (hash_of_set set) txs in
+    simp length-map (no_more (ranked_len turn_cmp turns (length txs)) (queued_len 0 set.txs))
+  where
+    no_more : {b c d : ℕ} → b ≤ c → c ≡ d → b ≤ d
+    no_more le h = omega arith
+
+envelopes_len : (set : TransactionSet) → length (envelopes_in_order set) ≤ length set.txs
+envelopes_len set =
+    same (as_many set.txs (apply_order_of set) (places_stand set)) (order_len set)
+  where
+    same : {a b c : ℕ} → a ≡ b → b ≤ c → a ≤ c
+    same e le = omega arith
+
+-- ---- sets
+
+set_few : (set : TransactionSet) → IsSpelled transaction_set set → All HasFew set.txs
+set_few set spelled = λ k d within.
+    few_spelled 100 operation _ (all_operations_spelled _ (envelopes_spelled set spelled k d within))
+
+pub results_are_spelled : ResultsAreSpelled
+unfolding transaction_result_set list
+results_are_spelled s closing can =
+    let set = closing.tx_set in
+    let spelled = set_spelled closing can.spelled in
+    let results = all_results (closing_in s closing) s.header.id_pool (envelopes_in_order set)
+    (fees_taken_of (closing_in s closing) set s.entries).fees
+    (fees_taken_of (closing_in s closing) set s.entries).entries
+    (all_at HasFew set.txs (apply_order_of set) (set_few set spelled)) in
+    (few_enough results.few (envelopes_len set) (envelopes_few set spelled), results.all)
+  where
+    few_enough : {a b c : ℕ} → a ≤ b → b ≤ c → c ≤ 4294967295 → a ≤ 4294967295
+    few_enough first second last = omega arith

@@ -1,0 +1,247 @@
+-- Entries of accounts and data are short enough for a bucket's file.
+use Rattle.std.proofs.Common.{ℕ, ◌<◌, ◌≤◌, subst, List, length, All}
+use Rattle.std.proofs.Common.{Option, Some, None, ℤ, pos, arith}
+use Rattle.std.proofs.lemmas.Int.{ints}
+use Rattle.std.specs.Prelude.{◌≤ℤ◌, FitsSigned}
+use Rattle.std.specs.Int.{w64}
+use Rattle.ledger_types.specs.declared.ids.AccountId.{AccountId}
+use Rattle.ledger_types.specs.declared.ids.Hash.{Hash}
+use Rattle.ledger_types.specs.declared.signer.Signer.{Signer}
+use Rattle.ledger_types.specs.declared.signer.SignerKey.{SignerKey}
+use Rattle.ledger_types.specs.declared.signer.SignerKey.TheVariants as signing
+use Rattle.ledger_types.specs.declared.price.Liabilities.{Liabilities}
+use Rattle.ledger_types.specs.declared.account.AccountEntry.{AccountEntry}
+use Rattle.ledger_types.specs.declared.account.AccountEntryExtensionV1.{AccountEntryExtensionV1}
+use Rattle.ledger_types.specs.declared.account.AccountEntryExtensionV2.{AccountEntryExtensionV2}
+use Rattle.ledger_types.specs.declared.data_entry.DataEntry.{DataEntry}
+use Rattle.ledger_types.specs.declared.entry.LedgerEntry.{LedgerEntry}
+use Rattle.ledger_types.specs.declared.entry.LedgerEntryBody.{LedgerEntryBody}
+use Rattle.ledger_types.specs.declared.entry.LedgerEntryBody.TheVariants as body
+use Rattle.ledger_types.specs.declared.entry.LedgerEntryExtensionV1.{LedgerEntryExtensionV1}
+use Rattle.xdr_core.specs.Combinators.{constant}
+use Rattle.xdr_core.specs.Xdr.{optional, extension_of}
+use Rattle.xdr_entries.specs.Basic.{hash, hash_fields, account_id, account_id_fields, signer_key, signer, signer_fields}
+use Rattle.xdr_entries.specs.Basic.{liabilities, liabilities_fields}
+use Rattle.xdr_entries.specs.Entries.{account_extension_v2, account_extension_v1, account_head, account_tail}
+use Rattle.xdr_entries.specs.Entries.{account_entry}
+use Rattle.xdr_entries.specs.Entries.{account_v2_fields, account_v1_fields, account_fields, data_fields}
+use Rattle.xdr_entries.specs.Entries.{entry_v1_fields}
+use Rattle.xdr_entries.specs.Entries.{entry_fields, data_entry, ledger_entry_body, ledger_entry_extension_v1}
+use Rattle.xdr_entries.specs.Entries.{ledger_entry}
+use Rattle.entry_slots.specs.AccountExtensions.{liabilities_in, second_in, sponsored_in, sponsoring_in}
+use Rattle.entry_slots.specs.EntrySponsor.{sponsor_in}
+use Rattle.reserve_rules.specs.Reserve.{greatest_i64}
+use Rattle.entry_changes.specs.Spellable.{IsEntrySpellable}
+use Rattle.close_rules.specs.State.{IsSpelled}
+use Rattle.close_laws.proofs.Bytes.{IsId, IsIdIf, id_of_some, sponsors_in, AreAccountBytes, AreDataBytes, AreBodyBytes}
+use Rattle.close_laws.proofs.Bytes.{AreEntryBytes}
+use Rattle.close_laws.proofs.Short as short
+use Rattle.close_laws.proofs.Short.{IsShort}
+
+-- ---- ids and signers
+
+id_short : (id : AccountId) → IsId id → IsShort account_id 39 id
+unfolding account_id constant
+id_short id spelled =
+    short.short_struct account_id_fields (short.short_marked (pos 0) (short.short_fixed 32 id.0
+    (record { within = spelled.within.1; sized = spelled.sized.1 })))
+
+id_if_short : (found : Option AccountId) → IsIdIf found → IsShort (optional account_id) 43 found
+id_if_short found named =
+    short.short_option account_id 39 found (λ id is. id_short id (id_of_some id (subst IsIdIf is named)))
+
+hash_short : (digest : Hash) → IsSpelled hash digest → IsShort hash 35 digest
+unfolding hash
+hash_short digest spelled =
+    short.short_struct hash_fields (short.short_fixed 32 digest.0
+    (record { within = spelled.within; sized = spelled.sized }))
+
+key_short : (key : SignerKey) → IsSpelled signer_key key → IsShort signer_key 39 key
+unfolding signer_key
+key_short (signing.Ed25519 key) spelled =
+    let rest = short.short_fixed 32 key (record { within = spelled.within; sized = spelled.sized }) in
+    record { within = rest.within; sized = rest.sized; short = short.marked_len (pos 0) _ 35 rest.short }
+key_short (signing.PreAuthTx digest) spelled =
+    let rest = hash_short digest (record { within = spelled.within; sized = spelled.sized }) in
+    record { within = rest.within; sized = rest.sized; short = short.marked_len (pos 1) _ 35 rest.short }
+key_short (signing.HashX digest) spelled =
+    let rest = hash_short digest (record { within = spelled.within; sized = spelled.sized }) in
+    record { within = rest.within; sized = rest.sized; short = short.marked_len (pos 2) _ 35 rest.short }
+
+signer_short : (one : Signer) → IsSpelled signer_key one.key → one.weight ≤ 255 → IsShort signer 43 one
+unfolding signer
+signer_short one spelled le =
+    short.short_struct signer_fields (short.short_both (key_short one.key spelled)
+    (short.short_u32 one.weight (omega arith)))
+
+-- ---- what accounts say beside their bytes
+
+-- the numbers of an account's extensions, each in its range
+pub record AreNumbers (ext : Option AccountEntryExtensionV1) : Type 0 where
+  pub buying_low : pos 0 ≤ℤ (liabilities_in ext).buying
+  pub buying_high : (liabilities_in ext).buying ≤ℤ greatest_i64
+  pub selling_low : pos 0 ≤ℤ (liabilities_in ext).selling
+  pub selling_high : (liabilities_in ext).selling ≤ℤ greatest_i64
+  pub sponsored : sponsored_in (second_in ext) < 4294967296
+  pub sponsoring : sponsoring_in (second_in ext) < 4294967296
+  pub few : length (sponsors_in (second_in ext)) ≤ 20
+
+fits_i64 : (n : ℤ) → pos 0 ≤ℤ n → n ≤ℤ greatest_i64 → FitsSigned w64 n
+fits_i64 n low high = grind (arith, ints)
+
+liabilities_short : (owed : Liabilities) → pos 0 ≤ℤ owed.buying → owed.buying ≤ℤ greatest_i64 → pos 0 ≤ℤ owed.selling
+    → owed.selling ≤ℤ greatest_i64 → IsShort liabilities 16 owed
+unfolding liabilities
+liabilities_short owed low high least most =
+    short.short_struct liabilities_fields (short.short_both (short.short_i64 owed.buying
+    (fits_i64 owed.buying low high))
+    (short.short_i64 owed.selling (fits_i64 owed.selling least most)))
+
+ids_short : (ids : List (Option AccountId)) → All IsIdIf ids → All (IsShort (optional account_id) 43) ids
+ids_short ids all = λ k d within. id_if_short _ (all k d within)
+
+v2_short : (ext : AccountEntryExtensionV2) → ext.num_sponsored < 4294967296 → ext.num_sponsoring < 4294967296
+    → length ext.signer_sponsoring_ids ≤ 20 → All IsIdIf ext.signer_sponsoring_ids
+    → IsShort account_extension_v2 876 ext
+unfolding account_extension_v2
+v2_short ext sponsored sponsoring few all =
+    short.short_struct account_v2_fields (short.short_both (short.short_u32 ext.num_sponsored sponsored)
+    (short.short_both (short.short_u32 ext.num_sponsoring sponsoring)
+    (short.short_closed (pos 0) (short.short_list 20 (optional account_id) 43 ext.signer_sponsoring_ids few
+    (ids_short ext.signer_sponsoring_ids all)))))
+
+second_short : (second : Option AccountEntryExtensionV2) → sponsored_in second < 4294967296
+    → sponsoring_in second < 4294967296 → length (sponsors_in second) ≤ 20 → All IsIdIf (sponsors_in second)
+    → IsShort (extension_of (pos 2) account_extension_v2) 880 second
+second_short None sponsored sponsoring few all = short.no_extension (pos 2) account_extension_v2 876
+second_short (Some ext) sponsored sponsoring few all =
+    short.some_extension (pos 2) account_extension_v2 876 ext (v2_short ext sponsored sponsoring few all)
+
+v1_short : (ext : AccountEntryExtensionV1) → AreNumbers (Some ext) → All IsIdIf (sponsors_in (second_in (Some ext)))
+    → IsShort account_extension_v1 896 ext
+unfolding account_extension_v1
+v1_short ext numbers all =
+    short.short_struct account_v1_fields (short.short_both
+    (liabilities_short ext.liabilities numbers.buying_low numbers.buying_high numbers.selling_low numbers.selling_high)
+    (second_short ext.ext numbers.sponsored numbers.sponsoring numbers.few all))
+
+ext_short : (ext : Option AccountEntryExtensionV1) → AreNumbers ext → All IsIdIf (sponsors_in (second_in ext))
+    → IsShort (extension_of (pos 1) account_extension_v1) 900 ext
+ext_short None numbers all = short.no_extension (pos 1) account_extension_v1 896
+ext_short (Some ext) numbers all =
+    short.some_extension (pos 1) account_extension_v1 896 ext (v1_short ext numbers all)
+
+-- ---- accounts
+
+-- what holds of the numbers of an account
+pub record AreAccountNumbers (account : AccountEntry) : Type 0 where
+  pub balance_low : pos 0 ≤ℤ account.balance
+  pub balance_high : account.balance ≤ℤ greatest_i64
+  pub seq_low : pos 0 ≤ℤ account.seq_num
+  pub seq_high : account.seq_num ≤ℤ greatest_i64
+  pub subentries : account.num_sub_entries ≤ 1000
+  pub flags : account.flags ≤ 15
+  pub signers : length account.signers ≤ 20
+  pub weights : All (λ one. one.weight ≤ 255) account.signers
+  pub ext : AreNumbers account.ext
+
+all_signers : (signers : List Signer) → All (λ one. IsSpelled signer_key one.key) signers
+    → All (λ one. one.weight ≤ 255) signers → All (IsShort signer 43) signers
+all_signers signers keys weights = λ k d within. signer_short _ (keys k d within) (weights k d within)
+
+head_short : (account : AccountEntry) → AreAccountBytes account → AreAccountNumbers account → IsShort account_head 106 (
+  account.account_id,
+  (account.balance, (account.seq_num, (account.num_sub_entries, (account.inflation_dest, account.flags)))),
+)
+unfolding account_head
+head_short account bytes numbers =
+    short.short_both (id_short account.account_id bytes.id)
+    (short.short_both (short.short_i64 account.balance (fits_i64 _ numbers.balance_low numbers.balance_high))
+    (short.short_both (short.short_i64 account.seq_num (fits_i64 _ numbers.seq_low numbers.seq_high))
+    (short.short_both (short.short_u32 account.num_sub_entries (small numbers.subentries))
+    (short.short_both (id_if_short account.inflation_dest bytes.inflation_dest)
+    (short.short_u32 account.flags (smaller numbers.flags))))))
+  where
+    small : {n : ℕ} → n ≤ 1000 → n < 4294967296
+    small le = omega arith
+
+    smaller : {n : ℕ} → n ≤ 15 → n < 4294967296
+    smaller le = omega arith
+
+tail_short : (account : AccountEntry) → AreAccountBytes account → AreAccountNumbers account
+    → IsShort account_tail 1810 (account.home_domain, (account.thresholds, (account.signers, account.ext)))
+unfolding account_tail
+tail_short account bytes numbers =
+    short.short_both (short.short_var 32 account.home_domain bytes.home_domain)
+    (short.short_both (short.short_fixed 4 account.thresholds bytes.thresholds)
+    (short.short_both (short.short_list 20 signer 43 account.signers numbers.signers
+    (all_signers account.signers bytes.signers numbers.weights))
+    (ext_short account.ext numbers.ext bytes.sponsors)))
+
+account_short : (account : AccountEntry) → AreAccountBytes account → AreAccountNumbers account
+    → IsShort account_entry 1916 account
+unfolding account_entry
+account_short account bytes numbers =
+    short.short_struct account_fields (short.short_both (head_short account bytes numbers)
+    (tail_short account bytes numbers))
+
+-- ---- data
+
+data_short : (entry : DataEntry) → AreDataBytes entry → IsShort data_entry 185 entry
+unfolding data_entry
+data_short entry bytes =
+    short.short_struct data_fields (short.short_both (id_short entry.account_id bytes.id)
+    (short.short_both (short.short_var 64 entry.data_name bytes.name)
+    (short.short_closed (pos 0) (short.short_var 64 entry.data_value bytes.value))))
+
+-- ---- entries
+
+abbrev pub AreBodyNumbers : LedgerEntryBody → Type 0
+AreBodyNumbers (body.Account account) = AreAccountNumbers account
+AreBodyNumbers other = Unit {0}
+
+body_short : (of : LedgerEntryBody) → AreBodyBytes of → AreBodyNumbers of → IsShort ledger_entry_body 1920 of
+unfolding ledger_entry_body
+body_short (body.Account account) bytes numbers =
+    let rest = account_short account bytes numbers in
+    record { within = rest.within; sized = rest.sized; short = short.marked_len (pos 0) _ 1916 rest.short }
+body_short (body.Data entry) bytes numbers =
+    let rest = data_short entry bytes in
+    record {
+      within = rest.within;
+      sized = rest.sized;
+      short = short.marked_len (pos 3) _ 1916 (short.longer 185 1916 (omega arith) rest.short);
+    }
+body_short (body.TrustLine line) bytes numbers = absurd bytes
+body_short (body.Offer offer) bytes numbers = absurd bytes
+body_short (body.ClaimableBalance balance) bytes numbers = absurd bytes
+body_short (body.LiquidityPool pool) bytes numbers = absurd bytes
+
+sponsor_short : (ext : LedgerEntryExtensionV1) → IsIdIf ext.sponsoring_id → IsShort ledger_entry_extension_v1 47 ext
+unfolding ledger_entry_extension_v1
+sponsor_short ext named =
+    short.short_struct entry_v1_fields (short.short_closed (pos 0) (id_if_short ext.sponsoring_id named))
+
+extension_short : (ext : Option LedgerEntryExtensionV1) → IsIdIf (sponsor_in ext)
+    → IsShort (extension_of (pos 1) ledger_entry_extension_v1) 51 ext
+extension_short None named = short.no_extension (pos 1) ledger_entry_extension_v1 47
+extension_short (Some ext) named =
+    short.some_extension (pos 1) ledger_entry_extension_v1 47 ext (sponsor_short ext named)
+
+entry_short : (e : LedgerEntry) → e.last_modified_ledger_seq < 4294967296 → AreEntryBytes e → AreBodyNumbers e.body
+    → IsShort ledger_entry 1975 e
+unfolding ledger_entry
+entry_short e seq bytes numbers =
+    short.short_struct entry_fields (short.short_both (short.short_u32 e.last_modified_ledger_seq seq)
+    (short.short_both (body_short e.body bytes.body numbers) (extension_short e.ext bytes.sponsor)))
+
+-- such an entry can stand in a bucket's file
+pub entry_spellable : (e : LedgerEntry) → e.last_modified_ledger_seq < 4294967296 → AreEntryBytes e
+    → AreBodyNumbers e.body → IsEntrySpellable e
+entry_spellable e seq bytes numbers =
+    let found = entry_short e seq bytes numbers in
+    record {
+      within = found.within;
+      sized = found.sized;
+      short = short.longer 1975 2147483643 (omega arith) found.short;
+    }

@@ -1,0 +1,100 @@
+-- What a record that has a spelling says of the transactions of its set.
+use Rattle.std.proofs.Common.{◌≤◌, List, length, All, arith}
+use Rattle.std.proofs.lemmas.Int.{ints}
+use Rattle.std.specs.Prelude.{ℤ, ◌≤ℤ◌, FitsSigned}
+use Rattle.std.specs.Int.{w64}
+use Rattle.reserve_rules.specs.Reserve.{greatest_i64}
+use Rattle.op_types.specs.declared.operation.Operation.{Operation}
+use Rattle.op_types.specs.declared.operation.OperationBody.{OperationBody}
+use Rattle.op_types.specs.declared.operation.OperationBody.TheVariants as body
+use Rattle.op_types.specs.declared.transaction.Transaction.{Transaction}
+use Rattle.op_types.specs.declared.transaction.TransactionV0.{TransactionV0}
+use Rattle.op_types.specs.declared.transaction.TransactionV1Envelope.{TransactionV1Envelope}
+use Rattle.op_types.specs.declared.transaction.TransactionEnvelope.{TransactionEnvelope}
+use Rattle.op_types.specs.declared.transaction.TransactionEnvelope.TheVariants as envelope
+use Rattle.op_types.specs.declared.transaction.TransactionSet.{TransactionSet}
+use Rattle.xdr_core.specs.Leaves.{i64}
+use Rattle.xdr_core.specs.Xdr.{list_of}
+use Rattle.xdr_tx.specs.Operations.{operation, operation_body, bump_sequence_op}
+use Rattle.xdr_tx.specs.Transactions.{behind_source, transaction, transaction_v0, transaction_v1_envelope}
+use Rattle.xdr_tx.specs.Transactions.{transaction_v0_envelope, fee_bump_transaction, fee_bump_envelope}
+use Rattle.xdr_tx.specs.Transactions.{transaction_envelope, transaction_set}
+use Rattle.xdr_header.specs.declared.record.CloseRecord.{CloseRecord}
+use Rattle.xdr_header.specs.Records.{close_record}
+use Rattle.op_laws.specs.Laws.{IsFit}
+use Rattle.tx_apply.specs.Built.{operations_of}
+use Rattle.tx_apply.specs.Laws.{AreFit, AreAllFit}
+use Rattle.close_rules.specs.State.{IsSpelled}
+use Rattle.close_laws.proofs.Spelled.{each_spelled, few_spelled}
+
+-- ---- sets
+
+pub set_spelled : (closing : CloseRecord) → IsSpelled close_record closing → IsSpelled transaction_set closing.tx_set
+unfolding close_record
+set_spelled closing spelled = record { within = spelled.within.1.0; sized = spelled.sized.1.0 }
+
+txs_spelled : (set : TransactionSet) → IsSpelled transaction_set set
+    → IsSpelled (list_of 4294967295 transaction_envelope) set.txs
+unfolding transaction_set
+txs_spelled set spelled = record { within = spelled.within.1; sized = spelled.sized.1 }
+
+pub envelopes_spelled : (set : TransactionSet) → IsSpelled transaction_set set
+    → All (IsSpelled transaction_envelope) set.txs
+envelopes_spelled set spelled = each_spelled 4294967295 transaction_envelope set.txs (txs_spelled set spelled)
+
+pub envelopes_few : (set : TransactionSet) → IsSpelled transaction_set set → length set.txs ≤ 4294967295
+envelopes_few set spelled = few_spelled 4294967295 transaction_envelope set.txs (txs_spelled set spelled)
+
+-- ---- transactions
+
+pub operations_spelled : (tx : Transaction) → IsSpelled transaction tx → IsSpelled (list_of 100 operation) tx.operations
+unfolding transaction behind_source
+operations_spelled tx spelled = record { within = spelled.within.1.1.1.1.1.0; sized = spelled.sized.1.1.1.1.1.0 }
+
+pub v0_operations_spelled : (tx : TransactionV0) → IsSpelled transaction_v0 tx
+    → IsSpelled (list_of 100 operation) tx.operations
+unfolding transaction_v0 behind_source
+v0_operations_spelled tx spelled = record { within = spelled.within.1.1.1.1.1.0; sized = spelled.sized.1.1.1.1.1.0 }
+
+pub v1_spelled : (signed : TransactionV1Envelope) → IsSpelled transaction_v1_envelope signed
+    → IsSpelled transaction signed.tx
+unfolding transaction_v1_envelope
+v1_spelled signed spelled = record { within = spelled.within.0; sized = spelled.sized.0 }
+
+pub all_operations_spelled : (whole : TransactionEnvelope) → IsSpelled transaction_envelope whole
+    → IsSpelled (list_of 100 operation) (operations_of whole)
+unfolding transaction_envelope transaction_v0_envelope fee_bump_envelope fee_bump_transaction
+all_operations_spelled (envelope.V0 signed) spelled =
+    v0_operations_spelled signed.tx (record { within = spelled.within.0; sized = spelled.sized.0 })
+all_operations_spelled (envelope.V1 signed) spelled =
+    operations_spelled signed.tx
+    (v1_spelled signed (record { within = spelled.within; sized = spelled.sized }))
+all_operations_spelled (envelope.FeeBump signed) spelled =
+    operations_spelled signed.tx.inner_tx.tx (v1_spelled signed.tx.inner_tx
+    (record { within = spelled.within.0.1.1.0.1; sized = spelled.sized.0.1.1.0.1 }))
+
+pub body_spelled : (of : Operation) → IsSpelled operation of → IsSpelled operation_body of.body
+unfolding operation
+body_spelled of spelled = record { within = spelled.within.1; sized = spelled.sized.1 }
+
+-- ---- the numbers of operations
+
+int_fits : (n : ℤ) → FitsSigned w64 n → n ≤ℤ greatest_i64
+int_fits n fits = grind (arith, ints, fits)
+
+sized_i64 : (n : ℤ) → i64.sized n → FitsSigned w64 n
+unfolding i64
+sized_i64 n sized = sized
+
+body_fit : (of : OperationBody) → IsSpelled operation_body of → IsFit of
+unfolding operation_body bump_sequence_op
+body_fit (body.BumpSequence op) spelled = int_fits op.bump_to (sized_i64 op.bump_to spelled.sized)
+body_fit other spelled = tt
+
+operations_fit : (operations : List Operation) → All (IsSpelled operation) operations → AreFit operations
+operations_fit operations all = λ k d within. body_fit _ (body_spelled _ (all k d within))
+
+pub set_fit : (set : TransactionSet) → IsSpelled transaction_set set → AreAllFit set.txs
+set_fit set spelled = λ k d within.
+    operations_fit _ (each_spelled 100 operation _ (all_operations_spelled _
+    (envelopes_spelled set spelled k d within)))

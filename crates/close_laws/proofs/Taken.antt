@@ -1,0 +1,38 @@
+-- Bytes that are taken are a record that closes a ledger.
+use Rattle.std.proofs.Common.{◌≡◌, ℕ, refl, subst, List, [], ◌∷◌, Ok, Err}
+use Rattle.xdr_core.specs.declared.fault.XdrFault.{XdrFault}
+use Rattle.xdr_core.specs.Format.{IsBytes}
+use Rattle.xdr_core.specs.Place.{Place, Reading, start_of, ◌>>=◌}
+use Rattle.xdr_header.specs.declared.record.CloseRecord.{CloseRecord}
+use Rattle.xdr_header.specs.Records.{close_record}
+use Rattle.xdr_header.proofs.HeaderLaws.{close_record_laws}
+use Rattle.close_rules.specs.State.{IsSpelled}
+use Rattle.close_rules.specs.Refusals.{ended_by, ended, record_in}
+use Rattle.close_laws.specs.Closes.{TakenIsClosable}
+
+ended_is : (rest : List ℕ) (p : Place) (found closing : CloseRecord) → ended_by rest p found ≡ Ok closing
+    → found ≡ closing
+ended_is [] p found closing is = cc
+ended_is (byte ∷ rest) p found closing is = absurd (cc)
+
+-- a record that was read has a spelling
+reading_spelled : (bytes : List ℕ) (read : Reading XdrFault CloseRecord) (closing : CloseRecord) → IsBytes bytes
+    → close_record.read (start_of bytes) ≡ read → (read >>= ended) ≡ Ok closing → IsSpelled close_record closing
+reading_spelled bytes (Err wrong) closing text is reads = absurd (cc)
+reading_spelled bytes (Ok x) closing text is reads =
+    let spelled = close_record_laws.lawful.takes (start_of bytes) x.1 x.0 text is in
+    subst (IsSpelled close_record) (ended_is x.1.rest x.1 x.0 closing reads)
+    (record { within = spelled.within; sized = spelled.sized })
+
+pub record_spelled : (bytes : List ℕ) (closing : CloseRecord) → IsBytes bytes → record_in bytes ≡ Ok closing
+    → IsSpelled close_record closing
+unfolding record_in
+record_spelled bytes closing text reads =
+    reading_spelled bytes (close_record.read (start_of bytes)) closing text refl reads
+
+pub taken_is_closable : TakenIsClosable
+taken_is_closable s bytes taken state = record {
+  state = state;
+  spelled = record_spelled bytes taken.closing taken.text taken.reads;
+  unrefused = taken.unrefused;
+}

@@ -1,0 +1,6 @@
+use Rattle.close_laws.proofs.NextEntries.{entries_stay_spellable}
+use Rattle.close_laws.proofs.entries.entries_stay_spellable.Goals as goal
+
+pub returns : goal.returns
+returns c =
+    entries_stay_spellable c.settled_legal.ensures c.sets_conserve.ensures c.settled_ready.ensures

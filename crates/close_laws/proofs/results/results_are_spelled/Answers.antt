@@ -1,0 +1,5 @@
+use Rattle.close_laws.proofs.SetResults.{results_are_spelled}
+use Rattle.close_laws.proofs.results.results_are_spelled.Goals as goal
+
+pub returns : goal.returns
+returns c = results_are_spelled

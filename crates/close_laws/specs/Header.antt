@@ -1,0 +1,14 @@
+-- That the header behind a close can be written.
+use Rattle.ledger_types.specs.declared.ids.Hash.{Hash}
+use Rattle.xdr_header.specs.declared.record.CloseRecord.{CloseRecord}
+use Rattle.xdr_entries.specs.Basic.{hash}
+use Rattle.xdr_header.specs.Header.{ledger_header}
+use Rattle.header_chain.specs.SkipList.{finished}
+use Rattle.close_rules.specs.State.{ClosingState, IsSpelled}
+use Rattle.close_rules.specs.Close.{upgraded_header}
+use Rattle.close_laws.specs.Legal.{IsClosable}
+
+-- the header can be written, whatever hash the levels have
+abbrev pub NextHeaderIsSpelled : Type 0
+NextHeaderIsSpelled = (s : ClosingState) (closing : CloseRecord) (list_hash : Hash) → IsClosable s closing
+    → IsSpelled hash list_hash → IsSpelled ledger_header (finished (upgraded_header s closing) list_hash)

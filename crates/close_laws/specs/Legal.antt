@@ -1,0 +1,34 @@
+-- That a close leaves a legal state.
+use Rattle.std.specs.Prelude.{◌≡◌, ◌+◌, None}
+use Rattle.ledger_types.specs.declared.ids.Hash.{Hash}
+use Rattle.xdr_header.specs.declared.record.CloseRecord.{CloseRecord}
+use Rattle.xdr_header.specs.Records.{close_record}
+use Rattle.entry_map.specs.EntryMap.{EntryMap}
+use Rattle.entry_changes.specs.Next.{AreNextEntries}
+use Rattle.legal_rules.specs.Legal.{IsLegal}
+use Rattle.entry_changes.specs.Spellable.{AreSpellable}
+use Rattle.header_chain.specs.SkipList.{finished}
+use Rattle.close_rules.specs.State.{ClosingState, IsClosingState, IsSpelled, AreBuilt}
+use Rattle.close_rules.specs.Refusals.{record_fault}
+use Rattle.close_rules.specs.Close.{applied_in, upgraded_header}
+
+-- what closes a ledger over a state: a record that has a spelling and isn't refused for what it is
+pub record IsClosable (s : ClosingState) (closing : CloseRecord) : Type 0 where
+  pub state : IsClosingState s
+  pub spelled : IsSpelled close_record closing
+  pub unrefused : record_fault s closing ≡ None
+
+-- the entries behind the close of such a record
+abbrev pub AreClosed : ClosingState → CloseRecord → EntryMap → Type 0
+AreClosed s closing after =
+    AreNextEntries (s.header.ledger_seq + 1) s.entries (applied_in s closing).entries after
+
+-- a legal state is left, whatever hash the levels have
+abbrev pub NextIsLegal : Type 0
+NextIsLegal = (s : ClosingState) (closing : CloseRecord) (after : EntryMap) (list_hash : Hash) → IsClosable s closing
+    → AreClosed s closing after → IsLegal (finished (upgraded_header s closing) list_hash) after
+
+-- every entry can stand in a bucket's file, and is an account or data
+abbrev pub EntriesStaySpellable : Type 0
+EntriesStaySpellable = (s : ClosingState) (closing : CloseRecord) (after : EntryMap) → IsClosable s closing
+    → AreClosed s closing after → AreSpellable after × AreBuilt after

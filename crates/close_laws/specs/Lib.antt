@@ -1,0 +1,4 @@
+pub mod Legal
+pub mod Results
+pub mod Header
+pub mod Closes

@@ -1,0 +1,23 @@
+//! Laws of the entries behind a close.
+
+ghost use Rattle.close_laws.specs.Legal as legal;
+
+use op_laws::steps::{settled_legal, settled_ready};
+use tx_apply::sets_conserve;
+
+/// A close leaves a legal state.
+pub fn next_is_legal()
+    ensures { legal.NextIsLegal }
+{
+    settled_legal();
+    sets_conserve();
+}
+
+/// What a close leaves can be written, and is of the kinds that are built.
+pub fn entries_stay_spellable()
+    ensures { legal.EntriesStaySpellable }
+{
+    settled_legal();
+    settled_ready();
+    sets_conserve();
+}

@@ -1,0 +1,14 @@
+//! Laws of the header behind a close.
+
+ghost use Rattle.close_laws.specs.Header as spec;
+
+use op_laws::steps::settled_held;
+use tx_apply::sets_conserve;
+
+/// The header behind a close can be written.
+pub fn next_header_is_spelled()
+    ensures { spec.NextHeaderIsSpelled }
+{
+    settled_held();
+    sets_conserve();
+}

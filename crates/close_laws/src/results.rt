@@ -1,0 +1,8 @@
+//! Laws of the results of a close.
+
+ghost use Rattle.close_laws.specs.Results as spec;
+
+/// The results of a set can be written.
+pub fn results_are_spelled()
+    ensures { spec.ResultsAreSpelled }
+{}

@@ -1,0 +1,58 @@
+-- The state behind a closed ledger, from which the next one closes.
+use Rattle.std.specs.Prelude.{◌≡◌, ℕ, ◌≤◌, List, length}
+use Rattle.ledger_types.specs.declared.ids.Hash.{Hash}
+use Rattle.ledger_types.specs.declared.header.LedgerHeader.{LedgerHeader}
+use Rattle.ledger_types.specs.declared.entry.LedgerEntry.{LedgerEntry}
+use Rattle.ledger_types.specs.declared.entry.LedgerEntryBody.{LedgerEntryBody}
+use Rattle.ledger_types.specs.declared.entry.LedgerEntryBody.TheVariants as body
+use Rattle.xdr_core.specs.declared.fault.XdrFault.{XdrFault}
+use Rattle.xdr_core.specs.Format.{Format}
+use Rattle.xdr_entries.specs.Entries.{ledger_entry}
+use Rattle.xdr_header.specs.Header.{ledger_header}
+use Rattle.entry_map.specs.EntryMap.{EntryMap}
+use Rattle.entry_sums.specs.Sums.{EachEntry}
+use Rattle.legal_rules.specs.Legal.{IsLegal}
+use Rattle.bucket_levels.specs.Spills.{level_count}
+use Rattle.bucket_levels.specs.Pairs.{Pair}
+use Rattle.bucket_levels.specs.Size.{file_total}
+use Rattle.bucket_levels.specs.Meaning.{StandFor, AreWellMarked}
+use Rattle.bucket_levels.specs.Hash.{list_hash}
+use Rattle.entry_changes.specs.Spellable.{AreSpellable}
+
+-- the network, the header of the ledger, its entries, and the files of its levels
+pub record ClosingState : Type 0 where
+  pub network : Hash
+  pub header : LedgerHeader
+  pub entries : EntryMap
+  pub levels : List Pair
+
+-- a value that has a spelling
+pub record IsSpelled {V : Type 0} (f : Format XdrFault V) (v : V) : Type 0 where
+  pub within : f.within v
+  pub sized : f.sized v
+
+-- the most bytes that the files of a ledger's levels have
+abbrev pub max_file_total : ℕ
+max_file_total = 536870912
+
+-- accounts and data: entries of which all operations can be applied so far
+abbrev pub IsBuiltBody : LedgerEntryBody → Type 0
+IsBuiltBody (body.Account account) = Unit {0}
+IsBuiltBody (body.Data entry) = Unit {0}
+IsBuiltBody other = ⊥
+
+abbrev pub AreBuilt : EntryMap → Type 0
+AreBuilt m = EachEntry (λ k e. IsBuiltBody e.body) m
+
+-- a legal state, and levels that stand for its entries and whose hash its header has
+pub record IsClosingState (s : ClosingState) : Type 0 where
+  pub legal : IsLegal s.header s.entries
+  pub count : length s.levels ≡ level_count
+  pub marked : AreWellMarked s.levels
+  pub standing : StandFor s.levels s.entries
+  pub hash : list_hash s.levels ≡ s.header.bucket_list_hash
+  -- all of it can be written
+  pub header : IsSpelled ledger_header s.header
+  pub entries : AreSpellable s.entries
+  pub built : AreBuilt s.entries
+  pub files : file_total s.levels ≤ max_file_total

@@ -1,0 +1,124 @@
+-- The rows of tables.
+use Rattle.std.proofs.Common.{◌≡◌, ℕ, Bool, true, false, cond, List, [], ◌∷◌, Option, Some, None, IfSome, map}
+use Rattle.std.proofs.Common.{refl, sym, ap, subst, ◌∙◌, ◌++◌, length, take, drop, All, option_map}
+use Rattle.std.specs.declared.cmp.Ordering.{Ordering}
+use Rattle.std.specs.declared.cmp.Ordering.TheVariants.{Less}
+use Rattle.std.specs.Ordering.{is_lt, is_eq, eq_by_cmp}
+use Rattle.std.specs.Cmp.{tied_itself}
+use Rattle.std.specs.List.{slice_get}
+use Rattle.std.specs.Option.{option_or}
+use Rattle.std.specs.FinMap.{get, entries, values, from_entries, entries-from_sorted, get-from_sorted, get-from_entries}
+use Rattle.std.specs.FinMap.{same_map}
+use Rattle.std.specs.FinMap.Entries.{find, below_all}
+use Rattle.std.proofs.lemmas.List.Elements.{All-head, All-tail}
+use Rattle.std.proofs.lemmas.Option.{slice_get-map}
+use Rattle.ledger_types.specs.declared.key.LedgerKey.{LedgerKey}
+use Rattle.ledger_types.specs.declared.entry.LedgerEntry.{LedgerEntry}
+use Rattle.ledger_types.specs.KeyOrder.{key_cmp}
+use Rattle.ledger_types.specs.Keys.{key_of}
+use Rattle.ledger_types.proofs.KeyOrdering.{keys_total, keys_exact}
+use Rattle.entry_map.specs.EntryMap.{EntryMap, IsKeyed}
+use Rattle.entry_map.specs.KeyMaps.{AreRising}
+use Rattle.entry_table.specs.Rows.{map_of, with_key, value_at, is_among, AreOwn, IsTableRow, IsOverlaid}
+use Rattle.entry_table.specs.Rows.{IsWithout, IsRowBehind}
+use Rattle.entry_table.proofs.Walks.{both, first, second, is_less, same_key, none_found, Sorted, Above}
+
+take_front : {X Y : Type 0} (f : X → Y) (xs : List X) (zs : List Y) → take (length xs) (map f xs ++ zs) ≡ map f xs
+take_front f [] zs = refl
+take_front f (x ∷ xs) zs = ap (λ r. f x ∷ r) (take_front f xs zs)
+
+-- what is written back to a whole list is the whole
+pub front_is : {X : Type 0} (f : X → X) (old new : List X) → new ≡ map f old
+    → take (length old) (new ++ drop (length new) old) ≡ map f old
+front_is f old new is =
+    ap (λ r. take (length old) (r ++ drop (length new) old)) is ∙ take_front f old (drop (length new) old)
+
+above_keys : (k : LedgerKey) (es : List LedgerEntry) → All (λ q. key_cmp k q ≡ Less) (map key_of es)
+    → Above k (map with_key es)
+above_keys k [] h = tt
+above_keys k (e ∷ es) h =
+    both (is_lt (key_cmp k (key_of e))) (below_all key_cmp k (map with_key es))
+    (is_less (key_cmp k (key_of e)) (All-head (λ q. key_cmp k q ≡ Less) (key_of e) (map key_of es) h))
+    (above_keys k es (All-tail (λ q. key_cmp k q ≡ Less) (key_of e) (map key_of es) h))
+
+pub sorted_keys : (es : List LedgerEntry) → AreRising (map key_of es) → Sorted (map with_key es)
+sorted_keys [] h = tt
+sorted_keys (e ∷ es) h = both _ _ (above_keys (key_of e) es h.0) (sorted_keys es h.1)
+
+pub own_keys : (es : List LedgerEntry) → AreOwn (map with_key es)
+own_keys [] = tt
+own_keys (e ∷ es) = (refl, own_keys es)
+
+pub row_made : (es : List LedgerEntry) → AreRising (map key_of es) → IsTableRow (map with_key es)
+row_made es h = record { rises = sorted_keys es h; own = own_keys es }
+
+pub map_made : (es : List LedgerEntry) → AreRising (map key_of es) → map_of (map with_key es) ≡ from_entries
+    (map with_key es)
+map_made es h = same_map keys_total keys_exact _ _ (λ q. get-from_sorted key_cmp (map with_key es) q (sorted_keys es h)
+    ∙ sym (get-from_entries keys_total (map with_key es) q))
+
+pub entries_of : (row : List (LedgerKey × LedgerEntry)) (m : EntryMap) → Sorted row → map_of row ≡ m → entries m ≡ row
+entries_of row m s is = ap (λ n. entries n) (sym is) ∙ entries-from_sorted key_cmp row s
+
+alone : (es : List LedgerEntry) → map (λ x. x.1) (map with_key es) ≡ es
+alone [] = refl
+alone (e ∷ es) = ap (λ r. e ∷ r) (alone es)
+
+pub values_made : (es : List LedgerEntry) → AreRising (map key_of es) → values (map_of (map with_key es)) ≡ es
+values_made es h = ap (λ r. map (λ x. x.1) r) (entries_of (map with_key es) _ (sorted_keys es h) refl) ∙ alone es
+
+pub value_in : (row : List (LedgerKey × LedgerEntry)) (m : EntryMap) (place : ℕ) → Sorted row → map_of row ≡ m
+    → slice_get (values m) place ≡ option_map (λ x. x.1) (slice_get row place)
+value_in row m place s is = ap (λ r. slice_get (map (λ x. x.1) r) place) (entries_of row m s is)
+    ∙ slice_get-map (λ (x : LedgerKey × LedgerEntry). x.1) row place
+
+-- ---- each under its own key
+
+own_at : (x : LedgerKey × LedgerEntry) (k : LedgerKey) (e : LedgerEntry) (others : Option LedgerEntry)
+    → key_of x.1 ≡ x.0
+    → (others ≡ Some e → key_of e ≡ k) → (b : Bool) → eq_by_cmp key_cmp k x.0 ≡ b → cond b (Some x.1) others ≡ Some e
+    → key_of e ≡ k
+own_at x k e others own later true tied is =
+    let same : x.1 ≡ e = cc in ap key_of (sym same) ∙ own ∙ sym (same_key k x.0 tied)
+own_at x k e others own later false tied is = later is
+
+pub own_found : (row : List (LedgerKey × LedgerEntry)) → AreOwn row → (k : LedgerKey) (e : LedgerEntry)
+    → find key_cmp k row ≡ Some e → key_of e ≡ k
+own_found [] own k e h = absurd (cc)
+own_found (x ∷ xs) own k e h =
+    own_at x k e (find key_cmp k xs) own.0 (λ g. own_found xs own.1 k e g) (eq_by_cmp key_cmp k x.0) refl h
+
+pub keyed_row : (row : List (LedgerKey × LedgerEntry)) (m : EntryMap) → IsTableRow row → map_of row ≡ m → IsKeyed m
+keyed_row row m t is k =
+    subst (λ o. IfSome o (λ e. key_of e ≡ k)) (sym (get-from_sorted key_cmp row k t.rises) ∙ ap (λ n. get n k) is)
+    (elim (find key_cmp k row) as (λ o. find key_cmp k row ≡ o → IfSome o (λ e. key_of e ≡ k)) [
+      | None ↦ λ e. tt
+      | Some v ↦ λ e. own_found row t.own k v e
+    ] refl)
+
+found_later : (x : LedgerKey × LedgerEntry) (k : LedgerKey) (e : LedgerEntry) (xs : List (LedgerKey × LedgerEntry))
+    → Above x.0 xs → find key_cmp k xs ≡ Some e → (b : Bool) → eq_by_cmp key_cmp k x.0 ≡ b
+    → cond b (Some x.1) (find key_cmp k xs) ≡ Some e
+found_later x k e xs h f true tied = absurd (cc (f, none_found k x.0 xs tied h))
+found_later x k e xs h f false tied = f
+
+pub own_from : (row : List (LedgerKey × LedgerEntry)) → Sorted row
+    → ((k : LedgerKey) (e : LedgerEntry) → find key_cmp k row ≡ Some e → key_of e ≡ k) → AreOwn row
+own_from [] s h = tt
+own_from (x ∷ xs) s h = (
+  h x.0 x.1 (ap (λ (o : Ordering). cond (is_eq o) (Some x.1) (find key_cmp x.0 xs)) (tied_itself keys_total x.0)),
+  own_from xs (second _ _ s) (λ k e f. h k e (found_later x k e xs (first _ _ s) f (eq_by_cmp key_cmp k x.0) refl)),
+)
+
+-- ---- the row behind a batch
+
+pub row_behind : (row older newer left changed all : List (LedgerKey × LedgerEntry)) (init live : List LedgerEntry)
+    (gone dead : List LedgerKey) → older ≡ map with_key init → newer ≡ map with_key live → gone ≡ dead
+    → IsOverlaid older newer changed → IsWithout row gone left → IsOverlaid left changed all
+    → IsRowBehind row init live dead all
+row_behind row older newer left changed all init live gone dead is_older is_newer is_gone c l a = record {
+  rises = a.rises;
+  each = λ k. a.each k ∙ (λ i. option_or (c.each k i) (l.each k i))
+      ∙ (λ i. option_or (option_or (value_at k (is_newer i)) (value_at k (is_older i)))
+      (cond (is_among k (is_gone i)) None (value_at k row)));
+}

@@ -1,0 +1,2 @@
+-- The entries behind a close, under their own crate's name.
+pub use Rattle.entry_changes.specs.Next.{stamped, IsNextAt, AreNextEntries, IsExactBatch}

@@ -1,0 +1,6 @@
+use Rattle.std.proofs.Common.{◌≡◌, take, map}
+use Rattle.fresh_bucket.specs.Items.{gone}
+use Rattle.fresh_bucket.proofs.items.gone_row.Given as goal
+
+abbrev pub invariant-loop-key : goal.invariant-loop-key
+invariant-loop-key l = l.row.items ≡ map gone (take l.key-index l.keys)

@@ -1,0 +1,2 @@
+pub mod Spellable
+pub mod Items

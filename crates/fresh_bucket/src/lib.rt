@@ -1,0 +1,10 @@
+//! The fresh bucket of a close: what the close changed of the entries, as a file.
+#![tactic(auto)]
+
+mod fresh;
+mod items;
+#[cfg(test)]
+mod tests;
+mod write;
+
+pub use fresh::fresh_bucket;

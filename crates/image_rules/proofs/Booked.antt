@@ -1,0 +1,137 @@
+-- The books of accounts.
+use Rattle.std.proofs.Common.{◌≡◌, ◌≢◌, refl, sym, ap, subst, ◌∙◌, ℕ, ◌<◌, min, Option}
+use Rattle.std.proofs.Common.{Some, None, Bool, IfSome, arith}
+use Rattle.std.proofs.lemmas.Int.{ints}
+use Rattle.std.proofs.lemmas.List.Elements.{All-weaker}
+use Rattle.std.specs.Prelude.{ℤ, pos, IsTrue}
+use Rattle.std.specs.List.{slice_get}
+use Rattle.std.specs.FinMap.{get, values}
+use Rattle.ledger_types.specs.declared.ids.AccountId.{AccountId}
+use Rattle.ledger_types.specs.declared.data_entry.DataEntry.{DataEntry}
+use Rattle.ledger_types.specs.declared.entry.LedgerEntry.{LedgerEntry}
+use Rattle.ledger_types.specs.declared.entry.LedgerEntryBody.{LedgerEntryBody}
+use Rattle.ledger_types.specs.declared.entry.LedgerEntryBody.TheVariants as body
+use Rattle.ledger_types.specs.declared.key.LedgerKey.{LedgerKey}
+use Rattle.ledger_types.specs.declared.key.LedgerKey.TheVariants as key
+use Rattle.ledger_types.specs.Keys.{key_of, key_of_body}
+use Rattle.entry_map.specs.EntryMap.{EntryMap, IsKeyed}
+use Rattle.entry_sums.specs.Sums.{total, EachEntry}
+use Rattle.entry_sums.proofs.Summing.{total_none}
+use Rattle.legal_rules.specs.Legal.{view, pools_in, IsBooked}
+use Rattle.legal_rules.specs.Books.{counted, stated, stated_at}
+use Rattle.close_rules.specs.State.{IsBuiltBody}
+use Rattle.close_rules.specs.EntryRules.{AreOwned}
+use Rattle.image_rules.specs.declared.books.AccountBook.{AccountBook}
+use Rattle.image_rules.specs.declared.books.AccountBook.TheVariants as book
+use Rattle.image_rules.specs.Counts.{greatest_count, CountMap, IsCountOf}
+use Rattle.image_rules.specs.AccountBooks.{kind_of, AreCounts, Agrees}
+use Rattle.image_rules.proofs.Listed.{stands_at}
+use Rattle.image_rules.proofs.Naming.{named_of_needed, named_accounts, uncounted}
+
+pub keyed_each : (m : EntryMap) → IsKeyed m → EachEntry (λ k e. key_of e ≡ k) m
+keyed_each m keyed k e there = subst (λ o. IfSome o (λ x. key_of x ≡ k)) there (keyed k)
+
+-- ---- an account that states a count
+
+exactly : (n count exact : ℕ) → n < 4294967296 → count ≡ min exact greatest_count → count ≡ n → n ≡ exact
+exactly n count exact small capped is = omega arith
+
+counted_exactly : (n count exact : ℕ) → n < 4294967296 → count ≡ min exact greatest_count → n ≡ exact → count ≡ n
+counted_exactly n count exact small capped is = omega arith
+
+pub states_count : (n count : ℕ) (stated sum : ℤ) → n < 4294967296 → stated ≡ pos n → IsCountOf count sum → count ≡ n
+    → stated ≡ sum
+states_count n count stated sum small is counts same =
+    is ∙ ap pos (exactly n count counts.exact small counts.capped same) ∙ sym counts.is
+
+same_number : (a b : ℕ) → pos a ≡ pos b → a ≡ b
+same_number a b is = omega (arith, ints)
+
+pub count_stated : (n count : ℕ) (stated sum : ℤ) → n < 4294967296 → stated ≡ pos n → IsCountOf count sum
+    → stated ≡ sum → count ≡ n
+count_stated n count stated sum small is counts same =
+    counted_exactly n count counts.exact small counts.capped
+    (same_number n counts.exact (sym is ∙ same ∙ counts.is))
+
+-- ---- all entries
+
+-- an entry states what is counted under its own key
+abbrev pub IsRight : AccountBook → EntryMap → LedgerEntry → Type 0
+IsRight which m e = stated (kind_of which) e.body ≡ total (counted (view m) (kind_of which) (key_of e)) m
+
+-- and entries stand under their own keys
+abbrev pub IsRightKeyed : AccountBook → EntryMap → LedgerEntry → Type 0
+IsRightKeyed which m e = IsKeyed m × IsRight which m e
+
+module _ (which : AccountBook) (m : EntryMap) where
+  -- what needs it stands, so nothing names what doesn't
+  absent_counts : (k : LedgerKey) → get m k ≡ None → AreOwned m → total (counted (view m) (kind_of which) k) m ≡ pos 0
+  absent_counts k none owned = total_none (counted (view m) (kind_of which) k) m (λ q e there.
+      uncounted which (view m) k e (named_of_needed (λ r. r ≢ k) (pools_in m) e
+      (All-weaker (λ r. get m r ≢ None) (λ r. r ≢ k) (λ r stands same. stands (ap (get m) same ∙ none)) _
+      (owned.standing q e there))))
+
+  other_counts : (k : LedgerKey) → ((id : AccountId) → key.Account id ≢ k)
+      → total (counted (view m) (kind_of which) k) m ≡ pos 0
+  other_counts k other = total_none (counted (view m) (kind_of which) k) m (λ q e there.
+      uncounted which (view m) k e (named_accounts (λ r. r ≢ k) e other))
+
+  right_by : (e : LedgerEntry) (b : LedgerEntryBody) → e.body ≡ b → stated (kind_of which) b ≡ pos 0
+      → ((id : AccountId) → key.Account id ≢ key_of_body b) → IsRight which m e
+  right_by e b is none other =
+      ap (stated (kind_of which)) is ∙ none
+      ∙ sym (other_counts (key_of e) (λ id same. other id (same ∙ ap key_of_body is)))
+
+  booked_at : (k : LedgerKey) (o : Option LedgerEntry) → get m k ≡ o → AreOwned m
+      → EachEntry (λ q e. IsRightKeyed which m e) m
+      → stated_at (kind_of which) o ≡ total (counted (view m) (kind_of which) k) m
+  booked_at k None none owned right = sym (absent_counts k none owned)
+  booked_at k (Some e) there owned right =
+      let here = right k e there in
+      here.1 ∙ ap (λ q. total (counted (view m) (kind_of which) q) m) (keyed_each m here.0 k e there)
+
+  pub booked_of_right : AreOwned m → EachEntry (λ q e. IsRightKeyed which m e) m → IsBooked (kind_of which) m
+  booked_of_right owned right k = booked_at k (get m k) refl owned right
+
+  pub right_of_booked : (i : ℕ) (e : LedgerEntry) → IsKeyed m → slice_get (values m) i ≡ Some e
+      → IsBooked (kind_of which) m → IsRight which m e
+  right_of_booked i e keyed at booked =
+      sym (ap (stated_at (kind_of which)) (stands_at m i e (keyed_each m keyed) at)) ∙ booked (key_of e)
+
+-- ---- what an answer on one entry says
+
+data_states : (which : AccountBook) (entry : DataEntry) → stated (kind_of which) (body.Data entry) ≡ pos 0
+data_states book.Subentries entry = refl
+data_states book.Sponsoring entry = refl
+data_states book.Sponsored entry = refl
+
+module _ (which : AccountBook) (m : EntryMap) (counts : CountMap) (e : LedgerEntry) (answer : Bool)
+    (all : AreCounts (kind_of which) m counts) where
+  right_in : (b : LedgerEntryBody) → e.body ≡ b → IsBuiltBody b → Agrees counts (kind_of which) b answer
+      → IsTrue answer → IsRight which m e
+  right_in (body.Account a) is built agrees said =
+      ap (stated (kind_of which)) is
+      ∙ (agrees (total (counted (view m) (kind_of which) (key.Account a.account_id)) m)
+      (all (key.Account a.account_id))).0 said
+      ∙ ap (λ b. total (counted (view m) (kind_of which) (key_of_body b)) m) (sym is)
+  right_in (body.Data entry) is built agrees said =
+      right_by which m e (body.Data entry) is (data_states which entry) (λ id same. cc)
+  right_in other is built agrees said = absurd built
+
+  pub right_of_answer : IsBuiltBody e.body → Agrees counts (kind_of which) e.body answer → IsTrue answer
+      → IsRight which m e
+  right_of_answer built agrees said = right_in e.body refl built agrees said
+
+  answer_in : (b : LedgerEntryBody) → e.body ≡ b → IsBuiltBody b → Agrees counts (kind_of which) b answer
+      → IsRight which m e → IsTrue answer
+  answer_in (body.Account a) is built agrees right =
+      (agrees (total (counted (view m) (kind_of which) (key.Account a.account_id)) m)
+      (all (key.Account a.account_id))).1
+      (sym (ap (stated (kind_of which)) is) ∙ right
+      ∙ ap (λ b. total (counted (view m) (kind_of which) (key_of_body b)) m) is)
+  answer_in (body.Data entry) is built agrees right = agrees
+  answer_in other is built agrees right = absurd built
+
+  pub answer_of_right : IsBuiltBody e.body → Agrees counts (kind_of which) e.body answer → IsRight which m e
+      → IsTrue answer
+  answer_of_right built agrees right = answer_in e.body refl built agrees right

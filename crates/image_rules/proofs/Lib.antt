@@ -1,0 +1,7 @@
+mod Listed
+mod Counting
+mod Naming
+mod Booked
+mod Bounded
+mod Rising
+mod Judged

@@ -1,0 +1,261 @@
+-- What accounts are named by entries, and that nothing is counted for one that isn't.
+use Rattle.std.proofs.Common.{◌≡◌, ◌≢◌, refl, sym, ap, subst, ◌∙◌, ℕ, ◌+◌, Bool, true, false, cond, List, [], ◌∷◌}
+use Rattle.std.proofs.Common.{◌++◌, ◌<◌, map, length, take, get_or, All, Option, Some, None, arith}
+use Rattle.std.proofs.lemmas.Int.{ints}
+use Rattle.std.proofs.lemmas.List.Elements.{All-nil, All-cons, All-head, All-tail, All-append, All-map}
+use Rattle.std.proofs.lemmas.List.Sums.{length-filter}
+use Rattle.std.proofs.lemmas.List.{length-map}
+use Rattle.std.proofs.lemmas.List.Filters.{length-filter_more}
+use Rattle.std.specs.Prelude.{ℤ, pos, ◌+ℤ◌, ◌↔◌, IsTrue, if◌then◌else◌}
+use Rattle.std.specs.List.{count_by, filter, flat_map}
+use Rattle.ledger_types.specs.declared.ids.AccountId.{AccountId}
+use Rattle.ledger_types.specs.declared.signer.Signer.{Signer}
+use Rattle.ledger_types.specs.declared.account.AccountEntry.{AccountEntry}
+use Rattle.ledger_types.specs.declared.account.AccountEntryExtensionV2.{AccountEntryExtensionV2}
+use Rattle.ledger_types.specs.declared.entry.LedgerEntry.{LedgerEntry}
+use Rattle.ledger_types.specs.declared.entry.LedgerEntryBody.{LedgerEntryBody}
+use Rattle.ledger_types.specs.declared.entry.LedgerEntryBody.TheVariants as body
+use Rattle.ledger_types.specs.declared.key.LedgerKey.{LedgerKey}
+use Rattle.ledger_types.specs.declared.key.LedgerKey.TheVariants as key
+use Rattle.entry_sums.proofs.Lookups.{apart_keys}
+use Rattle.entry_slots.specs.EntrySponsor.{sponsor_of}
+use Rattle.entry_slots.specs.AccountExtensions.{second_in, sponsorship_in, sponsorship_of}
+use Rattle.sponsor_rules.specs.Charge.{owner_of, multiplicity}
+use Rattle.sponsor_laws.specs.Sums.{is_there}
+use Rattle.legal_rules.specs.EntryKeys.{is_key, for_account}
+use Rattle.legal_rules.specs.Reserves.{is_for, for_each, signer_sponsors_in, subentries_in, sponsored_in_entry}
+use Rattle.legal_rules.specs.Needs.{account_keys, needed_keys, holding_keys}
+use Rattle.legal_rules.specs.PoolShares.{Pools}
+use Rattle.legal_rules.specs.Books.{View, Sponsoring, Sponsored, counted}
+use Rattle.image_rules.specs.declared.books.AccountBook.{AccountBook}
+use Rattle.image_rules.specs.declared.books.AccountBook.TheVariants as book
+use Rattle.image_rules.specs.AccountBooks.{kind_of}
+use Rattle.image_rules.specs.Signers.{ArePayersOthers}
+
+-- ---- lists of keys, one behind another
+
+pub all_front : (P : LedgerKey → Type 0) (xs ys : List LedgerKey) → All P (xs ++ ys) → All P xs
+all_front P [] ys h = All-nil P
+all_front P (x ∷ xs) ys h = All-cons P x xs (All-head P x (xs ++ ys) h) (all_front P xs ys (All-tail P x (xs ++ ys) h))
+
+pub all_back : (P : LedgerKey → Type 0) (xs ys : List LedgerKey) → All P (xs ++ ys) → All P ys
+all_back P [] ys h = h
+all_back P (x ∷ xs) ys h = all_back P xs ys (All-tail P x (xs ++ ys) h)
+
+abbrev pub AllOf : (LedgerKey → Type 0) → Option AccountId → Type 0
+AllOf P o = All P (account_keys o)
+
+pub all_flat : (P : LedgerKey → Type 0) (ids : List (Option AccountId)) → All (AllOf P) ids
+    → All P (flat_map account_keys ids)
+all_flat P [] all = All-nil P
+all_flat P (o ∷ ids) all =
+    All-append P (account_keys o) (flat_map account_keys ids) (All-head (AllOf P) o ids all)
+    (all_flat P ids (All-tail (AllOf P) o ids all))
+
+pub flat_all : (P : LedgerKey → Type 0) (ids : List (Option AccountId)) → All P (flat_map account_keys ids)
+    → All (AllOf P) ids
+flat_all P [] all = All-nil (AllOf P)
+flat_all P (o ∷ ids) all =
+    All-cons (AllOf P) o ids (all_front P (account_keys o) (flat_map account_keys ids) all)
+    (flat_all P ids (all_back P (account_keys o) (flat_map account_keys ids) all))
+
+-- the keys of accounts that an entry names
+pub record AllNamed (P : LedgerKey → Type 0) (e : LedgerEntry) : Type 0 where
+  pub owner : All P (account_keys (owner_of e.body))
+  pub sponsor : All P (account_keys (sponsor_of e))
+  pub signers : All P (flat_map account_keys (signer_sponsors_in e.body))
+
+module _ (P : LedgerKey → Type 0) (pools : Pools) (e : LedgerEntry) where
+  abbrev owners : List LedgerKey
+  owners = account_keys (owner_of e.body)
+
+  abbrev sponsors : List LedgerKey
+  sponsors = account_keys (sponsor_of e)
+
+  abbrev signers : List LedgerKey
+  signers = flat_map account_keys (signer_sponsors_in e.body)
+
+  abbrev holding : List LedgerKey
+  holding = holding_keys pools e.body
+
+  pub named_of_needed : All P (needed_keys pools e) → AllNamed P e
+  named_of_needed all =
+      let three = all_front P (owners ++ sponsors ++ signers) holding all in
+      let two = all_front P (owners ++ sponsors) signers three in
+      record {
+        owner = all_front P owners sponsors two;
+        sponsor = all_back P owners sponsors two;
+        signers = all_back P (owners ++ sponsors) signers three;
+      }
+
+  pub needed_of_named : holding ≡ [] → AllNamed P e → All P (needed_keys pools e)
+  needed_of_named none named =
+      All-append P (owners ++ sponsors ++ signers) holding
+      (All-append P (owners ++ sponsors) signers (All-append P owners sponsors named.owner named.sponsor) named.signers)
+      (subst (All P) (sym none) (All-nil P))
+
+-- ---- what answers say
+
+pub flat_iff : (P : LedgerKey → Type 0) (answer : Bool) (ids named : List (Option AccountId)) → named ≡ ids
+    → (IsTrue answer ↔ All (AllOf P) ids) → (IsTrue answer ↔ All P (flat_map account_keys named))
+flat_iff P answer ids named is h = (
+  λ said. subst (λ xs. All P (flat_map account_keys xs)) (sym is) (all_flat P ids (h.0 said)),
+  λ all. h.1 (flat_all P ids (subst (λ xs. All P (flat_map account_keys xs)) is all)),
+)
+
+pub needed_iff : (P : LedgerKey → Type 0) (pools : Pools) (e : LedgerEntry) (all owner sponsor payers : Bool)
+    → holding_keys pools e.body ≡ [] → (IsTrue all ↔ (IsTrue owner × IsTrue sponsor × IsTrue payers))
+    → (IsTrue owner ↔ All P (account_keys (owner_of e.body))) → (IsTrue sponsor ↔ All P (account_keys (sponsor_of e)))
+    → (IsTrue payers ↔ All P (flat_map account_keys (signer_sponsors_in e.body)))
+    → (IsTrue all ↔ All P (needed_keys pools e))
+needed_iff P pools e all owner sponsor payers none three owns pays signs = (
+  λ said. let each = three.0 said in needed_of_named P pools e none (record {
+    owner = owns.0 each.0;
+    sponsor = pays.0 each.1;
+    signers = signs.0 each.2;
+  }),
+  λ needed. let named = named_of_needed P pools e needed in
+      three.1 (owns.1 named.owner, pays.1 named.sponsor, signs.1 named.signers),
+)
+
+-- ---- what isn't named isn't counted
+
+abbrev IsOther : LedgerKey → LedgerKey → Type 0
+IsOther k q = q ≢ k
+
+none_for_account : (k : LedgerKey) (o : Option AccountId) (n : ℕ) → All (IsOther k) (account_keys o)
+    → for_account k o n ≡ pos 0
+none_for_account k None n others = refl
+none_for_account k (Some id) n others =
+    ap (λ b. if b then pos n else pos 0)
+    (apart_keys (key.Account id) k (All-head (IsOther k) (key.Account id) [] others))
+
+none_kept : (k : LedgerKey) (ids : List (Option AccountId)) → All (IsOther k) (flat_map account_keys ids)
+    → filter (is_for k) ids ≡ []
+none_kept k [] others = refl
+none_kept k (None ∷ ids) others = none_kept k ids others
+none_kept k (Some id ∷ ids) others =
+    let rest = flat_map account_keys ids in
+    ap (λ b. cond b (Some id ∷ filter (is_for k) ids) (filter (is_for k) ids))
+    (apart_keys (key.Account id) k (All-head (IsOther k) (key.Account id) rest others))
+    ∙ none_kept k ids (All-tail (IsOther k) (key.Account id) rest others)
+
+none_for_each : (k : LedgerKey) (ids : List (Option AccountId)) → All (IsOther k) (flat_map account_keys ids)
+    → for_each k ids ≡ pos 0
+none_for_each k ids others =
+    ap pos (sym (length-filter (is_for k) ids) ∙ ap length (none_kept k ids others))
+
+both_none : (a b : ℤ) → a ≡ pos 0 → b ≡ pos 0 → (a +ℤ b) ≡ pos 0
+both_none a b first second = omega (arith, ints)
+
+pub uncounted : (which : AccountBook) (v : View) (k : LedgerKey) (e : LedgerEntry) → AllNamed (IsOther k) e
+    → counted v (kind_of which) k e ≡ pos 0
+uncounted book.Subentries v k e others = none_for_account k (owner_of e.body) (subentries_in e.body) others.owner
+uncounted book.Sponsored v k e others = none_for_account k (owner_of e.body) (sponsored_in_entry e) others.owner
+uncounted book.Sponsoring v k e others =
+    both_none (for_account k (sponsor_of e) (multiplicity e.body)) (for_each k (signer_sponsors_in e.body))
+    (none_for_account k (sponsor_of e) (multiplicity e.body) others.sponsor)
+    (none_for_each k (signer_sponsors_in e.body) others.signers)
+
+-- ---- a key that isn't an account's
+
+account_only : (P : LedgerKey → Type 0) → ((id : AccountId) → P (key.Account id)) → (o : Option AccountId)
+    → All P (account_keys o)
+account_only P all None = All-nil P
+account_only P all (Some id) = All-cons P (key.Account id) [] (all id) (All-nil P)
+
+accounts_only : (P : LedgerKey → Type 0) → ((id : AccountId) → P (key.Account id)) → (ids : List (Option AccountId))
+    → All P (flat_map account_keys ids)
+accounts_only P all [] = All-nil P
+accounts_only P all (None ∷ ids) = accounts_only P all ids
+accounts_only P all (Some id ∷ ids) =
+    All-cons P (key.Account id) (flat_map account_keys ids) (all id) (accounts_only P all ids)
+
+pub named_accounts : (P : LedgerKey → Type 0) (e : LedgerEntry) → ((id : AccountId) → P (key.Account id)) → AllNamed P e
+named_accounts P e all = record {
+  owner = account_only P all (owner_of e.body);
+  sponsor = account_only P all (sponsor_of e);
+  signers = accounts_only P all (signer_sponsors_in e.body);
+}
+
+-- ---- no sponsors of signers
+
+pub none_named : (signers : List Signer) → flat_map account_keys (map (λ signer. None) signers) ≡ []
+none_named [] = refl
+none_named (s ∷ signers) = none_named signers
+
+none_of_none : (p : Option AccountId → Bool) (signers : List Signer) → p None ≡ false
+    → filter p (map (λ signer. None) signers) ≡ []
+none_of_none p [] none = refl
+none_of_none p (s ∷ signers) none =
+    ap (λ b. cond b (None ∷ filter p (map (λ signer. None) signers)) (filter p (map (λ signer. None) signers))) none
+    ∙ none_of_none p signers none
+
+pub none_counted : (p : Option AccountId → Bool) (signers : List Signer) → p None ≡ false
+    → count_by p (map (λ signer. None) signers) ≡ 0
+none_counted p signers none =
+    sym (length-filter p (map (λ signer. None) signers)) ∙ ap length (none_of_none p signers none)
+
+-- ---- one more that is named
+
+one_counted : (b : Bool) → (if b then pos 1 else pos 0) ≡ pos (cond b 1 0)
+one_counted true = refl
+one_counted false = refl
+
+counts_one : (k : LedgerKey) (o : Option AccountId) → for_account k o 1 ≡ pos (cond (is_for k o) 1 0)
+counts_one k None = refl
+counts_one k (Some id) = one_counted (is_key (key.Account id) k)
+
+pub for_each_more : (k : LedgerKey) (ids : List (Option AccountId)) (i : ℕ) (d : Option AccountId) → i < length ids
+    → for_each k (take (i + 1) ids) ≡ (for_each k (take i ids) +ℤ for_account k (get_or ids i d) 1)
+for_each_more k ids i d lt =
+    ap pos (sym (length-filter (is_for k) (take (i + 1) ids)) ∙ length-filter_more (is_for k) ids i d lt
+    ∙ ap (λ n. n + cond (is_for k (get_or ids i d)) 1 0) (length-filter (is_for k) (take i ids)))
+    ∙ ap (λ n. pos (count_by (is_for k) (take i ids)) +ℤ n) (sym (counts_one k (get_or ids i d)))
+
+-- ---- sums of what is counted
+
+paid_sum : (k : LedgerKey) (o : Option AccountId) (a b n : ℕ) → a + b ≡ n
+    → for_account k o n ≡ (for_account k o a +ℤ for_account k o b)
+paid_sum k None a b n is = omega (arith, ints)
+paid_sum k (Some id) a b n is = elim (is_key (key.Account id) k) as
+    (λ t. (if t then pos n else pos 0) ≡ ((if t then pos a else pos 0) +ℤ (if t then pos b else pos 0))) [
+      | true ↦ omega (arith, ints)
+      | false ↦ omega (arith, ints)
+    ]
+
+pub sponsored_sum : (v : View) (k : LedgerKey) (e : LedgerEntry) (owner : Option AccountId) (paid signers : ℕ)
+    → owner ≡ owner_of e.body → paid + count_by is_there (signer_sponsors_in e.body) ≡ sponsored_in_entry e
+    → signers ≡ count_by is_there (signer_sponsors_in e.body)
+    → counted v Sponsored k e ≡ (for_account k owner paid +ℤ for_account k owner signers)
+sponsored_sum v k e owner paid signers is sum same =
+    ap (λ o. for_account k o (sponsored_in_entry e)) (sym is)
+    ∙ paid_sum k owner paid signers (sponsored_in_entry e) (ap (λ n. paid + n) same ∙ sum)
+
+pub sponsoring_sum : (v : View) (k : LedgerKey) (e : LedgerEntry) (sponsor : Option AccountId) (n : ℕ)
+    → sponsor ≡ sponsor_of e → n ≡ multiplicity e.body
+    → counted v Sponsoring k e ≡ (for_account k sponsor n +ℤ for_each k (signer_sponsors_in e.body))
+sponsoring_sum v k e sponsor n is same =
+    ap (λ o. for_account k o (multiplicity e.body) +ℤ for_each k (signer_sponsors_in e.body)) (sym is)
+    ∙ ap (λ c. for_account k sponsor c +ℤ for_each k (signer_sponsors_in e.body)) (sym same)
+
+-- ---- who pays for signers, by the extension of an account
+
+module _ (b : LedgerEntryBody) (a : AccountEntry) (is : b ≡ body.Account a) where
+  pub unsponsored : second_in a.ext ≡ None → signer_sponsors_in b ≡ map (λ signer. None) a.signers
+  unsponsored none = ap signer_sponsors_in is
+      ∙ ap (λ o. (sponsorship_in a.signers o).signer_sponsoring_ids) none
+
+  pub sponsors_by : (s : AccountEntryExtensionV2) → second_in a.ext ≡ Some s
+      → signer_sponsors_in b ≡ s.signer_sponsoring_ids
+  sponsors_by s some = ap signer_sponsors_in is
+      ∙ ap (λ o. (sponsorship_in a.signers o).signer_sponsoring_ids) some
+
+pub others_by_none : (a : AccountEntry) → second_in a.ext ≡ None
+    → ArePayersOthers a.account_id a.signers (sponsorship_of a).signer_sponsoring_ids
+others_by_none a none =
+    subst (λ o. ArePayersOthers a.account_id a.signers (sponsorship_in a.signers o).signer_sponsoring_ids) (sym none)
+    (record {
+      items = length-map a.signers (λ signer. None);
+      others = All-map (λ s. s ≢ Some a.account_id) (λ signer. None) a.signers (λ k d lt same. cc);
+    })

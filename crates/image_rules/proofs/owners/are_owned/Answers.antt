@@ -1,0 +1,33 @@
+use Rattle.std.proofs.Common.{◌≢◌, None, All, refl, arith}
+use Rattle.std.specs.FinMap.{get}
+use Rattle.legal_rules.specs.Needs.{needed_keys}
+use Rattle.legal_rules.specs.Legal.{pools_in}
+use Rattle.close_rules.specs.State.{IsBuiltBody}
+use Rattle.image_rules.proofs.Listed.{holds_of_all, holds_at}
+use Rattle.image_rules.proofs.Bounded.{offers_apart}
+use Rattle.image_rules.proofs.owners.are_owned.Goals as goal
+
+pub is_owned-requires : goal.is_owned-requires
+is_owned-requires c =
+    holds_at (λ x. IsBuiltBody x.body) c.args.entries.now c.loop-place.place c.entry.result.now c.requires
+    c.entry.ensures.entry
+
+pub returns-then-not-owned : goal.returns-then-not-owned
+returns-then-not-owned c =
+    let m = c.args.entries.now in (
+      λ no. absurd (cc),
+      λ owned.
+          let holds = c.in_ok-owned.ensures.1 (holds_at (λ e. All (λ q. get m q ≢ None) (needed_keys (pools_in m) e)) m
+          c.loop-place.place c.entry.result.now owned.standing c.entry.ensures.entry) in cc,
+    )
+
+pub returns : goal.returns
+returns c =
+    let m = c.args.entries.now in (
+      λ _. record {
+        standing = holds_of_all (λ e. All (λ q. get m q ≢ None) (needed_keys (pools_in m) e)) m c.loop-place.place
+            (omega arith) c.loop-place.invariant;
+        offers = offers_apart m c.requires;
+      },
+      λ _. refl,
+    )

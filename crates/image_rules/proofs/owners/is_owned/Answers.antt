@@ -1,0 +1,19 @@
+use Rattle.std.proofs.Common.{◌≢◌, None, subst, All, IsTrue, ◌↔◌}
+use Rattle.std.specs.FinMap.{get}
+use Rattle.ledger_types.specs.declared.key.LedgerKey.{LedgerKey}
+use Rattle.legal_rules.specs.Needs.{account_keys}
+use Rattle.legal_rules.specs.Legal.{pools_in}
+use Rattle.image_rules.proofs.Bounded.{holds_nothing}
+use Rattle.image_rules.proofs.Naming.{needed_iff}
+use Rattle.image_rules.proofs.owners.is_owned.Goals as goal
+
+pub returns : goal.returns
+returns c =
+    let P = λ (q : LedgerKey). get c.args.entries.now q ≢ None in
+    let m = c.args.entries.now in
+    let e = c.args.entry.now in
+    needed_iff P (pools_in m) e c.are_all.result c.in_ok-owner.owner c.in_ok-sponsor.sponsor c.in_ok-payers.payers
+    (holds_nothing (pools_in m) e.body c.requires) c.are_all.ensures
+    (subst (λ o. IsTrue c.in_ok-owner.owner ↔ All P (account_keys o)) c.owner_of.ensures c.in_ok-owner.ensures)
+    (subst (λ o. IsTrue c.in_ok-sponsor.sponsor ↔ All P (account_keys o)) c.sponsor_in.ensures c.in_ok-sponsor.ensures)
+    c.in_ok-payers.ensures

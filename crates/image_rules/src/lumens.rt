@@ -1,0 +1,53 @@
+//! Rule 13: lumens are the header's total.
+
+ghost use Rattle.std.specs.Prelude.{◌≡◌, ◌↔◌, pos, negsuc, ◌+ℤ◌, ◌≤ℤ◌, IsTrue};
+ghost use Rattle.ledger_types.specs.declared.asset.Asset.TheVariants as asset;
+ghost use Rattle.entry_sums.specs.Sums.{total};
+ghost use Rattle.legal_rules.specs.Supply.{held, held_in};
+ghost use Rattle.close_rules.specs.State.{IsBuiltBody, AreBuilt};
+ghost use Rattle.close_rules.specs.EntryRules.{AreLumensCounted};
+
+use entry_table::EntryTable;
+use ledger_types::{LedgerEntryBody, LedgerHeader};
+
+/// The lumens that an account holds. Data hold none.
+fn lumens_in(body: &LedgerEntryBody) -> i64
+    requires { IsBuiltBody body.now }
+    ensures value { held_in asset.Native body.now ≡ result }
+    ensures low { negsuc 9223372036854775807 ≤ℤ result }
+    ensures high { result ≤ℤ pos 9223372036854775807 }
+{
+    match body {
+        LedgerEntryBody::Account(account) => account.balance,
+        LedgerEntryBody::Data(_) => 0,
+        _ => unreachable!(),
+    }
+}
+
+/// The lumens that all entries hold. The sum of all balances may pass 64 bits.
+fn lumens_of(entries: &EntryTable) -> i128
+    requires { AreBuilt entries.now }
+    ensures { result ≡ total (held asset.Native) entries.now }
+{
+    let mut sum = 0i128;
+    for place in 0..entries.len() {
+        sum += i128::from(lumens_in(&entries.entry(place).body));
+    }
+    sum
+}
+
+/// Whether lumens and the fee pool are the total.
+fn is_total(lumens: i128, fee_pool: i64, total_coins: i64) -> bool
+    ensures { IsTrue result ↔ ((lumens +ℤ fee_pool) ≡ total_coins) }
+{
+    let rest = i128::from(total_coins) - i128::from(fee_pool);
+    lumens <= rest && rest <= lumens
+}
+
+/// Whether the lumens that entries hold and the fee pool are the header's total.
+pub fn are_lumens_counted(header: &LedgerHeader, entries: &EntryTable) -> bool
+    requires { AreBuilt entries.now }
+    ensures { IsTrue result ↔ AreLumensCounted header.now entries.now }
+{
+    is_total(lumens_of(entries), header.fee_pool, header.total_coins)
+}

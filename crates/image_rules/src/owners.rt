@@ -1,0 +1,98 @@
+//! Rule 8: what entries need stands, and offers have distinct ids.
+
+ghost use Rattle.std.specs.Prelude.{◌≢◌, ◌↔◌, None, All, IsTrue, IfOk};
+ghost use Rattle.std.specs.List.{flat_map};
+ghost use Rattle.std.specs.FinMap.{get};
+ghost use Rattle.ledger_types.specs.declared.key.LedgerKey.TheVariants as key;
+ghost use Rattle.legal_rules.specs.Reserves.{signer_sponsors_in};
+ghost use Rattle.legal_rules.specs.Needs.{account_keys, needed_keys};
+ghost use Rattle.legal_rules.specs.Legal.{pools_in};
+ghost use Rattle.close_rules.specs.State.{IsBuiltBody, AreBuilt};
+ghost use Rattle.close_rules.specs.EntryRules.{AreOwned};
+
+use crate::parts::{owner_of, sponsorship};
+use entry_map::Base;
+use entry_slots::sponsor_in;
+use entry_table::EntryTable;
+use ledger_types::{AccountId, LedgerEntry, LedgerEntryBody, LedgerKey};
+use std::alloc::AllocError;
+
+/// Whether an account stands.
+fn has_account(entries: &EntryTable, account_id: AccountId) -> Result<bool, AllocError>
+    ensures { IfOk result (λ there. IsTrue there ↔ (get entries.now (key.Account account_id) ≢ None)) }
+{
+    let found = entries.find(&LedgerKey::Account { account_id })?;
+    Ok(found.is_some())
+}
+
+/// Whether an account stands, if one is named.
+fn stands(entries: &EntryTable, id: Option<AccountId>) -> Result<bool, AllocError>
+    ensures { IfOk result (λ there. IsTrue there ↔ All (λ q. get entries.now q ≢ None) (account_keys id)) }
+{
+    match id {
+        None => Ok(true),
+        Some(account_id) => has_account(entries, account_id),
+    }
+}
+
+/// Whether all accounts that are named stand.
+fn do_all_stand(entries: &EntryTable, ids: &[Option<AccountId>]) -> Result<bool, AllocError>
+    ensures { IfOk result (λ there.
+        IsTrue there ↔ All (λ id. All (λ q. get entries.now q ≢ None) (account_keys id)) ids.now) }
+{
+    for id in ids {
+        if !stands(entries, *id)? {
+            return Ok(false);
+        }
+    }
+    Ok(true)
+}
+
+/// Whether the sponsors of the signers in an entry stand.
+fn do_payers_stand(entries: &EntryTable, body: &LedgerEntryBody) -> Result<bool, AllocError>
+    ensures { IfOk result (λ there.
+        IsTrue there ↔ All (λ q. get entries.now q ≢ None) (flat_map account_keys (signer_sponsors_in body.now))) }
+{
+    match body {
+        LedgerEntryBody::Account(account) => match sponsorship(account) {
+            None => Ok(true),
+            Some(sponsorship) => {
+                do_all_stand(entries, sponsorship.signer_sponsoring_ids.as_slice())
+            }
+        },
+        _ => Ok(true),
+    }
+}
+
+/// Whether all three hold.
+fn are_all(owner: bool, sponsor: bool, payers: bool) -> bool
+    ensures { IsTrue result ↔ (IsTrue owner × IsTrue sponsor × IsTrue payers) }
+{
+    owner && sponsor && payers
+}
+
+/// Whether what an entry needs stands.
+fn is_owned(entries: &EntryTable, entry: &LedgerEntry) -> Result<bool, AllocError>
+    requires { IsBuiltBody entry.now.body }
+    ensures { IfOk result (λ kept.
+        IsTrue kept ↔ All (λ q. get entries.now q ≢ None) (needed_keys (pools_in entries.now) entry.now)) }
+{
+    let owner = stands(entries, owner_of(&entry.body))?;
+    let sponsor = stands(entries, sponsor_in(&entry.ext))?;
+    let payers = do_payers_stand(entries, &entry.body)?;
+    Ok(are_all(owner, sponsor, payers))
+}
+
+/// Whether what each entry needs stands. Among accounts and data there is no offer whose id another could have.
+pub fn are_owned(entries: &EntryTable) -> Result<bool, AllocError>
+    requires { AreBuilt entries.now }
+    ensures { IfOk result (λ kept. IsTrue kept ↔ AreOwned entries.now) }
+{
+    for place in 0..entries.len() {
+        let owned = is_owned(entries, entries.entry(place))?;
+        if !owned {
+            return Ok(false);
+        }
+    }
+    Ok(true)
+}

@@ -1,0 +1,33 @@
+//! Rule 10: subentries are counted, and few.
+
+ghost use Rattle.std.specs.Prelude.{◌↔◌, IsTrue, IfOk};
+ghost use Rattle.legal_rules.specs.Bounds.{AreSubentriesFew};
+ghost use Rattle.close_rules.specs.State.{AreBuilt};
+ghost use Rattle.close_rules.specs.EntryRules.{AreOwned, AreSubentriesCounted};
+
+use crate::books::{AccountBook, is_booked};
+use crate::entry_tests::{EntryTest, do_all_pass};
+use entry_table::EntryTable;
+use ledger_types::LedgerEntryBody;
+use std::alloc::{AllocError, Global};
+
+/// Whether an account has at most 1000 subentries.
+pub fn are_subentries_few(body: &LedgerEntryBody) -> bool
+    ensures { IsTrue result ↔ AreSubentriesFew body.now }
+{
+    match body {
+        LedgerEntryBody::Account(account) => account.num_sub_entries <= 1000,
+        _ => true,
+    }
+}
+
+/// Whether each account states how many subentries it has, and has few.
+pub fn are_subentries_counted(alloc: Global, entries: &EntryTable) -> Result<bool, AllocError>
+    requires built { AreBuilt entries.now }
+    requires owned { AreOwned entries.now }
+    ensures { IfOk result (λ kept. IsTrue kept ↔ AreSubentriesCounted entries.now) }
+{
+    let few = do_all_pass(EntryTest::Few, entries);
+    let booked = is_booked(alloc, AccountBook::Subentries, entries)?;
+    Ok(few && booked)
+}

@@ -1,0 +1,74 @@
+//! The first rule of entries that is broken.
+
+ghost use Rattle.std.specs.Prelude.{IfOk};
+ghost use Rattle.close_rules.specs.State.{AreBuilt};
+ghost use Rattle.close_rules.specs.EntryRules as spec;
+ghost use Rattle.image_rules.specs.RuleLists.{book_rules, sum_rules};
+
+use crate::liabilities::are_liable;
+use crate::lumens::are_lumens_counted;
+use crate::owners::are_owned;
+use crate::pools::are_pools_counted;
+use crate::ranges::are_in_range;
+use crate::sponsorship::are_sponsors_counted;
+use crate::subentries::are_subentries_counted;
+use close_rules::ImageRule;
+use entry_table::EntryTable;
+use ledger_types::LedgerHeader;
+use std::alloc::AllocError;
+
+/// The first of the rules of pools and lumens that is broken, if one is.
+fn first_of_sums(header: &LedgerHeader, entries: &EntryTable) -> Option<ImageRule>
+    requires { AreBuilt entries.now }
+    ensures { spec.IsFirstBroken header.now entries.now sum_rules result }
+{
+    if !are_pools_counted(entries) {
+        return Some(ImageRule::Pools);
+    }
+    if !are_lumens_counted(header, entries) {
+        return Some(ImageRule::Lumens);
+    }
+    None
+}
+
+/// The first of the rules from the books on that is broken, if one is.
+fn first_of_books(
+    header: &LedgerHeader,
+    entries: &EntryTable,
+) -> Result<Option<ImageRule>, AllocError>
+    requires built { AreBuilt entries.now }
+    requires owned { spec.AreOwned entries.now }
+    ensures { IfOk result (λ broken. spec.IsFirstBroken header.now entries.now book_rules broken) }
+{
+    let alloc = header.scp_value.upgrades.allocator();
+    let subentries = are_subentries_counted(alloc, entries)?;
+    if !subentries {
+        return Ok(Some(ImageRule::Subentries));
+    }
+    let sponsors = are_sponsors_counted(alloc, entries)?;
+    if !sponsors {
+        return Ok(Some(ImageRule::Sponsorship));
+    }
+    Ok(first_of_sums(header, entries))
+}
+
+/// The first rule of the entries behind a ledger that is broken, if one is. They are accounts and data alone.
+pub fn first_broken(
+    header: &LedgerHeader,
+    entries: &EntryTable,
+) -> Result<Option<ImageRule>, AllocError>
+    requires { AreBuilt entries.now }
+    ensures { IfOk result (λ broken. spec.IsFirstBroken header.now entries.now spec.entry_rules broken) }
+{
+    if !are_in_range(header, entries) {
+        return Ok(Some(ImageRule::Entry));
+    }
+    let owned = are_owned(entries)?;
+    if !owned {
+        return Ok(Some(ImageRule::Owner));
+    }
+    if !are_liable(entries) {
+        return Ok(Some(ImageRule::Liabilities));
+    }
+    first_of_books(header, entries)
+}

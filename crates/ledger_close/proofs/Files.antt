@@ -1,0 +1,204 @@
+-- The files of an image as those of levels.
+use Rattle.std.proofs.Common.{◌≡◌, ℕ, zero, suc, ◌+◌, ◌*◌, ◌<◌, ◌⊎◌, inl, inr, List, [], ◌∷◌, ◌++◌, length, map, get_or}
+use Rattle.std.proofs.Common.{take, Some, None, Result, Err, refl, sym, ap, ◌∙◌, subst, arith, All, append_assoc}
+use Rattle.std.specs.List.{flat_map}
+use Rattle.std.proofs.lemmas.List.{map-append, flat_map_more, take_all, take_more, length_push}
+use Rattle.std.proofs.lemmas.List.Elements.{All-nil, All-head, All-tail, All-push}
+use Rattle.bucket_core.specs.Bucket.{Contents}
+use Rattle.bucket_core.specs.File.{file_of, HasFile}
+use Rattle.bucket_core.specs.Faults.{first_fault, JudgedBy}
+use Rattle.bucket_core.specs.declared.fault.BucketFault.{BucketFault}
+use Rattle.bucket_core.specs.declared.fault.BucketFault.TheVariants as bucket
+use Rattle.bucket_levels.specs.Pairs.{Pair}
+use Rattle.bucket_levels.specs.Levels.{pair_of}
+use Rattle.bucket_levels.specs.declared.pair.LevelPair.{LevelPair}
+use Rattle.close_rules.specs.declared.image_fault.ImageFault.{ImageFault}
+use Rattle.close_rules.specs.declared.image_fault.ImageFault.TheVariants as fault
+use Rattle.close_rules.specs.declared.image_fault.ImageRule.TheVariants as rule
+use Rattle.close_rules.specs.Images.{AreFilesOf}
+use Rattle.ledger_close.specs.ImageFiles.{IsFileOf, IsNoFile, IsFileFault, fault_of}
+
+-- ---- one file
+
+-- a bucket's file has no fault
+abbrev pub NoFaults : Type 0
+NoFaults = (contents : Contents) → HasFile contents → first_fault (file_of contents) ≡ None
+
+faulty : (file : List ℕ) (wrong : BucketFault) → NoFaults → first_fault file ≡ Some wrong → (contents : Contents)
+    → IsFileOf file contents → ⊥
+faulty file wrong law told contents is =
+    let none : first_fault file ≡ None =
+    subst (λ (t : List ℕ). first_fault t ≡ None) (sym is.is) (law contents is.has) in
+    cc
+
+told_by : (T : Type 0) (file : List ℕ) (wrong : BucketFault) → NoFaults
+    → JudgedBy {T = T} (first_fault file) (Err wrong) → IsFileFault (fault_of wrong) (IsNoFile file)
+told_by T file bucket.NoMemory law told = tt
+told_by T file (bucket.Xdr at kind) law told = faulty file (bucket.Xdr at kind) law told
+told_by T file (bucket.NoMeta at) law told = faulty file (bucket.NoMeta at) law told
+told_by T file (bucket.SecondMeta at) law told = faulty file (bucket.SecondMeta at) law told
+told_by T file (bucket.Order at) law told = faulty file (bucket.Order at) law told
+
+-- what a reader's fault says of the file of which it read a copy
+pub told_of : {T : Type 0} (answered : Result T BucketFault) (file copied : List ℕ) (wrong : BucketFault)
+    (answer : ImageFault) → NoFaults → copied ≡ file → JudgedBy (first_fault copied) answered
+    → answered ≡ Err wrong → answer ≡ fault_of wrong → IsFileFault answer (IsNoFile file)
+told_of {T = T} answered file copied wrong answer law same told failed is =
+    subst (λ (a : ImageFault). IsFileFault a (IsNoFile file)) (sym is)
+    (subst (λ (t : List ℕ). IsFileFault (fault_of wrong) (IsNoFile t)) same
+    (told_by T copied wrong law
+    (subst (λ (r : Result T BucketFault). JudgedBy {T = T} (first_fault copied) r) failed told)))
+
+pub weaker : {P Q : Type 0} (wrong : ImageFault) → (P → Q) → IsFileFault wrong P → IsFileFault wrong Q
+weaker fault.NoMemory on h = tt
+weaker fault.NotBuilt on h = absurd h
+weaker (fault.BadImage rule.Header) on h = absurd h
+weaker (fault.BadImage rule.Version) on h = absurd h
+weaker (fault.BadImage rule.Fields) on h = absurd h
+weaker (fault.BadImage rule.Bucket) on h = on h
+weaker (fault.BadImage rule.Marks) on h = absurd h
+weaker (fault.BadImage rule.ListHash) on h = absurd h
+weaker (fault.BadImage rule.Entry) on h = absurd h
+weaker (fault.BadImage rule.Owner) on h = absurd h
+weaker (fault.BadImage rule.Liabilities) on h = absurd h
+weaker (fault.BadImage rule.Subentries) on h = absurd h
+weaker (fault.BadImage rule.Sponsorship) on h = absurd h
+weaker (fault.BadImage rule.Pools) on h = absurd h
+weaker (fault.BadImage rule.Lumens) on h = absurd h
+
+-- ---- all files
+
+abbrev pub HasBoth : Pair → Type 0
+HasBoth pair = HasFile pair.curr × HasFile pair.snap
+
+abbrev pub files_in : Pair → List (List ℕ)
+files_in pair = file_of pair.curr ∷ file_of pair.snap ∷ []
+
+-- so many levels were read from the front of the files
+pub record AreRead (files : List (List ℕ)) (levels : List Pair) (n : ℕ) : Type 0 where
+  pub count : length levels ≡ n
+  pub have : All HasBoth levels
+  pub are : take (2 * n) files ≡ flat_map files_in levels
+
+pub none_read : (files : List (List ℕ)) (pairs : List LevelPair) → pairs ≡ [] → AreRead files (map pair_of pairs) 0
+none_read files pairs none =
+    subst (λ (p : List LevelPair). AreRead files (map pair_of p) 0) (sym none)
+    (record { count = refl; have = All-nil HasBoth; are = refl })
+
+more_read : (files : List (List ℕ)) (levels : List Pair) (pair : Pair) (n : ℕ) (a b : List ℕ) → AreRead files levels n
+    → 2 * n + 1 < length files → a ≡ get_or files (2 * n) a → b ≡ get_or files (2 * n + 1) b
+    → IsFileOf a pair.curr → IsFileOf b pair.snap → AreRead files (levels ++ pair ∷ []) (n + 1)
+more_read files levels pair n a b read below at_a at_b curr snap = record {
+  count = omega (arith, length_push levels pair, read.count);
+  have = All-push HasBoth levels pair read.have (curr.has, snap.has);
+  are =
+      let all : List (List ℕ) = flat_map files_in levels in
+      let second : take (2 * n + 1 + 1) files ≡ take (2 * n + 1) files ++ b ∷ [] =
+      take_more files (2 * n + 1) b below ∙ ap (λ (x : List ℕ). take (2 * n + 1) files ++ x ∷ []) (sym at_b) in
+      let first : take (2 * n + 1) files ≡ all ++ a ∷ [] =
+      take_more files (2 * n) a (omega arith) ∙ ap (λ (x : List ℕ). take (2 * n) files ++ x ∷ []) (sym at_a)
+      ∙ ap (λ (x : List (List ℕ)). x ++ a ∷ []) read.are in
+      let long : 2 * (n + 1) ≡ 2 * n + 1 + 1 = omega arith in
+      let last : all ++ files_in pair ≡ flat_map files_in (levels ++ pair ∷ []) =
+      flat_map_more files_in [] levels pair in
+      ap (λ (m : ℕ). take m files) long ∙ second ∙ ap (λ (x : List (List ℕ)). x ++ b ∷ []) first
+      ∙ append_assoc all (a ∷ []) (b ∷ [])
+      ∙ ap (λ (x : List ℕ). all ++ x ∷ b ∷ []) curr.is
+      ∙ ap (λ (x : List ℕ). all ++ file_of pair.curr ∷ x ∷ []) snap.is
+      ∙ last;
+}
+
+pub one_more_read : (files : List (List ℕ)) (old new : List LevelPair) (pair : LevelPair) (n : ℕ) (a b : List ℕ)
+    → AreRead files (map pair_of old) n → 2 * n + 1 < length files → a ≡ get_or files (2 * n) a
+    → b ≡ get_or files (2 * n + 1) b → IsFileOf a pair.curr.value → IsFileOf b pair.snap.value
+    → new ≡ old ++ pair ∷ [] → AreRead files (map pair_of new) (n + 1)
+one_more_read files old new pair n a b read below at_a at_b curr snap is =
+    subst (λ (p : List Pair). AreRead files p (n + 1)) (sym (ap (map pair_of) is ∙ map-append pair_of old (pair ∷ [])))
+    (more_read files (map pair_of old) (pair_of pair) n a b read below at_a at_b curr snap)
+
+pub all_read : (files : List (List ℕ)) (levels : List Pair) (n : ℕ) → length files ≡ 22 → n ≡ 11
+    → AreRead files levels n → AreFilesOf levels files
+all_read files levels n count end read = record {
+  count = read.count ∙ end;
+  have = read.have;
+  are = sym (take_all (2 * n) files (omega arith)) ∙ read.are;
+}
+
+-- ---- where one is no bucket's
+
+abbrev double : ℕ → ℕ
+double zero = zero
+double (suc n) = suc (suc (double n))
+
+doubles : (n : ℕ) → double n ≡ 2 * n
+doubles zero = refl
+doubles (suc n) = omega (arith, doubles n)
+
+record HasLevelAt (files : List (List ℕ)) (i : ℕ) (a b : List ℕ) : Type 0 where
+  pub pair : Pair
+  pub curr : IsFileOf (get_or files (double i) a) pair.curr
+  pub snap : IsFileOf (get_or files (suc (double i)) b) pair.snap
+
+level_at : (levels : List Pair) (i : ℕ) (a b : List ℕ) → All HasBoth levels → i < length levels
+    → HasLevelAt (flat_map files_in levels) i a b
+level_at [] i a b have below = absurd (omega arith)
+level_at (pair ∷ rest) zero a b have below =
+    let h = All-head HasBoth pair rest have in
+    record { pair = pair; curr = record { has = h.0; is = refl }; snap = record { has = h.1; is = refl } }
+level_at (pair ∷ rest) (suc i) a b have below =
+    let h = level_at rest i a b (All-tail HasBoth pair rest have) (omega arith) in
+    record { pair = h.pair; curr = h.curr; snap = h.snap }
+
+two_at : (files : List (List ℕ)) (i : ℕ) (a b : List ℕ) → i < 11 → a ≡ get_or files (2 * i) a
+    → b ≡ get_or files (2 * i + 1) b → (levels : List Pair) → AreFilesOf levels files
+    → (pair : Pair) × IsFileOf a pair.curr × IsFileOf b pair.snap
+two_at files i a b below at_a at_b levels are =
+    let h = level_at levels i a b are.have (omega (arith, are.count)) in
+    let all : List (List ℕ) = flat_map files_in levels in
+    let first : get_or all (double i) a ≡ a =
+    ap (λ (n : ℕ). get_or all n a) (doubles i) ∙ ap (λ (f : List (List ℕ)). get_or f (2 * i) a) (sym are.are)
+    ∙ sym at_a in
+    let odd : suc (double i) ≡ 2 * i + 1 = omega (arith, doubles i) in
+    let second : get_or all (suc (double i)) b ≡ b =
+    ap (λ (n : ℕ). get_or all n b) odd ∙ ap (λ (f : List (List ℕ)). get_or f (2 * i + 1) b) (sym are.are) ∙ sym at_b in
+    (
+      h.pair,
+      subst (λ (x : List ℕ). IsFileOf x h.pair.curr) first h.curr,
+      subst (λ (x : List ℕ). IsFileOf x h.pair.snap) second h.snap,
+    )
+
+pub no_levels : (files : List (List ℕ)) (i : ℕ) (a b : List ℕ) → i < 11 → a ≡ get_or files (2 * i) a
+    → b ≡ get_or files (2 * i + 1) b → IsNoFile a ⊎ IsNoFile b → (levels : List Pair) → AreFilesOf levels files → ⊥
+no_levels files i a b below at_a at_b (inl first) levels are =
+    let h = two_at files i a b below at_a at_b levels are in first h.0.curr h.1
+no_levels files i a b below at_a at_b (inr second) levels are =
+    let h = two_at files i a b below at_a at_b levels are in second h.0.snap h.2
+
+-- ---- levels with the same files
+
+-- buckets with the same file are the same
+abbrev pub OneFile : Type 0
+OneFile = (a b : Contents) → HasFile a → HasFile b → file_of a ≡ file_of b → a ≡ b
+
+abbrev pair_with : Contents → Contents → Pair
+pair_with curr snap = record { curr = curr; snap = snap }
+
+same_levels : OneFile → (a b : List Pair) → All HasBoth a → All HasBoth b → length a ≡ length b
+    → flat_map files_in a ≡ flat_map files_in b → a ≡ b
+same_levels law [] [] ha hb count is = refl
+same_levels law [] (y ∷ ys) ha hb count is = absurd (omega arith)
+same_levels law (x ∷ xs) [] ha hb count is = absurd (omega arith)
+same_levels law (x ∷ xs) (y ∷ ys) ha hb count is =
+    let h = All-head HasBoth x xs ha in
+    let k = All-head HasBoth y ys hb in
+    let curr : x.curr ≡ y.curr = law x.curr y.curr h.0 k.0 (cc) in
+    let snap : x.snap ≡ y.snap = law x.snap y.snap h.1 k.1 (cc) in
+    let rest : xs ≡ ys =
+    same_levels law xs ys (All-tail HasBoth x xs ha) (All-tail HasBoth y ys hb) (omega arith) (cc) in
+    ap (λ (c : Contents). pair_with c x.snap ∷ xs) curr ∙ ap (λ (s : Contents). pair_with y.curr s ∷ xs) snap
+    ∙ ap (λ (r : List Pair). y ∷ r) rest
+
+pub levels_are_one : OneFile → (files : List (List ℕ)) (a b : List Pair) → AreFilesOf a files → AreFilesOf b files
+    → a ≡ b
+levels_are_one law files a b ha hb =
+    same_levels law a b ha.have hb.have (ha.count ∙ sym hb.count) (sym ha.are ∙ hb.are)

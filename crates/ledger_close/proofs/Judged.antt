@@ -1,0 +1,328 @@
+-- What parts of an image's judging say of the whole.
+use Rattle.std.proofs.Common.{◌≡◌, ◌≢◌, ℕ, ◌≤◌, inl, inr, List, [], ◌∷◌, map, Option, Some, None}
+use Rattle.std.proofs.Common.{pos, Ok, Err, refl, sym, ap, ◌∙◌, subst, arith, All}
+use Rattle.std.specs.List.{AllByRecursion}
+use Rattle.std.specs.FinMap.{get, entries, get-entries}
+use Rattle.std.proofs.lemmas.List.{length-append}
+use Rattle.std.proofs.lemmas.List.Elements.{All-nil, All-cons, All-head, All-tail, recursion_from_All}
+use Rattle.ledger_types.specs.declared.ids.Hash.{Hash}
+use Rattle.ledger_types.specs.declared.header.LedgerHeader.{LedgerHeader}
+use Rattle.ledger_types.specs.declared.entry.LedgerEntry.{LedgerEntry}
+use Rattle.ledger_types.specs.declared.key.LedgerKey.{LedgerKey}
+use Rattle.ledger_types.specs.declared.bucket.BucketEntry.TheVariants as item
+use Rattle.ledger_types.specs.Keys.{key_of}
+use Rattle.xdr_core.specs.Format.{IsBytes, Lawful}
+use Rattle.xdr_core.specs.Leaves.{i32}
+use Rattle.xdr_core.specs.Place.{Place, start_of}
+use Rattle.xdr_header.specs.declared.image.StartImage.{StartImage}
+use Rattle.xdr_header.specs.Header.{ledger_header}
+use Rattle.xdr_entries.specs.Entries.{ledger_entry}
+use Rattle.xdr_entries.specs.Keys.{bucket_entry}
+use Rattle.value_hashes.specs.Hashes.{ledger_hash_of}
+use Rattle.entry_map.specs.EntryMap.{EntryMap}
+use Rattle.entry_changes.specs.Spellable.{IsEntrySpellable, AreSpellable}
+use Rattle.legal_rules.specs.Legal.{IsLegal}
+use Rattle.bucket_items.specs.MarkedItem.{IsSpellable}
+use Rattle.bucket_items.proofs.Holding.{i32_len}
+use Rattle.bucket_core.specs.Bucket.{Change, Init, Live, Dead, Contents, change_at}
+use Rattle.bucket_core.specs.File.{HasFile, items_of, item_of}
+use Rattle.bucket_core.proofs.Keyed.{found_is_each}
+use Rattle.bucket_levels.specs.Pairs.{Pair}
+use Rattle.bucket_levels.specs.Levels.{LevelsAt}
+use Rattle.bucket_levels.specs.Hash.{list_hash}
+use Rattle.bucket_levels.specs.Size.{file_total}
+use Rattle.bucket_levels.specs.Meaning.{in_front, entry_after, entry_by, changes_of, files_of, StandFor}
+use Rattle.close_rules.specs.declared.image_fault.ImageFault.{ImageFault}
+use Rattle.close_rules.specs.declared.image_fault.ImageFault.TheVariants as fault
+use Rattle.close_rules.specs.declared.image_fault.ImageRule.{ImageRule}
+use Rattle.close_rules.specs.declared.image_fault.ImageRule.TheVariants as rule
+use Rattle.close_rules.specs.State.{IsClosingState, IsSpelled, AreBuilt, max_file_total}
+use Rattle.close_rules.specs.EntryRules.{IsFirstBroken, entry_rules}
+use Rattle.close_rules.specs.Images.{header_in, read_whole, if_whole, AreFilesOf, HasHeader}
+use Rattle.close_rules.specs.Images.{HasLevels, HasEntries}
+use Rattle.ledger_close.specs.States.{state_with, IsKept}
+use Rattle.ledger_close.specs.Answers.{JudgesImage}
+use Rattle.ledger_close.specs.ImageFiles.{IsFileFault}
+use Rattle.ledger_close.specs.Judging.{IsHeaderJudged, AreFewFiles, Stands, AreJudged}
+use Rattle.ledger_close.proofs.Files.{HasBoth, OneFile, levels_are_one}
+
+-- ---- the header
+
+-- a header that was read, with nothing behind it
+pub whole_read : (bytes : List ℕ) (h : LedgerHeader) (p : Place) → Lawful ledger_header → IsBytes bytes
+    → ledger_header.read (start_of bytes) ≡ Ok (h, p) → p.rest ≡ []
+    → (header_in bytes ≡ Some h) × IsSpelled ledger_header h
+unfolding header_in
+whole_read bytes h p law text reads end =
+    let spelled = law.takes (start_of bytes) p h text reads in (
+      ap read_whole reads ∙ ap (if_whole h) end,
+      record { within = spelled.within; sized = spelled.sized },
+    )
+
+-- ---- the files
+
+-- files that are too long together are those of no levels but these
+pub too_long : OneFile → (files : List (List ℕ)) (levels : List Pair) (answer : ImageFault)
+    → answer ≡ fault.BadImage rule.Bucket → AreFilesOf levels files → (file_total levels ≤ max_file_total → ⊥)
+    → IsFileFault answer ((others : List Pair) → AreFewFiles files others → ⊥)
+too_long law files levels answer is are long =
+    subst (λ (a : ImageFault). IsFileFault a ((others : List Pair) → AreFewFiles files others → ⊥)) (sym is)
+    (λ others few. long (subst (λ (l : List Pair). file_total l ≤ max_file_total)
+    (levels_are_one law files others levels few.are are) few.few))
+
+-- the first four rules are kept
+pub has_levels : (image : StartImage) (h : LedgerHeader) (levels : List Pair) → HasHeader image h
+    → AreFewFiles image.files levels → HasLevels image h levels
+has_levels image h levels header files =
+    record { header = header; files = record { files = files.are; few = files.few } }
+
+-- ---- entries
+
+-- what isn't one of some rules
+abbrev IsNone : ImageRule → List ImageRule → Type 0
+IsNone other [] = Unit {0}
+IsNone other (first ∷ rules) = (other ≢ first) × IsNone other rules
+
+-- a rule that is broken first is one of the rules
+never_first : (h : LedgerHeader) (m : EntryMap) (rules : List ImageRule) (other : ImageRule) → IsNone other rules
+    → IsFirstBroken h m rules (Some other) → ⊥
+never_first h m [] other none broken = absurd (cc (broken))
+never_first h m (first ∷ rules) other none (inl here) = none.0 here.1
+never_first h m (first ∷ rules) other none (inr there) = never_first h m rules other none.1 there.1
+
+early : (h : LedgerHeader) (m : EntryMap) (other : ImageRule) → IsNone other entry_rules
+    → IsFirstBroken h m entry_rules (Some other) → ⊥
+early h m other none broken = never_first h m entry_rules other none broken
+
+-- the first rule of entries that is broken
+pub by_rule : (h : LedgerHeader) (levels : List Pair) (m : EntryMap) (first : ImageRule)
+    → list_hash levels ≡ h.bucket_list_hash → AreBuilt m → IsFirstBroken h m entry_rules (Some first)
+    → AreJudged h levels m (Err (fault.BadImage first))
+by_rule h levels m rule.ListHash hash built broken =
+    absurd (early h m rule.ListHash
+    ((λ e. cc), ((λ e. cc), ((λ e. cc), ((λ e. cc), ((λ e. cc), ((λ e. cc), ((λ e. cc), tt))))))) broken)
+by_rule h levels m rule.Header hash built broken = (hash, built, broken)
+by_rule h levels m rule.Version hash built broken = (hash, built, broken)
+by_rule h levels m rule.Fields hash built broken = (hash, built, broken)
+by_rule h levels m rule.Bucket hash built broken = (hash, built, broken)
+by_rule h levels m rule.Marks hash built broken = (hash, built, broken)
+by_rule h levels m rule.Entry hash built broken = (hash, built, broken)
+by_rule h levels m rule.Owner hash built broken = (hash, built, broken)
+by_rule h levels m rule.Liabilities hash built broken = (hash, built, broken)
+by_rule h levels m rule.Subentries hash built broken = (hash, built, broken)
+by_rule h levels m rule.Sponsorship hash built broken = (hash, built, broken)
+by_rule h levels m rule.Pools hash built broken = (hash, built, broken)
+by_rule h levels m rule.Lumens hash built broken = (hash, built, broken)
+
+pub has_entries : (image : StartImage) (h : LedgerHeader) (levels : List Pair) (m : EntryMap)
+    → HasLevels image h levels → Stands levels m → list_hash levels ≡ h.bucket_list_hash → HasEntries image h levels m
+has_entries image h levels m has stands hash =
+    record { files = has; marks = stands.marks; hash = hash; standing = stands.standing }
+
+pub by_entries : (network : Hash) (image : StartImage) (h : LedgerHeader) (levels : List Pair) (m : EntryMap)
+    (wrong : ImageFault) → HasLevels image h levels → Stands levels m → AreJudged h levels m (Err wrong)
+    → JudgesImage network image (Err wrong)
+by_entries network image h levels m fault.NoMemory has stands f = tt
+by_entries network image h levels m fault.NotBuilt has stands f =
+    (h, levels, m, has_entries image h levels m has stands f.0, f.1)
+by_entries network image h levels m (fault.BadImage rule.ListHash) has stands f = (h, levels, has, stands.marks, f)
+by_entries network image h levels m (fault.BadImage rule.Header) has stands f =
+    absurd (early h m rule.Header
+    ((λ e. cc), ((λ e. cc), ((λ e. cc), ((λ e. cc), ((λ e. cc), ((λ e. cc), ((λ e. cc), tt))))))) f.2)
+by_entries network image h levels m (fault.BadImage rule.Version) has stands f =
+    absurd (early h m rule.Version
+    ((λ e. cc), ((λ e. cc), ((λ e. cc), ((λ e. cc), ((λ e. cc), ((λ e. cc), ((λ e. cc), tt))))))) f.2)
+by_entries network image h levels m (fault.BadImage rule.Fields) has stands f =
+    absurd (early h m rule.Fields
+    ((λ e. cc), ((λ e. cc), ((λ e. cc), ((λ e. cc), ((λ e. cc), ((λ e. cc), ((λ e. cc), tt))))))) f.2)
+by_entries network image h levels m (fault.BadImage rule.Bucket) has stands f =
+    absurd (early h m rule.Bucket
+    ((λ e. cc), ((λ e. cc), ((λ e. cc), ((λ e. cc), ((λ e. cc), ((λ e. cc), ((λ e. cc), tt))))))) f.2)
+by_entries network image h levels m (fault.BadImage rule.Marks) has stands f =
+    absurd (early h m rule.Marks
+    ((λ e. cc), ((λ e. cc), ((λ e. cc), ((λ e. cc), ((λ e. cc), ((λ e. cc), ((λ e. cc), tt))))))) f.2)
+by_entries network image h levels m (fault.BadImage rule.Entry) has stands f =
+    (h, levels, m, has_entries image h levels m has stands f.0, f.1, f.2)
+by_entries network image h levels m (fault.BadImage rule.Owner) has stands f =
+    (h, levels, m, has_entries image h levels m has stands f.0, f.1, f.2)
+by_entries network image h levels m (fault.BadImage rule.Liabilities) has stands f =
+    (h, levels, m, has_entries image h levels m has stands f.0, f.1, f.2)
+by_entries network image h levels m (fault.BadImage rule.Subentries) has stands f =
+    (h, levels, m, has_entries image h levels m has stands f.0, f.1, f.2)
+by_entries network image h levels m (fault.BadImage rule.Sponsorship) has stands f =
+    (h, levels, m, has_entries image h levels m has stands f.0, f.1, f.2)
+by_entries network image h levels m (fault.BadImage rule.Pools) has stands f =
+    (h, levels, m, has_entries image h levels m has stands f.0, f.1, f.2)
+by_entries network image h levels m (fault.BadImage rule.Lumens) has stands f =
+    (h, levels, m, has_entries image h levels m has stands f.0, f.1, f.2)
+
+-- ---- what stands in files
+
+-- a file that has a change of which an entry is left
+record IsPlaced (k : LedgerKey) (e : LedgerEntry) : Type 0 where
+  pub contents : Contents
+  pub has : HasFile contents
+  pub change : Change
+  pub at : change_at contents k ≡ Some change
+  pub left : entry_after change ≡ Some e
+
+placed_by : (contents : Contents) (k : LedgerKey) (e : LedgerEntry) (older : List Change) (found : Option Change)
+    → change_at contents k ≡ found → HasFile contents → (entry_by older ≡ Some e → IsPlaced k e)
+    → entry_by (in_front found older) ≡ Some e → IsPlaced k e
+placed_by contents k e older None at has behind is = behind is
+placed_by contents k e older (Some change) at has behind is =
+    record { contents = contents; has = has; change = change; at = at; left = is }
+
+placed_in : (files : List Contents) (k : LedgerKey) (e : LedgerEntry) → All HasFile files
+    → entry_by (changes_of files k) ≡ Some e → IsPlaced k e
+unfolding changes_of
+placed_in [] k e have is = absurd (cc (is))
+placed_in (contents ∷ older) k e have is =
+    placed_by contents k e (changes_of older k) (change_at contents k) refl (All-head HasFile contents older have)
+    (λ behind. placed_in older k e (All-tail HasFile contents older have) behind) is
+
+all_have : (levels : List Pair) → All HasBoth levels → All HasFile (files_of levels)
+all_have [] have = All-nil HasFile
+all_have (pair ∷ rest) have =
+    let h = All-head HasBoth pair rest have in
+    let others = all_have rest (All-tail HasBoth pair rest have) in
+    All-cons HasFile pair.curr (pair.snap ∷ files_of rest) h.0 (All-cons HasFile pair.snap (files_of rest) h.1 others)
+
+placed : (levels : List Pair) (m : EntryMap) (k : LedgerKey) (e : LedgerEntry) → All HasBoth levels
+    → StandFor levels m → get m k ≡ Some e → IsPlaced k e
+placed levels m k e have standing there =
+    placed_in (files_of levels) k e (all_have levels have) (sym (standing k) ∙ there)
+
+-- an entry stands under its key
+keyed_by : (k : LedgerKey) (e : LedgerEntry) (contents : Contents) (change : Change) → HasFile contents
+    → change_at contents k ≡ Some change → entry_after change ≡ Some e → key_of e ≡ k
+keyed_by k e contents (Init x) has at left =
+    let own : key_of x ≡ k = has.keyed k (Init x) at in cc
+keyed_by k e contents (Live x) has at left =
+    let own : key_of x ≡ k = has.keyed k (Live x) at in cc
+keyed_by k e contents Dead has at left = absurd (cc (left))
+
+-- and has a spelling
+change_spelled : (contents : Contents) (k : LedgerKey) (change : Change) → HasFile contents
+    → change_at contents k ≡ Some change → IsSpellable (item_of (k, change))
+change_spelled None k change has at = absurd (cc (at))
+change_spelled (Some filled) k change has at =
+    let all = recursion_from_All IsSpellable (items_of (Some filled)) has.spelled in
+    found_is_each (λ q c. IsSpellable (item_of (q, c))) (entries filled.changes) (each (entries filled.changes) all.1)
+    k change (sym (get-entries filled.changes k) ∙ at)
+  where
+    each : (es : List (LedgerKey × Change)) → AllByRecursion IsSpellable (map item_of es)
+        → AllByRecursion (λ e. IsSpellable (item_of (e.0, e.1))) es
+    each [] h = tt
+    each (x ∷ xs) h = (h.0, each xs h.1)
+
+live_spelled : (e : LedgerEntry) → IsSpellable (item.Live e) → IsEntrySpellable e
+unfolding bucket_entry
+live_spelled e h = record {
+  within = h.within;
+  sized = h.sized;
+  short = omega (arith, h.short, length-append (i32.spell (pos 0)) (ledger_entry.spell e), i32_len (pos 0));
+}
+
+init_spelled : (e : LedgerEntry) → IsSpellable (item.Init e) → IsEntrySpellable e
+unfolding bucket_entry
+init_spelled e h = record {
+  within = h.within;
+  sized = h.sized;
+  short = omega (arith, h.short, length-append (i32.spell (pos 2)) (ledger_entry.spell e), i32_len (pos 2));
+}
+
+spelled_by : (k : LedgerKey) (e : LedgerEntry) (change : Change) → IsSpellable (item_of (k, change))
+    → entry_after change ≡ Some e → IsEntrySpellable e
+spelled_by k e (Init x) spelled left =
+    let same : x ≡ e = cc in subst IsEntrySpellable same (init_spelled x spelled)
+spelled_by k e (Live x) spelled left =
+    let same : x ≡ e = cc in subst IsEntrySpellable same (live_spelled x spelled)
+spelled_by k e Dead spelled left = absurd (cc (left))
+
+entries_spelled : (levels : List Pair) (m : EntryMap) → All HasBoth levels → StandFor levels m → AreSpellable m
+entries_spelled levels m have standing k e there =
+    let p = placed levels m k e have standing there in
+    spelled_by k e p.change (change_spelled p.contents k p.change p.has p.at) p.left
+
+-- ---- the state
+
+is_legal : (image : StartImage) (h : LedgerHeader) (levels : List Pair) (m : EntryMap) → HasEntries image h levels m
+    → IsFirstBroken h m entry_rules None → IsLegal h m
+is_legal image h levels m has kept =
+    let header = has.files.header in
+    let fields = header.fields in
+    record {
+      header = record {
+        version = header.version;
+        seq_low = fields.seq_low;
+        seq_high = fields.seq_high;
+        base_fee = fields.base_fee;
+        base_reserve = fields.base_reserve;
+        total_coins = fields.total_coins;
+        fee_pool = fields.fee_pool;
+        id_pool = fields.id_pool;
+        flags = fields.flags;
+      };
+      keyed = λ k e there.
+          let p = placed levels m k e has.files.files.files.have has.standing there in
+          keyed_by k e p.contents p.change p.has p.at p.left;
+      entries = kept.0.entries;
+      authorized = kept.0.authorized;
+      standing = kept.1.0.standing;
+      offers = kept.1.0.offers;
+      selling = kept.1.1.0.selling;
+      buying = kept.1.1.0.buying;
+      subentries = kept.1.1.1.0.booked;
+      few = kept.1.1.1.0.few;
+      sponsoring = kept.1.1.1.1.0.sponsoring;
+      sponsored = kept.1.1.1.1.0.sponsored;
+      fits = kept.1.1.1.1.0.fits;
+      shares = kept.1.1.1.1.1.0.shares;
+      share_lines = kept.1.1.1.1.1.0.share_lines;
+      uses = kept.1.1.1.1.1.0.uses;
+      filled = kept.1.1.1.1.1.0.filled;
+      lumens = kept.1.1.1.1.1.1.0;
+    }
+
+is_closing : (network : Hash) (image : StartImage) (h : LedgerHeader) (levels : List Pair) (m : EntryMap)
+    → HasEntries image h levels m → IsSpelled ledger_header h → AreBuilt m → IsFirstBroken h m entry_rules None
+    → IsClosingState (state_with network h m levels)
+is_closing network image h levels m has spelled built kept = record {
+  legal = is_legal image h levels m has kept;
+  count = has.files.files.files.count;
+  marked = has.marks;
+  standing = has.standing;
+  hash = has.hash;
+  header = spelled;
+  entries = entries_spelled levels m has.files.files.files.have has.standing;
+  built = built;
+  files = has.files.files.few;
+}
+
+-- an image that keeps all rules
+pub record IsWhole (image : StartImage) (h : LedgerHeader) (levels : List Pair) (m : EntryMap) : Type 0 where
+  pub header : IsHeaderJudged image (Ok h)
+  pub files : AreFewFiles image.files levels
+  pub stands : Stands levels m
+  pub judged : AreJudged h levels m (Ok tt)
+
+whole_has : (image : StartImage) (h : LedgerHeader) (levels : List Pair) (m : EntryMap) → IsWhole image h levels m
+    → HasEntries image h levels m
+whole_has image h levels m w =
+    has_entries image h levels m (has_levels image h levels w.header.0 w.files) w.stands w.judged.0
+
+pub is_kept : (network digest : Hash) (image : StartImage) (h : LedgerHeader) (m : EntryMap) (levels : LevelsAt)
+    → IsWhole image h levels.pairs m → digest ≡ ledger_hash_of h → levels.seq ≡ h.ledger_seq
+    → IsKept network digest h m levels
+is_kept network digest image h m levels w hashed number = record {
+  state =
+      is_closing network image h levels.pairs m (whole_has image h levels.pairs m w) w.header.1 w.judged.1 w.judged.2;
+  hashed = hashed;
+  number = number;
+}
+
+pub whole_judged : (network : Hash) (image : StartImage) (h : LedgerHeader) (levels : List Pair) (m : EntryMap)
+    → IsWhole image h levels m → JudgesImage network image (Ok (state_with network h m levels))
+whole_judged network image h levels m w =
+    (h, levels, m, whole_has image h levels m w, w.judged.1, w.judged.2, refl)

@@ -1,0 +1,15 @@
+use Rattle.std.proofs.Common.{rules, ◌≡◌, ◌≤◌, List, map, sym, subst}
+use Rattle.bucket_levels.specs.declared.pair.LevelPair.{LevelPair}
+use Rattle.bucket_levels.specs.Levels.{pair_of}
+use Rattle.bucket_levels.specs.Size.{file_total}
+use Rattle.close_rules.specs.State.{max_file_total}
+use Rattle.ledger_close.proofs.Judged.{too_long}
+use Rattle.ledger_close.proofs.image.judge_files.Goals as goal
+
+pub returns-then-not-are_few-clause-bad : goal.returns-then-not-are_few-clause-bad
+returns-then-not-are_few-clause-bad c =
+    let same : c.as_slice.result.now ≡ c.in-Ok.pairs.items = search rules in
+    let long : file_total (map pair_of c.as_slice.result.now) ≤ max_file_total → ⊥ = search rules in
+    too_long c.a_file_is_of_one_bucket.ensures c.args.files.now (map pair_of c.in-Ok.pairs.items) c.broken.result
+    c.broken.ensures c.in-Ok.ensures.ok
+    (λ few. long (subst (λ (p : List LevelPair). file_total (map pair_of p) ≤ max_file_total) (sym same) few))

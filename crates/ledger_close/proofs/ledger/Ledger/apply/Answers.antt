@@ -1,0 +1,64 @@
+use Rattle.std.proofs.Common.{◌≡◌, subst, sym, ap, ◌∙◌, None}
+use Rattle.close_rules.specs.State.{ClosingState}
+use Rattle.close_rules.specs.Refusals.{set_fault}
+use Rattle.close_rules.specs.Close.{applied_in}
+use Rattle.close_laws.proofs.SpelledSets.{set_spelled}
+use Rattle.close_laws.proofs.SpelledEntries.{signers_few}
+use Rattle.ledger_close.specs.States.{state_with}
+use Rattle.ledger_close.specs.Answers.{FaultIs}
+use Rattle.ledger_close.specs.declared.apply.Worked.{Worked}
+use Rattle.ledger_close.specs.Worked.{Leaves}
+use Rattle.ledger_close.proofs.Works.{signers_begun, refused_set, applied_set, applied_done, applied_keyed, applied_batch}
+use Rattle.ledger_close.proofs.ledger.Ledger.apply.Goals as goal
+
+pub apply_set-requires-clause-signers : goal.apply_set-requires-clause-signers
+apply_set-requires-clause-signers c =
+    signers_begun c.in_ok-entries.entries c.self.inside.entries c.in_ok-entries.ensures
+    (signers_few c.self.inside.entries c.self.invariant.state.entries)
+
+pub apply_set-requires-clause-within : goal.apply_set-requires-clause-within
+apply_set-requires-clause-within c = (set_spelled c.args.closing.now c.requires.spelled).within
+
+pub returns-in-Err : goal.returns-in-Err
+returns-in-Err c =
+    let l = c.self.inside in
+    let s = state_with l.network l.header l.entries l.levels.pairs in
+    let here = refused_set s c.args.closing.now c.in_ok-entries.entries c.apply_set.new.entries c.in-Err.fault
+        c.in_ok-entries.ensures c.in-Err.ensures.answer in
+    let told = subst (λ f. FaultIs f (λ g. set_fault s c.args.closing.now ≡ Rattle.std.proofs.Common.Some g))
+        (sym c.fault_of.ensures) here in
+    subst (λ (x : ClosingState). FaultIs c.fault_of.result
+    (λ g. set_fault x c.args.closing.now ≡ Rattle.std.proofs.Common.Some g)) c.self.view_is told
+
+pub next-requires : goal.next-requires
+next-requires c =
+    let l = c.self.inside in
+    let s = state_with l.network l.header l.entries l.levels.pairs in
+    let closing = c.args.closing.now in (
+      (applied_in s closing).entries,
+      applied_keyed s closing c.in_ok-entries.entries c.in_ok-entries.ensures c.in-Ok.ensures.conserved,
+      applied_batch s closing c.in_ok-entries.entries c.apply_set.new.entries c.in-Ok.done c.in_ok-batch.batch
+          c.in_ok-entries.ensures c.in-Ok.ensures.answer c.in_ok-batch.ensures,
+    )
+
+pub returns : goal.returns
+returns c =
+    let l = c.self.inside in
+    let s = state_with l.network l.header l.entries l.levels.pairs in
+    let closing = c.args.closing.now in
+    let begun = c.in_ok-entries.ensures in
+    let answer = c.in-Ok.ensures.answer in
+    let old = c.in_ok-entries.entries in
+    let new = c.apply_set.new.entries in
+    let keyed = applied_keyed s closing old begun c.in-Ok.ensures.conserved in
+    let batch = applied_batch s closing old new c.in-Ok.done c.in_ok-batch.batch begun answer c.in_ok-batch.ensures in
+    let next = c.in_ok-next.ensures.next (applied_in s closing).entries keyed batch in
+    let worked : Worked = record { done = c.in-Ok.done; entries = c.in_ok-next.next; batch = c.next.new.batch } in
+    subst (λ (x : ClosingState). (set_fault x closing ≡ None) × Leaves x closing worked) c.self.view_is (
+      applied_set s closing old new c.in-Ok.done begun answer,
+      record {
+        done = applied_done s closing old new c.in-Ok.done begun answer;
+        entries = next.0;
+        batch = next.1;
+      },
+    )

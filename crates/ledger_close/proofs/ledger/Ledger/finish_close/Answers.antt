@@ -1,0 +1,125 @@
+use Rattle.std.proofs.Common.{refl, sym, ap, ◌∙◌, subst, arith}
+use Rattle.ledger_types.specs.declared.ids.Hash.{Hash}
+use Rattle.ledger_types.specs.declared.header.LedgerHeader.{LedgerHeader}
+use Rattle.xdr_header.specs.declared.record.CloseRecord.{CloseRecord}
+use Rattle.entry_map.specs.EntryMap.{EntryMap, IsKeyed}
+use Rattle.bucket_levels.specs.Hash.{list_hash}
+use Rattle.header_chain.specs.SkipList.{finished}
+use Rattle.close_rules.specs.State.{ClosingState, IsClosingState}
+use Rattle.close_rules.specs.Close.{IsClosed, upgraded_header}
+use Rattle.close_laws.specs.Legal.{IsClosable, AreClosed, NextIsLegal}
+use Rattle.close_laws.proofs.Unrefused.{seq_below}
+use Rattle.close_laws.proofs.NextHeader.{next_range}
+use Rattle.ledger_close.specs.Leveled.{IsLeveled}
+use Rattle.ledger_close.proofs.Works.{keyed_by}
+use Rattle.ledger_close.proofs.Finishing.{closes, closed_with, results_spelled, header_spelled}
+use Rattle.ledger_close.proofs.ledger.Ledger.finish_close.Goals as goal
+
+-- the entries behind a close stand under their own keys
+keyed_behind : NextIsLegal → (s : ClosingState) (closing : CloseRecord) (after : EntryMap) → IsClosable s closing
+    → AreClosed s closing after → IsKeyed after
+keyed_behind law s closing after can closed =
+    keyed_by after (law s closing after s.header.bucket_list_hash can closed).keyed
+
+pub level-requires-clause-seq : goal.level-requires-clause-seq
+level-requires-clause-seq g c =
+    let state = subst IsClosingState c.self.view_is c.self.invariant.state in
+    seq_below c.args.self.now c.args.closing c.requires.unrefused state.legal.header.seq_high
+
+pub level-requires-clause-spellable : goal.level-requires-clause-spellable
+level-requires-clause-spellable g c =
+    let state = subst IsClosingState c.self.view_is c.self.invariant.state in
+    let can : IsClosable c.args.self.now c.args.closing =
+    record { state = state; spelled = c.requires.spelled; unrefused = c.requires.unrefused } in (
+      c.args.worked.entries,
+      c.requires.worked.batch,
+      (c.entries_stay_spellable.ensures c.args.self.now c.args.closing c.args.worked.entries can
+      c.requires.worked.entries).0,
+    )
+
+pub file_total-bytes-requires : goal.file_total-bytes-requires
+file_total-bytes-requires g c =
+    let state = subst IsClosingState c.self.view_is c.self.invariant.state in
+    let can : IsClosable c.args.self.now c.args.closing =
+    record { state = state; spelled = c.requires.spelled; unrefused = c.requires.unrefused } in
+    let keyed = keyed_behind c.next_is_legal.ensures c.args.self.now c.args.closing c.args.worked.entries can
+        c.requires.worked.entries in
+    let leveled = c.in_ok-step.ensures c.args.worked.entries c.requires.worked.batch keyed in
+    omega (arith, leveled.levels.count)
+
+pub returns-then-bytes-gt-MAX_FILE_TOTAL : goal.returns-then-bytes-gt-MAX_FILE_TOTAL
+returns-then-bytes-gt-MAX_FILE_TOTAL g c =
+    let s = c.args.self.now in
+    let state = subst IsClosingState c.self.view_is c.self.invariant.state in
+    let can : IsClosable s c.args.closing =
+    record { state = state; spelled = c.requires.spelled; unrefused = c.requires.unrefused } in
+    let keyed = keyed_behind c.next_is_legal.ensures s c.args.closing c.args.worked.entries can
+        c.requires.worked.entries in
+    let leveled = subst (λ (h : LedgerHeader). IsLeveled s h.ledger_version c.args.worked.entries c.in_ok-step.step)
+        c.requires.next (c.in_ok-step.ensures c.args.worked.entries c.requires.worked.batch keyed) in
+    let step = c.in_ok-step.step in (
+      closed_with c.args.worked.done.results.results s.network
+          (finished (upgraded_header s c.args.closing) (list_hash step.pairs)) c.args.worked.entries step.pairs,
+      closes s c.args.closing c.args.worked step c.requires.worked leveled,
+      c.file_total-bytes.ensures,
+      omega (arith, c.if-bytes-gt-MAX_FILE_TOTAL.true),
+    )
+
+pub head-requires-clause-seq : goal.head-requires-clause-seq
+head-requires-clause-seq g c =
+    let state = subst IsClosingState c.self.view_is c.self.invariant.state in
+    seq_below c.args.self.now c.args.closing c.requires.unrefused state.legal.header.seq_high
+
+pub head-requires-clause-results : goal.head-requires-clause-results
+head-requires-clause-results g c =
+    let state = subst IsClosingState c.self.view_is c.self.invariant.state in
+    results_spelled c.results_are_spelled.ensures c.args.self.now c.args.closing c.args.worked.done.results
+    (record { state = state; spelled = c.requires.spelled; unrefused = c.requires.unrefused })
+    c.requires.worked.done.results
+
+pub ledger_hash-requires : goal.ledger_hash-requires
+ledger_hash-requires g c =
+    let state = subst IsClosingState c.self.view_is c.self.invariant.state in
+    header_spelled c.next_header_is_spelled.ensures c.args.self.now c.args.closing c.in_ok-step.step c.in_ok-header.header
+    (record { state = state; spelled = c.requires.spelled; unrefused = c.requires.unrefused })
+    (c.in_ok-header.ensures c.args.closing refl c.requires.next c.requires.worked.done)
+
+pub invariant_of-result : goal.invariant_of-result
+invariant_of-result g c =
+    let s = c.args.self.now in
+    let closing = c.args.closing in
+    let state = subst IsClosingState c.self.view_is c.self.invariant.state in
+    let can : IsClosable s closing =
+    record { state = state; spelled = c.requires.spelled; unrefused = c.requires.unrefused } in
+    let keyed = keyed_behind c.next_is_legal.ensures s closing c.args.worked.entries can c.requires.worked.entries in
+    let leveled = c.in_ok-step.ensures c.args.worked.entries c.requires.worked.batch keyed in
+    let header_is = c.in_ok-header.ensures closing refl c.requires.next c.requires.worked.done in
+    let range = next_range s closing (list_hash c.in_ok-step.step.pairs) state.legal.header c.requires.unrefused
+        (seq_below s closing c.requires.unrefused state.legal.header.seq_high) in
+    record {
+      hashed = c.in_ok-digest.ensures;
+      number = leveled.seq ∙ sym (ap (λ (h : LedgerHeader). h.ledger_seq) header_is ∙ range.counts.ledger_seq);
+    }
+
+pub returns : goal.returns
+returns g c =
+    let s = c.args.self.now in
+    let closing = c.args.closing in
+    let worked = c.args.worked in
+    let step = c.in_ok-step.step in
+    let state = subst IsClosingState c.self.view_is c.self.invariant.state in
+    let can : IsClosable s closing =
+    record { state = state; spelled = c.requires.spelled; unrefused = c.requires.unrefused } in
+    let keyed = keyed_behind c.next_is_legal.ensures s closing worked.entries can c.requires.worked.entries in
+    let leveled = subst (λ (h : LedgerHeader). IsLeveled s h.ledger_version worked.entries step) c.requires.next
+        (c.in_ok-step.ensures worked.entries c.requires.worked.batch keyed) in
+    let header_is = c.in_ok-header.ensures closing refl c.requires.next c.requires.worked.done in
+    let made = closes s closing worked step c.requires.worked leveled in
+    let headed = subst (λ (h : LedgerHeader).
+        IsClosed s closing (closed_with worked.done.results.results s.network h worked.entries step.pairs))
+        (sym header_is) made in (
+      subst (λ (n : Hash).
+          IsClosed s closing (closed_with worked.done.results.results n c.in_ok-header.header worked.entries step.pairs))
+          (sym (ap (λ (x : ClosingState). x.network) c.self.view_is)) headed,
+      omega (arith, c.file_total-bytes.ensures, c.if-bytes-gt-MAX_FILE_TOTAL.false),
+    )

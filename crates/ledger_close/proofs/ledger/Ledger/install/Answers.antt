@@ -1,0 +1,49 @@
+use Rattle.std.proofs.Common.{◌≡◌, ℕ, ◌+◌, List, Ok, sym, ap, ◌∙◌, subst}
+use Rattle.bucket_levels.specs.Levels.{LevelsAt}
+use Rattle.bucket_levels.specs.Step.{IsStep}
+use Rattle.close_rules.specs.State.{ClosingState}
+use Rattle.close_rules.specs.Close.{Closed, IsClose}
+use Rattle.ledger_close.specs.States.{state_with, IsKept}
+use Rattle.ledger_close.proofs.Installs.{installed_number, installed_step, installed_state}
+use Rattle.ledger_close.proofs.ledger.Ledger.install.Goals as goal
+
+-- what is installed is a close of what is kept
+kept_close : (s now : ClosingState) (closed given : Closed) → s ≡ now → closed ≡ given
+    → (bytes : List ℕ) × IsClose now bytes (Ok given) → (bytes : List ℕ) × IsClose s bytes (Ok closed)
+kept_close s now closed given is_state is_closed by =
+    subst (λ (x : ClosingState). (bytes : List ℕ) × IsClose x bytes (Ok closed)) (sym is_state)
+    (subst (λ (y : Closed). (bytes : List ℕ) × IsClose now bytes (Ok y)) (sym is_closed) by)
+
+pub take_step-requires-clause-next : goal.take_step-requires-clause-next
+take_step-requires-clause-next c =
+    let l = c.self.inside in
+    let p = c.prepared.inside in
+    let s = state_with l.network l.header l.entries l.levels.pairs in
+    let closed : Closed = record { results = p.results.results; state = state_with p.network p.header p.entries p.step.pairs } in
+    let by = kept_close s c.args.self.now closed c.args.prepared c.self.view_is c.prepared.view_is c.requires in
+    c.prepared.invariant.number ∙ installed_number s closed c.self.invariant.state by
+    ∙ ap (λ (n : ℕ). n + 1) (sym c.self.invariant.number)
+
+pub take_step-requires-clause-planned : goal.take_step-requires-clause-planned
+take_step-requires-clause-planned c =
+    let l = c.self.inside in
+    let p = c.prepared.inside in
+    let s = state_with l.network l.header l.entries l.levels.pairs in
+    let closed : Closed = record { results = p.results.results; state = state_with p.network p.header p.entries p.step.pairs } in
+    let by = kept_close s c.args.self.now closed c.args.prepared c.self.view_is c.prepared.view_is c.requires in
+    let step = installed_step s closed by in
+    (step.0, subst (λ (n : ℕ). IsStep n step.0 l.levels.pairs p.step.pairs)
+    (sym (c.prepared.invariant.number ∙ installed_number s closed c.self.invariant.state by)) step.1)
+
+pub invariant_of-self : goal.invariant_of-self
+invariant_of-self c =
+    let l = c.self.inside in
+    let p = c.prepared.inside in
+    let s = state_with l.network l.header l.entries l.levels.pairs in
+    let closed : Closed = record { results = p.results.results; state = state_with p.network p.header p.entries p.step.pairs } in
+    let by = kept_close s c.args.self.now closed c.args.prepared c.self.view_is c.prepared.view_is c.requires in
+    subst (λ (x : LevelsAt). IsKept p.network p.digest p.header p.entries x) (sym c.take_step.ensures) record {
+      state = installed_state c.taken_is_closable.ensures c.next_is_closing.ensures s closed c.self.invariant.state by;
+      hashed = c.prepared.invariant.hashed;
+      number = c.prepared.invariant.number;
+    }

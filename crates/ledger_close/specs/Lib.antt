@@ -1,0 +1,8 @@
+pub mod States
+pub mod Answers
+pub mod Worked
+pub mod Leveled
+pub mod Heading
+pub mod Closing
+pub mod ImageFiles
+pub mod Judging

@@ -1,0 +1,64 @@
+//! The set of a record, applied to the entries of a ledger.
+
+ghost use Rattle.std.specs.Prelude.{◌≡◌, ◌<◌};
+ghost use Rattle.xdr_header.specs.Records.{close_record};
+ghost use Rattle.close_rules.specs.State.{IsSpelled};
+ghost use Rattle.ledger_close.specs.Answers as answer;
+ghost use Rattle.ledger_close.specs.Worked as spec;
+
+use crate::ledger::Ledger;
+use close_rules::CloseFault;
+use entry_map::{Batch, Entries};
+use entry_table::EntryTable;
+use tx_apply::{SetDone, SetFault, apply_set};
+use xdr_header::CloseRecord;
+
+/// What a set leaves: its results with the fee pool and the ids, the entries behind the close, and what of them is
+/// another than it was.
+#[derive(Drop)]
+pub(crate) struct Worked {
+    pub(crate) done: SetDone,
+    pub(crate) entries: EntryTable,
+    pub(crate) batch: Batch,
+}
+
+/// The fault of a close whose set isn't applied.
+fn fault_of(fault: SetFault) -> CloseFault
+    ensures { result ≡ answer.fault_of_set fault }
+{
+    match fault {
+        SetFault::NotBuilt { index } => CloseFault::NotBuilt { index },
+        SetFault::FeeSourceMissing { index } => CloseFault::FeeSourceMissing { index },
+        SetFault::NoMemory => CloseFault::NoMemory,
+    }
+}
+
+impl Ledger {
+    /// Applies the set of a record to the ledger's entries, which stay as they are.
+    pub(crate) fn apply(&self, closing: &CloseRecord) -> Result<Worked, CloseFault>
+        requires spelled { IsSpelled close_record closing.now }
+        requires seq { self.now.header.ledger_seq < 2147483647 }
+        ensures { spec.IsWorked self.now closing.now result }
+    {
+        let alloc = closing.tx_set.txs.allocator();
+        let mut entries = Entries::new(alloc, &self.entries)?;
+        let close_time = closing.scp_value.close_time;
+        let done = match apply_set(
+            &mut entries,
+            &self.header,
+            close_time,
+            &self.network,
+            &closing.tx_set,
+        ) {
+            Ok(done) => done,
+            Err(fault) => return Err(fault_of(fault)),
+        };
+        let mut batch = entries.changes()?;
+        let next = self.entries.next(self.header.ledger_seq + 1, &mut batch)?;
+        Ok(Worked {
+            done,
+            entries: next,
+            batch,
+        })
+    }
+}

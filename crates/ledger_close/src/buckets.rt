@@ -1,0 +1,109 @@
+//! The files of an image.
+
+ghost use Rattle.std.specs.Prelude.{◌≡◌, ◌≤◌, ◌⊎◌, ◌↔◌, [], ◌∷◌, ◌++◌, List, length, map, IfOk, IfErr, OnOk, IsTrue};
+ghost use Rattle.bucket_levels.specs.Pairs.{Pair};
+ghost use Rattle.bucket_levels.specs.Levels.{pair_of};
+ghost use Rattle.bucket_levels.specs.Size.{file_total};
+ghost use Rattle.close_rules.specs.State.{max_file_total};
+ghost use Rattle.close_rules.specs.Images.{AreFilesOf};
+ghost use Rattle.ledger_close.specs.ImageFiles as spec;
+
+use bucket_core::laws::no_fault_in_a_file;
+use bucket_core::{Bucket, BucketFault};
+use bucket_levels::LevelPair;
+use close_rules::{ImageFault, ImageRule};
+use item_list::ItemList;
+use std::alloc::{AllocError, Global};
+use std::sync::Arc;
+
+/// The most bytes of the files of a ledger's levels.
+const MAX_FILE_TOTAL: u128 = 536870912;
+
+/// The fault of an image with a file that has this one.
+fn fault_of(wrong: BucketFault) -> ImageFault
+    ensures { result ≡ spec.fault_of wrong }
+{
+    match wrong {
+        BucketFault::NoMemory => ImageFault::NoMemory,
+        BucketFault::Xdr { at: _, kind: _ } => ImageFault::BadImage {
+            rule: ImageRule::Bucket,
+        },
+        BucketFault::NoMeta { at: _ } => ImageFault::BadImage {
+            rule: ImageRule::Bucket,
+        },
+        BucketFault::SecondMeta { at: _ } => ImageFault::BadImage {
+            rule: ImageRule::Bucket,
+        },
+        BucketFault::Order { at: _ } => ImageFault::BadImage {
+            rule: ImageRule::Bucket,
+        },
+    }
+}
+
+/// The bucket whose file this is.
+fn read_bucket(file: &ItemList<u8>) -> Result<Arc<Bucket>, ImageFault>
+    ensures ok { IfOk result (λ bucket. spec.IsFileOf file.now bucket.value) }
+    ensures bad { IfErr result (λ wrong. spec.IsFileFault wrong (spec.IsNoFile file.now)) }
+{
+    no_fault_in_a_file();
+    let copy = Vec::from_slice(file.allocator(), file.as_slice())?;
+    match Bucket::read(copy) {
+        Ok(bucket) => {
+            bucket.cursor();
+            Ok(bucket)
+        }
+        Err(wrong) => Err(fault_of(wrong)),
+    }
+}
+
+/// The two files of a level.
+fn read_pair(curr: &ItemList<u8>, snap: &ItemList<u8>) -> Result<LevelPair, ImageFault>
+    ensures curr { IfOk result (λ pair. spec.IsFileOf curr.now pair.curr.value) }
+    ensures snap { IfOk result (λ pair. spec.IsFileOf snap.now pair.snap.value) }
+    ensures bad { IfErr result (λ wrong. spec.IsFileFault wrong (spec.IsNoFile curr.now ⊎ spec.IsNoFile snap.now)) }
+{
+    let curr = match read_bucket(curr) {
+        Ok(bucket) => bucket,
+        Err(fault) => return Err(fault),
+    };
+    match read_bucket(snap) {
+        Ok(snap) => Ok(LevelPair { curr, snap }),
+        Err(fault) => Err(fault),
+    }
+}
+
+/// Puts the files of a level behind those of others.
+fn push_pair(pairs: &mut Vec<LevelPair>, pair: LevelPair) -> Result<(), AllocError>
+    ensures { OnOk result (pairs.new.items ≡ pairs.old.items ++ pair ∷ []) }
+{
+    pairs.push(pair)?;
+    Ok(())
+}
+
+/// The levels whose files these are, curr and snap of each from the first one on.
+pub(crate) fn read_pairs(
+    alloc: Global,
+    files: &[ItemList<u8>],
+) -> Result<Vec<LevelPair>, ImageFault>
+    requires { length files.now ≡ 22 }
+    ensures ok { IfOk result (λ pairs. AreFilesOf (map pair_of pairs.items) files.now) }
+    ensures bad { IfErr result
+        (λ wrong. spec.IsFileFault wrong ((levels : List Pair) → AreFilesOf levels files.now → ⊥)) }
+{
+    let mut pairs = Vec::with_capacity(alloc, 11)?;
+    for level in 0..11usize {
+        match read_pair(&files[2 * level], &files[2 * level + 1]) {
+            Ok(pair) => push_pair(&mut pairs, pair)?,
+            Err(fault) => return Err(fault),
+        }
+    }
+    Ok(pairs)
+}
+
+/// Whether the files of levels aren't too long together.
+pub(crate) fn are_few(pairs: &[LevelPair]) -> bool
+    requires { length pairs.now ≤ 11 }
+    ensures { IsTrue result ↔ (file_total (map pair_of pairs.now) ≤ max_file_total) }
+{
+    bucket_levels::file_total(pairs) <= MAX_FILE_TOTAL
+}

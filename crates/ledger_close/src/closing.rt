@@ -1,0 +1,115 @@
+//! A close of a record, prepared.
+
+ghost use Rattle.std.specs.Prelude.{◌≡◌, ◌≤◌, ◌<◌, None, length, map};
+ghost use Rattle.xdr_header.specs.Records.{close_record};
+ghost use Rattle.header_chain.specs.Upgrades.{upgrade_in, all_upgraded};
+ghost use Rattle.close_rules.specs.State.{IsSpelled};
+ghost use Rattle.close_rules.specs.Refusals.{record_fault};
+ghost use Rattle.ledger_close.specs.Answers as answer;
+ghost use Rattle.ledger_close.specs.Closing as spec;
+ghost use Rattle.ledger_close.specs.Worked.{Leaves};
+
+use crate::apply::Worked;
+use crate::ledger::Ledger;
+use crate::prepare::Prepared;
+use crate::refusals::read_closing;
+use close_laws::entries::{entries_stay_spellable, next_is_legal};
+use close_laws::header::next_header_is_spelled;
+use close_laws::results::results_are_spelled;
+use close_rules::CloseFault;
+use ledger_types::LedgerHeader;
+use outside::Steps;
+use std::alloc::Global;
+use std::sync::ledger::Ledger as Count;
+use value_hashes::ledger_hash;
+use xdr_header::CloseRecord;
+
+/// The most bytes of the files of a ledger's levels.
+const MAX_FILE_TOTAL: u128 = 536870912;
+
+impl Ledger {
+    /// Where the ledger takes its memory.
+    fn allocator(&self) -> Global {
+        self.levels.pair(0).curr.allocator()
+    }
+
+    /// The close of a record that isn't refused for what it is, whose set was applied.
+    fn finish_close<L: Count>(
+        &self,
+        next: LedgerHeader,
+        closing: CloseRecord,
+        worked: Worked,
+        steps: &mut Steps<L>,
+    ) -> Result<Prepared, CloseFault>
+        requires spelled { IsSpelled close_record closing }
+        requires unrefused { record_fault self.now closing ≡ None }
+        requires next { next ≡ all_upgraded self.now.header (map upgrade_in closing.scp_value.upgrades) }
+        requires worked { Leaves self.now closing worked }
+        ensures { spec.IsFinished self.now closing result }
+    {
+        let _ = &self.network;
+        entries_stay_spellable();
+        next_is_legal();
+        results_are_spelled();
+        next_header_is_spelled();
+        let alloc = self.allocator();
+        let step = self.level(alloc, next.ledger_version, &worked.batch, steps)?;
+        let bytes = step.file_total();
+        if bytes > MAX_FILE_TOTAL {
+            return Err(CloseFault::LedgerFull { bytes });
+        }
+        let Worked {
+            done,
+            entries,
+            batch: _,
+        } = worked;
+        let header = self.head(alloc, next, closing.scp_value, &done, &step)?;
+        let digest = ledger_hash(alloc, &header)?;
+        Ok(Prepared {
+            network: self.network,
+            results: done.results,
+            header,
+            digest,
+            entries,
+            step,
+        })
+    }
+
+    /// The close of a record.
+    fn close<L: Count>(
+        &self,
+        closing: CloseRecord,
+        steps: &mut Steps<L>,
+    ) -> Result<Prepared, CloseFault>
+        requires { IsSpelled close_record closing }
+        ensures { spec.IsClosedBy self.now closing result }
+    {
+        let _ = &self.network;
+        let next = match self.judge_terms(&closing) {
+            Ok(next) => next,
+            Err(fault) => return Err(fault),
+        };
+        let worked = match self.apply(&closing) {
+            Ok(worked) => worked,
+            Err(fault) => return Err(fault),
+        };
+        self.finish_close(next, closing, worked, steps)
+    }
+
+    /// Prepares the close of a record, which are these bytes, at most 16777216: its results, and the state behind it; or
+    /// the first fault of the record. The ledger stays as it is.
+    pub fn prepare<L: Count>(
+        &self,
+        bytes: &[u8],
+        steps: &mut Steps<L>,
+    ) -> Result<Prepared, CloseFault>
+        requires { length bytes.now ≤ 16777216 }
+        ensures { answer.Answers self.now bytes.now result }
+    {
+        let closing = match read_closing(self.allocator(), bytes) {
+            Ok(closing) => closing,
+            Err(fault) => return Err(fault),
+        };
+        self.close(closing, steps)
+    }
+}

@@ -1,0 +1,160 @@
+//! The ledger of a start image.
+
+ghost use Rattle.std.specs.Prelude.{◌≡◌, ◌↔◌, length, map, IfOk, IfErr, IsTrue, List};
+ghost use Rattle.bucket_levels.specs.Spills.{level_count};
+ghost use Rattle.bucket_levels.specs.Levels.{pair_of};
+ghost use Rattle.bucket_levels.specs.Pairs.{Pair};
+ghost use Rattle.ledger_close.specs.Answers as answer;
+ghost use Rattle.ledger_close.specs.ImageFiles.{IsFileFault};
+ghost use Rattle.ledger_close.specs.Judging as judging;
+
+use crate::buckets::{are_few, read_pairs};
+use crate::ledger::Ledger;
+use bucket_core::laws::a_file_is_of_one_bucket;
+use bucket_levels::{LevelPair, Levels};
+use close_rules::{ImageFault, ImageRule};
+use entry_table::EntryTable;
+use image_rules::{are_built, are_fields_in_range, first_broken};
+use item_list::ItemList;
+use ledger_types::{Hash, LedgerHeader};
+use level_entries::level_entries;
+use std::alloc::Global;
+use value_hashes::ledger_hash;
+use xdr_core::{Cursor, ReadFault};
+use xdr_header::laws::reading_and_spelling_agree;
+use xdr_header::{StartImage, read_ledger_header};
+
+/// The fault of an image that breaks a rule.
+const fn broken(rule: ImageRule) -> ImageFault
+    ensures { result ≡ judging.broken rule }
+{
+    ImageFault::BadImage { rule }
+}
+
+/// The header that bytes spell, if they spell one and no more.
+#[tactic(auto, unfolding(close_rules::specs::Images::header_in))]
+fn read_header(alloc: Global, bytes: &[u8]) -> Result<LedgerHeader, ImageFault>
+    ensures { judging.IsHeaderRead bytes.now result }
+{
+    reading_and_spelling_agree();
+    let mut ahead = Cursor::new(bytes);
+    let header = match read_ledger_header(alloc, &mut ahead) {
+        Ok(header) => header,
+        Err(ReadFault::NoMemory) => return Err(ImageFault::NoMemory),
+        Err(ReadFault::Xdr(_)) => return Err(broken(ImageRule::Header)),
+    };
+    match ahead.end() {
+        Ok(()) => Ok(header),
+        Err(_) => Err(broken(ImageRule::Header)),
+    }
+}
+
+/// The header of an image, by the first three rules.
+fn judge_header(alloc: Global, image: &StartImage) -> Result<LedgerHeader, ImageFault>
+    ensures { judging.IsHeaderJudged image.now result }
+{
+    let header = match read_header(alloc, image.header.as_slice()) {
+        Ok(header) => header,
+        Err(fault) => return Err(fault),
+    };
+    if header.ledger_version != 18 {
+        return Err(broken(ImageRule::Version));
+    }
+    if !are_fields_in_range(&header) {
+        return Err(broken(ImageRule::Fields));
+    }
+    Ok(header)
+}
+
+/// The files of an image's levels, by the fourth rule.
+fn judge_files(alloc: Global, files: &[ItemList<u8>]) -> Result<Vec<LevelPair>, ImageFault>
+    requires { length files.now ≡ 22 }
+    ensures ok { IfOk result (λ pairs. judging.AreFewFiles files.now (map pair_of pairs.items)) }
+    ensures bad { IfErr result
+        (λ wrong. IsFileFault wrong ((levels : List Pair) → judging.AreFewFiles files.now levels → ⊥)) }
+{
+    a_file_is_of_one_bucket();
+    let pairs = match read_pairs(alloc, files) {
+        Ok(pairs) => pairs,
+        Err(fault) => return Err(fault),
+    };
+    if !are_few(pairs.as_slice()) {
+        return Err(broken(ImageRule::Bucket));
+    }
+    Ok(pairs)
+}
+
+/// The entries that levels stand for, by the rule on marks.
+fn judge_marks(alloc: Global, pairs: &[LevelPair]) -> Result<EntryTable, ImageFault>
+    requires { length pairs.now ≡ level_count }
+    ensures ok { IfOk result (λ entries. judging.Stands (map pair_of pairs.now) entries) }
+    ensures bad { IfErr result (λ wrong. judging.IsMarksFault (map pair_of pairs.now) wrong) }
+{
+    match level_entries(alloc, pairs)? {
+        Some(entries) => Ok(entries),
+        None => Err(broken(ImageRule::Marks)),
+    }
+}
+
+/// Whether two hashes are one.
+fn is_same_hash(a: &Hash, b: &Hash) -> bool
+    ensures { IsTrue result ↔ (a.now ≡ b.now) }
+{
+    a.0.as_slice() == b.0.as_slice()
+}
+
+/// The rules behind that one: the hash of the levels, kinds that are built, and the rules of entries.
+fn judge_entries(
+    header: &LedgerHeader,
+    levels: &Levels,
+    entries: &EntryTable,
+) -> Result<(), ImageFault>
+    ensures { judging.AreJudged header.now levels.now.pairs entries.now result }
+{
+    if !is_same_hash(&levels.hash(), &header.bucket_list_hash) {
+        return Err(broken(ImageRule::ListHash));
+    }
+    if !are_built(entries) {
+        return Err(ImageFault::NotBuilt);
+    }
+    match first_broken(header, entries)? {
+        None => Ok(()),
+        Some(rule) => Err(broken(rule)),
+    }
+}
+
+impl Ledger {
+    /// The ledger behind a start image, on the network with this id; or the first rule that the image breaks. The image
+    /// has 22 files.
+    pub fn from_image(image: StartImage, network: Hash) -> Result<Ledger, ImageFault>
+        requires { length image.files ≡ 22 }
+        ensures { answer.JudgesImage network image result }
+    {
+        let alloc = image.header.allocator();
+        let header = match judge_header(alloc, &image) {
+            Ok(header) => header,
+            Err(fault) => return Err(fault),
+        };
+        let pairs = match judge_files(alloc, image.files.as_slice()) {
+            Ok(pairs) => pairs,
+            Err(fault) => return Err(fault),
+        };
+        let entries = match judge_marks(alloc, pairs.as_slice()) {
+            Ok(entries) => entries,
+            Err(fault) => return Err(fault),
+        };
+        let levels = Levels::restart(pairs, header.ledger_seq)?;
+        match judge_entries(&header, &levels, &entries) {
+            Ok(()) => {}
+            Err(fault) => return Err(fault),
+        }
+        let digest = ledger_hash(alloc, &header)?;
+        Ok(Ledger {
+            network,
+            header,
+            digest,
+            entries,
+            levels,
+        })
+    }
+}

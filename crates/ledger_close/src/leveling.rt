@@ -1,0 +1,35 @@
+//! The levels behind a close.
+
+ghost use Rattle.std.specs.Prelude.{◌<◌, IfOk};
+ghost use Rattle.entry_map.specs.EntryMap.{EntryMap, IsKeyed};
+ghost use Rattle.entry_changes.specs.Next.{IsExactBatch};
+ghost use Rattle.entry_changes.specs.Spellable.{AreSpellable};
+ghost use Rattle.ledger_close.specs.Leveled.{IsLeveled};
+
+use crate::ledger::Ledger;
+use bucket_levels::LevelStep;
+use entry_map::Batch;
+use fresh_bucket::fresh_bucket;
+use outside::Steps;
+use std::alloc::{AllocError, Global};
+use std::sync::ledger::Ledger as Count;
+
+impl Ledger {
+    /// The step that the levels make, with the bucket of what changed.
+    pub(crate) fn level<L: Count>(
+        &self,
+        alloc: Global,
+        version: u32,
+        batch: &Batch,
+        steps: &mut Steps<L>,
+    ) -> Result<LevelStep, AllocError>
+        requires seq { self.now.header.ledger_seq < 2147483647 }
+        requires spellable { (after : EntryMap) × IsExactBatch self.now.entries after batch.now × AreSpellable after }
+        ensures { (after : EntryMap) → IsExactBatch self.now.entries after batch.now → IsKeyed after
+            → IfOk result (IsLeveled self.now version after) }
+    {
+        let seq = self.header.ledger_seq + 1;
+        let fresh = fresh_bucket(alloc, version, batch)?;
+        self.levels.plan_batch(seq, fresh, steps)
+    }
+}

@@ -1,0 +1,16 @@
+//! A ledger that closes: from a start image on, one record after the other (LedgerManagerImpl in stellar-core).
+#![tactic(auto)]
+
+mod apply;
+mod buckets;
+mod closing;
+mod heading;
+mod image;
+mod ledger;
+mod leveling;
+mod prepare;
+mod refusals;
+
+pub use close_rules::{CloseFault, ImageFault, ImageRule};
+pub use ledger::Ledger;
+pub use prepare::Prepared;

@@ -1,0 +1,61 @@
+//! A close, before the ledger takes it.
+
+ghost use Rattle.std.specs.Prelude.{◌≡◌};
+ghost use Rattle.value_hashes.specs.Hashes.{ledger_hash_of};
+
+use bucket_levels::LevelStep;
+use entry_table::EntryTable;
+use ledger_types::{Hash, LedgerHeader};
+use op_types::TransactionResultSet;
+use std::marker::Model;
+
+/// A close that is made and not yet taken: its results, and the state behind it. Contracts see these.
+#[derive(Drop)]
+pub struct Prepared {
+    pub(crate) network: Hash,
+    pub(crate) results: TransactionResultSet,
+    pub(crate) header: LedgerHeader,
+    // The hash of the header.
+    pub(crate) digest: Hash,
+    pub(crate) entries: EntryTable,
+    pub(crate) step: LevelStep,
+}
+
+impl Model for Prepared {
+    ghost use Rattle.close_rules.specs.Close.{Closed};
+    ghost use Rattle.ledger_close.specs.States.{state_with, closed_code, IsReady};
+
+    ghost Value = { Closed };
+
+    ghost coded = { closed_code };
+
+    ghost view = { λ p. record {
+      results = p.results.results;
+      state = state_with p.network p.header p.entries p.step.pairs;
+    } };
+
+    ghost invariant = { λ p. IsReady p.digest p.header p.step };
+}
+
+impl Prepared {
+    /// The header behind the close.
+    pub fn header(&self) -> &LedgerHeader
+        ensures { result.now ≡ self.now.state.header }
+    {
+        &self.header
+    }
+
+    /// The hash of that header, SHA-256 (FIPS 180-4) of its XDR.
+    pub fn header_hash(&self) -> Hash
+        ensures { result ≡ ledger_hash_of self.now.state.header }
+    {
+        self.digest
+    }
+
+    /// The results of the set, in the order in which its transactions were applied.
+    pub fn results(&self) -> &TransactionResultSet
+        ensures { result.now.results ≡ self.now.results }
+    {
+        &self.results
+    }
+}

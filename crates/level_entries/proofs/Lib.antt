@@ -1,0 +1,3 @@
+pub mod FileRows
+pub mod Newest
+pub mod LeftEntries

@@ -1,0 +1,9 @@
+use Rattle.std.proofs.Common.{length}
+use Rattle.level_entries.proofs.FileRows.{GoesOn}
+use Rattle.level_entries.proofs.file_row.file_row.Given as goal
+
+abbrev pub invariant-loop-item : goal.invariant-loop-item
+invariant-loop-item l = GoesOn l.bucket l.ahead.rest l.row.items
+
+abbrev pub decreases-loop-item : goal.decreases-loop-item
+decreases-loop-item l = length l.ahead.rest

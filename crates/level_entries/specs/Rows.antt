@@ -1,0 +1,74 @@
+-- What files say of each key, as rows of items under their keys.
+use Rattle.std.specs.Prelude.{◌≡◌, List, [], ◌∷◌, Option, Some, None, option_map}
+use Rattle.ledger_types.specs.declared.bucket.BucketEntry.{BucketEntry}
+use Rattle.ledger_types.specs.declared.bucket.BucketEntry.TheVariants as bucket
+use Rattle.ledger_types.specs.declared.entry.LedgerEntry.{LedgerEntry}
+use Rattle.ledger_types.specs.declared.key.LedgerKey.{LedgerKey}
+use Rattle.entry_table.specs.Rows.{IsRising, value_at}
+use Rattle.bucket_core.specs.Bucket.{Change, Init, Live, Dead, Contents, change_at, IsUnderKey}
+use Rattle.bucket_core.specs.Faults.{key_in}
+use Rattle.bucket_levels.specs.Meaning.{changes_of, AreMarkedWell, MayStandOn}
+
+-- what an item tells of its key; META has none
+abbrev pub told : BucketEntry → Change
+told (bucket.Meta version) = Dead
+told (bucket.Live entry) = Live entry
+told (bucket.Dead k) = Dead
+told (bucket.Init entry) = Init entry
+
+-- the entry that an item leaves, if it leaves one
+abbrev pub entry_in : BucketEntry → Option LedgerEntry
+entry_in (bucket.Meta version) = None
+entry_in (bucket.Live entry) = Some entry
+entry_in (bucket.Dead k) = None
+entry_in (bucket.Init entry) = Some entry
+
+abbrev pub under_if : Option LedgerKey → BucketEntry → List (LedgerKey × BucketEntry) → List (LedgerKey × BucketEntry)
+under_if None item others = others
+under_if (Some k) item others = (k, item) ∷ others
+
+-- the items under their keys, without META
+abbrev pub rows_of : List BucketEntry → List (LedgerKey × BucketEntry)
+rows_of [] = []
+rows_of (item ∷ items) = under_if (key_in item) item (rows_of items)
+
+-- the entries that the items of a row leave
+abbrev pub in_front_of : Option LedgerEntry → List LedgerEntry → List LedgerEntry
+in_front_of None others = others
+in_front_of (Some e) others = e ∷ others
+
+abbrev pub entries_in : List (LedgerKey × BucketEntry) → List LedgerEntry
+entries_in [] = []
+entries_in (x ∷ xs) = in_front_of (entry_in x.1) (entries_in xs)
+
+-- a row says of each key what a file does
+pub record IsFileRow (file : Contents) (row : List (LedgerKey × BucketEntry)) : Type 0 where
+  pub rises : IsRising row
+  pub says : (k : LedgerKey) → option_map told (value_at k row) ≡ change_at file k
+  pub own : (k : LedgerKey) (item : BucketEntry) → value_at k row ≡ Some item → IsUnderKey k (told item)
+
+-- the newest of some changes, alone
+abbrev pub newest : List Change → Option Change
+newest [] = None
+newest (change ∷ older) = Some change
+
+abbrev pub alone : Option Change → List Change
+alone None = []
+alone (Some change) = change ∷ []
+
+-- files are marked well, and the row says of each key what the newest one does that says something of it
+pub record IsNewestRow (files : List Contents) (row : List (LedgerKey × BucketEntry)) : Type 0 where
+  pub rises : IsRising row
+  pub says : (k : LedgerKey) → option_map told (value_at k row) ≡ newest (changes_of files k)
+  pub own : (k : LedgerKey) (item : BucketEntry) → value_at k row ≡ Some item → IsUnderKey k (told item)
+  pub marks : (k : LedgerKey) → AreMarkedWell (changes_of files k)
+
+-- what is told of files, from the newest on
+abbrev pub IsRowOf : List Contents → Option (List (LedgerKey × BucketEntry)) → Type 0
+IsRowOf files None = ((k : LedgerKey) → AreMarkedWell (changes_of files k)) → ⊥
+IsRowOf files (Some row) = IsNewestRow files row
+
+-- each item of a newer row may stand on what an older one has under its key
+abbrev pub MayAllStand : (older newer : List (LedgerKey × BucketEntry)) → Type 0
+MayAllStand older newer = (k : LedgerKey) (item : BucketEntry) → value_at k newer ≡ Some item
+    → MayStandOn (told item) (alone (option_map told (value_at k older)))

@@ -1,0 +1,114 @@
+//! The entries of levels.
+
+ghost use Rattle.std.specs.Prelude.{◌≡◌, ◌++◌, ◌∷◌, [], List, length, map, option_map, IfOk, OnOk};
+ghost use Rattle.bucket_core.specs.Bucket.{Contents};
+ghost use Rattle.bucket_levels.specs.Levels.{pair_of};
+ghost use Rattle.bucket_levels.specs.Meaning.{files_of};
+ghost use Rattle.bucket_levels.specs.Spills.{level_count};
+ghost use Rattle.level_entries.specs.Judged.{IsJudgedBy};
+ghost use Rattle.level_entries.specs.Rows.{IsNewestRow, IsRowOf, entries_in};
+ghost use Rattle.level_entries.specs.Rows as spec;
+
+use crate::file_row::file_row;
+use crate::judge::may_all_stand;
+use bucket_core::Bucket;
+use bucket_levels::LevelPair;
+use entry_table::{EntryTable, Kept, overlay};
+use ledger_types::{BucketEntry, LedgerEntry};
+use std::alloc::{AllocError, Global};
+
+/// What each key has once a newer file is put over some files, or `None` where they aren't marked well.
+fn with_file(
+    alloc: Global,
+    row: &[Kept<BucketEntry>],
+    bucket: &Bucket,
+) -> Result<Option<Vec<Kept<BucketEntry>>>, AllocError>
+    requires { (files : List Contents) × IsNewestRow files row.now }
+    ensures { (files : List Contents) → IsNewestRow files row.now
+        → IfOk result (λ next. IsRowOf (bucket.now ∷ files) (option_map (λ v. v.items) next)) }
+{
+    let newer = file_row(alloc, bucket)?;
+    if !may_all_stand(row, newer.as_slice()) {
+        return Ok(None);
+    }
+    Ok(Some(overlay(alloc, row, newer.as_slice())?))
+}
+
+/// What each key has once both files of a level are put over some files.
+fn with_pair(
+    alloc: Global,
+    row: &[Kept<BucketEntry>],
+    pair: &LevelPair,
+) -> Result<Option<Vec<Kept<BucketEntry>>>, AllocError>
+    requires { (files : List Contents) × IsNewestRow files row.now }
+    ensures { (files : List Contents) → IsNewestRow files row.now → IfOk result (λ next.
+        IsRowOf (pair.now.curr.value ∷ pair.now.snap.value ∷ files) (option_map (λ v. v.items) next)) }
+{
+    match with_file(alloc, row, &pair.snap)? {
+        None => Ok(None),
+        Some(row) => with_file(alloc, row.as_slice(), &pair.curr),
+    }
+}
+
+/// What each key has in the files of levels, from the first level on, or `None` where they aren't marked well.
+fn row_of(alloc: Global, pairs: &[LevelPair]) -> Result<Option<Vec<Kept<BucketEntry>>>, AllocError>
+    ensures { IfOk result (λ row. IsRowOf (files_of (map pair_of pairs.now)) (option_map (λ v. v.items) row)) }
+{
+    match pairs {
+        [] => Ok(Some(Vec::new(alloc))),
+        [pair, deeper @ ..] => match row_of(alloc, deeper)? {
+            None => Ok(None),
+            Some(row) => with_pair(alloc, row.as_slice(), pair),
+        },
+    }
+}
+
+/// The entry that an item leaves, if it leaves one.
+fn entry_in(item: &BucketEntry) -> Result<Option<LedgerEntry>, AllocError>
+    ensures { IfOk result (λ entry. entry ≡ spec.entry_in item.now) }
+{
+    match item {
+        BucketEntry::Meta { .. } => Ok(None),
+        BucketEntry::Live(entry) => Ok(Some(entry.copy()?)),
+        BucketEntry::Dead(_) => Ok(None),
+        BucketEntry::Init(entry) => Ok(Some(entry.copy()?)),
+    }
+}
+
+/// Puts the entry that an item leaves at the end, if it leaves one.
+fn push_entry(item: &BucketEntry, entries: &mut Vec<LedgerEntry>) -> Result<(), AllocError>
+    ensures { OnOk result (entries.new.items ≡ entries.old.items ++ spec.in_front_of (spec.entry_in item.now) []) }
+{
+    if let Some(entry) = entry_in(item)? {
+        entries.push(entry)?;
+    }
+    Ok(())
+}
+
+/// The entries that the items of a row leave.
+fn entries_of(alloc: Global, row: &[Kept<BucketEntry>]) -> Result<Vec<LedgerEntry>, AllocError>
+    ensures { IfOk result (λ entries. entries.items ≡ entries_in row.now) }
+{
+    let mut entries = Vec::with_capacity(alloc, row.len())?;
+    for kept in row {
+        push_entry(kept.value(), &mut entries)?;
+    }
+    Ok(entries)
+}
+
+/// The entries for which levels stand, or `None` where the levels aren't marked well.
+pub fn level_entries(alloc: Global, pairs: &[LevelPair]) -> Result<Option<EntryTable>, AllocError>
+    requires { length pairs.now ≡ level_count }
+    ensures { IfOk result (λ found. IsJudgedBy (map pair_of pairs.now) found) }
+{
+    if pairs[10].snap.version().is_some() {
+        return Ok(None);
+    }
+    match row_of(alloc, pairs)? {
+        None => Ok(None),
+        Some(row) => {
+            let entries = entries_of(alloc, row.as_slice())?;
+            Ok(Some(EntryTable::from_rising(alloc, entries)?))
+        }
+    }
+}

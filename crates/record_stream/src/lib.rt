@@ -1,0 +1,12 @@
+//! What comes piece by piece from a source: a start image, and records of closes behind it. The source is read no further
+//! than the piece at hand needs, but for the rest of the last read.
+#![tactic(auto)]
+
+mod ahead;
+mod fill;
+mod measure;
+mod piece;
+
+pub use ahead::without_front;
+pub use measure::{ImageLength, Measure, RecordLength};
+pub use piece::{PieceFault, read_piece};

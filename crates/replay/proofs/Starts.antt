@@ -1,0 +1,275 @@
+-- What a start image at the front of an input comes to.
+use Rattle.std.proofs.Common.{◌≡◌, ℕ, zero, suc, ◌-◌, ◌^◌, ◌<◌, ◌≤◌, List, [], ◌∷◌, ◌++◌, length, drop, Option, Some, None, IfSome, Result, Ok, Err}
+use Rattle.std.proofs.Common.{refl, sym, ap, subst, ◌∙◌, append_assoc, append-nil, zero-add, arith, inl, inr, ◌⊎◌}
+use Rattle.std.specs.Io.KnownBytes.{Consumes, IsAtEnd}
+use Rattle.std.proofs.KnownBytes.{Consumes-trans}
+use Rattle.std.proofs.lemmas.List.{length-append}
+use Rattle.run_streams.specs.Seen.{Seen, Failed, Received}
+use Rattle.record_stream.specs.Filling.{Grown}
+use Rattle.record_stream.specs.Measured.{end_by, image_end}
+use Rattle.record_stream.specs.Piece.{IsShort}
+use Rattle.ledger_types.specs.declared.ids.Hash.{Hash}
+use Rattle.xdr_core.specs.declared.fault.XdrFault.{XdrFault}
+use Rattle.xdr_core.specs.declared.fault.XdrKind.TheVariants.{Short}
+use Rattle.xdr_core.specs.Place.{Place, Reading, start_of}
+use Rattle.xdr_core.specs.Format.{IsBytes}
+use Rattle.xdr_core.proofs.FormatLaws.{faults_placed}
+use Rattle.xdr_core.proofs.LeafLaws.{drop_front}
+use Rattle.xdr_header.specs.declared.image.StartImage.{StartImage}
+use Rattle.xdr_header.specs.Image.{start_image, files}
+use Rattle.xdr_header.proofs.ImageLaws.{start_image_laws}
+use Rattle.hash_ids.specs.Ids.{network_id_of}
+use Rattle.close_rules.specs.declared.image_fault.ImageFault.{ImageFault}
+use Rattle.close_rules.specs.declared.image_fault.ImageFault.TheVariants as image_fault
+use Rattle.close_rules.specs.State.{ClosingState}
+use Rattle.close_rules.specs.Images.{IsJudged}
+use Rattle.run_outcome.specs.declared.status.Status.{Status}
+use Rattle.run_outcome.specs.declared.status.Status.TheVariants as status
+use Rattle.run_outcome.specs.Statuses.{IsCutShort}
+use Rattle.run_outcome.specs.Outcome.{Outcome, silent, IsRun, IsStarted, IsOutcomeOf, IsOutcome, AreLinesOf}
+use Rattle.run_outcome.specs.Run.{Answered, CaughtUp}
+use Rattle.replay.specs.Following.{Followed}
+use Rattle.replay.specs.Starting.{Cut, IsUnstarted, IsJudgedSo, StartsAt}
+use Rattle.replay.proofs.Turning.{over, told_front, none_left, short_or_not, cut_answered, no_front, rose_before}
+use Rattle.replay.proofs.Judging.{only_started}
+
+abbrev read_image : List ℕ → Reading XdrFault StartImage
+read_image text = start_image.read (start_of text)
+
+-- ---- an image at the front
+
+end_ok : (r : Reading XdrFault StartImage) (end : ℕ) → end_by r ≡ Ok end
+    → (x : StartImage × Place) × (r ≡ Ok x) × (x.1.at ≡ end)
+end_ok (Ok x) end e = (x, refl, cc)
+end_ok (Err wrong) end e = absurd cc
+
+end_err : (r : Reading XdrFault StartImage) (wrong : XdrFault) → end_by r ≡ Err wrong → r ≡ Err wrong
+end_err (Ok x) wrong e = absurd cc
+end_err (Err other) wrong e = cc
+
+abbrev ended : Result ℕ XdrFault → Result ℕ XdrFault
+ended r = r
+
+at_of : (at : ℕ) (q : Place) → ended (Ok at) ≡ Ok q.at → at ≡ q.at
+at_of at q e = cc
+
+files_count : (n left : ℕ) (vs : List (List ℕ)) → (files n left).within vs → length vs ≡ n
+unfolding files
+files_count zero left vs h = ap length h
+files_count (suc n) left [] h = absurd h
+files_count (suc n) left (v ∷ vs) h = ap (λ (k : ℕ). suc k) (files_count n (left - length v) vs h.1)
+
+image_count : (image : StartImage) → start_image.within image → length image.files ≡ 22
+unfolding start_image
+image_count image h = files_count 22 536870912 image.files h.1.1
+
+pub image_within : (new : List ℕ) (at : ℕ) (image : StartImage) (q : Place) → IsBytes new → image_end new ≡ Ok at
+    → read_image new ≡ Ok (image, q) → at ≤ length new
+image_within new at image q fits measured e =
+    let s = start_image_laws.lawful.takes (start_of new) q image fits e in
+    let len : at ≡ length (start_image.spell image) =
+        at_of at q (sym measured ∙ ap (λ (r : Reading XdrFault StartImage). end_by r) e) ∙ s.taken.at
+        ∙ zero-add (length (start_image.spell image)) in
+    let parts : new ≡ start_image.spell image ++ q.rest = s.taken.parts in
+    omega (arith, len, ap length parts ∙ length-append (start_image.spell image) q.rest)
+
+pub image_cut : (input : Seen) (new : List ℕ) (at : ℕ) (image : StartImage) (q : Place)
+    → Grown input.before input.now [] new → IsBytes new → image_end new ≡ Ok at → at < 2 ^ 64
+    → read_image new ≡ Ok (image, q) → input.faults_before ≤ input.faults_now → Cut image at (drop at new) input
+image_cut input new at image q grown fits measured low e later =
+    let s = start_image_laws.lawful.takes (start_of new) q image fits e in
+    let front : List ℕ = start_image.spell image in
+    let len : at ≡ length front =
+        at_of at q (sym measured ∙ ap (λ (r : Reading XdrFault StartImage). end_by r) e) ∙ s.taken.at ∙ zero-add (length front) in
+    let parts : new ≡ front ++ q.rest = s.taken.parts in
+    let rest : drop at new ≡ q.rest = ap (drop at) parts ∙ drop_front at front q.rest (sym len) in
+    let given : grown.given ≡ front ++ drop at new =
+        sym grown.grown ∙ parts ∙ ap (λ (t : List ℕ). front ++ t) (sym rest) in
+    record {
+      front = front;
+      count = image_count image s.within;
+      begins = λ rest. start_image_laws.lawful.again 0 image rest s.within s.sized
+          ∙ ap (λ (n : ℕ). Ok (image, record { at = n; rest = rest })) (zero-add (length front));
+      len = len;
+      low = omega (arith, low);
+      gave = subst (λ (t : List ℕ). Consumes input.before input.now t) given grown.gave;
+      later = later;
+    }
+
+-- ---- runs that wrote nothing
+
+unwritten : (passphrase : List ℕ) (input out : Seen) (end : Status) → IsCutShort end → Received out []
+    → IfSome input.before (λ bytes. Answered (IsOutcome passphrase bytes) out end)
+unwritten passphrase input out end short h = cut_answered (IsOutcome passphrase) input.before out end h short
+
+pub unread_memory : (passphrase : List ℕ) (input : Seen) → IsUnstarted passphrase input status.NoMemory
+unread_memory passphrase input out h = record {
+  answered = unwritten passphrase input out status.NoMemory tt h;
+  ended = λ e. absurd cc;
+  read_fault = λ e. absurd cc;
+  write_fault = λ e. absurd cc;
+  no_usage = λ e. cc;
+}
+
+pub unread_failed : (passphrase : List ℕ) (input : Seen) (new : List ℕ) → Grown input.before input.now [] new
+    → IsShort image_end new → Failed input → IsUnstarted passphrase input status.ReadFault
+unread_failed passphrase input new grown short failed out h = record {
+  answered = unwritten passphrase input out status.ReadFault tt h;
+  ended = λ e. absurd cc;
+  read_fault = λ e. (
+    failed,
+    record {
+      given = grown.given;
+      gave = grown.gave;
+      lines = [];
+      received = h;
+      all = subst (λ (r : Reading XdrFault StartImage). AreLinesOf (network_id_of passphrase) r [])
+          (sym (ap read_image (sym grown.grown) ∙ end_err (read_image new) short.0 short.1)) refl;
+    },
+  );
+  write_fault = λ e. absurd cc;
+  no_usage = λ e. cc;
+}
+
+-- an outcome that has no text
+silent_end : (passphrase : List ℕ) (input out : Seen) (end : Status) → Received out []
+    → IfSome input.before (λ bytes. IsOutcome passphrase bytes (silent end))
+    → IfSome input.before (λ bytes. Answered (IsOutcome passphrase bytes) out end)
+silent_end passphrase input out end h ends = answered_by input.before ends
+  where
+    answered_by : (before : Option (List ℕ)) → IfSome before (λ bytes. IsOutcome passphrase bytes (silent end))
+        → IfSome before (λ bytes. Answered (IsOutcome passphrase bytes) out end)
+    answered_by None i = tt
+    answered_by (Some bytes) i = record {
+      whole_or_cut = inl (silent end, i, refl, h);
+      prefix = λ o is. no_front out o.text h;
+    }
+
+-- what a fault comes to behind which more bytes stand, where they can
+fault_stays : (new others : List ℕ) (now : Option (List ℕ)) (wrong : XdrFault) → IsBytes new
+    → read_image new ≡ Err wrong → (wrong.kind ≡ Short → IsAtEnd now) → now ≡ Some others
+    → read_image (new ++ others) ≡ Err wrong
+fault_stays new others now wrong fits e at_end told = elim (short_or_not wrong.kind) [
+    | inl short ↦ ap (λ (t : List ℕ). read_image (new ++ t)) (none_left now others (at_end short) told)
+        ∙ ap read_image (append-nil new) ∙ e
+    | inr other ↦ (faults_placed start_image_laws).stays (start_of new) wrong others fits e other
+  ]
+
+pub unread_bad : (passphrase : List ℕ) (input : Seen) (new : List ℕ) (wrong : XdrFault)
+    → Grown input.before input.now [] new → IsBytes new → image_end new ≡ Err wrong
+    → (wrong.kind ≡ Short → IsAtEnd input.now) → IsUnstarted passphrase input (status.BadInput wrong.at)
+unread_bad passphrase input new wrong grown fits measured at_end out h =
+    let end : Status = status.BadInput wrong.at in
+    let e = end_err (read_image new) wrong measured in
+    record {
+      answered = silent_end passphrase input out end h (told_front input.before input.now grown.given
+          (λ bytes. IsOutcome passphrase bytes (silent end)) grown.gave
+          (λ others told. subst (λ (t : List ℕ). IsOutcome passphrase (t ++ others) (silent end)) grown.grown
+            (subst (λ (r : Reading XdrFault StartImage). IsOutcomeOf (network_id_of passphrase) r (silent end))
+              (sym (fault_stays new others input.now wrong fits e at_end told)) refl)));
+      ended = λ e. absurd cc;
+      read_fault = λ e. absurd cc;
+      write_fault = λ e. absurd cc;
+      no_usage = λ e. cc;
+    }
+
+-- ---- judging
+
+-- what is at the front of an input that begins with a cut image
+front_reading : (image : StartImage) (at : ℕ) (ahead others : List ℕ) (input : Seen) (c : Cut image at ahead input)
+    → read_image ((c.front ++ ahead) ++ others) ≡ Ok (image, record { at = at; rest = ahead ++ others })
+front_reading image at ahead others input c =
+    ap read_image (append_assoc c.front ahead others) ∙ c.begins (ahead ++ others)
+    ∙ ap (λ (n : ℕ). Ok (image, record { at = n; rest = ahead ++ others })) (sym c.len)
+
+judged_end : (passphrase : List ℕ) (image : StartImage) (at : ℕ) (ahead : List ℕ) (input : Seen) (end : Status)
+    (judged : Result ClosingState ImageFault) → Cut image at ahead input
+    → IsJudged (network_id_of passphrase) image judged → ((p : Place) → IsStarted judged p (silent end))
+    → (out : Seen) → Received out [] → IfSome input.before (λ bytes. Answered (IsOutcome passphrase bytes) out end)
+judged_end passphrase image at ahead input end judged c is started out h =
+    silent_end passphrase input out end h (told_front input.before input.now (c.front ++ ahead)
+      (λ bytes. IsOutcome passphrase bytes (silent end)) c.gave
+      (λ others told. subst (λ (r : Reading XdrFault StartImage). IsOutcomeOf (network_id_of passphrase) r (silent end))
+        (sym (front_reading image at ahead others input c))
+        (judged, is, started (record { at = at; rest = ahead ++ others }))))
+
+pub unjudged : (passphrase : List ℕ) (image : StartImage) (at : ℕ) (ahead : List ℕ) (input : Seen) (end : Status)
+    → Cut image at ahead input → IsJudgedSo (network_id_of passphrase) image (Err end)
+    → IsUnstarted passphrase input end
+unjudged passphrase image at ahead input (status.BadImage rule) c is out h = record {
+  answered = judged_end passphrase image at ahead input (status.BadImage rule) (Err (image_fault.BadImage rule)) c is
+      (λ p. refl) out h;
+  ended = λ e. absurd cc;
+  read_fault = λ e. absurd cc;
+  write_fault = λ e. absurd cc;
+  no_usage = λ e. cc;
+}
+unjudged passphrase image at ahead input status.ImageNotBuilt c is out h = record {
+  answered = judged_end passphrase image at ahead input status.ImageNotBuilt (Err image_fault.NotBuilt) c is
+      (λ p. refl) out h;
+  ended = λ e. absurd cc;
+  read_fault = λ e. absurd cc;
+  write_fault = λ e. absurd cc;
+  no_usage = λ e. cc;
+}
+unjudged passphrase image at ahead input status.NoMemory c is out h = unread_memory passphrase input out h
+unjudged passphrase image at ahead input status.Done c is out h = absurd cc
+unjudged passphrase image at ahead input status.Usage c is out h = absurd cc
+unjudged passphrase image at ahead input status.Refused c is out h = absurd cc
+unjudged passphrase image at ahead input status.ReadFault c is out h = absurd cc
+unjudged passphrase image at ahead input status.WriteFault c is out h = absurd cc
+unjudged passphrase image at ahead input (status.BadInput wrong) c is out h = absurd cc
+
+-- ---- a whole run
+
+run_of : (passphrase : List ℕ) (image : StartImage) (s : ClosingState) (p : Place) (o : Outcome)
+    → IsJudged (network_id_of passphrase) image (Ok s) → IsOutcomeOf (network_id_of passphrase) (Ok (image, p)) o
+    → IsRun s p o
+run_of passphrase image s p o judged is =
+    subst (λ (j : Result ClosingState ImageFault). IsStarted j p o)
+    (sym (only_started (network_id_of passphrase) image s is.0 judged is.1)) is.2
+
+answered_by : (passphrase : List ℕ) (s : ClosingState) (at : ℕ) (ahead : List ℕ) (input : Seen)
+    (start : StartsAt passphrase s at ahead input) (before now : Option (List ℕ)) (out : Seen) (end : Status)
+    → Consumes before now (start.cut.front ++ ahead)
+    → IfSome now (λ bytes. Answered (IsRun s (record { at = at; rest = ahead ++ bytes })) out end)
+    → IfSome before (λ bytes. Answered (IsOutcome passphrase bytes) out end)
+answered_by passphrase s at ahead input start None now out end gave h = tt
+answered_by passphrase s at ahead input start (Some x) None out end gave h = absurd gave
+answered_by passphrase s at ahead input start (Some x) (Some y) out end gave h =
+    let p : Place = record { at = at; rest = ahead ++ y } in
+    let network : Hash = network_id_of passphrase in
+    let e : read_image x ≡ Ok (start.image, p) =
+        ap read_image gave ∙ front_reading start.image at ahead y input start.cut in
+    subst (λ (r : Reading XdrFault StartImage). Answered (IsOutcomeOf network r) out end) (sym e) (record {
+      whole_or_cut = whole p h.whole_or_cut;
+      prefix = λ o is. h.prefix o (run_of passphrase start.image s p o start.judged is);
+    })
+  where
+    whole : (p : Place) → ((o : Outcome) × IsRun s p o × (end ≡ o.status) × Received out o.text) ⊎ IsCutShort end
+        → ((o : Outcome) × IsOutcomeOf (network_id_of passphrase) (Ok (start.image, p)) o × (end ≡ o.status)
+          × Received out o.text) ⊎ IsCutShort end
+    whole p (inl (o, run, e, received)) = inl (o, (Ok s, start.judged, run), e, received)
+    whole p (inr short) = inr short
+
+pub caught_up : (passphrase : List ℕ) (s : ClosingState) (at : ℕ) (ahead : List ℕ) (input out : Seen) (now : Option (List ℕ))
+    (faults : ℕ) (end : Status) → StartsAt passphrase s at ahead input
+    → Followed s at ahead (over input.now now input.faults_now faults) out end
+    → CaughtUp passphrase (over input.before now input.faults_before faults) out end
+caught_up passphrase s at ahead input out now faults end start f = record {
+  answered = answered_by passphrase s at ahead input start input.before input.now out end start.cut.gave f.answered;
+  ended = f.ended;
+  read_fault = λ e. let h = f.read_fault e in (
+    rose_before input.faults_before input.faults_now faults start.cut.later h.0,
+    record {
+      given = (start.cut.front ++ ahead) ++ h.1.given;
+      gave = Consumes-trans input.before input.now now (start.cut.front ++ ahead) h.1.given start.cut.gave h.1.gave;
+      lines = h.1.lines;
+      received = h.1.received;
+      all = subst (λ (r : Reading XdrFault StartImage). AreLinesOf (network_id_of passphrase) r h.1.lines)
+          (sym (front_reading start.image at ahead h.1.given input start.cut)) (s, start.judged, h.1.all);
+    },
+  );
+  write_fault = f.write_fault;
+  no_usage = f.no_usage;
+}

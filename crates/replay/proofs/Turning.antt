@@ -1,0 +1,533 @@
+-- What a turn comes to, from what its parts answer.
+use Rattle.std.proofs.Common.{◌≡◌, ℕ, ◌+◌, ◌-◌, ◌*◌, ◌^◌, ◌<◌, ◌≤◌, List, [], ◌∷◌, ◌++◌, length, take, drop, Option, Some, None}
+use Rattle.std.proofs.Common.{IfSome, Result, Ok, Err, refl, sym, ap, subst, ◌∙◌, append_assoc, append-nil, arith, inl, inr, ◌⊎◌}
+use Rattle.std.specs.Prelude.{◌≢◌, IsNone}
+use Rattle.std.specs.Io.KnownBytes.{Appends, Consumes, IsAtEnd}
+use Rattle.std.proofs.KnownBytes.{Appends-trans, Consumes-trans}
+use Rattle.std.proofs.lemmas.List.{length-append, take-append-le}
+use Rattle.std.proofs.Math.Seq.{take-append-add, take-length}
+use Rattle.outside.specs.Streams.{Rose, TookPrefix}
+use Rattle.run_streams.specs.Seen.{Seen, Failed, Received, ReceivedPrefix}
+use Rattle.record_stream.specs.Filling.{Grown}
+use Rattle.record_stream.specs.Measured.{end_by, record_end}
+use Rattle.record_stream.specs.Piece.{IsShort, IsPiece}
+use Rattle.record_stream.specs.declared.piece.PieceFault.{PieceFault}
+use Rattle.record_stream.specs.declared.piece.PieceFault.TheVariants as piece
+use Rattle.close_rules.specs.declared.close_fault.CloseFault.TheVariants as close
+use Rattle.ledger_close.specs.Answers.{FaultIs}
+use Rattle.xdr_core.specs.declared.fault.XdrFault.{XdrFault}
+use Rattle.xdr_core.specs.declared.fault.XdrKind.{XdrKind}
+use Rattle.xdr_core.specs.declared.fault.XdrKind.TheVariants as kind
+use Rattle.xdr_core.specs.Place.{Reading, start_of}
+use Rattle.xdr_core.specs.Format.{IsBytes}
+use Rattle.close_rules.specs.declared.close_fault.CloseFault.{CloseFault}
+use Rattle.close_rules.specs.State.{ClosingState}
+use Rattle.close_rules.specs.Close.{Closed, IsClose}
+use Rattle.run_outcome.specs.declared.status.Status.{Status}
+use Rattle.run_outcome.specs.declared.status.Status.TheVariants as status
+use Rattle.run_outcome.specs.Statuses.{IsCutShort}
+use Rattle.run_outcome.specs.Lines.{end_line, refused_line}
+use Rattle.run_outcome.specs.Outcome.{Outcome, silent, behind, framed, max_record_len, lines_of, IsStopped, IsEnd, IsRun}
+use Rattle.run_outcome.specs.Outcome.{frames, AreClosed}
+use Rattle.run_outcome.specs.Run.{Answered}
+use Rattle.replay.specs.Following.{WroteOn, Refuses, Closes, Passes, EndsAt, Turned}
+use Rattle.replay.specs.Following.{Wrote, Stops, Followed, FollowedFrom, Standing, Goes, WholeLines}
+use Rattle.xdr_core.proofs.FormatLaws.{faults_placed, mark_laws}
+use Rattle.replay.proofs.Marking.{read_mark, framed_is_read, framed_above, framed_len, fault_behind, empty_is_short, front_of}
+use Rattle.ledger_types.specs.declared.header.LedgerHeader.{LedgerHeader}
+use Rattle.replay.proofs.Runs.{next_seq, peeled, prepended, one_end, ended_run}
+
+-- ---- streams, one use behind another
+
+abbrev pub over : (before now : Option (List ℕ)) (faults_before faults_now : ℕ) → Seen
+over before now faults_before faults_now =
+    record { before = before; now = now; faults_before = faults_before; faults_now = faults_now }
+
+-- a stream's two uses as one
+abbrev pub joined : Seen → Seen → Seen
+joined first second = over first.before second.now first.faults_before second.faults_now
+
+front_behind : (a b c : Option (List ℕ)) (lines text : List ℕ) → Appends a b lines → TookPrefix b c text
+    → TookPrefix a c (lines ++ text)
+front_behind a b c lines text first (n, le, then) = (
+  length lines + n,
+  omega (arith, length-append lines text),
+  subst (Appends a c) (sym (take-append-add lines text n)) (Appends-trans a b c lines (take n text) first then),
+)
+
+front_of_more : (a b : Option (List ℕ)) (lines text : List ℕ) → TookPrefix a b lines → TookPrefix a b (lines ++ text)
+front_of_more a b lines text (n, le, h) = (
+  n,
+  omega (arith, length-append lines text),
+  subst (Appends a b) (sym (take-append-le n lines text le)) h,
+)
+
+pub no_front : (out : Seen) (text : List ℕ) → Received out [] → TookPrefix out.before out.now text
+no_front out text h = (0, omega arith, h)
+
+whole_front : (out : Seen) (text : List ℕ) → Received out text → TookPrefix out.before out.now text
+whole_front out text h = (length text, omega arith, subst (Appends out.before out.now) (sym (take-length text)) h)
+
+-- ---- a record, and then the rest of the run
+
+answered_behind : (s : ClosingState) (bytes : List ℕ) (c : Closed) (at : ℕ) (others : List ℕ) (out : Seen)
+    (later : Option (List ℕ)) (faults : ℕ) (end : Status) → length bytes ≤ max_record_len → IsClose s bytes (Ok c)
+    → Received out (lines_of c)
+    → Answered (IsRun c.state (record { at = at + length (framed bytes); rest = others }))
+    (over out.now later out.faults_now faults) end
+    → Answered (IsRun s (record { at = at; rest = framed bytes ++ others }))
+    (over out.before later out.faults_before faults) end
+answered_behind s bytes c at others out later faults end fits closes received a = record {
+  whole_or_cut = whole a.whole_or_cut;
+  prefix = λ o run. let p = peeled s bytes c at others o fits closes run in
+      let front : TookPrefix out.before later (lines_of c ++ p.0.text) =
+          front_behind out.before out.now later (lines_of c) p.0.text received (a.prefix p.0 p.1) in
+      subst (λ (x : Outcome). TookPrefix out.before later x.text) (sym p.2) front;
+}
+  where
+    whole : ((o : Outcome) × IsRun c.state (record { at = at + length (framed bytes); rest = others }) o
+          × (end ≡ o.status) × Appends out.now later o.text) ⊎ IsCutShort end
+        → ((o : Outcome) × IsRun s (record { at = at; rest = framed bytes ++ others }) o × (end ≡ o.status)
+          × Appends out.before later o.text) ⊎ IsCutShort end
+    whole (inl (o, run, e, h)) = inl (
+      behind (lines_of c) o,
+      prepended s bytes c at others o fits closes run,
+      e,
+      Appends-trans out.before out.now later (lines_of c) o.text received h,
+    )
+    whole (inr h) = inr h
+
+-- the text from the old place on, by what was given
+text_behind : (ahead given framed_one rest x y : List ℕ) → ahead ++ given ≡ framed_one ++ rest → x ≡ given ++ y
+    → ahead ++ x ≡ framed_one ++ (rest ++ y)
+text_behind ahead given framed_one rest x y cut e =
+    ap (λ (t : List ℕ). ahead ++ t) e ∙ sym (append_assoc ahead given y) ∙ ap (λ (t : List ℕ). t ++ y) cut
+    ∙ append_assoc framed_one rest y
+
+gone_answered : (old new : Standing) (input out : Seen) (g : Goes old new input out) (before now : Option (List ℕ))
+    (out_now : Option (List ℕ)) (out_faults : ℕ) (end : Status) → Consumes before now g.given
+    → IfSome now (λ bytes. Answered (IsRun new.state (record { at = new.at; rest = new.ahead ++ bytes }))
+      (over out.now out_now out.faults_now out_faults) end)
+    → IfSome before (λ bytes. Answered (IsRun old.state (record { at = old.at; rest = old.ahead ++ bytes }))
+      (over out.before out_now out.faults_before out_faults) end)
+gone_answered old new input out g None now out_now out_faults end gave h = tt
+gone_answered old new input out g (Some x) None out_now out_faults end gave h = absurd gave
+gone_answered old new input out g (Some x) (Some y) out_now out_faults end gave h =
+    let rest : List ℕ = new.ahead ++ y in
+    let seen_out : Seen = over out.now out_now out.faults_now out_faults in
+    let first = subst (λ (s : ClosingState). Answered (IsRun s (record { at = new.at; rest = rest })) seen_out end) g.state h in
+    let second = subst (λ (n : ℕ). Answered (IsRun g.closed.state (record { at = n; rest = rest })) seen_out end) g.at first in
+    let third = answered_behind old.state g.bytes g.closed old.at rest out out_now out_faults end g.short g.closes
+        g.received second in
+    subst (λ (t : List ℕ). Answered (IsRun old.state (record { at = old.at; rest = t }))
+      (over out.before out_now out.faults_before out_faults) end)
+    (sym (text_behind old.ahead g.given (framed g.bytes) new.ahead x y g.cut gave)) third
+
+pub rose_before : (a b c : ℕ) → a ≤ b → Rose b c → Rose a c
+rose_before a b c le h = omega arith
+
+gone_lines : (old new : Standing) (input out : Seen) (g : Goes old new input out) (now out_now : Option (List ℕ))
+    (faults out_faults : ℕ)
+    → WholeLines new.state new.at new.ahead (over input.now now input.faults_now faults)
+    (over out.now out_now out.faults_now out_faults)
+    → WholeLines old.state old.at old.ahead (over input.before now input.faults_before faults)
+    (over out.before out_now out.faults_before out_faults)
+gone_lines old new input out g now out_now faults out_faults w = record {
+  given = g.given ++ w.given;
+  gave = Consumes-trans input.before input.now now g.given w.given g.gave w.gave;
+  lines = lines_of g.closed ++ w.lines;
+  received = Appends-trans out.before out.now out_now (lines_of g.closed) w.lines g.received w.received;
+  all = record {
+    records = g.bytes ∷ w.all.records;
+    rest = w.all.rest;
+    cut = text_behind old.ahead g.given (framed g.bytes) new.ahead (g.given ++ w.given) w.given g.cut refl
+        ∙ ap (λ (t : List ℕ). framed g.bytes ++ t) w.all.cut
+        ∙ sym (append_assoc (framed g.bytes) (frames w.all.records) w.all.rest);
+    state = w.all.state;
+    closed = (
+      g.closed,
+      w.lines,
+      g.closes,
+      subst (λ (s : ClosingState). AreClosed s w.all.records w.lines w.all.state) g.state w.all.closed,
+      refl,
+    );
+    partial = w.all.partial;
+  };
+}
+
+pub gone : (old new : Standing) (input out : Seen) → Goes old new input out → (now out_now : Option (List ℕ))
+    (faults out_faults : ℕ) (end : Status)
+    → FollowedFrom new (over input.now now input.faults_now faults) (over out.now out_now out.faults_now out_faults) end
+    → FollowedFrom old (over input.before now input.faults_before faults)
+    (over out.before out_now out.faults_before out_faults) end
+gone old new input out g now out_now faults out_faults end f = record {
+  answered = gone_answered old new input out g input.before input.now out_now out_faults end g.gave f.answered;
+  ended = f.ended;
+  read_fault = λ e. let h = f.read_fault e in (
+    rose_before input.faults_before input.faults_now faults g.input_later h.0,
+    gone_lines old new input out g now out_now faults out_faults h.1,
+  );
+  write_fault = λ e. rose_before out.faults_before out.faults_now out_faults g.out_later (f.write_fault e);
+  no_usage = f.no_usage;
+}
+
+-- ---- ends
+
+pub record IsLast (end : Status) : Type 0 where
+  pub no_read : end ≢ status.ReadFault
+  pub no_write : end ≢ status.WriteFault
+  pub no_usage : end ≢ status.Usage
+
+if_some : (o : Option (List ℕ)) (P Q : List ℕ → Type 0) → ((x : List ℕ) → P x → Q x) → IfSome o P → IfSome o Q
+if_some None P Q f h = tt
+if_some (Some x) P Q f h = f x h
+
+some_front : (s : ClosingState) (at : ℕ) (text : List ℕ) (last o : Outcome) (out : Seen) → IsEnd s at text last
+    → ReceivedPrefix out last.text → IsRun s (record { at = at; rest = text }) o → ReceivedPrefix out o.text
+some_front s at text last o out h front run =
+    subst (λ (x : Outcome). ReceivedPrefix out x.text) (sym (one_end s at text last o h run)) front
+
+-- nothing was written
+pub cut_answered : (IsOne : List ℕ → Outcome → Type 0) (before : Option (List ℕ)) (out : Seen) (end : Status)
+    → Received out [] → IsCutShort end → IfSome before (λ bytes. Answered (IsOne bytes) out end)
+cut_answered IsOne None out end h short = tt
+cut_answered IsOne (Some bytes) out end h short = record {
+  whole_or_cut = inr short;
+  prefix = λ o run. no_front out o.text h;
+}
+
+pub nothing_followed : (s : ClosingState) (at : ℕ) (ahead : List ℕ) (input out : Seen) → Received out []
+    → Followed s at ahead input out status.NoMemory
+nothing_followed s at ahead input out h = record {
+  answered = cut_answered (λ bytes. IsRun s (record { at = at; rest = ahead ++ bytes })) input.before out
+      status.NoMemory h tt;
+  ended = λ e. absurd cc;
+  read_fault = λ e. absurd cc;
+  write_fault = λ e. absurd cc;
+  no_usage = λ e. cc;
+}
+
+pub stopped : (s : ClosingState) (at : ℕ) (ahead : List ℕ) (input out : Seen) (end : Status) (last : Outcome)
+    → IfSome input.before (λ bytes. IsEnd s at (ahead ++ bytes) last) → Wrote out last.text last.status end
+    → (last.status ≡ status.Done → IsAtEnd input.now) → IsLast last.status → Followed s at ahead input out end
+stopped s at ahead input out end last ends (inl (e, received)) done is_last = record {
+  answered = if_some input.before (λ bytes. IsEnd s at (ahead ++ bytes) last)
+      (λ bytes. Answered (IsRun s (record { at = at; rest = ahead ++ bytes })) out end)
+      (λ bytes h. record {
+        whole_or_cut = inl (last, ended_run s at (ahead ++ bytes) last h, e, received);
+        prefix = λ o run. some_front s at (ahead ++ bytes) last o out h (whole_front out last.text received) run;
+      }) ends;
+  ended = λ d. done (sym e ∙ d);
+  read_fault = λ r. absurd (is_last.no_read (sym e ∙ r));
+  write_fault = λ r. absurd (is_last.no_write (sym e ∙ r));
+  no_usage = λ r. is_last.no_usage (sym e ∙ r);
+}
+stopped s at ahead input out end last ends (inr (inl (e, failed, front))) done is_last = record {
+  answered = if_some input.before (λ bytes. IsEnd s at (ahead ++ bytes) last)
+      (λ bytes. Answered (IsRun s (record { at = at; rest = ahead ++ bytes })) out end)
+      (λ bytes h. record {
+        whole_or_cut = inr (subst IsCutShort (sym e) tt);
+        prefix = λ o run. some_front s at (ahead ++ bytes) last o out h front run;
+      }) ends;
+  ended = λ d. absurd cc;
+  read_fault = λ r. absurd cc;
+  write_fault = λ r. failed;
+  no_usage = λ r. cc;
+}
+stopped s at ahead input out end last ends (inr (inr (e, none))) done is_last =
+    subst (Followed s at ahead input out) (sym e) (nothing_followed s at ahead input out none)
+
+-- a read failed, and no whole record is ahead
+abbrev ended : Result ℕ XdrFault → Result ℕ XdrFault
+ended r = r
+
+no_record : (text bytes more : List ℕ) (wrong : XdrFault) → record_end text ≡ Err wrong
+    → length bytes ≤ max_record_len → text ≡ framed bytes ++ more → ⊥
+no_record text bytes more wrong e fits cut =
+    let r = ap (λ (t : List ℕ). read_mark (start_of t)) cut ∙ framed_is_read 0 bytes more fits in
+    let both : ended (Err wrong) ≡ Ok (0 + length (framed bytes)) =
+        sym e ∙ ap (λ (x : Reading XdrFault (List ℕ)). end_by x) r in
+    absurd cc
+
+pub read_failed : (s : ClosingState) (at : ℕ) (ahead new : List ℕ) (input out : Seen)
+    → Grown input.before input.now ahead new → IsShort record_end new → Failed input → Received out []
+    → Followed s at ahead input out status.ReadFault
+read_failed s at ahead new input out grown short failed h = record {
+  answered = cut_answered (λ bytes. IsRun s (record { at = at; rest = ahead ++ bytes })) input.before out
+      status.ReadFault h tt;
+  ended = λ e. absurd cc;
+  read_fault = λ e. (
+    failed,
+    record {
+      given = grown.given;
+      gave = grown.gave;
+      lines = [];
+      received = h;
+      all = record {
+        records = [];
+        rest = ahead ++ grown.given;
+        cut = refl;
+        state = s;
+        closed = (refl, refl);
+        partial = λ bytes more fits cut. no_record new bytes more short.0 short.1 fits (grown.grown ∙ cut);
+      };
+    },
+  );
+  write_fault = λ e. absurd cc;
+  no_usage = λ e. cc;
+}
+
+-- what a source told begins with what it gave
+pub told_front : (before now : Option (List ℕ)) (given : List ℕ) (P : List ℕ → Type 0) → Consumes before now given
+    → ((others : List ℕ) → now ≡ Some others → P (given ++ others)) → IfSome before P
+told_front None now given P gave h = tt
+told_front (Some x) None given P gave h = absurd gave
+told_front (Some x) (Some y) given P gave h = subst P (sym gave) (h y refl)
+
+abbrev some : List ℕ → Option (List ℕ)
+some x = Some x
+
+some_is : (a b : List ℕ) → some a ≡ Some b → a ≡ b
+some_is a b e = cc
+
+pub none_left : (now : Option (List ℕ)) (others : List ℕ) → IsAtEnd now → now ≡ Some others → others ≡ []
+none_left None others h e = absurd cc
+none_left (Some x) others h e = let same : x ≡ others = some_is x others e in sym same ∙ h
+
+-- ---- what is ahead where a turn ends
+
+pub short_or_not : (k : XdrKind) → (k ≡ kind.Short) ⊎ (k ≢ kind.Short)
+short_or_not kind.Short = inl refl
+short_or_not kind.Padding = inr (λ e. cc)
+short_or_not kind.BadEnum = inr (λ e. cc)
+short_or_not kind.BadFlag = inr (λ e. cc)
+short_or_not kind.TooLong = inr (λ e. cc)
+short_or_not kind.BadMark = inr (λ e. cc)
+short_or_not kind.Trailing = inr (λ e. cc)
+short_or_not kind.TooDeep = inr (λ e. cc)
+
+end_err : (r : Reading XdrFault (List ℕ)) (wrong : XdrFault) → end_by r ≡ Err wrong → r ≡ Err wrong
+end_err (Ok x) wrong e = absurd cc
+end_err (Err other) wrong e = cc
+
+mark_stays : (new others : List ℕ) (now : Option (List ℕ)) (wrong : XdrFault) → IsBytes new
+    → read_mark (start_of new) ≡ Err wrong → (wrong.kind ≡ kind.Short → IsAtEnd now) → now ≡ Some others
+    → read_mark (start_of (new ++ others)) ≡ Err wrong
+mark_stays new others now wrong fits e at_end told = elim (short_or_not wrong.kind) [
+    | inl short ↦ ap (λ (t : List ℕ). read_mark (start_of (new ++ t))) (none_left now others (at_end short) told)
+        ∙ ap (λ (t : List ℕ). read_mark (start_of t)) (append-nil new) ∙ e
+    | inr other ↦ (faults_placed (mark_laws max_record_len (omega arith))).stays (start_of new) wrong others fits e other
+  ]
+
+bad_end : (s : ClosingState) (at : ℕ) (text : List ℕ) (wrong : XdrFault) → 0 < length text
+    → read_mark (start_of text) ≡ Err wrong → IsEnd s at text (silent (status.BadInput (at + wrong.at)))
+bad_end s at [] wrong some e = absurd (omega arith)
+bad_end s at (byte ∷ rest) wrong some e =
+    subst (λ (r : Reading XdrFault (List ℕ)). IsStopped s r (silent (status.BadInput (at + wrong.at))))
+    (sym (fault_behind at (byte ∷ rest) wrong e)) refl
+
+-- the text from a place on is what is ahead, and more
+text_of : (ahead new given others : List ℕ) → new ≡ ahead ++ given → ahead ++ (given ++ others) ≡ new ++ others
+text_of ahead new given others e = sym (append_assoc ahead given others) ∙ ap (λ (t : List ℕ). t ++ others) (sym e)
+
+pub bad_mark : (s : ClosingState) (at : ℕ) (ahead new : List ℕ) (input out : Seen) (wrong : XdrFault)
+    → Grown input.before input.now ahead new → IsBytes new → record_end new ≡ Err wrong
+    → (wrong.kind ≡ kind.Short → IsAtEnd input.now) → 0 < length new → Received out []
+    → Followed s at ahead input out (status.BadInput (at + wrong.at))
+bad_mark s at ahead new input out wrong grown fits measured at_end some h =
+    let last : Outcome = silent (status.BadInput (at + wrong.at)) in
+    let e = end_err (read_mark (start_of new)) wrong measured in
+    stopped s at ahead input out (status.BadInput (at + wrong.at)) last
+    (told_front input.before input.now grown.given (λ bytes. IsEnd s at (ahead ++ bytes) last) grown.gave
+      (λ others told. subst (λ (t : List ℕ). IsEnd s at t last) (sym (text_of ahead new grown.given others grown.grown))
+        (bad_end s at (new ++ others) wrong (omega (arith, some, length-append new others))
+          (mark_stays new others input.now wrong fits e at_end told))))
+    (inl (refl, h)) (λ d. absurd cc)
+    (record { no_read = λ d. cc; no_write = λ d. cc; no_usage = λ d. cc })
+
+no_bytes : (new : List ℕ) → length new ≡ 0 → new ≡ []
+no_bytes [] e = refl
+no_bytes (byte ∷ rest) e = absurd (omega arith)
+
+pub all_done : (s : ClosingState) (at : ℕ) (ahead new : List ℕ) (input out : Seen) (end : Status) (wrong : XdrFault)
+    → Grown input.before input.now ahead new → record_end new ≡ Err wrong
+    → (wrong.kind ≡ kind.Short → IsAtEnd input.now) → length new ≡ 0
+    → Wrote out (end_line s.header) status.Done end → Followed s at ahead input out end
+all_done s at ahead new input out end wrong grown measured at_end none wrote =
+    let last : Outcome = record { status = status.Done; text = end_line s.header } in
+    let empty : new ≡ [] = no_bytes new none in
+    let at_its_end = at_end (empty_is_short wrong (ap record_end (sym empty) ∙ measured)) in
+    stopped s at ahead input out end last
+    (told_front input.before input.now grown.given (λ bytes. IsEnd s at (ahead ++ bytes) last) grown.gave
+      (λ others told. subst (λ (t : List ℕ). IsEnd s at t last)
+        (sym (text_of ahead new grown.given others grown.grown ∙ ap (λ (t : List ℕ). t ++ others) empty
+          ∙ none_left input.now others at_its_end told)) refl))
+    wrote (λ d. at_its_end) (record { no_read = λ d. cc; no_write = λ d. cc; no_usage = λ d. cc })
+
+-- ---- what a record comes to
+
+front_text : (ahead new given front rest others : List ℕ) → new ≡ ahead ++ given → new ≡ front ++ rest
+    → ahead ++ (given ++ others) ≡ front ++ (rest ++ others)
+front_text ahead new given front rest others e cut =
+    text_of ahead new given others e ∙ ap (λ (t : List ℕ). t ++ others) cut ∙ append_assoc front rest others
+
+refused_end : (s : ClosingState) (at : ℕ) (bytes rest : List ℕ) (wrong : CloseFault) → length bytes ≤ max_record_len
+    → IsClose s bytes (Err wrong)
+    → IsEnd s at (framed bytes ++ rest) (record { status = status.Refused; text = refused_line s.header wrong })
+refused_end s at bytes rest wrong fits closes =
+    at_record (framed bytes ++ rest) (framed_some bytes rest)
+    (framed_is_read at bytes rest fits)
+  where
+    framed_some : (bytes rest : List ℕ) → 0 < length (framed bytes ++ rest)
+    framed_some bytes rest = omega (arith, length-append (framed bytes) rest, framed_above bytes)
+    at_record : (text : List ℕ) → 0 < length text
+        → read_mark (record { at = at; rest = text })
+        ≡ Ok (bytes, record { at = at + length (framed bytes); rest = rest })
+        → IsEnd s at text (record { status = status.Refused; text = refused_line s.header wrong })
+    at_record [] some e = absurd (omega arith)
+    at_record (byte ∷ more) some e =
+        subst (λ (r : Reading XdrFault (List ℕ)). IsStopped s r
+          (record { status = status.Refused; text = refused_line s.header wrong })) (sym e) (wrong, closes, refl)
+
+pub record_stops : (s : ClosingState) (at : ℕ) (ahead new rest bytes : List ℕ) (input out : Seen) (end : Status)
+    → Grown input.before input.now ahead new → new ≡ framed bytes ++ rest → length bytes ≤ max_record_len
+    → Stops s bytes out end → Followed s at ahead input out end
+record_stops s at ahead new rest bytes input out end grown cut fits (inl (c, closes, e, failed, front)) =
+    subst (Followed s at ahead input out) (sym e) (record {
+      answered = told_front input.before input.now grown.given
+          (λ given. Answered (IsRun s (record { at = at; rest = ahead ++ given })) out status.WriteFault) grown.gave
+          (λ others told. subst (λ (t : List ℕ).
+              Answered (IsRun s (record { at = at; rest = t })) out status.WriteFault)
+            (sym (front_text ahead new grown.given (framed bytes) rest others grown.grown cut))
+            (record {
+              whole_or_cut = inr tt;
+              prefix = λ o run. let p = peeled s bytes c at (rest ++ others) o fits closes run in
+                  subst (λ (x : Outcome). ReceivedPrefix out x.text) (sym p.2)
+                  (front_of_more out.before out.now (lines_of c) p.0.text front);
+            }));
+      ended = λ d. absurd cc;
+      read_fault = λ d. absurd cc;
+      write_fault = λ d. failed;
+      no_usage = λ d. cc;
+    })
+record_stops s at ahead new rest bytes input out end grown cut fits (inr (inl (wrong, closes, wrote))) =
+    let last : Outcome = record { status = status.Refused; text = refused_line s.header wrong } in
+    stopped s at ahead input out end last
+    (told_front input.before input.now grown.given (λ given. IsEnd s at (ahead ++ given) last) grown.gave
+      (λ others told. subst (λ (t : List ℕ). IsEnd s at t last)
+        (sym (front_text ahead new grown.given (framed bytes) rest others grown.grown cut))
+        (refused_end s at bytes (rest ++ others) wrong fits closes)))
+    wrote (λ d. absurd cc) (record { no_read = λ d. cc; no_write = λ d. cc; no_usage = λ d. cc })
+record_stops s at ahead new rest bytes input out end grown cut fits (inr (inr (e, h))) =
+    subst (Followed s at ahead input out) (sym e) (nothing_followed s at ahead input out h)
+
+-- ---- the answers of the parts
+
+pub closes_of : (s : ClosingState) (bytes : List ℕ) (c : Closed) (next : ClosingState) (out : Seen) (r : Option Status)
+    → IsClose s bytes (Ok c) → next ≡ c.state → WroteOn out (lines_of c) r → Closes s bytes next out r
+closes_of s bytes c next out None closes same w = (c, closes, same, w)
+closes_of s bytes c next out (Some end) closes same (inl (e, failed, front)) = inl (c, closes, e, failed, front)
+closes_of s bytes c next out (Some end) closes same (inr (e, h)) = inr (inr (e, h))
+
+pub refuses_of : (header : LedgerHeader) (out : Seen) (wrong : CloseFault) (end : Status) → (wrong ≡ close.NoMemory → ⊥)
+    → Wrote out (refused_line header wrong) status.Refused end → Refuses header out wrong end
+refuses_of header out close.NoMemory end other w = absurd (other refl)
+refuses_of header out close.SeqEnd end other w = w
+refuses_of header out (close.BadXdr at kind) end other w = w
+refuses_of header out (close.WrongSeq want given) end other w = w
+refuses_of header out (close.WrongPrevious have given) end other w = w
+refuses_of header out (close.WrongSetHash have given) end other w = w
+refuses_of header out (close.StaleTime last given) end other w = w
+refuses_of header out (close.BadUpgrade index) end other w = w
+refuses_of header out (close.UpgradeOutOfProfile index) end other w = w
+refuses_of header out (close.NotBuilt index) end other w = w
+refuses_of header out (close.FeeSourceMissing index) end other w = w
+refuses_of header out (close.LedgerFull total) end other w = w
+
+pub stops_of : (s : ClosingState) (bytes : List ℕ) (out : Seen) (wrong : CloseFault) (end : Status)
+    → FaultIs wrong (λ f. IsClose s bytes (Err f)) → Refuses s.header out wrong end → Stops s bytes out end
+stops_of s bytes out close.NoMemory end h r = inr (inr r)
+stops_of s bytes out close.SeqEnd end h r = inr (inl (close.SeqEnd, h, r))
+stops_of s bytes out (close.BadXdr at kind) end h r = inr (inl ((close.BadXdr at kind), h, r))
+stops_of s bytes out (close.WrongSeq want given) end h r = inr (inl ((close.WrongSeq want given), h, r))
+stops_of s bytes out (close.WrongPrevious have given) end h r = inr (inl ((close.WrongPrevious have given), h, r))
+stops_of s bytes out (close.WrongSetHash have given) end h r = inr (inl ((close.WrongSetHash have given), h, r))
+stops_of s bytes out (close.StaleTime last given) end h r = inr (inl ((close.StaleTime last given), h, r))
+stops_of s bytes out (close.BadUpgrade index) end h r = inr (inl ((close.BadUpgrade index), h, r))
+stops_of s bytes out (close.UpgradeOutOfProfile index) end h r = inr (inl ((close.UpgradeOutOfProfile index), h, r))
+stops_of s bytes out (close.NotBuilt index) end h r = inr (inl ((close.NotBuilt index), h, r))
+stops_of s bytes out (close.FeeSourceMissing index) end h r = inr (inl ((close.FeeSourceMissing index), h, r))
+stops_of s bytes out (close.LedgerFull total) end h r = inr (inl ((close.LedgerFull total), h, r))
+
+-- a record was ahead
+pub turned_at : (s : ClosingState) (at : ℕ) (ahead mid : List ℕ) (end : ℕ) (next : ClosingState) (new : List ℕ)
+    (input out : Seen) (r : Option Status) → IsBytes mid → Grown input.before input.now ahead mid
+    → record_end mid ≡ Ok end → Passes s mid end next out r → (IsNone r → new ≡ drop end mid)
+    → input.faults_before ≤ input.faults_now → out.faults_before ≤ out.faults_now
+    → s.header.ledger_seq ≤ 2147483647
+    → Turned (record { state = s; at = at; ahead = ahead }) (record { state = next; at = at + end; ahead = new }) input out r
+turned_at s at ahead mid end next new input out None fits grown measured p rest input_later out_later low =
+    let f = front_of mid end fits measured in
+    let cut : ahead ++ grown.given ≡ framed p.bytes ++ new =
+        sym grown.grown ∙ f.whole ∙ ap (λ (t : List ℕ). t ++ drop end mid) (f.framed_is ∙ sym p.framed_is)
+        ∙ ap (λ (t : List ℕ). framed p.bytes ++ t) (sym (rest refl)) in
+    let len : end ≡ length (framed p.bytes) = f.len ∙ ap length (f.framed_is ∙ sym p.framed_is) in
+    record {
+      bytes = p.bytes;
+      short = p.short;
+      closed = p.closes.0;
+      closes = p.closes.1;
+      state = p.closes.2;
+      given = grown.given;
+      gave = grown.gave;
+      cut = cut;
+      at = ap (λ (n : ℕ). at + n) len;
+      received = p.closes.3;
+      input_later = input_later;
+      out_later = out_later;
+      low = low;
+    }
+turned_at s at ahead mid end next new input out (Some last) fits grown measured p rest input_later out_later low =
+    let f = front_of mid end fits measured in
+    record_stops s at ahead mid (drop end mid) p.bytes input out last grown
+    (f.whole ∙ ap (λ (t : List ℕ). t ++ drop end mid) (f.framed_is ∙ sym p.framed_is)) p.short p.closes
+
+none_or_some : (text : List ℕ) → (length text ≡ 0) ⊎ (0 < length text)
+none_or_some [] = inl refl
+none_or_some (byte ∷ rest) = inr (omega arith)
+
+-- no record was ahead
+pub turned_off : (s : ClosingState) (at : ℕ) (ahead mid : List ℕ) (input out : Seen) (why : PieceFault) (end : Status)
+    → IsBytes mid
+    → IsPiece record_end input.before input.now input.faults_before input.faults_now ahead mid (Err why)
+    → EndsAt s at mid out why end → Followed s at ahead input out end
+turned_off s at ahead mid input out (piece.Xdr wrong) end fits h e = elim (none_or_some mid) [
+    | inl none ↦ all_done s at ahead mid input out end wrong h.0 h.1 h.2 none (e.0 none)
+    | inr some ↦ let bad = e.1 some in
+        subst (Followed s at ahead input out) (sym bad.0) (bad_mark s at ahead mid input out wrong h.0 fits h.1 h.2 some bad.1)
+  ]
+turned_off s at ahead mid input out piece.Failed end fits h e =
+    subst (Followed s at ahead input out) (sym e.0) (read_failed s at ahead mid input out h.0 h.1 h.2 e.1)
+turned_off s at ahead mid input out piece.NoMemory end fits h e =
+    subst (Followed s at ahead input out) (sym e.0) (nothing_followed s at ahead input out e.1)
+
+-- ---- numbers of ledgers
+
+goes_seq : (old new : Standing) (input out : Seen) (g : Goes old new input out)
+    → new.state.header.ledger_seq ≡ old.state.header.ledger_seq + 1
+goes_seq old new input out g =
+    ap (λ (s : ClosingState). s.header.ledger_seq) g.state ∙ next_seq old.state g.bytes g.closed g.closes
+
+pub goes_smaller : (old new : Standing) (input out : Seen) → Goes old new input out
+    → 2147483648 - new.state.header.ledger_seq < 2147483648 - old.state.header.ledger_seq
+goes_smaller old new input out g = omega (arith, goes_seq old new input out g, g.low)
+
+low_after : (at len next seq up : ℕ) → at ≤ (seq + 1) * 2 ^ 64 → len ≤ 2 ^ 64 → next ≡ at + len → up ≡ seq + 1
+    → next ≤ (up + 1) * 2 ^ 64
+low_after at len next seq up h k e f = omega arith
+
+pub goes_low : (old new : Standing) (input out : Seen) → Goes old new input out
+    → old.at ≤ (old.state.header.ledger_seq + 1) * 2 ^ 64 → new.at ≤ (new.state.header.ledger_seq + 1) * 2 ^ 64
+goes_low old new input out g h =
+    low_after old.at (length (framed g.bytes)) new.at old.state.header.ledger_seq new.state.header.ledger_seq h
+    (omega (arith, framed_len g.bytes, g.short)) g.at (goes_seq old new input out g)

@@ -1,0 +1,10 @@
+use Rattle.std.proofs.Common.{◌≡◌, Ok, subst}
+use Rattle.ledger_types.specs.declared.ids.Hash.{Hash}
+use Rattle.hash_ids.specs.Ids.{network_id_of}
+use Rattle.close_rules.specs.Images.{IsJudged}
+use Rattle.replay.proofs.start.judge.Goals as goal
+
+pub returns-in-Ok-from_image : goal.returns-in-Ok-from_image
+returns-in-Ok-from_image c =
+    let e : c.in-Ok.network ≡ network_id_of c.args.passphrase.now = (cc c.in-Ok.ensures) in
+    subst (λ (n : Hash). IsJudged n c.args.image (Ok c.in-Ok-from_image.ledger)) e c.in-Ok-from_image.ensures

@@ -1,0 +1,121 @@
+-- What the records behind a start image come to: one record, and all of them up to the end of a run.
+use Rattle.std.specs.Prelude.{◌≡◌, ◌≢◌, ℕ, ◌+◌, ◌<◌, ◌≤◌, List, [], ◌++◌, length, take, Option, Some, None, IfSome, Ok}
+use Rattle.std.specs.Prelude.{Err, ◌⊎◌}
+use Rattle.std.specs.Io.KnownBytes.{IsAtEnd}
+use Rattle.run_streams.specs.Seen.{Seen, Failed, Gave, Received, ReceivedPrefix}
+use Rattle.record_stream.specs.declared.piece.PieceFault.{PieceFault}
+use Rattle.record_stream.specs.declared.piece.PieceFault.TheVariants as fault
+use Rattle.ledger_types.specs.declared.header.LedgerHeader.{LedgerHeader}
+use Rattle.close_rules.specs.declared.close_fault.CloseFault.{CloseFault}
+use Rattle.close_rules.specs.declared.close_fault.CloseFault.TheVariants as close
+use Rattle.close_rules.specs.State.{ClosingState}
+use Rattle.close_rules.specs.Close.{Closed, IsClose}
+use Rattle.run_outcome.specs.declared.status.Status.{Status}
+use Rattle.run_outcome.specs.declared.status.Status.TheVariants as status
+use Rattle.run_outcome.specs.Lines.{end_line, refused_line}
+use Rattle.run_outcome.specs.Outcome.{framed, max_record_len, lines_of, IsRun, AreWhole}
+use Rattle.run_outcome.specs.Run.{Answered}
+
+-- ---- writing
+
+-- a text was written whole, or a front of it where the sink failed, or nothing where memory was refused
+abbrev pub Wrote : (out : Seen) (text : List ℕ) (whole end : Status) → Type 0
+Wrote out text whole end =
+    ((end ≡ whole) × Received out text)
+    ⊎ ((end ≡ status.WriteFault) × Failed out × ReceivedPrefix out text)
+    ⊎ ((end ≡ status.NoMemory) × Received out [])
+
+-- the same, where nothing is said of an end at which the text is whole
+abbrev pub WroteOn : (out : Seen) (text : List ℕ) → Option Status → Type 0
+WroteOn out text None = Received out text
+WroteOn out text (Some end) =
+    ((end ≡ status.WriteFault) × Failed out × ReceivedPrefix out text) ⊎ ((end ≡ status.NoMemory) × Received out [])
+
+-- ---- the rest of a run
+
+-- the lines of every whole record that is ahead or was given
+pub record WholeLines (s : ClosingState) (at : ℕ) (ahead : List ℕ) (input out : Seen) : Type 0 where
+  pub given : List ℕ
+  pub gave : Gave input given
+  pub lines : List ℕ
+  pub received : Received out lines
+  pub all : AreWhole s (record { at = at; rest = ahead ++ given }) lines
+
+-- the records from a place on, of which these bytes are ahead and the others still in the source
+pub record Followed (s : ClosingState) (at : ℕ) (ahead : List ℕ) (input out : Seen) (end : Status) : Type 0 where
+  pub answered : IfSome input.before (λ bytes. Answered (IsRun s (record { at = at; rest = ahead ++ bytes })) out end)
+  pub ended : end ≡ status.Done → IsAtEnd input.now
+  pub read_fault : end ≡ status.ReadFault → Failed input × WholeLines s at ahead input out
+  pub write_fault : end ≡ status.WriteFault → Failed out
+  pub no_usage : end ≢ status.Usage
+
+-- ---- one record
+
+-- where a run stands: the state behind the last ledger that closed, the place of the input behind its record, and the
+-- bytes behind that place that were read
+pub record Standing : Type 0 where
+  pub state : ClosingState
+  pub at : ℕ
+  pub ahead : List ℕ
+
+abbrev pub FollowedFrom : Standing → Seen → Seen → Status → Type 0
+FollowedFrom p input out end = Followed p.state p.at p.ahead input out end
+
+-- the next record closed the ledger, and its lines were written
+pub record Goes (old new : Standing) (input out : Seen) : Type 0 where
+  pub bytes : List ℕ
+  pub short : length bytes ≤ max_record_len
+  pub closed : Closed
+  pub closes : IsClose old.state bytes (Ok closed)
+  pub state : new.state ≡ closed.state
+  pub given : List ℕ
+  pub gave : Gave input given
+  pub cut : old.ahead ++ given ≡ framed bytes ++ new.ahead
+  pub at : new.at ≡ old.at + length (framed bytes)
+  pub received : Received out (lines_of closed)
+  pub input_later : input.faults_before ≤ input.faults_now
+  pub out_later : out.faults_before ≤ out.faults_now
+  pub low : old.state.header.ledger_seq ≤ 2147483647
+
+-- the run goes on, or this is its end
+abbrev pub Turned : (old new : Standing) (input out : Seen) → Option Status → Type 0
+Turned old new input out None = Goes old new input out
+Turned old new input out (Some end) = FollowedFrom old input out end
+
+-- ---- the parts of a turn
+
+-- where a record ends the run: its lines weren't taken whole, or it is refused, or memory was
+abbrev pub Stops : (s : ClosingState) (bytes : List ℕ) (out : Seen) (end : Status) → Type 0
+Stops s bytes out end =
+    ((closed : Closed) × IsClose s bytes (Ok closed) × (end ≡ status.WriteFault) × Failed out
+      × ReceivedPrefix out (lines_of closed))
+    ⊎ ((wrong : CloseFault) × IsClose s bytes (Err wrong)
+      × Wrote out (refused_line s.header wrong) status.Refused end)
+    ⊎ ((end ≡ status.NoMemory) × Received out [])
+
+-- what the fault of a record comes to
+abbrev pub Refuses : LedgerHeader → (out : Seen) → CloseFault → (end : Status) → Type 0
+Refuses header out close.NoMemory end = (end ≡ status.NoMemory) × Received out []
+Refuses header out wrong end = Wrote out (refused_line header wrong) status.Refused end
+
+-- what a record came to
+abbrev pub Closes : (s : ClosingState) (bytes : List ℕ) (next : ClosingState) (out : Seen) → Option Status → Type 0
+Closes s bytes next out None =
+    (closed : Closed) × IsClose s bytes (Ok closed) × (next ≡ closed.state) × Received out (lines_of closed)
+Closes s bytes next out (Some end) = Stops s bytes out end
+
+-- what the record at the front of what is ahead came to
+pub record Passes (s : ClosingState) (ahead : List ℕ) (end : ℕ) (next : ClosingState) (out : Seen)
+    (result : Option Status) : Type 0 where
+  pub bytes : List ℕ
+  pub framed_is : framed bytes ≡ take end ahead
+  pub short : length bytes ≤ max_record_len
+  pub closes : Closes s bytes next out result
+
+-- where no record is ahead
+abbrev pub EndsAt : (s : ClosingState) (at : ℕ) (ahead : List ℕ) (out : Seen) → PieceFault → Status → Type 0
+EndsAt s at ahead out (fault.Xdr wrong) end =
+    (length ahead ≡ 0 → Wrote out (end_line s.header) status.Done end)
+    × (0 < length ahead → (end ≡ status.BadInput (at + wrong.at)) × Received out [])
+EndsAt s at ahead out fault.Failed end = (end ≡ status.ReadFault) × Received out []
+EndsAt s at ahead out fault.NoMemory end = (end ≡ status.NoMemory) × Received out []

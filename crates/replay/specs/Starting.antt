@@ -1,0 +1,46 @@
+-- What the start image at the front of an input comes to.
+use Rattle.std.specs.Prelude.{◌≡◌, ℕ, ◌≤◌, ◌^◌, List, [], ◌++◌, length, Result, Ok, Err}
+use Rattle.run_streams.specs.Seen.{Seen, Gave, Received}
+use Rattle.ledger_types.specs.declared.ids.Hash.{Hash}
+use Rattle.xdr_core.specs.Place.{start_of}
+use Rattle.xdr_header.specs.declared.image.StartImage.{StartImage}
+use Rattle.xdr_header.specs.Image.{start_image}
+use Rattle.hash_ids.specs.Ids.{network_id_of}
+use Rattle.close_rules.specs.State.{ClosingState}
+use Rattle.close_rules.specs.Images.{IsJudged}
+use Rattle.close_rules.specs.declared.image_fault.ImageFault.TheVariants as image_fault
+use Rattle.run_outcome.specs.declared.status.Status.{Status}
+use Rattle.run_outcome.specs.declared.status.Status.TheVariants as status
+use Rattle.run_outcome.specs.Run.{CaughtUp}
+
+-- whatever begins with these bytes has this image at its front
+abbrev pub Begins : List ℕ → StartImage → Type 0
+Begins front image = (rest : List ℕ)
+    → start_image.read (start_of (front ++ rest)) ≡ Ok (image, record { at = length front; rest = rest })
+
+-- an image was cut from what the source gave
+pub record Cut (image : StartImage) (at : ℕ) (ahead : List ℕ) (input : Seen) : Type 0 where
+  pub front : List ℕ
+  pub count : length image.files ≡ 22
+  pub begins : Begins front image
+  pub len : at ≡ length front
+  pub low : at ≤ 2 ^ 64
+  pub gave : Gave input (front ++ ahead)
+  pub later : input.faults_before ≤ input.faults_now
+
+-- no record was looked at: this is the end of a run that wrote nothing
+abbrev pub IsUnstarted : (passphrase : List ℕ) (input : Seen) (end : Status) → Type 0
+IsUnstarted passphrase input end = (out : Seen) → Received out [] → CaughtUp passphrase input out end
+
+-- what an image is judged to be, with the end of a run where it is none of a ledger
+abbrev pub IsJudgedSo : Hash → StartImage → Result ClosingState Status → Type 0
+IsJudgedSo network image (Ok s) = IsJudged network image (Ok s)
+IsJudgedSo network image (Err (status.BadImage rule)) = IsJudged network image (Err (image_fault.BadImage rule))
+IsJudgedSo network image (Err status.ImageNotBuilt) = IsJudged network image (Err image_fault.NotBuilt)
+IsJudgedSo network image (Err end) = end ≡ status.NoMemory
+
+-- a ledger starts behind an image
+pub record StartsAt (passphrase : List ℕ) (s : ClosingState) (at : ℕ) (ahead : List ℕ) (input : Seen) : Type 0 where
+  pub image : StartImage
+  pub cut : Cut image at ahead input
+  pub judged : IsJudged (network_id_of passphrase) image (Ok s)

@@ -1,0 +1,31 @@
+//! The command `catchup`, but for the line on standard error.
+
+ghost use Rattle.run_streams.specs.Seen.{seen};
+ghost use Rattle.run_outcome.specs.Run.{CaughtUp};
+
+use crate::closes::follow;
+use crate::start::{Started, start};
+use outside::{Sink, Source, Steps};
+use run_outcome::Status;
+use std::alloc::Global;
+use std::sync::ledger::Ledger as Count;
+
+/// Starts from the image at the front of the input and closes a ledger for each record behind it.
+pub(crate) fn catch_up<I: Source, O: Sink, L: Count>(
+    alloc: Global,
+    passphrase: &str,
+    input: &mut I,
+    out: &mut O,
+    steps: &mut Steps<L>,
+) -> Status
+    ensures { CaughtUp passphrase.now (seen I.left I.faults input.old input.new)
+        (seen O.taken O.faults out.old out.new) result }
+{
+    let mut ahead = Vec::new(alloc);
+    match start(alloc, passphrase, input, &mut ahead) {
+        Ok(Started { mut ledger, at }) => {
+            follow(alloc, &mut ledger, at as u128, input, &mut ahead, out, steps)
+        }
+        Err(end) => end,
+    }
+}

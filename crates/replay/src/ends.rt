@@ -1,0 +1,88 @@
+//! The last text of a run, and the line of its end.
+
+ghost use Rattle.std.specs.Prelude.{◌≡◌, ◌≤◌};
+ghost use Rattle.run_streams.specs.Seen.{seen};
+ghost use Rattle.run_outcome.specs.Lines.{end_line, refused_line};
+ghost use Rattle.run_outcome.specs.Statuses.{status_line};
+ghost use Rattle.run_outcome.specs.declared.status.Status.TheVariants as status;
+ghost use Rattle.replay.specs.Following.{Wrote};
+ghost use Rattle.replay.specs.Telling.{IsTold, IsToldOrRefused};
+
+use ledger_close::{CloseFault, Ledger};
+use outside::{Sink, write_all};
+use run_outcome::Status;
+use run_text::{end_text, line_of, refused_text};
+use std::alloc::Global;
+
+/// Writes the last text of a run that ends with `whole`, where the sink takes it.
+fn write_last<O: Sink>(text: &[u8], whole: Status, out: &mut O) -> Status
+    ensures wrote { Wrote (seen O.taken O.faults out.old out.new) text.now whole result }
+    ensures later { O.faults out.old ≤ O.faults out.new }
+{
+    match write_all(out, text) {
+        Ok(()) => whole,
+        Err(_) => Status::WriteFault,
+    }
+}
+
+/// Writes the line at the end of the input.
+pub(crate) fn write_end<O: Sink>(alloc: Global, ledger: &Ledger, out: &mut O) -> Status
+    ensures { Wrote (seen O.taken O.faults out.old out.new) (end_line ledger.now.header) status.Done result }
+{
+    match end_text(alloc, ledger.header(), &ledger.header_hash()) {
+        Ok(text) => write_last(text.as_slice(), Status::Done, out),
+        Err(_) => Status::NoMemory,
+    }
+}
+
+/// Writes the line of a record that is refused.
+pub(crate) fn write_refusal<O: Sink>(
+    alloc: Global,
+    ledger: &Ledger,
+    fault: CloseFault,
+    out: &mut O,
+) -> Status
+    ensures wrote { Wrote (seen O.taken O.faults out.old out.new) (refused_line ledger.now.header fault)
+        status.Refused result }
+    ensures later { O.faults out.old ≤ O.faults out.new }
+{
+    match refused_text(alloc, ledger.header(), fault) {
+        Ok(text) => write_last(text.as_slice(), Status::Refused, out),
+        Err(_) => Status::NoMemory,
+    }
+}
+
+/// Writes the line of an end to standard error. An end that can't be told is a write fault.
+fn write_line<E: Sink>(line: &[u8], end: Status, err: &mut E) -> Status
+    requires { line.now ≡ status_line end }
+    ensures { IsTold end (seen E.taken E.faults err.old err.new) result }
+{
+    match write_all(err, line) {
+        Ok(()) => end,
+        Err(_) => Status::WriteFault,
+    }
+}
+
+/// Tells that the words are no command.
+pub(crate) fn tell_usage<E: Sink>(err: &mut E) -> Status
+    ensures { IsTold status.Usage (seen E.taken E.faults err.old err.new) result }
+{
+    write_line(b"usage\n", Status::Usage, err)
+}
+
+/// Tells that memory was refused.
+pub(crate) fn tell_no_memory<E: Sink>(err: &mut E) -> Status
+    ensures { IsTold status.NoMemory (seen E.taken E.faults err.old err.new) result }
+{
+    write_line(b"no memory\n", Status::NoMemory, err)
+}
+
+/// Tells an end. Where memory is refused for its line, that is the end.
+pub(crate) fn tell<E: Sink>(alloc: Global, end: Status, err: &mut E) -> Status
+    ensures { IsToldOrRefused end (seen E.taken E.faults err.old err.new) result }
+{
+    match line_of(alloc, end) {
+        Ok(line) => write_line(line.as_slice(), end, err),
+        Err(_) => tell_no_memory(err),
+    }
+}

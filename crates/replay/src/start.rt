@@ -1,0 +1,118 @@
+//! The start image at the front of an input.
+
+ghost use Rattle.std.specs.Prelude.{◌≡◌, ◌≤◌, ◌^◌, [], length, MatchResult, IfOk, Ok};
+ghost use Rattle.xdr_core.specs.Format.{IsBytes};
+ghost use Rattle.xdr_core.specs.Place.{Place, start_of};
+ghost use Rattle.xdr_header.specs.Image.{start_image};
+ghost use Rattle.run_streams.specs.Seen.{seen};
+ghost use Rattle.hash_ids.specs.Ids.{network_id_of};
+ghost use Rattle.run_outcome.specs.declared.status.Status.TheVariants as status;
+ghost use Rattle.replay.specs.Starting.{Cut, IsUnstarted, StartsAt, IsJudgedSo};
+
+use hash_ids::network_id;
+use ledger_close::{ImageFault, Ledger};
+use outside::Source;
+use record_stream::{ImageLength, PieceFault, read_piece, without_front};
+use run_outcome::Status;
+use std::alloc::Global;
+use xdr_core::{Cursor, ReadFault, XdrFault};
+use xdr_header::{StartImage, read_start_image};
+
+/// A ledger, and how long the image is that it starts from.
+#[derive(Drop)]
+pub(crate) struct Started {
+    pub(crate) ledger: Ledger,
+    pub(crate) at: usize,
+}
+
+/// An image, and how long its spelling is.
+#[derive(Drop)]
+struct FrontImage {
+    image: StartImage,
+    at: usize,
+}
+
+/// The end of a run whose input has this fault in its image.
+fn bad_image(text: &[u8], fault: XdrFault) -> Status
+    ensures fits { IsBytes text.now }
+    ensures end { result ≡ status.BadInput fault.at }
+{
+    Status::BadInput {
+        at: fault.at as u128,
+    }
+}
+
+/// The image at the front of a text.
+fn decode(alloc: Global, text: &[u8]) -> Result<StartImage, ReadFault>
+    ensures fits { IsBytes text.now }
+    ensures reads { IfOk result (λ image. (q : Place) × (start_image.read (start_of text.now) ≡ Ok (image, q))) }
+{
+    read_start_image(alloc, &mut Cursor::new(text))
+}
+
+/// Reads the image at the front of the input. Behind it other bytes may be ahead.
+fn read_image<I: Source>(
+    alloc: Global,
+    passphrase: &str,
+    input: &mut I,
+    ahead: &mut Vec<u8>,
+) -> Result<FrontImage, Status>
+    requires { ahead.old.items ≡ [] }
+    ensures { MatchResult result
+        (λ front. Cut front.image front.at ahead.new.items (seen I.left I.faults input.old input.new))
+        (λ end. IsUnstarted passphrase.now (seen I.left I.faults input.old input.new) end) }
+{
+    let at = match read_piece::<ImageLength, I>(input, ahead) {
+        Ok(end) => end,
+        Err(PieceFault::Xdr(fault)) => {
+            return Err(bad_image(ahead.as_slice(), fault));
+        }
+        Err(PieceFault::Failed) => return Err(Status::ReadFault),
+        Err(PieceFault::NoMemory) => return Err(Status::NoMemory),
+    };
+    // the text is one of an image here, so that only memory can fail
+    let Ok(image) = decode(alloc, ahead.as_slice()) else {
+        return Err(Status::NoMemory);
+    };
+    let Ok(rest) = without_front(alloc, ahead.as_slice(), at) else {
+        return Err(Status::NoMemory);
+    };
+    *ahead = rest;
+    Ok(FrontImage { image, at })
+}
+
+/// The ledger of an image on the network with this passphrase, or the end of a run from it.
+fn judge(passphrase: &str, image: StartImage) -> Result<Ledger, Status>
+    requires { length image.files ≡ 22 }
+    ensures { IsJudgedSo (network_id_of passphrase.now) image result }
+{
+    let Ok(network) = network_id(passphrase) else {
+        return Err(Status::NoMemory);
+    };
+    match Ledger::from_image(image, network) {
+        Ok(ledger) => Ok(ledger),
+        Err(ImageFault::BadImage { rule }) => Err(Status::BadImage { rule }),
+        Err(ImageFault::NotBuilt) => Err(Status::ImageNotBuilt),
+        Err(ImageFault::NoMemory) => Err(Status::NoMemory),
+    }
+}
+
+/// The ledger of the image at the front of the input, on the network with this passphrase.
+pub(crate) fn start<I: Source>(
+    alloc: Global,
+    passphrase: &str,
+    input: &mut I,
+    ahead: &mut Vec<u8>,
+) -> Result<Started, Status>
+    requires { ahead.old.items ≡ [] }
+    ensures { MatchResult result
+        (λ started. StartsAt passphrase.now started.ledger started.at ahead.new.items
+            (seen I.left I.faults input.old input.new))
+        (λ end. IsUnstarted passphrase.now (seen I.left I.faults input.old input.new) end) }
+{
+    let FrontImage { image, at } = read_image(alloc, passphrase, input, ahead)?;
+    match judge(passphrase, image) {
+        Ok(ledger) => Ok(Started { ledger, at }),
+        Err(end) => Err(end),
+    }
+}

@@ -1,0 +1,40 @@
+-- The statuses of the program and their lines.
+use Rattle.std.specs.Prelude.{ℕ, List, [], ◌∷◌, ◌++◌, codes}
+use Rattle.std.specs.Fmt.{decimal}
+use Rattle.close_rules.specs.RuleNumbers.{number_of}
+use Rattle.run_outcome.specs.declared.status.Status.{Status}
+use Rattle.run_outcome.specs.declared.status.Status.TheVariants as status
+
+abbrev pub status_code : Status → ℕ
+status_code status.Done = 0
+status_code status.Usage = 2
+status_code status.Refused = 3
+status_code status.ReadFault = 4
+status_code status.WriteFault = 5
+status_code status.NoMemory = 8
+status_code (status.BadInput at) = 9
+status_code (status.BadImage rule) = 10
+status_code status.ImageNotBuilt = 10
+
+-- a line ends with a newline
+abbrev pub ended_line : List ℕ → List ℕ
+ended_line text = text ++ 10 ∷ []
+
+-- the line on standard error, or nothing
+abbrev pub status_line : Status → List ℕ
+status_line status.Done = []
+status_line status.Usage = ended_line (codes "usage")
+status_line status.Refused = []
+status_line status.ReadFault = ended_line (codes "read fault")
+status_line status.WriteFault = ended_line (codes "write fault")
+status_line status.NoMemory = ended_line (codes "no memory")
+status_line (status.BadInput at) = ended_line (codes "bad input at " ++ decimal at)
+status_line (status.BadImage rule) = ended_line (codes "bad image rule " ++ decimal (number_of rule))
+status_line status.ImageNotBuilt = ended_line (codes "bad image not built")
+
+-- the ends at which the output may stop before the whole text
+abbrev pub IsCutShort : Status → Type 0
+IsCutShort status.ReadFault = Unit {0}
+IsCutShort status.WriteFault = Unit {0}
+IsCutShort status.NoMemory = Unit {0}
+IsCutShort other = ⊥

@@ -1,0 +1,48 @@
+//! How a run of the program ends.
+
+ghost use Rattle.std.specs.Prelude.{◌≡◌};
+ghost use Rattle.run_outcome.specs.Statuses.{status_code};
+
+use close_rules::ImageRule;
+
+/// How a run of the program ends.
+#[derive(Clone, Copy, Debug, PartialEq, Eq)]
+pub enum Status {
+    /// 0: all is done, and the input was read to its end.
+    Done,
+    /// 2: the words are no command.
+    Usage,
+    /// 3: a record was refused by name, on the output.
+    Refused,
+    /// 4: a read failed.
+    ReadFault,
+    /// 5: a write failed, or took nothing.
+    WriteFault,
+    /// 8: memory was refused.
+    NoMemory,
+    /// 9: at this byte of the input neither an image nor a record goes on.
+    BadInput { at: u128 },
+    /// 10: the image breaks this rule, the first one that it breaks.
+    BadImage { rule: ImageRule },
+    /// 10: the image has an entry that isn't an account or data.
+    ImageNotBuilt,
+}
+
+impl Status {
+    /// The exit status of the process.
+    pub fn code(self) -> u8
+        ensures { result ≡ status_code self }
+    {
+        match self {
+            Status::Done => 0,
+            Status::Usage => 2,
+            Status::Refused => 3,
+            Status::ReadFault => 4,
+            Status::WriteFault => 5,
+            Status::NoMemory => 8,
+            Status::BadInput { .. } => 9,
+            Status::BadImage { .. } => 10,
+            Status::ImageNotBuilt => 10,
+        }
+    }
+}

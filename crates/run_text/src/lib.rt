@@ -1,0 +1,11 @@
+//! The texts that the program prints.
+#![tactic(auto)]
+
+mod closed;
+mod pieces;
+mod refused;
+mod status_line;
+
+pub use closed::{closed_text, end_text};
+pub use refused::refused_text;
+pub use status_line::line_of;

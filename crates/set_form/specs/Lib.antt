@@ -1,4 +1,0 @@
-pub mod Fault
-pub mod Arms
-pub mod Grammar
-pub mod Whole

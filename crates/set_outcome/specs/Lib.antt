@@ -1,4 +1,0 @@
-pub mod Statuses
-pub mod Command
-pub mod Outcome
-pub mod Run

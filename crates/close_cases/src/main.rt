@@ -102,13 +102,7 @@ fn outcome<R: Files + AllocGlobal>(rt: &R, folder: &str, case: u32) -> io::Resul
     let mut input = MemSource::new(file(rt, folder, case, "in")?, PIECE, Vec::new(rt.alloc()));
     let mut out = MemSink::new(rt.alloc(), PIECE, Vec::new(rt.alloc()));
     let mut err = MemSink::new(rt.alloc(), PIECE, Vec::new(rt.alloc()));
-    let status = status_of(
-        rt.alloc(),
-        words.as_slice(),
-        &mut input,
-        &mut out,
-        &mut err,
-    );
+    let status = status_of(rt.alloc(), words.as_slice(), &mut input, &mut out, &mut err);
     compared(rt, folder, case, status, out.bytes(), err.bytes())
 }
 

@@ -61,10 +61,22 @@ filled_in s closing = fills (given_by s closing) s.header (map upgrade_in closin
 
 same_given : (p q : Hash) (v w : StellarValue) (n m : ℕ) (r t : Hash) (f g : ℤ) (i j : ℕ) → p ≡ q → v ≡ w → n ≡ m
     → r ≡ t → f ≡ g → i ≡ j
-    → (let a : Given = record { previous_ledger_hash = p; scp_value = v; ledger_seq = n; tx_set_result_hash = r;
-      fee_pool = f; id_pool = i; } in a)
-    ≡ (let b : Given = record { previous_ledger_hash = q; scp_value = w; ledger_seq = m; tx_set_result_hash = t;
-      fee_pool = g; id_pool = j; } in b)
+    → (let a : Given = record {
+      previous_ledger_hash = p;
+      scp_value = v;
+      ledger_seq = n;
+      tx_set_result_hash = r;
+      fee_pool = f;
+      id_pool = i;
+    } in a)
+    ≡ (let b : Given = record {
+      previous_ledger_hash = q;
+      scp_value = w;
+      ledger_seq = m;
+      tx_set_result_hash = t;
+      fee_pool = g;
+      id_pool = j;
+    } in b)
 same_given p q v w n m r t f g i j e1 e2 e3 e4 e5 e6 = cc
 
 pub headed : (s : ClosingState) (closing : CloseRecord) (given : Given) (next : LedgerHeader)

@@ -18,7 +18,7 @@ pub next_number : (s : ClosingState) (closing : CloseRecord) (closed : Closed) �
 next_number s closing closed state none closes =
     let range = state.legal.header in
     let of_next = next_range s closing (list_hash closed.state.levels) range none
-        (seq_below s closing none range.seq_high) in
+    (seq_below s closing none range.seq_high) in
     ap (λ h. h.ledger_seq) closes.header ∙ of_next.counts.ledger_seq
 
 pub installed_number : (s : ClosingState) (closed : Closed) → IsClosingState s

@@ -54,7 +54,7 @@ same_pairs [] (q ∷ b) h i e = absurd cc
 same_pairs (p ∷ a) [] h i e = absurd cc
 same_pairs (p ∷ a) (q ∷ b) h i e =
     let curr = heads_are (file_of p.curr) (file_of q.curr) (file_of p.snap ∷ flat_map pair_files a)
-        (file_of q.snap ∷ flat_map pair_files b) e in
+    (file_of q.snap ∷ flat_map pair_files b) e in
     let snap = heads_are (file_of p.snap) (file_of q.snap) (flat_map pair_files a) (flat_map pair_files b) curr.1 in
     let have_p = All-head HavePair p a h in
     let have_q = All-head HavePair q b i in
@@ -62,7 +62,7 @@ same_pairs (p ∷ a) (q ∷ b) h i e =
     let snap_is : p.snap ≡ q.snap = files_tell_apart p.snap q.snap have_p.1 have_q.1 snap.0 in
     let rest : a ≡ b = same_pairs a b (All-tail HavePair p a h) (All-tail HavePair q b i) snap.1 in
     let pair_is : p ≡ q = ap (λ (c : Contents). pair_of c p.snap) curr_is
-        ∙ ap (λ (c : Contents). pair_of q.curr c) snap_is in
+    ∙ ap (λ (c : Contents). pair_of q.curr c) snap_is in
     ap (λ (x : Pair). x ∷ a) pair_is ∙ ap (λ (x : List Pair). q ∷ x) rest
 
 same_levels : (image : StartImage) (a b : List Pair) → HasFiles image a → HasFiles image b → a ≡ b
@@ -115,9 +115,9 @@ pub only_started : (network : Hash) (image : StartImage) (s : ClosingState) (jud
 only_started network image s (Ok t) x y =
     let e = same_parts image x.0 y.0 x.1 y.1 x.2 y.2 x.3 y.3 in
     let same : state_of network x.0 x.1 x.2 ≡ state_of network y.0 y.1 y.2 =
-        ap (λ (h : LedgerHeader). state_of network h x.1 x.2) e.header
-        ∙ ap (λ (l : List Pair). state_of network y.0 l x.2) e.levels
-        ∙ ap (λ (m : EntryMap). state_of network y.0 y.1 m) e.entries in
+    ap (λ (h : LedgerHeader). state_of network h x.1 x.2) e.header
+    ∙ ap (λ (l : List Pair). state_of network y.0 l x.2) e.levels
+    ∙ ap (λ (m : EntryMap). state_of network y.0 y.1 m) e.entries in
     ap (λ (z : ClosingState). ok z) (x.6 ∙ same ∙ sym y.6)
 only_started network image s (Err (fault.BadImage rule.Header)) x y =
     let e : some x.0 ≡ None = sym x.3.files.header.reads ∙ y in absurd cc

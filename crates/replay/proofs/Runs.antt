@@ -52,8 +52,8 @@ framed_apart v w x y short_v short_w e =
     let first = framed_is_read 0 v x short_v in
     let second = framed_is_read 0 w y short_w in
     let both : read_of (Ok (v, record { at = 0 + length (framed v); rest = x }))
-        ≡ Ok (w, record { at = 0 + length (framed w); rest = y }) =
-        sym first ∙ ap (λ (t : List ℕ). read_mark (record { at = 0; rest = t })) e ∙ second in
+    ≡ Ok (w, record { at = 0 + length (framed w); rest = y }) =
+    sym first ∙ ap (λ (t : List ℕ). read_mark (record { at = 0; rest = t })) e ∙ second in
     let same = ok_of _ _ both in
     (ap (λ (r : List ℕ × Place). r.0) same, ap (λ (r : List ℕ × Place). r.1.rest) same)
 
@@ -110,7 +110,7 @@ ends_by s at text last o [] rest lines state end h cut short closed ends is =
     ∙ same_end s at text end last (at_front s state at text rest end ends closed.1 cut) h
 ends_by s at text last o (w ∷ ws) rest lines state end h cut short closed ends is =
     let r = refused_at s at text last w (frames ws ++ rest) h (cut ∙ append_assoc (framed w) (frames ws) rest)
-        (All-head (λ bytes. length bytes ≤ max_record_len) w ws short) in
+    (All-head (λ bytes. length bytes ≤ max_record_len) w ws short) in
     absurd (not_both s w closed.0 r.0 closed.2 r.1)
 
 -- where a run is at its end, that is all of it
@@ -148,20 +148,19 @@ peeled_by : (s : ClosingState) (bytes : List ℕ) (c : Closed) (at : ℕ) (other
     → o ≡ behind lines last → Later c.state (at + length (framed bytes)) others (lines_of c) o
 peeled_by s bytes c at others o [] rest lines state last fits closes cut short closed ends is =
     let r = refused_at s at (framed bytes ++ others) last bytes others
-        (at_front s state at (framed bytes ++ others) rest last ends closed.1 cut) refl fits in
+    (at_front s state at (framed bytes ++ others) rest last ends closed.1 cut) refl fits in
     absurd (not_both s bytes c r.0 closes r.1)
 peeled_by s bytes c at others o (w ∷ ws) rest lines state last fits closes cut short closed ends is =
     let P : List ℕ → Type 0 = λ (b : List ℕ). length b ≤ max_record_len in
     let apart = framed_apart bytes w others (frames ws ++ rest) fits (All-head P w ws short)
-        (cut ∙ append_assoc (framed w) (frames ws) rest) in
+    (cut ∙ append_assoc (framed w) (frames ws) rest) in
     let same = same_close s w closed.0 c closed.2 (subst (λ (b : List ℕ). IsClose s b (Ok c)) apart.0 closes) in
     let sizes : length (framed bytes) ≡ length (framed w) = ap (λ (b : List ℕ). length (framed b)) apart.0 in
     let place : at + length (framed w ++ frames ws) ≡ at + length (framed bytes) + length (frames ws) =
-        omega (arith, sizes, length-append (framed w) (frames ws)) in
+    omega (arith, sizes, length-append (framed w) (frames ws)) in
     let text : (lines_of closed.0 ++ closed.1) ++ last.text ≡ lines_of c ++ (closed.1 ++ last.text) =
-        append_assoc (lines_of closed.0) closed.1 last.text
-        ∙ ap (λ (x : Closed). lines_of x ++ (closed.1 ++ last.text)) same in
-    (
+    append_assoc (lines_of closed.0) closed.1 last.text
+    ∙ ap (λ (x : Closed). lines_of x ++ (closed.1 ++ last.text)) same in (
       behind closed.1 last,
       record {
         records = ws;
@@ -176,7 +175,7 @@ peeled_by s bytes c at others o (w ∷ ws) rest lines state last fits closes cut
         is = refl;
       },
       is ∙ ap (λ (l : List ℕ). behind l last) closed.4
-      ∙ ap (λ (t : List ℕ). outcome last.status t) text,
+          ∙ ap (λ (t : List ℕ). outcome last.status t) text,
     )
 
 pub peeled : (s : ClosingState) (bytes : List ℕ) (c : Closed) (at : ℕ) (others : List ℕ) (o : Outcome)
@@ -193,8 +192,8 @@ pub prepended : (s : ClosingState) (bytes : List ℕ) (c : Closed) (at : ℕ) (o
     → IsRun s (record { at = at; rest = framed bytes ++ others }) (behind (lines_of c) o)
 prepended s bytes c at others o fits closes run =
     let place : at + length (framed bytes) + length (frames run.records)
-        ≡ at + length (framed bytes ++ frames run.records) =
-        omega (arith, length-append (framed bytes) (frames run.records)) in
+    ≡ at + length (framed bytes ++ frames run.records) =
+    omega (arith, length-append (framed bytes) (frames run.records)) in
     record {
       records = bytes ∷ run.records;
       rest = run.rest;

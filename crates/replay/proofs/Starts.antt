@@ -68,8 +68,8 @@ pub image_within : (new : List ℕ) (at : ℕ) (image : StartImage) (q : Place) 
 image_within new at image q fits measured e =
     let s = start_image_laws.lawful.takes (start_of new) q image fits e in
     let len : at ≡ length (start_image.spell image) =
-        at_of at q (sym measured ∙ ap (λ (r : Reading XdrFault StartImage). end_by r) e) ∙ s.taken.at
-        ∙ zero-add (length (start_image.spell image)) in
+    at_of at q (sym measured ∙ ap (λ (r : Reading XdrFault StartImage). end_by r) e) ∙ s.taken.at
+    ∙ zero-add (length (start_image.spell image)) in
     let parts : new ≡ start_image.spell image ++ q.rest = s.taken.parts in
     omega (arith, len, ap length parts ∙ length-append (start_image.spell image) q.rest)
 
@@ -80,11 +80,11 @@ image_cut input new at image q grown fits measured low e later =
     let s = start_image_laws.lawful.takes (start_of new) q image fits e in
     let front : List ℕ = start_image.spell image in
     let len : at ≡ length front =
-        at_of at q (sym measured ∙ ap (λ (r : Reading XdrFault StartImage). end_by r) e) ∙ s.taken.at ∙ zero-add (length front) in
+    at_of at q (sym measured ∙ ap (λ (r : Reading XdrFault StartImage). end_by r) e) ∙ s.taken.at ∙ zero-add (length front) in
     let parts : new ≡ front ++ q.rest = s.taken.parts in
     let rest : drop at new ≡ q.rest = ap (drop at) parts ∙ drop_front at front q.rest (sym len) in
     let given : grown.given ≡ front ++ drop at new =
-        sym grown.grown ∙ parts ∙ ap (λ (t : List ℕ). front ++ t) (sym rest) in
+    sym grown.grown ∙ parts ∙ ap (λ (t : List ℕ). front ++ t) (sym rest) in
     record {
       front = front;
       count = image_count image s.within;
@@ -150,10 +150,10 @@ fault_stays : (new others : List ℕ) (now : Option (List ℕ)) (wrong : XdrFaul
     → read_image new ≡ Err wrong → (wrong.kind ≡ Short → IsAtEnd now) → now ≡ Some others
     → read_image (new ++ others) ≡ Err wrong
 fault_stays new others now wrong fits e at_end told = elim (short_or_not wrong.kind) [
-    | inl short ↦ ap (λ (t : List ℕ). read_image (new ++ t)) (none_left now others (at_end short) told)
-        ∙ ap read_image (append-nil new) ∙ e
-    | inr other ↦ (faults_placed start_image_laws).stays (start_of new) wrong others fits e other
-  ]
+  | inl short ↦ ap (λ (t : List ℕ). read_image (new ++ t)) (none_left now others (at_end short) told)
+      ∙ ap read_image (append-nil new) ∙ e
+  | inr other ↦ (faults_placed start_image_laws).stays (start_of new) wrong others fits e other
+]
 
 pub unread_bad : (passphrase : List ℕ) (input : Seen) (new : List ℕ) (wrong : XdrFault)
     → Grown input.before input.now [] new → IsBytes new → image_end new ≡ Err wrong
@@ -165,8 +165,8 @@ unread_bad passphrase input new wrong grown fits measured at_end out h =
       answered = silent_end passphrase input out end h (told_front input.before input.now grown.given
           (λ bytes. IsOutcome passphrase bytes (silent end)) grown.gave
           (λ others told. subst (λ (t : List ℕ). IsOutcome passphrase (t ++ others) (silent end)) grown.grown
-            (subst (λ (r : Reading XdrFault StartImage). IsOutcomeOf (network_id_of passphrase) r (silent end))
-              (sym (fault_stays new others input.now wrong fits e at_end told)) refl)));
+          (subst (λ (r : Reading XdrFault StartImage). IsOutcomeOf (network_id_of passphrase) r (silent end))
+          (sym (fault_stays new others input.now wrong fits e at_end told)) refl)));
       ended = λ e. absurd cc;
       read_fault = λ e. absurd cc;
       write_fault = λ e. absurd cc;
@@ -188,10 +188,10 @@ judged_end : (passphrase : List ℕ) (image : StartImage) (at : ℕ) (ahead : Li
     → (out : Seen) → Received out [] → IfSome input.before (λ bytes. Answered (IsOutcome passphrase bytes) out end)
 judged_end passphrase image at ahead input end judged c is started out h =
     silent_end passphrase input out end h (told_front input.before input.now (c.front ++ ahead)
-      (λ bytes. IsOutcome passphrase bytes (silent end)) c.gave
-      (λ others told. subst (λ (r : Reading XdrFault StartImage). IsOutcomeOf (network_id_of passphrase) r (silent end))
-        (sym (front_reading image at ahead others input c))
-        (judged, is, started (record { at = at; rest = ahead ++ others }))))
+    (λ bytes. IsOutcome passphrase bytes (silent end)) c.gave
+    (λ others told. subst (λ (r : Reading XdrFault StartImage). IsOutcomeOf (network_id_of passphrase) r (silent end))
+    (sym (front_reading image at ahead others input c))
+    (judged, is, started (record { at = at; rest = ahead ++ others }))))
 
 pub unjudged : (passphrase : List ℕ) (image : StartImage) (at : ℕ) (ahead : List ℕ) (input : Seen) (end : Status)
     → Cut image at ahead input → IsJudgedSo (network_id_of passphrase) image (Err end)
@@ -240,7 +240,7 @@ answered_by passphrase s at ahead input start (Some x) (Some y) out end gave h =
     let p : Place = record { at = at; rest = ahead ++ y } in
     let network : Hash = network_id_of passphrase in
     let e : read_image x ≡ Ok (start.image, p) =
-        ap read_image gave ∙ front_reading start.image at ahead y input start.cut in
+    ap read_image gave ∙ front_reading start.image at ahead y input start.cut in
     subst (λ (r : Reading XdrFault StartImage). Answered (IsOutcomeOf network r) out end) (sym e) (record {
       whole_or_cut = whole p h.whole_or_cut;
       prefix = λ o is. h.prefix o (run_of passphrase start.image s p o start.judged is);
@@ -248,7 +248,7 @@ answered_by passphrase s at ahead input start (Some x) (Some y) out end gave h =
   where
     whole : (p : Place) → ((o : Outcome) × IsRun s p o × (end ≡ o.status) × Received out o.text) ⊎ IsCutShort end
         → ((o : Outcome) × IsOutcomeOf (network_id_of passphrase) (Ok (start.image, p)) o × (end ≡ o.status)
-          × Received out o.text) ⊎ IsCutShort end
+        × Received out o.text) ⊎ IsCutShort end
     whole p (inl (o, run, e, received)) = inl (o, (Ok s, start.judged, run), e, received)
     whole p (inr short) = inr short
 

@@ -81,14 +81,14 @@ answered_behind s bytes c at others out later faults end fits closes received a 
   whole_or_cut = whole a.whole_or_cut;
   prefix = λ o run. let p = peeled s bytes c at others o fits closes run in
       let front : TookPrefix out.before later (lines_of c ++ p.0.text) =
-          front_behind out.before out.now later (lines_of c) p.0.text received (a.prefix p.0 p.1) in
+      front_behind out.before out.now later (lines_of c) p.0.text received (a.prefix p.0 p.1) in
       subst (λ (x : Outcome). TookPrefix out.before later x.text) (sym p.2) front;
 }
   where
     whole : ((o : Outcome) × IsRun c.state (record { at = at + length (framed bytes); rest = others }) o
-          × (end ≡ o.status) × Appends out.now later o.text) ⊎ IsCutShort end
+        × (end ≡ o.status) × Appends out.now later o.text) ⊎ IsCutShort end
         → ((o : Outcome) × IsRun s (record { at = at; rest = framed bytes ++ others }) o × (end ≡ o.status)
-          × Appends out.before later o.text) ⊎ IsCutShort end
+        × Appends out.before later o.text) ⊎ IsCutShort end
     whole (inl (o, run, e, h)) = inl (
       behind (lines_of c) o,
       prepended s bytes c at others o fits closes run,
@@ -107,9 +107,9 @@ text_behind ahead given framed_one rest x y cut e =
 gone_answered : (old new : Standing) (input out : Seen) (g : Goes old new input out) (before now : Option (List ℕ))
     (out_now : Option (List ℕ)) (out_faults : ℕ) (end : Status) → Consumes before now g.given
     → IfSome now (λ bytes. Answered (IsRun new.state (record { at = new.at; rest = new.ahead ++ bytes }))
-      (over out.now out_now out.faults_now out_faults) end)
+    (over out.now out_now out.faults_now out_faults) end)
     → IfSome before (λ bytes. Answered (IsRun old.state (record { at = old.at; rest = old.ahead ++ bytes }))
-      (over out.before out_now out.faults_before out_faults) end)
+    (over out.before out_now out.faults_before out_faults) end)
 gone_answered old new input out g None now out_now out_faults end gave h = tt
 gone_answered old new input out g (Some x) None out_now out_faults end gave h = absurd gave
 gone_answered old new input out g (Some x) (Some y) out_now out_faults end gave h =
@@ -118,9 +118,9 @@ gone_answered old new input out g (Some x) (Some y) out_now out_faults end gave 
     let first = subst (λ (s : ClosingState). Answered (IsRun s (record { at = new.at; rest = rest })) seen_out end) g.state h in
     let second = subst (λ (n : ℕ). Answered (IsRun g.closed.state (record { at = n; rest = rest })) seen_out end) g.at first in
     let third = answered_behind old.state g.bytes g.closed old.at rest out out_now out_faults end g.short g.closes
-        g.received second in
+    g.received second in
     subst (λ (t : List ℕ). Answered (IsRun old.state (record { at = old.at; rest = t }))
-      (over out.before out_now out.faults_before out_faults) end)
+    (over out.before out_now out.faults_before out_faults) end)
     (sym (text_behind old.ahead g.given (framed g.bytes) new.ahead x y g.cut gave)) third
 
 pub rose_before : (a b c : ℕ) → a ≤ b → Rose b c → Rose a c
@@ -246,7 +246,7 @@ no_record : (text bytes more : List ℕ) (wrong : XdrFault) → record_end text 
 no_record text bytes more wrong e fits cut =
     let r = ap (λ (t : List ℕ). read_mark (start_of t)) cut ∙ framed_is_read 0 bytes more fits in
     let both : ended (Err wrong) ≡ Ok (0 + length (framed bytes)) =
-        sym e ∙ ap (λ (x : Reading XdrFault (List ℕ)). end_by x) r in
+    sym e ∙ ap (λ (x : Reading XdrFault (List ℕ)). end_by x) r in
     absurd cc
 
 pub read_failed : (s : ClosingState) (at : ℕ) (ahead new : List ℕ) (input out : Seen)
@@ -314,10 +314,10 @@ mark_stays : (new others : List ℕ) (now : Option (List ℕ)) (wrong : XdrFault
     → read_mark (start_of new) ≡ Err wrong → (wrong.kind ≡ kind.Short → IsAtEnd now) → now ≡ Some others
     → read_mark (start_of (new ++ others)) ≡ Err wrong
 mark_stays new others now wrong fits e at_end told = elim (short_or_not wrong.kind) [
-    | inl short ↦ ap (λ (t : List ℕ). read_mark (start_of (new ++ t))) (none_left now others (at_end short) told)
-        ∙ ap (λ (t : List ℕ). read_mark (start_of t)) (append-nil new) ∙ e
-    | inr other ↦ (faults_placed (mark_laws max_record_len (omega arith))).stays (start_of new) wrong others fits e other
-  ]
+  | inl short ↦ ap (λ (t : List ℕ). read_mark (start_of (new ++ t))) (none_left now others (at_end short) told)
+      ∙ ap (λ (t : List ℕ). read_mark (start_of t)) (append-nil new) ∙ e
+  | inr other ↦ (faults_placed (mark_laws max_record_len (omega arith))).stays (start_of new) wrong others fits e other
+]
 
 bad_end : (s : ClosingState) (at : ℕ) (text : List ℕ) (wrong : XdrFault) → 0 < length text
     → read_mark (start_of text) ≡ Err wrong → IsEnd s at text (silent (status.BadInput (at + wrong.at)))
@@ -339,9 +339,9 @@ bad_mark s at ahead new input out wrong grown fits measured at_end some h =
     let e = end_err (read_mark (start_of new)) wrong measured in
     stopped s at ahead input out (status.BadInput (at + wrong.at)) last
     (told_front input.before input.now grown.given (λ bytes. IsEnd s at (ahead ++ bytes) last) grown.gave
-      (λ others told. subst (λ (t : List ℕ). IsEnd s at t last) (sym (text_of ahead new grown.given others grown.grown))
-        (bad_end s at (new ++ others) wrong (omega (arith, some, length-append new others))
-          (mark_stays new others input.now wrong fits e at_end told))))
+    (λ others told. subst (λ (t : List ℕ). IsEnd s at t last) (sym (text_of ahead new grown.given others grown.grown))
+    (bad_end s at (new ++ others) wrong (omega (arith, some, length-append new others))
+    (mark_stays new others input.now wrong fits e at_end told))))
     (inl (refl, h)) (λ d. absurd cc)
     (record { no_read = λ d. cc; no_write = λ d. cc; no_usage = λ d. cc })
 
@@ -359,9 +359,9 @@ all_done s at ahead new input out end wrong grown measured at_end none wrote =
     let at_its_end = at_end (empty_is_short wrong (ap record_end (sym empty) ∙ measured)) in
     stopped s at ahead input out end last
     (told_front input.before input.now grown.given (λ bytes. IsEnd s at (ahead ++ bytes) last) grown.gave
-      (λ others told. subst (λ (t : List ℕ). IsEnd s at t last)
-        (sym (text_of ahead new grown.given others grown.grown ∙ ap (λ (t : List ℕ). t ++ others) empty
-          ∙ none_left input.now others at_its_end told)) refl))
+    (λ others told. subst (λ (t : List ℕ). IsEnd s at t last)
+    (sym (text_of ahead new grown.given others grown.grown ∙ ap (λ (t : List ℕ). t ++ others) empty
+    ∙ none_left input.now others at_its_end told)) refl))
     wrote (λ d. at_its_end) (record { no_read = λ d. cc; no_write = λ d. cc; no_usage = λ d. cc })
 
 -- ---- what a record comes to
@@ -380,6 +380,7 @@ refused_end s at bytes rest wrong fits closes =
   where
     framed_some : (bytes rest : List ℕ) → 0 < length (framed bytes ++ rest)
     framed_some bytes rest = omega (arith, length-append (framed bytes) rest, framed_above bytes)
+
     at_record : (text : List ℕ) → 0 < length text
         → read_mark (record { at = at; rest = text })
         ≡ Ok (bytes, record { at = at + length (framed bytes); rest = rest })
@@ -387,7 +388,7 @@ refused_end s at bytes rest wrong fits closes =
     at_record [] some e = absurd (omega arith)
     at_record (byte ∷ more) some e =
         subst (λ (r : Reading XdrFault (List ℕ)). IsStopped s r
-          (record { status = status.Refused; text = refused_line s.header wrong })) (sym e) (wrong, closes, refl)
+        (record { status = status.Refused; text = refused_line s.header wrong })) (sym e) (wrong, closes, refl)
 
 pub record_stops : (s : ClosingState) (at : ℕ) (ahead new rest bytes : List ℕ) (input out : Seen) (end : Status)
     → Grown input.before input.now ahead new → new ≡ framed bytes ++ rest → length bytes ≤ max_record_len
@@ -397,14 +398,14 @@ record_stops s at ahead new rest bytes input out end grown cut fits (inl (c, clo
       answered = told_front input.before input.now grown.given
           (λ given. Answered (IsRun s (record { at = at; rest = ahead ++ given })) out status.WriteFault) grown.gave
           (λ others told. subst (λ (t : List ℕ).
-              Answered (IsRun s (record { at = at; rest = t })) out status.WriteFault)
-            (sym (front_text ahead new grown.given (framed bytes) rest others grown.grown cut))
-            (record {
-              whole_or_cut = inr tt;
-              prefix = λ o run. let p = peeled s bytes c at (rest ++ others) o fits closes run in
-                  subst (λ (x : Outcome). ReceivedPrefix out x.text) (sym p.2)
-                  (front_of_more out.before out.now (lines_of c) p.0.text front);
-            }));
+          Answered (IsRun s (record { at = at; rest = t })) out status.WriteFault)
+          (sym (front_text ahead new grown.given (framed bytes) rest others grown.grown cut))
+          (record {
+            whole_or_cut = inr tt;
+            prefix = λ o run. let p = peeled s bytes c at (rest ++ others) o fits closes run in
+                subst (λ (x : Outcome). ReceivedPrefix out x.text) (sym p.2)
+                (front_of_more out.before out.now (lines_of c) p.0.text front);
+          }));
       ended = λ d. absurd cc;
       read_fault = λ d. absurd cc;
       write_fault = λ d. failed;
@@ -414,9 +415,9 @@ record_stops s at ahead new rest bytes input out end grown cut fits (inr (inl (w
     let last : Outcome = record { status = status.Refused; text = refused_line s.header wrong } in
     stopped s at ahead input out end last
     (told_front input.before input.now grown.given (λ given. IsEnd s at (ahead ++ given) last) grown.gave
-      (λ others told. subst (λ (t : List ℕ). IsEnd s at t last)
-        (sym (front_text ahead new grown.given (framed bytes) rest others grown.grown cut))
-        (refused_end s at bytes (rest ++ others) wrong fits closes)))
+    (λ others told. subst (λ (t : List ℕ). IsEnd s at t last)
+    (sym (front_text ahead new grown.given (framed bytes) rest others grown.grown cut))
+    (refused_end s at bytes (rest ++ others) wrong fits closes)))
     wrote (λ d. absurd cc) (record { no_read = λ d. cc; no_write = λ d. cc; no_usage = λ d. cc })
 record_stops s at ahead new rest bytes input out end grown cut fits (inr (inr (e, h))) =
     subst (Followed s at ahead input out) (sym e) (nothing_followed s at ahead input out h)
@@ -469,8 +470,8 @@ pub turned_at : (s : ClosingState) (at : ℕ) (ahead mid : List ℕ) (end : ℕ)
 turned_at s at ahead mid end next new input out None fits grown measured p rest input_later out_later low =
     let f = front_of mid end fits measured in
     let cut : ahead ++ grown.given ≡ framed p.bytes ++ new =
-        sym grown.grown ∙ f.whole ∙ ap (λ (t : List ℕ). t ++ drop end mid) (f.framed_is ∙ sym p.framed_is)
-        ∙ ap (λ (t : List ℕ). framed p.bytes ++ t) (sym (rest refl)) in
+    sym grown.grown ∙ f.whole ∙ ap (λ (t : List ℕ). t ++ drop end mid) (f.framed_is ∙ sym p.framed_is)
+    ∙ ap (λ (t : List ℕ). framed p.bytes ++ t) (sym (rest refl)) in
     let len : end ≡ length (framed p.bytes) = f.len ∙ ap length (f.framed_is ∙ sym p.framed_is) in
     record {
       bytes = p.bytes;
@@ -502,10 +503,10 @@ pub turned_off : (s : ClosingState) (at : ℕ) (ahead mid : List ℕ) (input out
     → IsPiece record_end input.before input.now input.faults_before input.faults_now ahead mid (Err why)
     → EndsAt s at mid out why end → Followed s at ahead input out end
 turned_off s at ahead mid input out (piece.Xdr wrong) end fits h e = elim (none_or_some mid) [
-    | inl none ↦ all_done s at ahead mid input out end wrong h.0 h.1 h.2 none (e.0 none)
-    | inr some ↦ let bad = e.1 some in
-        subst (Followed s at ahead input out) (sym bad.0) (bad_mark s at ahead mid input out wrong h.0 fits h.1 h.2 some bad.1)
-  ]
+  | inl none ↦ all_done s at ahead mid input out end wrong h.0 h.1 h.2 none (e.0 none)
+  | inr some ↦ let bad = e.1 some in
+      subst (Followed s at ahead input out) (sym bad.0) (bad_mark s at ahead mid input out wrong h.0 fits h.1 h.2 some bad.1)
+]
 turned_off s at ahead mid input out piece.Failed end fits h e =
     subst (Followed s at ahead input out) (sym e.0) (read_failed s at ahead mid input out h.0 h.1 h.2 e.1)
 turned_off s at ahead mid input out piece.NoMemory end fits h e =

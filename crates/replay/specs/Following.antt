@@ -88,9 +88,9 @@ Turned old new input out (Some end) = FollowedFrom old input out end
 abbrev pub Stops : (s : ClosingState) (bytes : List ℕ) (out : Seen) (end : Status) → Type 0
 Stops s bytes out end =
     ((closed : Closed) × IsClose s bytes (Ok closed) × (end ≡ status.WriteFault) × Failed out
-      × ReceivedPrefix out (lines_of closed))
+    × ReceivedPrefix out (lines_of closed))
     ⊎ ((wrong : CloseFault) × IsClose s bytes (Err wrong)
-      × Wrote out (refused_line s.header wrong) status.Refused end)
+    × Wrote out (refused_line s.header wrong) status.Refused end)
     ⊎ ((end ≡ status.NoMemory) × Received out [])
 
 -- what the fault of a record comes to

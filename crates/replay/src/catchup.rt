@@ -24,7 +24,15 @@ pub(crate) fn catch_up<I: Source, O: Sink, L: Count>(
     let mut ahead = Vec::new(alloc);
     match start(alloc, passphrase, input, &mut ahead) {
         Ok(Started { mut ledger, at }) => {
-            follow(alloc, &mut ledger, at as u128, input, &mut ahead, out, steps)
+            follow(
+                alloc,
+                &mut ledger,
+                at as u128,
+                input,
+                &mut ahead,
+                out,
+                steps,
+            )
         }
         Err(end) => end,
     }

@@ -107,7 +107,7 @@ pub(crate) fn start<I: Source>(
     requires { ahead.old.items ≡ [] }
     ensures { MatchResult result
         (λ started. StartsAt passphrase.now started.ledger started.at ahead.new.items
-            (seen I.left I.faults input.old input.new))
+        (seen I.left I.faults input.old input.new))
         (λ end. IsUnstarted passphrase.now (seen I.left I.faults input.old input.new) end) }
 {
     let FrontImage { image, at } = read_image(alloc, passphrase, input, ahead)?;

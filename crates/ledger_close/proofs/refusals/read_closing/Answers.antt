@@ -18,5 +18,5 @@ read_in bytes closing q reads none = ap (λ reading. reading >>= ended) reads �
 pub returns-in-Ok-end : goal.returns-in-Ok-end
 returns-in-Ok-end c =
     let reads = read_in c.args.bytes.now c.in-Ok.closing c.read_close_record.new.cursor
-        (ap close_record.read (sym c.new-ahead.ensures) ∙ c.in-Ok.ensures) c.in-Ok-end.ensures in
+    (ap close_record.read (sym c.new-ahead.ensures) ∙ c.in-Ok.ensures) c.in-Ok-end.ensures in
     (reads, record_spelled c.args.bytes.now c.in-Ok.closing (λ i. omega (arith, c.type_inv.bytes i)) reads)

@@ -9,10 +9,10 @@ abbrev pub invariant-loop-end : goal.invariant-loop-end
 invariant-loop-end g l = record {
   carries : (now out_now : Option (List ℕ)) (faults out_faults : ℕ) (end : Status)
       → Followed l.ledger l.at l.ahead.items (over (g.I.Source.left l.input) now (g.I.Source.faults l.input) faults)
-        (over (g.O.Sink.taken l.out) out_now (g.O.Sink.faults l.out) out_faults) end
+      (over (g.O.Sink.taken l.out) out_now (g.O.Sink.faults l.out) out_faults) end
       → Followed l.initial.ledger l.initial.at l.initial.ahead.items
-        (over (g.I.Source.left l.initial.input) now (g.I.Source.faults l.initial.input) faults)
-        (over (g.O.Sink.taken l.initial.out) out_now (g.O.Sink.faults l.initial.out) out_faults) end;
+      (over (g.I.Source.left l.initial.input) now (g.I.Source.faults l.initial.input) faults)
+      (over (g.O.Sink.taken l.initial.out) out_now (g.O.Sink.faults l.initial.out) out_faults) end;
   low : l.at ≤ (l.ledger.header.ledger_seq + 1) * 2 ^ 64;
 }
 

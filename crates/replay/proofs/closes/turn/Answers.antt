@@ -23,4 +23,4 @@ returns-in-Err g c =
     (seen g.I.Source.left g.I.Source.faults c.args.input.now c.read_piece.new.source) out c.in-Err.fault c.stop.result
     (subst IsBytes value c.stop.ensures.fits) c.in-Err.ensures.piece
     (subst (λ (t : List ℕ). EndsAt c.args.ledger.now c.args.at.now t out c.in-Err.fault c.stop.result) value
-      c.stop.ensures.ends)
+    c.stop.ensures.ends)

@@ -24,9 +24,9 @@ returns-in-Err c =
     let l = c.self.inside in
     let s = state_with l.network l.header l.entries l.levels.pairs in
     let here = refused_set s c.args.closing.now c.in_ok-entries.entries c.apply_set.new.entries c.in-Err.fault
-        c.in_ok-entries.ensures c.in-Err.ensures.answer in
+    c.in_ok-entries.ensures c.in-Err.ensures.answer in
     let told = subst (λ f. FaultIs f (λ g. set_fault s c.args.closing.now ≡ Rattle.std.proofs.Common.Some g))
-        (sym c.fault_of.ensures) here in
+    (sym c.fault_of.ensures) here in
     subst (λ (x : ClosingState). FaultIs c.fault_of.result
     (λ g. set_fault x c.args.closing.now ≡ Rattle.std.proofs.Common.Some g)) c.self.view_is told
 

@@ -34,7 +34,7 @@ level-requires-clause-spellable g c =
       c.args.worked.entries,
       c.requires.worked.batch,
       (c.entries_stay_spellable.ensures c.args.self.now c.args.closing c.args.worked.entries can
-      c.requires.worked.entries).0,
+          c.requires.worked.entries).0,
     )
 
 pub file_total-bytes-requires : goal.file_total-bytes-requires
@@ -43,7 +43,7 @@ file_total-bytes-requires g c =
     let can : IsClosable c.args.self.now c.args.closing =
     record { state = state; spelled = c.requires.spelled; unrefused = c.requires.unrefused } in
     let keyed = keyed_behind c.next_is_legal.ensures c.args.self.now c.args.closing c.args.worked.entries can
-        c.requires.worked.entries in
+    c.requires.worked.entries in
     let leveled = c.in_ok-step.ensures c.args.worked.entries c.requires.worked.batch keyed in
     omega (arith, leveled.levels.count)
 
@@ -54,9 +54,9 @@ returns-then-bytes-gt-MAX_FILE_TOTAL g c =
     let can : IsClosable s c.args.closing =
     record { state = state; spelled = c.requires.spelled; unrefused = c.requires.unrefused } in
     let keyed = keyed_behind c.next_is_legal.ensures s c.args.closing c.args.worked.entries can
-        c.requires.worked.entries in
+    c.requires.worked.entries in
     let leveled = subst (λ (h : LedgerHeader). IsLeveled s h.ledger_version c.args.worked.entries c.in_ok-step.step)
-        c.requires.next (c.in_ok-step.ensures c.args.worked.entries c.requires.worked.batch keyed) in
+    c.requires.next (c.in_ok-step.ensures c.args.worked.entries c.requires.worked.batch keyed) in
     let step = c.in_ok-step.step in (
       closed_with c.args.worked.done.results.results s.network
           (finished (upgraded_header s c.args.closing) (list_hash step.pairs)) c.args.worked.entries step.pairs,
@@ -95,7 +95,7 @@ invariant_of-result g c =
     let leveled = c.in_ok-step.ensures c.args.worked.entries c.requires.worked.batch keyed in
     let header_is = c.in_ok-header.ensures closing refl c.requires.next c.requires.worked.done in
     let range = next_range s closing (list_hash c.in_ok-step.step.pairs) state.legal.header c.requires.unrefused
-        (seq_below s closing c.requires.unrefused state.legal.header.seq_high) in
+    (seq_below s closing c.requires.unrefused state.legal.header.seq_high) in
     record {
       hashed = c.in_ok-digest.ensures;
       number = leveled.seq ∙ sym (ap (λ (h : LedgerHeader). h.ledger_seq) header_is ∙ range.counts.ledger_seq);
@@ -112,12 +112,12 @@ returns g c =
     record { state = state; spelled = c.requires.spelled; unrefused = c.requires.unrefused } in
     let keyed = keyed_behind c.next_is_legal.ensures s closing worked.entries can c.requires.worked.entries in
     let leveled = subst (λ (h : LedgerHeader). IsLeveled s h.ledger_version worked.entries step) c.requires.next
-        (c.in_ok-step.ensures worked.entries c.requires.worked.batch keyed) in
+    (c.in_ok-step.ensures worked.entries c.requires.worked.batch keyed) in
     let header_is = c.in_ok-header.ensures closing refl c.requires.next c.requires.worked.done in
     let made = closes s closing worked step c.requires.worked leveled in
     let headed = subst (λ (h : LedgerHeader).
-        IsClosed s closing (closed_with worked.done.results.results s.network h worked.entries step.pairs))
-        (sym header_is) made in (
+    IsClosed s closing (closed_with worked.done.results.results s.network h worked.entries step.pairs))
+    (sym header_is) made in (
       subst (λ (n : Hash).
           IsClosed s closing (closed_with worked.done.results.results n c.in_ok-header.header worked.entries step.pairs))
           (sym (ap (λ (x : ClosingState). x.network) c.self.view_is)) headed,

@@ -22,9 +22,9 @@ returns c = λ closing is_value is_next done.
       id_pool = c.args.done.now.id_pool;
     } in
     let whole = headed s closing given c.args.next
-        (c.self.invariant.hashed ∙ ap (λ (x : ClosingState). ledger_hash_of x.header) c.self.view_is) is_value
-        (ap (λ (x : ClosingState). x.header.ledger_seq + 1) c.self.view_is)
-        (c.in_ok-results_hash.ensures ∙ ap (λ pairs. results_hash_of (result_set pairs)) done.results)
-        (to_z-of_z w64 fee fits ∙ done.fee_pool) done.id_pool is_next in
+    (c.self.invariant.hashed ∙ ap (λ (x : ClosingState). ledger_hash_of x.header) c.self.view_is) is_value
+    (ap (λ (x : ClosingState). x.header.ledger_seq + 1) c.self.view_is)
+    (c.in_ok-results_hash.ensures ∙ ap (λ pairs. results_hash_of (result_set pairs)) done.results)
+    (to_z-of_z w64 fee fits ∙ done.fee_pool) done.id_pool is_next in
     c.finish.ensures ∙ ap (λ h. finished h c.hash.result) (c.fill.ensures ∙ whole)
     ∙ ap (finished (upgraded_header s closing)) c.hash.ensures

@@ -31,9 +31,11 @@ take_step-requires-clause-planned c =
     let s = state_with l.network l.header l.entries l.levels.pairs in
     let closed : Closed = record { results = p.results.results; state = state_with p.network p.header p.entries p.step.pairs } in
     let by = kept_close s c.args.self.now closed c.args.prepared c.self.view_is c.prepared.view_is c.requires in
-    let step = installed_step s closed by in
-    (step.0, subst (λ (n : ℕ). IsStep n step.0 l.levels.pairs p.step.pairs)
-    (sym (c.prepared.invariant.number ∙ installed_number s closed c.self.invariant.state by)) step.1)
+    let step = installed_step s closed by in (
+      step.0,
+      subst (λ (n : ℕ). IsStep n step.0 l.levels.pairs p.step.pairs)
+          (sym (c.prepared.invariant.number ∙ installed_number s closed c.self.invariant.state by)) step.1,
+    )
 
 pub invariant_of-self : goal.invariant_of-self
 invariant_of-self c =

@@ -161,25 +161,25 @@ if_some false m made each is = subst AreBytes (some_is is) each
     some_is e = cc
 
 debit_of : (ctx : Ctx) (id : AccountId) (amount : ℤ) (m made : EntryMap) (found : Option AccountEntry) → AreBytes m
-    → lumens.map_after_debit_of ctx id amount m found ≡ Some made → AreBytes made
+    → lumens.map_after_lumens_debit_of ctx id amount m found ≡ Some made → AreBytes made
 debit_of ctx id amount m made None each is = absurd (cc)
 debit_of ctx id amount m made (Some account) each is =
     if_some _ made (with_account m id (lumens.with_less_lumens amount))
     (with_account_bytes m id (lumens.with_less_lumens amount) (less_lumens amount) each) is
 
 debit_bytes : (ctx : Ctx) (id : AccountId) (amount : ℤ) (m made : EntryMap) → AreBytes m
-    → lumens.map_after_debit ctx id amount m ≡ Some made → AreBytes made
+    → lumens.map_after_lumens_debit ctx id amount m ≡ Some made → AreBytes made
 debit_bytes ctx id amount m made each is = debit_of ctx id amount m made (account_at m id) each is
 
 credit_of : (id : AccountId) (amount : ℤ) (m made : EntryMap) (found : Option AccountEntry) → AreBytes m
-    → lumens.map_after_credit_of id amount m found ≡ Some made → AreBytes made
+    → lumens.map_after_lumens_credit_of id amount m found ≡ Some made → AreBytes made
 credit_of id amount m made None each is = absurd (cc)
 credit_of id amount m made (Some account) each is =
     if_some _ made (with_account m id (lumens.with_more_lumens amount))
     (with_account_bytes m id (lumens.with_more_lumens amount) (more_lumens amount) each) is
 
 credit_bytes : (id : AccountId) (amount : ℤ) (m made : EntryMap) → AreBytes m
-    → lumens.map_after_credit id amount m ≡ Some made → AreBytes made
+    → lumens.map_after_lumens_credit id amount m ≡ Some made → AreBytes made
 credit_bytes id amount m made each is = credit_of id amount m made (account_at m id) each is
 
 -- ---- accounts
@@ -226,7 +226,7 @@ created ctx op m id work =
     (adding_account_bytes ctx op.destination (creating.new_entry ctx op) (creating.new_account ctx op) m refl
     (record { body = new_account_bytes ctx op id; sponsor = no_id }) (new_account_bytes ctx op id) work.sponsors
     work.entries)
-    (λ added each. behind_some Work (lumens.map_after_debit ctx ctx.op_source op.starting_balance added)
+    (λ added each. behind_some Work (lumens.map_after_lumens_debit ctx ctx.op_source op.starting_balance added)
     (creating.answer create.Underfunded) _
     (λ paid is. record {
       gives = record {
@@ -248,7 +248,7 @@ merged ctx op m work =
     behind Work (merging.destination_tests ctx op m) (merging.merge_of ctx op m (account_at m ctx.op_source))
     (behind_some Work (account_at m ctx.op_source) NoAccount _
     (λ account there. behind Work (merging.source_tests ctx account) (merging.taken_and_removed ctx op account m)
-    (behind_some Work (lumens.map_after_credit (account_of op.destination) account.balance m)
+    (behind_some Work (lumens.map_after_lumens_credit (account_of op.destination) account.balance m)
     (merging.answer merge.DestFull) _
     (λ taken is. record {
       gives = record {
@@ -287,8 +287,8 @@ lumens_paid ctx op m work =
     (unless_refused (paying.destination_tests op m) (paying.taken_and_given ctx op m))
     (record { gives = record { entries = work.entries; sponsors = work.sponsors } })
     (behind Work (paying.destination_tests op m) (paying.taken_and_given ctx op m)
-    (behind_some Work (lumens.map_after_credit (account_of op.destination) op.amount m) (paying.answer pay.LineFull) _
-    (λ taken is. behind_some Work (lumens.map_after_debit ctx ctx.op_source op.amount taken)
+    (behind_some Work (lumens.map_after_lumens_credit (account_of op.destination) op.amount m) (paying.answer pay.LineFull) _
+    (λ taken is. behind_some Work (lumens.map_after_lumens_debit ctx ctx.op_source op.amount taken)
     (paying.answer pay.Underfunded) _
     (λ given paid. record {
       gives = record {

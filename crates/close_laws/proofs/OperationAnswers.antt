@@ -210,7 +210,7 @@ create_answers ctx op m =
     (created create.Malformed, (created create.AlreadyExist, tt))
     (charge_answers (IsDone ctx.id_pool) (map_after_adding ctx op.destination (creating.new_entry ctx op) m)
     (creating.answer create.LowReserve) _ (created create.LowReserve)
-    (λ added. some_answers (IsDone ctx.id_pool) (lumens.map_after_debit ctx ctx.op_source op.starting_balance added)
+    (λ added. some_answers (IsDone ctx.id_pool) (lumens.map_after_lumens_debit ctx ctx.op_source op.starting_balance added)
     (creating.answer create.Underfunded) _ (created create.Underfunded)
     (λ given. record { ends = (created create.Success, refl) })))
 
@@ -224,7 +224,7 @@ merge_answers ctx op m =
     (λ account. first_answers (IsDone ctx.id_pool) (merging.source_tests ctx account)
     (merging.taken_and_removed ctx op account m)
     (merged merge.ImmutableSet, (merged merge.HasSubEntries, (merged merge.SeqnumTooFar, (merged merge.IsSponsor, tt))))
-    (some_answers (IsDone ctx.id_pool) (lumens.map_after_credit (account_of op.destination) account.balance m)
+    (some_answers (IsDone ctx.id_pool) (lumens.map_after_lumens_credit (account_of op.destination) account.balance m)
     (merging.answer merge.DestFull) _ (merged merge.DestFull)
     (λ taken. record { ends = (merged (merge.Success account.balance), refl) }))))
 
@@ -244,10 +244,10 @@ pay_answers asset.Native ctx op m =
     (record { ends = (paid pay.Success, refl) })
     (first_answers (IsDone ctx.id_pool) (paying.destination_tests op m) (paying.taken_and_given ctx op m)
     (paid pay.NoDestination, tt)
-    (some_answers (IsDone ctx.id_pool) (lumens.map_after_credit (account_of op.destination) op.amount m)
+    (some_answers (IsDone ctx.id_pool) (lumens.map_after_lumens_credit (account_of op.destination) op.amount m)
     (paying.answer pay.LineFull) _
     (paid pay.LineFull)
-    (λ taken. some_answers (IsDone ctx.id_pool) (lumens.map_after_debit ctx ctx.op_source op.amount taken)
+    (λ taken. some_answers (IsDone ctx.id_pool) (lumens.map_after_lumens_debit ctx ctx.op_source op.amount taken)
     (paying.answer pay.Underfunded) _ (paid pay.Underfunded)
     (λ given. record { ends = (paid pay.Success, refl) })))))
 pay_answers (asset.Alphanum4 code issuer) ctx op m = record { ends = not_supported }

@@ -22,7 +22,7 @@ use Rattle.sponsor_rules.specs.Removing.{map_after_removing}
 use Rattle.sponsor_rules.specs.Signers.{map_after_removing_signer}
 use Rattle.op_form.specs.Done.{Attempt, Move}
 use Rattle.op_form.specs.Done.{OfAccount}
-use Rattle.op_form.specs.Lumens.{map_after_credit}
+use Rattle.op_form.specs.Lumens.{map_after_lumens_credit}
 use Rattle.op_form.specs.Sequences.{first_seq}
 use Rattle.op_form.specs.Sponsorships.{is_open_sponsor}
 use Rattle.op_form.specs.Steps.{unless_refused, after_some, success}
@@ -72,7 +72,7 @@ merge_move ctx merge_op account =
 -- the destination takes the balance, and the source goes with its signers
 abbrev pub taken_and_removed : Ctx → AccountMergeOp → AccountEntry → EntryMap → Attempt
 taken_and_removed ctx merge_op account m =
-    after_some (map_after_credit (account_of merge_op.destination) account.balance m) (answer merge.DestFull)
+    after_some (map_after_lumens_credit (account_of merge_op.destination) account.balance m) (answer merge.DestFull)
     (λ taken. success ctx (answer (merge.Success account.balance)) (map_without_account ctx.op_source account taken)
     (merge_move ctx merge_op account ∷ []))
 

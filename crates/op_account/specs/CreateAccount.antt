@@ -18,7 +18,7 @@ use Rattle.sponsor_rules.specs.Adding.{map_after_adding}
 use Rattle.sponsor_rules.specs.Payers.{is_same_account}
 use Rattle.op_form.specs.Done.{Attempt, Move}
 use Rattle.op_form.specs.Done.{OfAccount}
-use Rattle.op_form.specs.Lumens.{map_after_debit}
+use Rattle.op_form.specs.Lumens.{map_after_lumens_debit}
 use Rattle.op_form.specs.Sequences.{first_seq}
 use Rattle.op_form.specs.Steps.{unless_refused, after_charge, after_some, success}
 
@@ -71,7 +71,7 @@ start_move ctx create_op =
 abbrev pub added_and_paid : Ctx → CreateAccountOp → EntryMap → Attempt
 added_and_paid ctx create_op m =
     after_charge (map_after_adding ctx create_op.destination (new_entry ctx create_op) m) (answer create.LowReserve)
-    (λ added. after_some (map_after_debit ctx ctx.op_source create_op.starting_balance added)
+    (λ added. after_some (map_after_lumens_debit ctx ctx.op_source create_op.starting_balance added)
     (answer create.Underfunded)
     (λ paid. success ctx (answer create.Success) paid (start_move ctx create_op ∷ [])))
 

@@ -10,7 +10,7 @@ ghost use Rattle.op_account.specs.AccountMerge as spec;
 use entry_map::{Base, Entries};
 use entry_slots::{load_account, num_sponsoring};
 use ledger_types::{AccountEntry, AccountId, LedgerKey, Signer};
-use op_form::{credit, first_seq, is_open_sponsor, stands};
+use op_form::{credit_lumens, first_seq, is_open_sponsor, stands};
 use op_types::{AccountMergeOp, AccountMergeResult, OperationResult, OperationResultTr};
 use sponsor_rules::{Ctx, remove_entry, remove_signer};
 use std::alloc::AllocError;
@@ -85,7 +85,7 @@ fn take_and_remove<B: Base>(
         Makes r ctx.now entries.old entries.new (
         spec.taken_and_removed ctx.now op.now account.now entries.old.current)) }
 {
-    if !credit(entries, &op.destination.account_id(), account.balance)? {
+    if !credit_lumens(entries, &op.destination.account_id(), account.balance)? {
         return Ok(answer(AccountMergeResult::DestFull));
     }
     remove_account(entries, ctx, &ctx.op_source, account)?;

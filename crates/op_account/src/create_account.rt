@@ -12,7 +12,7 @@ ghost use Rattle.op_account.specs.CreateAccount as spec;
 use entry_map::{Base, Entries};
 use item_list::ItemList;
 use ledger_types::{AccountEntry, LedgerEntry, LedgerEntryBody};
-use op_form::{debit, fault_result, first_seq, settle, stands};
+use op_form::{debit_lumens, fault_result, first_seq, settle, stands};
 use op_types::{CreateAccountOp, CreateAccountResult, OperationResult, OperationResultTr};
 use sponsor_rules::{AddFault, Ctx, add_entry};
 use std::alloc::AllocError;
@@ -68,7 +68,7 @@ fn add_and_pay<B: Base>(
             return Ok(fault_result(fault, answer(CreateAccountResult::LowReserve)));
         }
     }
-    let is_paid = debit(entries, ctx, &ctx.op_source, op.starting_balance)?;
+    let is_paid = debit_lumens(entries, ctx, &ctx.op_source, op.starting_balance)?;
     settle(entries, is_paid)?;
     if is_paid {
         Ok(answer(CreateAccountResult::Success))

@@ -11,7 +11,7 @@ use Rattle.sponsor_rules.specs.Keeping.{KeepsMeans, HasMeans, ChangesAtMost}
 use Rattle.sponsor_rules.proofs.AccountMaps.{account_of_slot_at}
 use Rattle.op_form.specs.Premises.{IsInRangeAt}
 
-means_in_range : (was account : AccountEntry) → KeepsMeans was account → IsInRange was → IsInRange account
+pub means_in_range : (was account : AccountEntry) → KeepsMeans was account → IsInRange was → IsInRange account
 means_in_range was account means range =
     let balance = sym means.balance in
     let liabilities = sym means.liabilities in

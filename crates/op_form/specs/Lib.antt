@@ -2,7 +2,10 @@ pub mod Done
 pub mod Steps
 pub mod Faults
 pub mod Premises
+pub mod Assets
+pub mod Flags
 pub mod Lumens
+pub mod Amounts
 pub mod Sequences
 pub mod Sponsorships
 pub mod Levels

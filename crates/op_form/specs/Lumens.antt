@@ -15,15 +15,15 @@ use Rattle.sponsor_rules.specs.declared.context.Ctx.{Ctx}
 abbrev pub with_less_lumens : ℤ → AccountEntry → AccountEntry
 with_less_lumens amount account = record account { balance = account.balance -ℤ amount }
 
-abbrev pub map_after_debit_of : Ctx → AccountId → ℤ → EntryMap → Option AccountEntry → Option EntryMap
-map_after_debit_of ctx id amount m None = None
-map_after_debit_of ctx id amount m (Some account) =
+abbrev pub map_after_lumens_debit_of : Ctx → AccountId → ℤ → EntryMap → Option AccountEntry → Option EntryMap
+map_after_lumens_debit_of ctx id amount m None = None
+map_after_lumens_debit_of ctx id amount m (Some account) =
     if is_lt (int_cmp (available account ctx.base_reserve) amount) then None
     else Some (with_account m id (with_less_lumens amount))
 
 -- the map after an account gives an amount; none where less is available
-abbrev pub map_after_debit : Ctx → AccountId → ℤ → EntryMap → Option EntryMap
-map_after_debit ctx id amount m = map_after_debit_of ctx id amount m (account_at m id)
+abbrev pub map_after_lumens_debit : Ctx → AccountId → ℤ → EntryMap → Option EntryMap
+map_after_lumens_debit ctx id amount m = map_after_lumens_debit_of ctx id amount m (account_at m id)
 
 -- ---- taking
 
@@ -31,14 +31,14 @@ map_after_debit ctx id amount m = map_after_debit_of ctx id amount m (account_at
 abbrev pub with_more_lumens : ℤ → AccountEntry → AccountEntry
 with_more_lumens amount account = record account { balance = account.balance +ℤ amount }
 
-abbrev pub map_after_credit_of : AccountId → ℤ → EntryMap → Option AccountEntry → Option EntryMap
-map_after_credit_of id amount m None = None
-map_after_credit_of id amount m (Some account) =
+abbrev pub map_after_lumens_credit_of : AccountId → ℤ → EntryMap → Option AccountEntry → Option EntryMap
+map_after_lumens_credit_of id amount m None = None
+map_after_lumens_credit_of id amount m (Some account) =
     if is_lt (int_cmp (room account) amount) then None else Some (with_account m id (with_more_lumens amount))
 
 -- the map after an account takes an amount; none where it has less room
-abbrev pub map_after_credit : AccountId → ℤ → EntryMap → Option EntryMap
-map_after_credit id amount m = map_after_credit_of id amount m (account_at m id)
+abbrev pub map_after_lumens_credit : AccountId → ℤ → EntryMap → Option EntryMap
+map_after_lumens_credit id amount m = map_after_lumens_credit_of id amount m (account_at m id)
 
 -- ---- calls
 

@@ -40,9 +40,16 @@ after_charge (Ok m) low next = next m
 abbrev pub success : Ctx → OperationResult → EntryMap → List Move → Attempt
 success ctx result m moves = Ok (record { result = result; entries = m; ctx = ctx; moves = moves })
 
+-- goes on with the map that a step gives, or ends with what answers its fault
+abbrev pub after_step : {B F : Type 0} → Result EntryMap F → (F → OperationResult) → (EntryMap → Result B OperationResult)
+    → Result B OperationResult
+after_step (Err fault) answers next = Err (answers fault)
+after_step (Ok m) answers next = next m
+
 -- ---- calls
 
--- the call made the step and answered nothing, or answered the result that ends the operation, and left the map
-abbrev pub IsStep : Option OperationResult → Undo → Undo → Result EntryMap OperationResult → Type 0
+-- The call made the step and answered nothing, or answered the step's fault and left the map. A fault is here whatever
+-- a step gives that isn't made, as the result that ends an operation.
+abbrev pub IsStep : {F : Type 0} → Option F → Undo → Undo → Result EntryMap F → Type 0
 IsStep None old new step = (step ≡ Ok new.current) × (new ≡ with_current old new.current)
-IsStep (Some result) old new step = (step ≡ Err result) × (new ≡ old)
+IsStep (Some fault) old new step = (step ≡ Err fault) × (new ≡ old)

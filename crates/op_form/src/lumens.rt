@@ -18,7 +18,7 @@ use std::alloc::AllocError;
 
 /// Takes an amount of lumens from an account, in stroops. It answers false, and nothing has changed, exactly where less
 /// is available, or there is no such account.
-pub fn debit<B: Base>(
+pub fn debit_lumens<B: Base>(
     entries: &mut Entries<'_, B>,
     ctx: &Ctx,
     id: &AccountId,
@@ -27,7 +27,7 @@ pub fn debit<B: Base>(
     requires amount { pos 0 ≤ℤ amount }
     requires range { IsInRangeAt entries.old.current id.now }
     ensures given { IfOk result (λ paid.
-        spec.Gives paid entries.old entries.new (spec.map_after_debit ctx.now id.now amount entries.old.current)) }
+        spec.Gives paid entries.old entries.new (spec.map_after_lumens_debit ctx.now id.now amount entries.old.current)) }
     ensures others { OnOk result (keeping.ChangesAtMost (Some id.now) entries.old.current entries.new.current) }
 {
     let Some(slot) = load_account(entries, id)? else {
@@ -74,7 +74,7 @@ fn less(balance: i64, amount: i64) -> i64
 
 /// Gives an amount of lumens to an account, in stroops. It answers false, and nothing has changed, exactly where the
 /// account has less room, or there is no such account.
-pub fn credit<B: Base>(
+pub fn credit_lumens<B: Base>(
     entries: &mut Entries<'_, B>,
     id: &AccountId,
     amount: i64,
@@ -82,7 +82,7 @@ pub fn credit<B: Base>(
     requires amount { pos 0 ≤ℤ amount }
     requires range { IsInRangeAt entries.old.current id.now }
     ensures taken { IfOk result (λ taken.
-        spec.Gives taken entries.old entries.new (spec.map_after_credit id.now amount entries.old.current)) }
+        spec.Gives taken entries.old entries.new (spec.map_after_lumens_credit id.now amount entries.old.current)) }
     ensures others { OnOk result (keeping.ChangesAtMost (Some id.now) entries.old.current entries.new.current) }
 {
     let Some(slot) = load_account(entries, id)? else {

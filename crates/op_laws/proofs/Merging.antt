@@ -54,7 +54,7 @@ use Rattle.op_types.specs.declared.operation_result.OperationResult.TheVariants.
 use Rattle.op_account.specs.AccountMerge.{answer, destination_tests, source_tests, map_without_signers}
 use Rattle.op_account.specs.AccountMerge.{map_without_account, taken_and_removed, merge_of, account_merge}
 use Rattle.op_form.specs.Done.{Done}
-use Rattle.op_form.specs.Lumens.{with_more_lumens, map_after_credit}
+use Rattle.op_form.specs.Lumens.{with_more_lumens, map_after_lumens_credit}
 use Rattle.op_form.specs.Sequences.{first_seq}
 use Rattle.op_form.specs.Sponsorships.{is_open_sponsor}
 use Rattle.op_form.specs.Steps.{unless_refused}
@@ -368,7 +368,7 @@ module _ (ctx : Ctx) (op : AccountMergeOp) (m : EntryMap) (done : Done) (under :
 
   merged : taken_and_removed ctx op a m ≡ Ok done → IsLawful ctx m done
   merged is =
-      let went = went_after_some (map_after_credit dest a.balance m) (answer merge.DestFull) _ done is in
+      let went = went_after_some (map_after_lumens_credit dest a.balance m) (answer merge.DestFull) _ done is in
       let paid = went.0 in
       let also = went.2 in
       let h = taken dest a.balance m paid went.1 in

@@ -48,7 +48,7 @@ use Rattle.op_types.specs.declared.payment_results.CreateAccountResult.TheVarian
 use Rattle.op_account.specs.CreateAccount.{answer, new_account, new_entry, start_tests, added_and_paid}
 use Rattle.op_account.specs.CreateAccount.{create_account}
 use Rattle.op_form.specs.Done.{Done}
-use Rattle.op_form.specs.Lumens.{map_after_debit}
+use Rattle.op_form.specs.Lumens.{map_after_lumens_debit}
 use Rattle.entry_slots.specs.Tests.{Tests}
 use Rattle.op_laws.specs.Laws.{IsLawful, AreLawful}
 use Rattle.op_laws.specs.Underway.{IsUnderway}
@@ -358,7 +358,7 @@ module _ (ctx : Ctx) (op : CreateAccountOp) (m : EntryMap) (done : Done) (under 
       is
       in
       let added = first.0 in
-      let second = went_after_some (map_after_debit ctx src amount added) (answer create.Underfunded) _ done first.2 in
+      let second = went_after_some (map_after_lumens_debit ctx src amount added) (answer create.Underfunded) _ done first.2 in
       let new = second.0 in
       let also = second.2 in
       let h = given ctx src amount added new second.1 in

@@ -16,8 +16,8 @@ use Rattle.legal_rules.specs.Supply.{lumens_of}
 use Rattle.legal_rules.proofs.Bounded.{account_legal}
 use Rattle.legal_rules.proofs.Covered.{not_above_balance}
 use Rattle.legal_rules.proofs.Paid.{paid_legal, debit_legal}
-use Rattle.op_form.specs.Lumens.{with_less_lumens, map_after_debit_of, map_after_debit, with_more_lumens}
-use Rattle.op_form.specs.Lumens.{map_after_credit_of, map_after_credit}
+use Rattle.op_form.specs.Lumens.{with_less_lumens, map_after_lumens_debit_of, map_after_lumens_debit, with_more_lumens}
+use Rattle.op_form.specs.Lumens.{map_after_lumens_credit_of, map_after_lumens_credit}
 use Rattle.op_laws.proofs.Standing.{IsKeyed, Leaves, for_one, account_changed}
 
 pub not_less : (x y : ℤ) → is_lt (int_cmp x y) ≡ false → y ≤ℤ x
@@ -37,13 +37,13 @@ pub record IsTaken (id : AccountId) (amount : ℤ) (m new : EntryMap) : Type 0 w
   pub is : with_account m id (with_more_lumens amount) ≡ new
 
 taken_of : (id : AccountId) (amount : ℤ) (m new : EntryMap) (o : Option AccountEntry) → account_at m id ≡ o
-    → map_after_credit_of id amount m o ≡ Some new → IsTaken id amount m new
+    → map_after_lumens_credit_of id amount m o ≡ Some new → IsTaken id amount m new
 taken_of id amount m new None stands is = absurd (cc)
 taken_of id amount m new (Some a) stands is =
     let test = passed_some (is_lt (int_cmp (room a) amount)) (with_account m id (with_more_lumens amount)) new is in
     record { account = a; stands = stands; fits = not_less (room a) amount test.0; is = test.1 }
 
-pub taken : (id : AccountId) (amount : ℤ) (m new : EntryMap) → map_after_credit id amount m ≡ Some new
+pub taken : (id : AccountId) (amount : ℤ) (m new : EntryMap) → map_after_lumens_credit id amount m ≡ Some new
     → IsTaken id amount m new
 taken id amount m new is = taken_of id amount m new (account_at m id) refl is
 
@@ -83,14 +83,14 @@ pub record IsGiven (base : ℕ) (id : AccountId) (amount : ℤ) (m new : EntryMa
   pub is : with_account m id (with_less_lumens amount) ≡ new
 
 given_of : (ctx : Ctx) (id : AccountId) (amount : ℤ) (m new : EntryMap) (o : Option AccountEntry) → account_at m id ≡ o
-    → map_after_debit_of ctx id amount m o ≡ Some new → IsGiven ctx.base_reserve id amount m new
+    → map_after_lumens_debit_of ctx id amount m o ≡ Some new → IsGiven ctx.base_reserve id amount m new
 given_of ctx id amount m new None stands is = absurd (cc)
 given_of ctx id amount m new (Some a) stands is =
     let test = passed_some (is_lt (int_cmp (available a ctx.base_reserve) amount))
     (with_account m id (with_less_lumens amount)) new is in
     record { account = a; stands = stands; enough = not_less (available a ctx.base_reserve) amount test.0; is = test.1 }
 
-pub given : (ctx : Ctx) (id : AccountId) (amount : ℤ) (m new : EntryMap) → map_after_debit ctx id amount m ≡ Some new
+pub given : (ctx : Ctx) (id : AccountId) (amount : ℤ) (m new : EntryMap) → map_after_lumens_debit ctx id amount m ≡ Some new
     → IsGiven ctx.base_reserve id amount m new
 given ctx id amount m new is = given_of ctx id amount m new (account_at m id) refl is
 

@@ -18,7 +18,7 @@ use Rattle.legal_rules.proofs.Steps.{legal_as}
 use Rattle.op_types.specs.declared.payment_ops.PaymentOp.{PaymentOp}
 use Rattle.op_types.specs.declared.payment_results.PaymentResult.TheVariants as pay
 use Rattle.op_form.specs.Done.{Done, Move}
-use Rattle.op_form.specs.Lumens.{map_after_credit, map_after_debit}
+use Rattle.op_form.specs.Lumens.{map_after_lumens_credit, map_after_lumens_debit}
 use Rattle.op_form.specs.Steps.{unless_refused}
 use Rattle.op_payment.specs.Payment.{answer, destination_tests, paid, payment_in, payment, payment_move}
 use Rattle.op_payment.specs.Payment.{taken_and_given}
@@ -69,8 +69,8 @@ module _ (ctx : Ctx) (op : PaymentOp) (m : EntryMap) (done : Done) (under : IsUn
 
   to_another : taken_and_given ctx op m ≡ Ok done → IsLawful ctx m done
   to_another is =
-      let first = went_after_some (map_after_credit to op.amount m) (answer pay.LineFull) _ done is in
-      let second = went_after_some (map_after_debit ctx from op.amount first.0) (answer pay.Underfunded) _ done first.2
+      let first = went_after_some (map_after_lumens_credit to op.amount m) (answer pay.LineFull) _ done is in
+      let second = went_after_some (map_after_lumens_debit ctx from op.amount first.0) (answer pay.Underfunded) _ done first.2
       in
       let one = taken to op.amount m first.0 first.1 in
       let two = given ctx from op.amount first.0 second.0 second.1 in

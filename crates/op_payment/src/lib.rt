@@ -1,4 +1,4 @@
-//! PAYMENT of lumens.
+//! PAYMENT, of lumens and of issued assets.
 #![tactic(auto)]
 
 mod operations;

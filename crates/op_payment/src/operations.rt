@@ -12,14 +12,14 @@ use sponsor_rules::Ctx;
 use std::alloc::AllocError;
 
 /// Applies an operation of `ctx.op_source`: it answers the result, and changes the entries. Where the operation fails,
-/// nothing has changed. Operations of other types, and payments of credit assets, are not supported here.
+/// nothing has changed. Operations of other types are not supported here.
 #[tactic(auto, unfolding(crate::specs::Operations::payment_operation))]
 pub fn apply<B: Base>(
     op: &Operation,
     ctx: &mut Ctx,
     entries: &mut Entries<'_, B>,
 ) -> Result<OperationResult, AllocError>
-    requires { premises.AccountsAreInRange entries.old.current }
+    requires { premises.BalancesAreInRange entries.old.current }
     ensures { IfOk result (λ r.
         Does r ctx.new entries.old entries.new (spec.payment_operation ctx.old op.now.body entries.old.current)) }
 {

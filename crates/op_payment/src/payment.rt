@@ -1,33 +1,39 @@
-//! PAYMENT of lumens.
+//! PAYMENT.
 
-ghost use Rattle.std.specs.Prelude.{◌≡◌, ◌<ℤ◌, pos, false, IfOk};
-ghost use Rattle.ledger_types.specs.Ids.{account_of};
-ghost use Rattle.sponsor_rules.specs.Payers.{is_same_account};
+ghost use Rattle.std.specs.Prelude.{◌≡◌, ◌<ℤ◌, pos, IfOk};
+ghost use Rattle.entry_slots.specs.Tests.{first_fault};
 ghost use Rattle.op_form.specs.Done.{Makes};
-ghost use Rattle.op_form.specs.Premises.{AccountsAreInRange};
+ghost use Rattle.op_form.specs.Premises.{BalancesAreInRange};
 ghost use Rattle.op_payment.specs.Payment as spec;
 
 use entry_map::{Base, Entries};
-use ledger_types::Asset;
-use op_form::{credit, debit, settle, stands};
+use op_form::{CreditFault, DebitFault, credit, debit, is_issued_by, is_native, settle, stands};
 use op_types::{OperationResult, OperationResultTr, PaymentOp, PaymentResult};
 use sponsor_rules::Ctx;
 use std::alloc::AllocError;
+use valid_values::is_valid_asset;
 
-/// PAYMENT: the source gives the destination an amount of lumens. Credit assets are not supported.
+/// PAYMENT: the source gives the destination an amount of an asset.
 pub fn payment<B: Base>(
     op: &PaymentOp,
     ctx: &Ctx,
     entries: &mut Entries<'_, B>,
 ) -> Result<OperationResult, AllocError>
-    requires { AccountsAreInRange entries.old.current }
+    requires { BalancesAreInRange entries.old.current }
     ensures { IfOk result (λ r.
         Makes r ctx.now entries.old entries.new (spec.payment ctx.now op.now entries.old.current)) }
 {
-    match op.asset {
-        Asset::Native => pay_lumens(op, ctx, entries),
-        _ => Ok(OperationResult::NotSupported),
+    if op.amount <= 0 || !is_valid_asset(&op.asset) {
+        return Ok(answer(PaymentResult::Malformed));
     }
+    if is_to_itself(op, ctx) {
+        return Ok(answer(PaymentResult::Success));
+    }
+    let destination = op.destination.account_id();
+    if !is_issued_by(&op.asset, &destination) && !stands(entries, &destination)? {
+        return Ok(answer(PaymentResult::NoDestination));
+    }
+    take_and_give(op, ctx, entries)
 }
 
 /// What the operation answers.
@@ -37,27 +43,33 @@ fn answer(code: PaymentResult) -> OperationResult
     OperationResult::Inner(OperationResultTr::Payment(code))
 }
 
-/// Pays lumens, whatever the operation's asset.
-fn pay_lumens<B: Base>(
-    op: &PaymentOp,
-    ctx: &Ctx,
-    entries: &mut Entries<'_, B>,
-) -> Result<OperationResult, AllocError>
-    requires { AccountsAreInRange entries.old.current }
-    ensures { IfOk result (λ r.
-        Makes r ctx.now entries.old entries.new (spec.lumens_payment ctx.now op.now entries.old.current)) }
+/// Whether an account pays lumens to itself.
+fn is_to_itself(op: &PaymentOp, ctx: &Ctx) -> bool
+    ensures { result ≡ spec.is_to_itself ctx.now op.now }
 {
-    if op.amount <= 0 {
-        return Ok(answer(PaymentResult::Malformed));
+    is_native(&op.asset) && op.destination.account_id().0 == ctx.op_source.0
+}
+
+/// What a credit's fault answers.
+fn credit_result(fault: CreditFault) -> OperationResult
+    ensures { result ≡ spec.credit_result fault }
+{
+    match fault {
+        CreditFault::NoLine => answer(PaymentResult::NoTrust),
+        CreditFault::NotAuthorized => answer(PaymentResult::NotAuthorized),
+        CreditFault::Full => answer(PaymentResult::LineFull),
     }
-    let destination = op.destination.account_id();
-    if destination.0 == ctx.op_source.0 {
-        return Ok(answer(PaymentResult::Success));
+}
+
+/// What a debit's fault answers.
+fn debit_result(fault: DebitFault) -> OperationResult
+    ensures { result ≡ spec.debit_result fault }
+{
+    match fault {
+        DebitFault::NoLine => answer(PaymentResult::SrcNoTrust),
+        DebitFault::NotAuthorized => answer(PaymentResult::SrcNotAuthorized),
+        DebitFault::Short => answer(PaymentResult::Underfunded),
     }
-    if !stands(entries, &destination)? {
-        return Ok(answer(PaymentResult::NoDestination));
-    }
-    take_and_give(op, ctx, entries)
 }
 
 /// Gives the amount to the destination and takes it from the source, or undoes that.
@@ -67,21 +79,23 @@ fn take_and_give<B: Base>(
     entries: &mut Entries<'_, B>,
 ) -> Result<OperationResult, AllocError>
     requires amount { pos 0 <ℤ op.now.amount }
-    requires apart { is_same_account (account_of op.now.destination) ctx.now.op_source ≡ false }
-    requires in_range { AccountsAreInRange entries.old.current }
+    requires in_range { BalancesAreInRange entries.old.current }
     ensures { IfOk result (λ r.
         Makes r ctx.now entries.old entries.new (spec.taken_and_given ctx.now op.now entries.old.current)) }
 {
     entries.child()?;
-    if !credit(entries, &op.destination.account_id(), op.amount)? {
+    if let Some(fault) = credit(entries, &op.destination.account_id(), &op.asset, op.amount)? {
         entries.drop_child();
-        return Ok(answer(PaymentResult::LineFull));
+        return Ok(credit_result(fault));
     }
-    let is_paid = debit(entries, ctx, &ctx.op_source, op.amount)?;
-    settle(entries, is_paid)?;
-    if is_paid {
-        Ok(answer(PaymentResult::Success))
-    } else {
-        Ok(answer(PaymentResult::Underfunded))
+    match debit(entries, ctx, &ctx.op_source, &op.asset, op.amount)? {
+        Some(fault) => {
+            entries.drop_child();
+            Ok(debit_result(fault))
+        }
+        None => {
+            entries.commit()?;
+            Ok(answer(PaymentResult::Success))
+        }
     }
 }

@@ -11,8 +11,8 @@ use Rattle.op_account.proofs.create_account.add_and_pay.Goals as goal
 pub add_entry-requires : goal.add_entry-requires
 add_entry-requires g c = c.new_entry.ensures.ready c.child.new.self.current
 
-pub debit-requires-clause-range : goal.debit-requires-clause-range
-debit-requires-clause-range g c =
+pub debit_lumens-requires-clause-range : goal.debit_lumens-requires-clause-range
+debit_lumens-requires-clause-range g c =
     let id = c.args.ctx.now.op_source in
     let was = c.requires.source.0 in
     let same_map : c.args.entries.now.current ≡ c.child.new.self.current =

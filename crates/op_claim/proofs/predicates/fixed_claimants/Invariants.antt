@@ -1,0 +1,7 @@
+use Rattle.std.proofs.Common.{◌≡◌, take, map}
+use Rattle.op_claim.specs.Predicates.{fixed_claimant}
+use Rattle.op_claim.proofs.predicates.fixed_claimants.Given as goal
+
+-- the claimants fixed so far
+abbrev pub invariant-loop-claimant : goal.invariant-loop-claimant
+invariant-loop-claimant l = l.fixed ≡ map (fixed_claimant l.close_time) (take l.claimant-index l.claimants)

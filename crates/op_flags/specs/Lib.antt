@@ -1,0 +1,4 @@
+pub mod LineFlags
+pub mod AllowTrust
+pub mod SetTrustLineFlags
+pub mod Operations

@@ -1,0 +1,19 @@
+-- The operations of this crate, by their types.
+use Rattle.std.specs.Prelude.{Err}
+use Rattle.op_types.specs.declared.operation.OperationBody.{OperationBody}
+use Rattle.op_types.specs.declared.operation.OperationBody.TheVariants as body
+use Rattle.op_types.specs.declared.operation_result.OperationResult.TheVariants.{NotSupported}
+use Rattle.entry_map.specs.EntryMap.{EntryMap}
+use Rattle.sponsor_rules.specs.declared.context.Ctx.{Ctx}
+use Rattle.op_form.specs.Done.{Attempt, Done, done_of}
+use Rattle.op_flags.specs.AllowTrust.{allow_trust}
+use Rattle.op_flags.specs.SetTrustLineFlags.{set_trust_line_flags}
+
+-- Operations of other types are those of other crates.
+abbrev pub attempt_of : Ctx → OperationBody → EntryMap → Attempt
+attempt_of ctx (body.AllowTrust allow_op) m = allow_trust ctx allow_op m
+attempt_of ctx (body.SetTrustLineFlags set_op) m = set_trust_line_flags ctx set_op m
+attempt_of ctx other m = Err NotSupported
+
+unfoldable pub flags_operation : Ctx → OperationBody → EntryMap → Done
+flags_operation ctx of m = done_of ctx m (attempt_of ctx of m)

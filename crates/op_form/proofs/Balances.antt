@@ -1,0 +1,181 @@
+-- Balances and liabilities of accounts and of lines that stay in their ranges.
+use Rattle.std.proofs.Common.{◌≡◌, ◌⊎◌, inl, inr, refl, sym, ap, subst, ◌∙◌, Bool, true, false, cond, Option, Some, None}
+use Rattle.std.proofs.Common.{arith}
+use Rattle.std.proofs.lemmas.Int.{ints}
+use Rattle.std.specs.Prelude.{ℤ, pos, ◌+ℤ◌, ◌-ℤ◌, ◌≤ℤ◌, if◌then◌else◌}
+use Rattle.std.specs.FinMap.{get, get-insert, get-remove}
+use Rattle.std.specs.Ordering.{is_lt, int_cmp}
+use Rattle.ledger_types.specs.declared.ids.AccountId.{AccountId}
+use Rattle.ledger_types.specs.declared.account.AccountEntry.{AccountEntry}
+use Rattle.ledger_types.specs.declared.asset.TrustLineAsset.{TrustLineAsset}
+use Rattle.ledger_types.specs.declared.trust_line.TrustLineEntry.{TrustLineEntry}
+use Rattle.ledger_types.specs.declared.entry.LedgerEntry.{LedgerEntry}
+use Rattle.ledger_types.specs.declared.entry.LedgerEntryBody.{LedgerEntryBody}
+use Rattle.ledger_types.specs.declared.entry.LedgerEntryBody.TheVariants as body
+use Rattle.ledger_types.specs.declared.key.LedgerKey.{LedgerKey}
+use Rattle.ledger_types.specs.declared.key.LedgerKey.TheVariants as key
+use Rattle.ledger_types.specs.Keys.{key_of}
+use Rattle.ledger_types.proofs.KeyOrdering.{keys_total}
+use Rattle.entry_map.specs.EntryMap.{EntryMap, put, erase}
+use Rattle.entry_slots.specs.Accounts.{account_in, account_of, account_at, with_account, with_account_of, with_account_in}
+use Rattle.entry_slots.specs.AccountExtensions.{account_liabilities}
+use Rattle.entry_slots.specs.Lines.{line_in, line_of, line_at}
+use Rattle.entry_slots.specs.LineExtensions.{line_liabilities}
+use Rattle.reserve_rules.specs.Reserve.{IsInRange, IsLineInRange, greatest_i64, room, line_room}
+use Rattle.op_form.specs.Amounts.{with_more}
+use Rattle.op_form.specs.Lumens.{with_more_lumens, map_after_lumens_credit, map_after_lumens_credit_of}
+use Rattle.op_form.specs.Premises.{IsInRangeAt, AccountsAreInRange, IsLineInRangeAt, BalancesAreInRange}
+use Rattle.op_form.proofs.Premises.{in_range_with}
+
+-- ---- an entry that is put or erased
+
+line_found : (b : Bool) (e : LedgerEntry) (o : Option LedgerEntry) (line : TrustLineEntry)
+    → line_of (cond b (Some e) o) ≡ Some line → (line_in e.body ≡ Some line) ⊎ (line_of o ≡ Some line)
+line_found true e o line is = inl is
+line_found false e o line is = inr is
+
+line_found_after : (m : EntryMap) (e : LedgerEntry) (id : AccountId) (held : TrustLineAsset) (line : TrustLineEntry)
+    → line_at (put m e) id held ≡ Some line → (line_in e.body ≡ Some line) ⊎ (line_at m id held ≡ Some line)
+unfolding line_at
+line_found_after m e id held line is =
+    line_found _ e (get m (key.TrustLine id held)) line
+    (sym (ap line_of (get-insert keys_total m (key_of e) e (key.TrustLine id held))) ∙ is)
+
+-- what an entry says of balances is in its ranges
+pub record IsInRangeIn (b : LedgerEntryBody) : Type 0 where
+  pub account : (account : AccountEntry) → account_in b ≡ Some account → IsInRange account
+  pub line : (line : TrustLineEntry) → line_in b ≡ Some line → IsLineInRange line
+
+pub balances_put : (m : EntryMap) (e : LedgerEntry) → IsInRangeIn e.body → BalancesAreInRange m
+    → BalancesAreInRange (put m e)
+balances_put m e range all = record {
+  accounts = in_range_with m e range.account all.accounts;
+  lines = λ id held line is. elim (line_found_after m e id held line is) [
+    | inl here ↦ range.line line here
+    | inr there ↦ all.lines id held line there
+  ];
+}
+
+account_kept : (b : Bool) (o : Option LedgerEntry) (account : AccountEntry)
+    → account_of (cond b None o) ≡ Some account → account_of o ≡ Some account
+account_kept true o account is = absurd (cc)
+account_kept false o account is = is
+
+line_kept : (b : Bool) (o : Option LedgerEntry) (line : TrustLineEntry)
+    → line_of (cond b None o) ≡ Some line → line_of o ≡ Some line
+line_kept true o line is = absurd (cc)
+line_kept false o line is = is
+
+account_before : (m : EntryMap) (k : LedgerKey) (id : AccountId) (account : AccountEntry)
+    → account_at (erase m k) id ≡ Some account → account_at m id ≡ Some account
+unfolding account_at
+account_before m k id account is =
+    account_kept _ (get m (key.Account id)) account
+    (sym (ap account_of (get-remove keys_total m k (key.Account id))) ∙ is)
+
+line_before : (m : EntryMap) (k : LedgerKey) (id : AccountId) (held : TrustLineAsset) (line : TrustLineEntry)
+    → line_at (erase m k) id held ≡ Some line → line_at m id held ≡ Some line
+unfolding line_at
+line_before m k id held line is =
+    line_kept _ (get m (key.TrustLine id held)) line
+    (sym (ap line_of (get-remove keys_total m k (key.TrustLine id held))) ∙ is)
+
+pub balances_erased : (m : EntryMap) (k : LedgerKey) → BalancesAreInRange m → BalancesAreInRange (erase m k)
+balances_erased m k all = record {
+  accounts = record { in_range = λ id account is. all.accounts.in_range id account (account_before m k id account is) };
+  lines = λ id held line is. all.lines id held line (line_before m k id held line is);
+}
+
+-- ---- an account that is changed
+
+account_only : (a : AccountEntry) → IsInRange a → IsInRangeIn (body.Account a)
+account_only a range = record {
+  account = λ b is. let same : a ≡ b = cc in subst IsInRange same range;
+  line = λ line is. absurd (cc);
+}
+
+changed_in : (m : EntryMap) (f : AccountEntry → AccountEntry) (e : LedgerEntry) (b : LedgerEntryBody)
+    → ((a : AccountEntry) → account_in b ≡ Some a → IsInRange (f a)) → BalancesAreInRange m
+    → BalancesAreInRange (with_account_in m e f b)
+changed_in m f e (body.Account a) range all =
+    balances_put m (record e { body = body.Account (f a) }) (account_only (f a) (range a refl)) all
+changed_in m f e other range all = all
+
+changed_of : (m : EntryMap) (f : AccountEntry → AccountEntry) (o : Option LedgerEntry)
+    → ((a : AccountEntry) → account_of o ≡ Some a → IsInRange (f a)) → BalancesAreInRange m
+    → BalancesAreInRange (with_account_of m f o)
+changed_of m f None range all = all
+changed_of m f (Some e) range all = changed_in m f e e.body range all
+
+-- an account that stays in its ranges
+pub account_changed : (m : EntryMap) (id : AccountId) (f : AccountEntry → AccountEntry)
+    → ((a : AccountEntry) → account_at m id ≡ Some a → IsInRange (f a)) → BalancesAreInRange m
+    → BalancesAreInRange (with_account m id f)
+unfolding account_at with_account
+account_changed m id f range all = changed_of m f (get m (key.Account id)) range all
+
+-- ---- lumens that are taken
+
+not_less : (x y : ℤ) → is_lt (int_cmp x y) ≡ false → y ≤ℤ x
+not_less x y h = grind (arith, ints)
+
+more_low : (b n : ℤ) → pos 0 ≤ℤ b → pos 0 ≤ℤ n → pos 0 ≤ℤ (b +ℤ n)
+more_low b n low also = omega (arith, ints)
+
+more_fits : (b n buying g : ℤ) → n ≤ℤ (g -ℤ b -ℤ buying) → ((b +ℤ n) +ℤ buying) ≤ℤ g
+more_fits b n buying g le = omega (arith, ints)
+
+more_in_range : (a : AccountEntry) (amount : ℤ) → IsInRange a → pos 0 ≤ℤ amount → amount ≤ℤ room a
+    → IsInRange (with_more_lumens amount a)
+more_in_range a amount range low fits = record {
+  balance = more_low a.balance amount range.balance low;
+  buying = range.buying;
+  selling = range.selling;
+  fits = more_fits a.balance amount (account_liabilities a).buying greatest_i64 fits;
+}
+
+taken_by : (id : AccountId) (amount : ℤ) (m new : EntryMap) (a : AccountEntry) (t : Bool)
+    → is_lt (int_cmp (room a) amount) ≡ t → account_at m id ≡ Some a
+    → (if t then None else Some (with_account m id (with_more_lumens amount))) ≡ Some new → pos 0 ≤ℤ amount
+    → BalancesAreInRange m → BalancesAreInRange new
+taken_by id amount m new a true test stands is low all = absurd (cc)
+taken_by id amount m new a false test stands is low all =
+    let same : with_account m id (with_more_lumens amount) ≡ new = cc in
+    subst BalancesAreInRange same (account_changed m id (with_more_lumens amount) (λ b there.
+      let one : a ≡ b = cc in
+      subst (λ (x : AccountEntry). IsInRange (with_more_lumens amount x)) one
+      (more_in_range a amount (all.accounts.in_range id a stands) low (not_less (room a) amount test))) all)
+
+taken_of : (id : AccountId) (amount : ℤ) (m new : EntryMap) (o : Option AccountEntry) → account_at m id ≡ o
+    → map_after_lumens_credit_of id amount m o ≡ Some new → pos 0 ≤ℤ amount → BalancesAreInRange m
+    → BalancesAreInRange new
+taken_of id amount m new None stands is low all = absurd (cc)
+taken_of id amount m new (Some a) stands is low all = taken_by id amount m new a _ refl stands is low all
+
+pub lumens_taken : (id : AccountId) (amount : ℤ) (m new : EntryMap) → map_after_lumens_credit id amount m ≡ Some new
+    → pos 0 ≤ℤ amount → BalancesAreInRange m → BalancesAreInRange new
+lumens_taken id amount m new is low all = taken_of id amount m new (account_at m id) refl is low all
+
+-- ---- a line that is changed
+
+line_more_fits : (b n buying limit : ℤ) → n ≤ℤ (limit -ℤ b -ℤ buying) → ((b +ℤ n) +ℤ buying) ≤ℤ limit
+line_more_fits b n buying limit le = omega (arith, ints)
+
+line_more_covers : (s b n : ℤ) → s ≤ℤ b → pos 0 ≤ℤ n → s ≤ℤ (b +ℤ n)
+line_more_covers s b n le low = omega (arith, ints)
+
+pub line_more_in_range : (t : TrustLineEntry) (amount : ℤ) → IsLineInRange t → pos 0 ≤ℤ amount → amount ≤ℤ line_room t
+    → IsLineInRange (with_more amount t)
+line_more_in_range t amount range low fits = record {
+  balance = more_low t.balance amount range.balance low;
+  buying = range.buying;
+  selling = range.selling;
+  covered = line_more_covers (line_liabilities t).selling t.balance amount range.covered low;
+  fits = line_more_fits t.balance amount (line_liabilities t).buying t.limit fits;
+}
+
+pub line_only : (t : TrustLineEntry) → IsLineInRange t → IsInRangeIn (body.TrustLine t)
+line_only t range = record {
+  account = λ account is. absurd (cc);
+  line = λ line is. let same : t ≡ line = cc in subst IsLineInRange same range;
+}

@@ -1,0 +1,13 @@
+use Rattle.std.proofs.Common.{sym, subst}
+use Rattle.std.proofs.lemmas.Result.{on_ok_weaker}
+use Rattle.entry_slots.specs.Lines.{entry_of_line}
+use Rattle.op_form.specs.Premises.{BalancesAreInRange}
+use Rattle.op_form.proofs.Balances.{balances_put, line_only}
+use Rattle.op_form.proofs.amounts.store_in_range.Goals as goal
+
+pub returns-clause-in_range : goal.returns-clause-in_range
+returns-clause-in_range g c = on_ok_weaker c.store_line.result
+    (λ is. subst (λ u. BalancesAreInRange u.current) (sym is)
+    (balances_put c.args.entries.now.current (entry_of_line c.args.slot) (line_only c.args.slot.line c.requires.in_range)
+    c.requires.others))
+    c.store_line.ensures

@@ -1,0 +1,2 @@
+pub mod ChangeTrust
+pub mod Operations

@@ -1,0 +1,7 @@
+//! CHANGE_TRUST, of lines in issued assets.
+#![tactic(auto)]
+
+mod change_trust;
+mod operations;
+
+pub use operations::apply;

@@ -1,0 +1,32 @@
+//! The operations of this crate, by their types.
+
+ghost use Rattle.std.specs.Prelude.{◌<◌, IfOk};
+ghost use Rattle.op_form.specs.Done.{Does};
+ghost use Rattle.op_form.specs.Premises as premises;
+ghost use Rattle.op_trust.specs.Operations as spec;
+
+use crate::change_trust::change_trust;
+use entry_map::{Base, Entries};
+use op_types::{Operation, OperationBody, OperationResult};
+use sponsor_rules::Ctx;
+use std::alloc::AllocError;
+
+/// Applies an operation of `ctx.op_source`: it answers the result, and changes the entries. Where the operation fails,
+/// nothing has changed. Operations of other types, and lines of pool shares, are not supported here.
+#[tactic(auto, unfolding(crate::specs::Operations::trust_operation))]
+pub fn apply<B: Base>(
+    op: &Operation,
+    ctx: &mut Ctx,
+    entries: &mut Entries<'_, B>,
+) -> Result<OperationResult, AllocError>
+    requires seq { ctx.old.seq < 2147483647 }
+    requires ready { premises.AccountsAreReady entries.old.current }
+    requires in_range { premises.BalancesAreInRange entries.old.current }
+    ensures { IfOk result (λ r.
+        Does r ctx.new entries.old entries.new (spec.trust_operation ctx.old op.now.body entries.old.current)) }
+{
+    match &op.body {
+        OperationBody::ChangeTrust(op) => change_trust(op, ctx, entries),
+        _ => Ok(OperationResult::NotSupported),
+    }
+}

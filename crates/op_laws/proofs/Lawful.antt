@@ -34,6 +34,11 @@ abbrev pub KeepsLegal : ℕ → (old new : EntryMap) → Type 0
 KeepsLegal id_pool old new = (v : View) (sum : ℤ) → IsLegalOwing v id_pool nothing_owed sum old
     → IsLegalOwing v id_pool nothing_owed sum new
 
+-- A change keeps a state legal, and shifts the supply of the asset at hand, by whatever it is viewed.
+abbrev pub ShiftsLegal : ℕ → (Asset → ℤ) → (old new : EntryMap) → Type 0
+ShiftsLegal id_pool shift old new = (v : View) (sum : ℤ) → IsLegalOwing v id_pool nothing_owed sum old
+    → IsLegalOwing v id_pool nothing_owed (sum +ℤ shift v.asset) new
+
 abbrev pub AreEachAfter : ℕ → (AccountId → ℤ) → (old new : EntryMap) → Type 0
 AreEachAfter base more old new = (id : AccountId) → IsAfter base (more id) (account_at old id) (account_at new id)
 
@@ -60,18 +65,20 @@ covered_as ctx m id a named (inl low) = inl low
 covered_as ctx m id a named (inr was) = inr (was.0, ap (account_at m) named ∙ was.1, was.2)
 
 module _ (ctx : Ctx) (m : EntryMap) (under : IsUnderway ctx m) (more : AccountId → ℤ) where
-  pub legal_after : (new : EntryMap) → KeepsLegal ctx.id_pool m new → AreEntriesLegal ctx.id_pool new
-  legal_after new keeps = entries_legal (view m) ctx.id_pool (total (held asset.Native) m) new
-      (keeps (view m) (total (held asset.Native) m) under.settled.legal)
+  pub shifted_after : (shift : Asset → ℤ) (new : EntryMap) → ShiftsLegal ctx.id_pool shift m new
+      → AreEntriesLegal ctx.id_pool new
+  shifted_after shift new shifts =
+      entries_legal (view m) ctx.id_pool (total (held asset.Native) m +ℤ shift asset.Native) new
+      (shifts (view m) (total (held asset.Native) m) under.settled.legal)
 
-  -- the entries are left so, in a context with the same terms
-  pub lawful_by : (done : Done) → KeepsLegal ctx.id_pool m done.entries
+  -- the entries are left so, with what the moves issue, in a context with the same terms
+  pub lawful_moved : (done : Done) → ShiftsLegal ctx.id_pool (λ x. issued x done.moves) m done.entries
       → AreEachAfter ctx.base_reserve more m done.entries
       → ((id : AccountId) → more id ≡ gained asset.Native id done.moves)
-      → ((x : Asset) → issued x done.moves ≡ pos 0) → KeepsTerms ctx done.ctx → done.ctx.id_pool ≡ ctx.id_pool
+      → KeepsTerms ctx done.ctx → done.ctx.id_pool ≡ ctx.id_pool
       → AreSponsorshipsSound done.ctx done.entries → IsLawful ctx m done
-  lawful_by done keeps each gains none terms pool sound =
-      let legal = legal_after done.entries keeps in
+  lawful_moved done shifts each gains terms pool sound =
+      let legal = shifted_after (λ x. issued x done.moves) done.entries shifts in
       record {
         legal = record {
           settled = record {
@@ -84,11 +91,22 @@ module _ (ctx : Ctx) (m : EntryMap) (under : IsUnderway ctx m) (more : AccountId
         terms = terms;
         ids = none_drawn 1 ctx.id_pool done.ctx.id_pool pool;
         lumens = λ id. (each id).lumens ∙ ap (λ n. lumens_at m id +ℤ n) (gains id);
-        supply = λ x. plus_none _ _ _
-            (keeps (view_of x m) (total (held x) m) (owing_of x ctx.id_pool m under.settled.legal)).supply (none x);
+        supply = λ x. (shifts (view_of x m) (total (held x) m) (owing_of x ctx.id_pool m under.settled.legal)).supply;
         reserves = λ id a stands. covered_as ctx m id a (same_id_at done.entries id a legal.keyed stands)
             ((each id).covered a stands);
       }
+
+  -- the same where nothing is issued
+  pub lawful_by : (done : Done) → KeepsLegal ctx.id_pool m done.entries
+      → AreEachAfter ctx.base_reserve more m done.entries
+      → ((id : AccountId) → more id ≡ gained asset.Native id done.moves)
+      → ((x : Asset) → issued x done.moves ≡ pos 0) → KeepsTerms ctx done.ctx → done.ctx.id_pool ≡ ctx.id_pool
+      → AreSponsorshipsSound done.ctx done.entries → IsLawful ctx m done
+  lawful_by done keeps each gains none terms pool sound =
+      lawful_moved done
+      (λ v sum legal. subst (λ n. IsLegalOwing v ctx.id_pool nothing_owed n done.entries)
+      (plus_none sum sum (issued v.asset done.moves) refl (none v.asset)) (keeps v sum legal)) each gains terms pool
+      sound
 
   sound_after : (new : EntryMap) → ((id : AccountId) → HasAccount m id → HasAccount new id)
       → AreSponsorshipsSound ctx new
@@ -106,6 +124,15 @@ module _ (ctx : Ctx) (m : EntryMap) (under : IsUnderway ctx m) (more : AccountId
       → IsLawful ctx m (record { result = result; entries = new; ctx = ctx; moves = moves })
   lawful_here result new moves keeps leaves gains none =
       lawful_by (record { result = result; entries = new; ctx = ctx; moves = moves }) keeps leaves.each gains none
+      (terms_kept ctx) refl (sound_after new leaves.stand)
+
+  -- the same with what the moves issue
+  pub lawful_with : (result : OperationResult) (new : EntryMap) (moves : List Move)
+      → ShiftsLegal ctx.id_pool (λ x. issued x moves) m new → Leaves ctx.base_reserve more m new
+      → ((id : AccountId) → more id ≡ gained asset.Native id moves)
+      → IsLawful ctx m (record { result = result; entries = new; ctx = ctx; moves = moves })
+  lawful_with result new moves shifts leaves gains =
+      lawful_moved (record { result = result; entries = new; ctx = ctx; moves = moves }) shifts leaves.each gains
       (terms_kept ctx) refl (sound_after new leaves.stand)
 
 -- nothing moves

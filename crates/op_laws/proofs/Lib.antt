@@ -8,6 +8,9 @@ pub mod Charges
 pub mod Lumens
 pub mod Issued
 pub mod Lawful
+pub mod IssuedMoves
+pub mod LineChanges
+pub mod Amounts
 pub mod BumpSequence
 pub mod Paying
 pub mod Payment
@@ -20,4 +23,5 @@ pub mod Flags
 pub mod SignerWeights
 pub mod SetOptions
 pub mod Merging
+pub mod TrustLines
 pub mod AllOperations

@@ -1,104 +1,147 @@
--- PAYMENT of lumens is lawful.
-use Rattle.std.proofs.Common.{◌≡◌, refl, sym, subst, Bool, true, false, [], ◌∷◌, Ok, arith}
+-- PAYMENT is lawful.
+use Rattle.std.proofs.Common.{◌≡◌, refl, sym, ap, subst, ◌∙◌, Bool, true, false, not, ◌&&◌, ◌||◌, is_some, [], ◌∷◌, Ok}
+use Rattle.std.proofs.Common.{arith}
 use Rattle.std.proofs.lemmas.Int.{ints}
-use Rattle.std.specs.Prelude.{ℤ, pos, int_le, ◌+ℤ◌, ◌≤ℤ◌, if◌then◌else◌}
+use Rattle.std.specs.Prelude.{ℤ, pos, neg_ℤ, int_le, ◌+ℤ◌, ◌-ℤ◌, ◌≤ℤ◌, if◌then◌else◌}
 use Rattle.std.specs.Ordering.{is_eq}
 use Rattle.ledger_types.specs.declared.ids.AccountId.{AccountId}
 use Rattle.ledger_types.specs.declared.asset.Asset.{Asset}
 use Rattle.ledger_types.specs.declared.asset.Asset.TheVariants as asset
 use Rattle.ledger_types.specs.Ids.{account_of}
 use Rattle.ledger_types.specs.KeyOrder.{asset_cmp}
+use Rattle.valid_values.specs.Assets.{is_valid_asset}
 use Rattle.entry_map.specs.EntryMap.{EntryMap}
 use Rattle.sponsor_rules.specs.declared.context.Ctx.{Ctx}
 use Rattle.sponsor_rules.specs.Payers.{is_same_account}
 use Rattle.sponsor_rules.proofs.Ids.{same_account}
-use Rattle.legal_rules.specs.Owing.{nothing_owed}
-use Rattle.legal_rules.specs.Supply.{lumens_of}
-use Rattle.legal_rules.proofs.Steps.{legal_as}
+use Rattle.legal_rules.specs.Legal.{view}
+use Rattle.legal_rules.specs.Supply.{of_asset}
 use Rattle.op_types.specs.declared.payment_ops.PaymentOp.{PaymentOp}
 use Rattle.op_types.specs.declared.payment_results.PaymentResult.TheVariants as pay
+use Rattle.op_form.specs.Amounts.{map_after_credit, map_after_debit}
+use Rattle.op_form.specs.Assets.{is_native, is_issued_by}
 use Rattle.op_form.specs.Done.{Done, Move}
-use Rattle.op_form.specs.Lumens.{map_after_lumens_credit, map_after_lumens_debit}
+use Rattle.op_form.specs.Done.{OfAccount}
 use Rattle.op_form.specs.Steps.{unless_refused}
-use Rattle.op_payment.specs.Payment.{answer, destination_tests, paid, payment_in, payment, payment_move}
-use Rattle.op_payment.specs.Payment.{taken_and_given}
+use Rattle.op_payment.specs.Payment.{answer, credit_result, debit_result, destination_tests, is_to_itself, paid, payment}
+use Rattle.op_payment.specs.Payment.{payment_move, payment_tests, taken_and_given}
 use Rattle.op_laws.specs.Laws.{IsLawful, AreLawful}
+use Rattle.op_laws.specs.Moves.{gained, issued, is_issuer}
 use Rattle.op_laws.specs.Underway.{IsUnderway}
-use Rattle.op_laws.proofs.Lawful.{lawful_here}
+use Rattle.op_laws.proofs.Amounts.{IsMoved, lumens_more, unless_issuer, shifts_as, shifts_both, amount_taken, amount_given}
+use Rattle.op_laws.proofs.IssuedMoves.{same_issuer, issued_so, issued_by_move}
+use Rattle.op_laws.proofs.Lawful.{lawful_here, lawful_with, shifted_after}
 use Rattle.op_laws.proofs.Lumens.{lumens_move, lumens_gained, nothing_gained, none_issued}
-use Rattle.op_laws.proofs.Paying.{taken, given, taken_legal, taken_left, given_legal, given_left, given_back}
 use Rattle.op_laws.proofs.Standing.{none_more, leaves_itself, leaves_both}
-use Rattle.op_laws.proofs.Tests.{went_on, first_passed, went_after_some}
+use Rattle.op_laws.proofs.Tests.{went_on, first_passed, neither, went_after_step}
 
 above : (n : ℤ) → int_le n (pos 0) ≡ false → pos 0 ≤ℤ n
 above n h = grind (arith, ints)
 
+-- ---- what a payment gives and issues
+
+-- an account pays another one an amount of an asset
+abbrev pub asset_move : (from to : AccountId) → Asset → ℤ → Move
+asset_move from to held n = record { from = OfAccount from; to = OfAccount to; asset = held; amount = n }
+
+paid_lumens : (from to : AccountId) (held : Asset) (n : ℤ) (id : AccountId)
+    → (lumens_more held to n id +ℤ lumens_more held from (neg_ℤ n) id)
+    ≡ gained asset.Native id (asset_move from to held n ∷ [])
+unfolding gained
+paid_lumens from to asset.Native n id = lumens_gained from to n id
+paid_lumens from to (asset.Alphanum4 code issuer) n id = refl
+paid_lumens from to (asset.Alphanum12 code issuer) n id = refl
+
+paid_of : (b f t : Bool) (n : ℤ)
+    → ((if t then pos 0 else (if b then n else pos 0)) +ℤ (if f then pos 0 else (if b then neg_ℤ n else pos 0)))
+    ≡ (if b then issued_so f t n else pos 0)
+paid_of true true true n = omega (arith, ints)
+paid_of true true false n = omega (arith, ints)
+paid_of true false true n = omega (arith, ints)
+paid_of true false false n = omega (arith, ints)
+paid_of false true true n = refl
+paid_of false true false n = refl
+paid_of false false true n = refl
+paid_of false false false n = refl
+
+-- what one takes and another gives is what the move issues, of whatever asset
+pub paid_issued : (x held : Asset) (from to : AccountId) (n : ℤ)
+    → (unless_issuer x held to n +ℤ unless_issuer x held from (neg_ℤ n)) ≡ issued x (asset_move from to held n ∷ [])
+paid_issued x held from to n =
+    paid_of (is_eq (asset_cmp x held)) (is_issued_by held from) (is_issued_by held to) n
+    ∙ (λ i. of_asset x held (issued_so (same_issuer held from i) (same_issuer held to i) n))
+    ∙ issued_by_move x held (OfAccount from) (OfAccount to) n
+
+-- ---- the operation
+
+native_is : (held : Asset) → is_native held ≡ true → held ≡ asset.Native
+native_is asset.Native is = refl
+native_is (asset.Alphanum4 code issuer) is = absurd (cc)
+native_is (asset.Alphanum12 code issuer) is = absurd (cc)
+
+both_hold : (a b : Bool) → (a && b) ≡ true → (a ≡ true) × (b ≡ true)
+both_hold true true is = (refl, refl)
+both_hold true false is = absurd (cc)
+both_hold false b is = absurd (cc)
+
 module _ (ctx : Ctx) (op : PaymentOp) (m : EntryMap) (done : Done) (under : IsUnderway ctx m)
-    (native : op.asset ≡ asset.Native) (low : pos 0 ≤ℤ op.amount) where
+    (low : pos 0 ≤ℤ op.amount) where
   abbrev from : AccountId
   from = ctx.op_source
 
   abbrev to : AccountId
   to = account_of op.destination
 
-  abbrev move : Move
-  move = lumens_move from to op.amount
-
-  its_move : payment_move ctx op ≡ move
-  its_move = λ i. record (payment_move ctx op) { asset = native i }
-
   -- the payment is made
   made : (new : EntryMap) → paid ctx op new ≡ Ok done
-      → IsLawful ctx m (record { result = answer pay.Success; entries = new; ctx = ctx; moves = move ∷ [] })
+      → IsLawful ctx m
+      (record { result = answer pay.Success; entries = new; ctx = ctx; moves = payment_move ctx op ∷ [] })
       → IsLawful ctx m done
   made new is lawful =
       let with_its : Done = record
       { result = answer pay.Success; entries = new; ctx = ctx; moves = payment_move ctx op ∷ [] } in
       let same : with_its ≡ done = cc in
-      subst (IsLawful ctx m) same (subst (λ x. IsLawful ctx m (record {
-        result = answer pay.Success;
-        entries = new;
-        ctx = ctx;
-        moves = x ∷ [];
-      })) (sym its_move) lawful)
+      subst (IsLawful ctx m) same lawful
 
-  to_himself : to ≡ from → paid ctx op m ≡ Ok done → IsLawful ctx m done
-  to_himself same is = made m is (lawful_here ctx m under none_more (answer pay.Success) m (move ∷ [])
+  to_itself : op.asset ≡ asset.Native → to ≡ from → paid ctx op m ≡ Ok done → IsLawful ctx m done
+  to_itself native same is =
+      let its_move : payment_move ctx op ≡ lumens_move from to op.amount =
+      λ i. record (payment_move ctx op) { asset = native i } in
+      made m is (subst (λ x. IsLawful ctx m
+      (record { result = answer pay.Success; entries = m; ctx = ctx; moves = x ∷ [] })) (sym its_move)
+      (lawful_here ctx m under none_more (answer pay.Success) m (lumens_move from to op.amount ∷ [])
       (λ v sum legal. legal) (leaves_itself ctx.base_reserve m under.settled.legal.keyed)
-      (nothing_gained from to op.amount same) (none_issued from to op.amount))
+      (nothing_gained from to op.amount same) (none_issued from to op.amount)))
 
-  to_another : taken_and_given ctx op m ≡ Ok done → IsLawful ctx m done
-  to_another is =
-      let first = went_after_some (map_after_lumens_credit to op.amount m) (answer pay.LineFull) _ done is in
-      let second = went_after_some (map_after_lumens_debit ctx from op.amount first.0) (answer pay.Underfunded) _ done first.2
+  taken_given : taken_and_given ctx op m ≡ Ok done → IsLawful ctx m done
+  taken_given is =
+      let first = went_after_step (map_after_credit to op.asset op.amount m) credit_result _ done is in
+      let second = went_after_step (map_after_debit ctx from op.asset op.amount first.0) debit_result _ done first.2 in
+      let one = amount_taken ctx ctx.id_pool m under.settled.legal to op.amount low first.0 op.asset first.1 in
+      let now_legal = shifted_after ctx m under none_more (λ x. unless_issuer x op.asset to op.amount) first.0 one.shifts
       in
-      let one = taken to op.amount m first.0 first.1 in
-      let two = given ctx from op.amount first.0 second.0 second.1 in
-      let taken_one = taken_left ctx.base_reserve to op.amount m first.0 one low under.settled.legal.keyed in
-      made second.0 second.2 (lawful_here ctx m under _ (answer pay.Success) second.0 (move ∷ [])
-      (λ v sum legal. legal_as v _ nothing_owed nothing_owed _ sum second.0
-      (given_legal v ctx.id_pool ctx.base_reserve (sum +ℤ lumens_of v.asset op.amount) from op.amount first.0 second.0
-      two
-      low (taken_legal v ctx.id_pool sum to op.amount m first.0 one low legal)) (λ kind k. refl)
-      (given_back (is_eq (asset_cmp v.asset asset.Native)) sum op.amount))
-      (leaves_both ctx.base_reserve _ _ m first.0 second.0 taken_one
-      (given_left ctx.base_reserve from op.amount first.0 second.0 two taken_one.keyed))
-      (lumens_gained from to op.amount) (none_issued from to op.amount))
+      let two = amount_given ctx ctx.id_pool first.0 now_legal from op.amount low second.0 op.asset second.1 in
+      made second.0 second.2 (lawful_with ctx m under _ (answer pay.Success) second.0 (payment_move ctx op ∷ [])
+      (shifts_as ctx.id_pool
+      (λ x. unless_issuer x op.asset to op.amount +ℤ unless_issuer x op.asset from (neg_ℤ op.amount))
+      (λ x. issued x (payment_move ctx op ∷ [])) m second.0 (λ x. paid_issued x op.asset from to op.amount)
+      (shifts_both ctx.id_pool (λ x. unless_issuer x op.asset to op.amount)
+      (λ x. unless_issuer x op.asset from (neg_ℤ op.amount)) m first.0 second.0 one.shifts two.shifts))
+      (leaves_both ctx.base_reserve _ _ m first.0 second.0 one.left two.left)
+      (paid_lumens from to op.asset op.amount))
 
-  by_destination : (b : Bool) → is_same_account to from ≡ b → (if b then paid ctx op m
-      else unless_refused (destination_tests op m) (taken_and_given ctx op m)) ≡ Ok done → IsLawful ctx m done
-  by_destination true same is = to_himself (same_account to from same) is
-  by_destination false apart is = to_another (went_on (destination_tests op m) (taken_and_given ctx op m) done is).1
-
-by_asset : (ctx : Ctx) (op : PaymentOp) (m : EntryMap) (done : Done) → IsUnderway ctx m → (x : Asset) → op.asset ≡ x
-    → payment_in x ctx op m ≡ Ok done → IsLawful ctx m done
-by_asset ctx op m done under asset.Native native is =
-    let went = went_on ((int_le op.amount (pos 0), answer pay.Malformed) ∷ []) _ done is in
-    by_destination ctx op m done under native
-    (above op.amount (first_passed (int_le op.amount (pos 0)) (answer pay.Malformed) [] went.0).0)
-    (is_same_account (account_of op.destination) ctx.op_source) refl went.1
-by_asset ctx op m done under (asset.Alphanum4 code issuer) other is = absurd (cc)
-by_asset ctx op m done under (asset.Alphanum12 code issuer) other is = absurd (cc)
+  by_destination : (b : Bool) → is_to_itself ctx op ≡ b
+      → (if b then paid ctx op m else unless_refused (destination_tests op m) (taken_and_given ctx op m)) ≡ Ok done
+      → IsLawful ctx m done
+  by_destination true same is =
+      let both = both_hold (is_native op.asset) (is_same_account to from) same in
+      to_itself (native_is op.asset both.0) (same_account to from both.1) is
+  by_destination false apart is = taken_given (went_on (destination_tests op m) (taken_and_given ctx op m) done is).1
 
 pub payment_is_lawful : AreLawful payment
-payment_is_lawful ctx op m done under stands is = by_asset ctx op m done under op.asset refl is
+payment_is_lawful ctx op m done under stands is =
+    let went = went_on (payment_tests op) _ done is in
+    let test = first_passed (int_le op.amount (pos 0) || not (is_valid_asset op.asset)) (answer pay.Malformed) []
+    went.0 in
+    let both = neither (int_le op.amount (pos 0)) (not (is_valid_asset op.asset)) test.0 in
+    by_destination ctx op m done under (above op.amount both.0) (is_to_itself ctx op) refl went.1

@@ -4,7 +4,7 @@ use Rattle.op_types.specs.declared.operation_result.OperationResult.{OperationRe
 use Rattle.entry_map.specs.EntryMap.{EntryMap}
 use Rattle.entry_slots.specs.Tests.{Tests, first_fault, unless_fault, unless_first}
 use Rattle.sponsor_rules.specs.declared.fault.AddFault.{AddFault}
-use Rattle.op_form.specs.Steps.{unless_result, unless_refused, after, after_some, after_charge}
+use Rattle.op_form.specs.Steps.{unless_result, unless_refused, after, after_some, after_charge, after_step}
 
 -- a change that was let through
 pub passed : {F M : Type 0} (tests : Tests F) (m new : M) → unless_first tests m ≡ Ok new
@@ -48,3 +48,9 @@ pub went_after_charge : {B : Type 0} (r : Result EntryMap AddFault) (low : Opera
     → (m : EntryMap) × (r ≡ Ok m) × (next m ≡ Ok b)
 went_after_charge (Err fault) low next b is = absurd (cc)
 went_after_charge (Ok m) low next b is = (m, refl, is)
+
+pub went_after_step : {B F : Type 0} (r : Result EntryMap F) (answers : F → OperationResult)
+    (next : EntryMap → Result B OperationResult) (b : B) → after_step r answers next ≡ Ok b
+    → (m : EntryMap) × (r ≡ Ok m) × (next m ≡ Ok b)
+went_after_step (Err fault) answers next b is = absurd (cc)
+went_after_step (Ok m) answers next b is = (m, refl, is)

@@ -1,13 +1,15 @@
 -- The laws of operations: that each leaves a legal state, moves what its moves say, makes no amount, and leaves each
 -- account what it needs.
-use Rattle.std.specs.Prelude.{◌≡◌, pos, ◌+ℤ◌, ◌≤ℤ◌, ◌⊎◌, Some, Ok}
+use Rattle.std.specs.Prelude.{◌≡◌, ◌≤◌, pos, ◌+ℤ◌, ◌≤ℤ◌, ◌⊎◌, length, Some, Ok}
 use Rattle.ledger_types.specs.declared.ids.AccountId.{AccountId}
 use Rattle.ledger_types.specs.declared.account.AccountEntry.{AccountEntry}
 use Rattle.ledger_types.specs.declared.asset.Asset.{Asset}
 use Rattle.ledger_types.specs.declared.asset.Asset.TheVariants as asset
 use Rattle.op_types.specs.declared.account_ops.BumpSequenceOp.{BumpSequenceOp}
+use Rattle.op_types.specs.declared.balance_ops.CreateClaimableBalanceOp.{CreateClaimableBalanceOp}
 use Rattle.op_types.specs.declared.operation.OperationBody.{OperationBody}
 use Rattle.op_types.specs.declared.operation.OperationBody.TheVariants as body
+use Rattle.op_types.specs.declared.trust_ops.ChangeTrustOp.{ChangeTrustOp}
 use Rattle.entry_map.specs.EntryMap.{EntryMap}
 use Rattle.entry_slots.specs.Accounts.{account_at, HasAccount}
 use Rattle.entry_sums.specs.Sums.{total}
@@ -56,9 +58,19 @@ AreLawful {O} attempt =
 abbrev pub IsBumpFit : BumpSequenceOp → Type 0
 IsBumpFit op = op.bump_to ≤ℤ greatest_i64
 
--- what no test of an operation says of its numbers, and their types do
+-- a limit, which no test bounds, is an int64 (ChangeTrustOp in Stellar-transaction.x)
+abbrev pub IsLimitFit : ChangeTrustOp → Type 0
+IsLimitFit op = op.limit ≤ℤ greatest_i64
+
+-- there are at most 10 claimants (CreateClaimableBalanceOp in Stellar-transaction.x)
+abbrev pub AreClaimantsFew : CreateClaimableBalanceOp → Type 0
+AreClaimantsFew op = length op.claimants ≤ 10
+
+-- what no test of an operation says of its numbers and lists, and their types do
 abbrev pub IsFit : OperationBody → Type 0
 IsFit (body.BumpSequence op) = IsBumpFit op
+IsFit (body.ChangeTrust op) = IsLimitFit op
+IsFit (body.CreateClaimableBalance op) = AreClaimantsFew op
 IsFit other = Unit {0}
 
 -- any operation, whether it succeeds or fails

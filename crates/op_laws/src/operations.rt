@@ -9,7 +9,8 @@ ghost use Rattle.op_payment.specs.Payment.{payment};
 ghost use Rattle.op_sponsor.specs.BeginSponsoringFutureReserves.{begin_sponsoring};
 ghost use Rattle.op_sponsor.specs.RevokeSponsorship.{revoke_sponsorship};
 ghost use Rattle.op_sponsor.specs.EndSponsoringFutureReserves.{end_sponsoring};
-ghost use Rattle.op_laws.specs.Laws.{AreLawful, AreLawfulWhere, AllLawful, IsBumpFit};
+ghost use Rattle.op_trust.specs.ChangeTrust.{change_trust};
+ghost use Rattle.op_laws.specs.Laws.{AreLawful, AreLawfulWhere, AllLawful, IsBumpFit, IsLimitFit};
 
 /// Each CREATE_ACCOUNT that succeeds is lawful.
 pub fn create_account_is_lawful()
@@ -36,9 +37,14 @@ pub fn manage_data_is_lawful()
     ensures { AreLawful manage_data }
 {}
 
-/// Each PAYMENT of lumens that succeeds is lawful.
+/// Each PAYMENT that succeeds is lawful.
 pub fn payment_is_lawful()
     ensures { AreLawful payment }
+{}
+
+/// Each CHANGE_TRUST to a limit of 64 bits that succeeds is lawful.
+pub fn change_trust_is_lawful()
+    ensures { AreLawfulWhere IsLimitFit change_trust }
 {}
 
 /// Each BEGIN_SPONSORING_FUTURE_RESERVES that succeeds is lawful.

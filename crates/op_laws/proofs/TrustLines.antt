@@ -1,0 +1,442 @@
+-- CHANGE_TRUST is lawful.
+use Rattle.std.proofs.Common.{◌≡◌, ◌≢◌, refl, sym, ap, subst, ◌∙◌, ℕ, ◌%◌, ◌≤◌, Bool, true, false, not, ◌||◌, ◌∷◌, []}
+use Rattle.std.proofs.Common.{is_some, bit_or, Option, Some, None, Ok, arith}
+use Rattle.std.proofs.lemmas.Bool.Decides.{Decides-int_eq}
+use Rattle.std.proofs.lemmas.Int.{ints}
+use Rattle.std.specs.Prelude.{ℤ, pos, neg_ℤ, int_lt, ◌+ℤ◌, ◌-ℤ◌, ◌≤ℤ◌, if◌then◌else◌}
+use Rattle.std.specs.FinMap.{get}
+use Rattle.std.specs.Ordering.{int_eq, is_eq}
+use Rattle.ledger_types.specs.declared.ids.AccountId.{AccountId}
+use Rattle.ledger_types.specs.declared.account.AccountEntry.{AccountEntry}
+use Rattle.ledger_types.specs.declared.asset.Asset.{Asset}
+use Rattle.ledger_types.specs.declared.asset.Asset.TheVariants as asset
+use Rattle.ledger_types.specs.declared.asset.TrustLineAsset.{TrustLineAsset}
+use Rattle.ledger_types.specs.declared.asset.TrustLineAsset.TheVariants as line
+use Rattle.ledger_types.specs.declared.trust_line.TrustLineEntry.{TrustLineEntry}
+use Rattle.ledger_types.specs.declared.entry.LedgerEntry.{LedgerEntry}
+use Rattle.ledger_types.specs.declared.entry.LedgerEntryBody.{LedgerEntryBody}
+use Rattle.ledger_types.specs.declared.entry.LedgerEntryBody.TheVariants as body
+use Rattle.ledger_types.specs.declared.key.LedgerKey.{LedgerKey}
+use Rattle.ledger_types.specs.declared.key.LedgerKey.TheVariants as key
+use Rattle.ledger_types.specs.Keys.{key_of, key_of_body}
+use Rattle.ledger_types.specs.KeyOrder.{asset_cmp}
+use Rattle.op_types.specs.declared.trust_ops.ChangeTrustOp.{ChangeTrustOp}
+use Rattle.op_types.specs.declared.trust_results.ChangeTrustResult.TheVariants as trust
+use Rattle.op_types.specs.declared.operation_result.OperationResult.TheVariants.{NotSupported}
+use Rattle.valid_values.specs.Assets.{is_valid_asset}
+use Rattle.entry_map.specs.EntryMap.{EntryMap, erase}
+use Rattle.entry_slots.specs.Accounts.{account_at, HasAccount}
+use Rattle.entry_slots.specs.EntrySponsor.{sponsor_of}
+use Rattle.entry_slots.specs.LineExtensions.{line_liabilities, use_count}
+use Rattle.entry_slots.specs.Lines.{line_in, line_of, line_at, with_line}
+use Rattle.reserve_rules.specs.Reserve.{greatest_i64}
+use Rattle.sponsor_rules.specs.declared.context.Ctx.{Ctx}
+use Rattle.sponsor_rules.specs.Adding.{map_after_adding}
+use Rattle.sponsor_rules.specs.Charge.{line_multiplicity}
+use Rattle.sponsor_rules.specs.Paying.{without_subentry}
+use Rattle.sponsor_rules.specs.Removing.{map_after_discounting, map_after_removing, map_after_removing_entry}
+use Rattle.sponsor_rules.proofs.Ids.{apart_accounts}
+use Rattle.legal_rules.specs.EntryKeys.{is_key}
+use Rattle.legal_rules.specs.Books.{Kind, Subentries, Sponsoring, Sponsored, Selling, Buying, Shares, ShareLines, Uses}
+use Rattle.legal_rules.specs.Books.{View}
+use Rattle.legal_rules.specs.Legal.{view}
+use Rattle.legal_rules.specs.Owing.{weighed, nothing_owed, beside_reserves, IsEntryLegal, IsLegalOwing}
+use Rattle.legal_rules.specs.Ranges.{IsHeldIn, AreLineFlags, IsTrustLineInRange}
+use Rattle.legal_rules.specs.Supply.{of_asset, of_line}
+use Rattle.legal_rules.proofs.Given.{sponsors_ready}
+use Rattle.legal_rules.proofs.Kept.{subentry_added_so}
+use Rattle.legal_rules.proofs.Numbers.{plus_nothing, nothing_less}
+use Rattle.legal_rules.proofs.PaidFor.{nothing_settled}
+use Rattle.legal_rules.proofs.Removing.{subentry_removed, owns}
+use Rattle.legal_rules.proofs.Steps.{legal_as}
+use Rattle.legal_rules.proofs.Liable.{line_entry, with_line_body}
+use Rattle.legal_rules.proofs.Subentries.{subentry_of}
+use Rattle.op_form.specs.Assets.{is_native, is_issued_by, issuer_at, line_asset_of, line_of_asset}
+use Rattle.op_form.specs.Done.{Done}
+use Rattle.op_form.specs.Flags.{is_auth_required, is_account_clawback_enabled}
+use Rattle.op_form.specs.Steps.{success}
+use Rattle.op_trust.specs.ChangeTrust as spec
+use Rattle.op_laws.specs.Laws.{IsLawful, AreLawfulWhere, IsLimitFit}
+use Rattle.op_laws.specs.Moves.{issued}
+use Rattle.op_laws.specs.Underway.{IsUnderway}
+use Rattle.op_laws.proofs.Amounts.{shifts_as}
+use Rattle.op_laws.proofs.Charges.{subentry_kept, discharged_kept, erased_kept}
+use Rattle.op_laws.proofs.Lawful.{KeepsLegal, lawful_still, lawful_with}
+use Rattle.op_laws.proofs.LineChanges.{line_legal, line_shifted, line_left}
+use Rattle.op_laws.proofs.Lumens.{no_moves, nothing_issued}
+use Rattle.op_laws.proofs.Standing.{IsKeyed, Leaves, none_more, keeps_both}
+use Rattle.op_laws.proofs.Tests.{went_on, first_passed, neither, went_after_some, went_after_charge}
+
+-- ---- keys
+
+-- where no line stands under its key, nothing does
+no_line_body : (b : LedgerEntryBody) (id : AccountId) (held : TrustLineAsset) → key_of_body b ≡ key.TrustLine id held
+    → line_in b ≡ None → ⊥
+no_line_body (body.TrustLine t) id held own none = absurd (cc)
+no_line_body other id held own none = absurd (cc)
+
+no_line_of : (o : Option LedgerEntry) (id : AccountId) (held : TrustLineAsset)
+    → ((e : LedgerEntry) → o ≡ Some e → key_of e ≡ key.TrustLine id held) → line_of o ≡ None → o ≡ None
+no_line_of None id held own none = refl
+no_line_of (Some e) id held own none = absurd (no_line_body e.body id held (own e refl) none)
+
+no_line : (m : EntryMap) (id : AccountId) (held : TrustLineAsset) → IsKeyed m → line_at m id held ≡ None
+    → get m (key.TrustLine id held) ≡ None
+unfolding line_at
+no_line m id held keyed none = no_line_of (get m (key.TrustLine id held)) id held (keyed (key.TrustLine id held)) none
+
+-- ---- what a line counts beside its reserve
+
+-- a line in an asset that states nothing
+pub record IsIdleLine (t : TrustLineEntry) (held : Asset) : Type 0 where
+  pub asset : t.asset ≡ line_asset_of held
+  pub selling : (line_liabilities t).selling ≡ pos 0
+  pub buying : (line_liabilities t).buying ≡ pos 0
+  pub uses : use_count t ≡ pos 0
+
+none_stated : (b : Bool) (n : ℤ) → n ≡ pos 0 → (pos 0 -ℤ (if b then n else pos 0)) ≡ pos 0
+none_stated true n none = omega (arith, ints)
+none_stated false n none = refl
+
+module _ (v : View) (e : LedgerEntry) (t : TrustLineEntry) (held : Asset) (idle : IsIdleLine t held) where
+  abbrev own : LedgerKey → Bool
+  own k = is_key (key.TrustLine t.account_id t.asset) k
+
+  -- by the asset that the line is in
+  abbrev CountsNothing : TrustLineAsset → Type 0
+  CountsNothing a = (kind : Kind) (k : LedgerKey)
+      → beside_reserves (weighed v (with_line_body e (record t { asset = a }))) kind k ≡ pos 0
+
+  nothing_of : (x : Asset) → CountsNothing (line_asset_of x)
+  nothing_of x Subentries k = refl
+  nothing_of x Sponsoring k = refl
+  nothing_of x Sponsored k = refl
+  nothing_of x Selling k = none_stated _ (line_liabilities t).selling idle.selling
+  nothing_of x Buying k = none_stated _ (line_liabilities t).buying idle.buying
+  nothing_of asset.Native Uses k = none_stated _ (use_count t) idle.uses
+  nothing_of (asset.Alphanum4 code issuer) Uses k = none_stated _ (use_count t) idle.uses
+  nothing_of (asset.Alphanum12 code issuer) Uses k = none_stated _ (use_count t) idle.uses
+  nothing_of asset.Native Shares k = none_stated _ (pos 0) refl
+  nothing_of (asset.Alphanum4 code issuer) Shares k = none_stated _ (pos 0) refl
+  nothing_of (asset.Alphanum12 code issuer) Shares k = none_stated _ (pos 0) refl
+  nothing_of asset.Native ShareLines k = none_stated _ (pos 0) refl
+  nothing_of (asset.Alphanum4 code issuer) ShareLines k = none_stated _ (pos 0) refl
+  nothing_of (asset.Alphanum12 code issuer) ShareLines k = none_stated _ (pos 0) refl
+
+  pub nothing_counted : (kind : Kind) (k : LedgerKey) → beside_reserves (weighed v (with_line_body e t)) kind k ≡ pos 0
+  nothing_counted = subst CountsNothing (sym idle.asset) (nothing_of held)
+
+same_zero : (b : Bool) → (if b then pos 0 else pos 0) ≡ pos 0
+same_zero true = refl
+same_zero false = refl
+
+nothing_held : (x : Asset) (a : TrustLineAsset) → of_line x a (pos 0) ≡ pos 0
+nothing_held x line.Native = refl
+nothing_held x (line.Alphanum4 code issuer) = same_zero (is_eq (asset_cmp x (asset.Alphanum4 code issuer)))
+nothing_held x (line.Alphanum12 code issuer) = same_zero (is_eq (asset_cmp x (asset.Alphanum12 code issuer)))
+nothing_held x (line.PoolShare pool) = refl
+
+-- ---- the flags and the asset of a new line
+
+new_flags_of : (required clawback : Bool)
+    → (bit_or (if required then 0 else 1) (if clawback then 4 else 0) ≤ 7)
+    × (bit_or (if required then 0 else 1) (if clawback then 4 else 0) % 4 ≢ 3)
+new_flags_of true true = (omega arith, λ is. absurd (cc))
+new_flags_of true false = (omega arith, λ is. absurd (cc))
+new_flags_of false true = (omega arith, λ is. absurd (cc))
+new_flags_of false false = (omega arith, λ is. absurd (cc))
+
+new_flags : (held : Asset) (issuer : AccountEntry) → AreLineFlags (line_asset_of held) (spec.new_line_flags issuer)
+new_flags asset.Native issuer = new_flags_of (is_auth_required issuer) (is_account_clawback_enabled issuer)
+new_flags (asset.Alphanum4 code by) issuer =
+    new_flags_of (is_auth_required issuer) (is_account_clawback_enabled issuer)
+new_flags (asset.Alphanum12 code by) issuer =
+    new_flags_of (is_auth_required issuer) (is_account_clawback_enabled issuer)
+
+held_in_it : (held : Asset) (id : AccountId) → is_native held ≡ false → is_valid_asset held ≡ true
+    → is_issued_by held id ≡ false → IsHeldIn id (line_asset_of held)
+unfolding is_valid_asset
+held_in_it asset.Native id issued valid other = absurd (cc)
+held_in_it (asset.Alphanum4 code issuer) id issued valid other = (valid, apart_accounts issuer id other)
+held_in_it (asset.Alphanum12 code issuer) id issued valid other = (valid, apart_accounts issuer id other)
+
+-- ---- numbers
+
+not_below : (n : ℤ) → int_lt n (pos 0) ≡ false → pos 0 ≤ℤ n
+not_below n h = grind (arith, ints)
+
+not_less : (x y : ℤ) → int_lt x y ≡ false → y ≤ℤ x
+not_less x y h = grind (arith, ints)
+
+is_zero : (n : ℤ) → int_eq n (pos 0) ≡ true → n ≡ pos 0
+is_zero n h = (Decides-int_eq n (pos 0)).0 h
+
+not_zero : (n : ℤ) → pos 0 ≤ℤ n → int_eq n (pos 0) ≡ false → pos 1 ≤ℤ n
+not_zero n low h =
+    let apart : n ≢ pos 0 = λ same. let is = (Decides-int_eq n (pos 0)).1 same in absurd (cc) in
+    omega (arith, ints)
+
+not_true : (b : Bool) → not b ≡ false → b ≡ true
+not_true true h = refl
+not_true false h = absurd (cc)
+
+as_nothing : (t : ℤ) → t ≡ pos 0 → (pos 0 +ℤ t) ≡ pos 0
+as_nothing t none = omega (arith, ints)
+
+none_taken : (x : ℤ) → x ≡ pos 0 → (pos 0 +ℤ neg_ℤ x) ≡ pos 0
+none_taken x none = omega (arith, ints)
+
+minus_none : (x h : ℤ) → h ≡ pos 0 → (x +ℤ neg_ℤ h) ≡ x
+minus_none x h none = omega (arith, ints)
+
+plus_none : (x : ℤ) → x ≤ℤ pos 1 → (x +ℤ pos 0) ≤ℤ pos 1
+plus_none x le = omega (arith, ints)
+
+none_each : (b n : ℤ) → pos 0 ≤ℤ b → pos 0 ≤ℤ n → (b +ℤ n) ≤ℤ pos 0 → (b ≡ pos 0) × (n ≡ pos 0)
+none_each b n low also le = (omega (arith, ints), omega (arith, ints))
+
+none_within : (s b : ℤ) → b ≡ pos 0 → pos 0 ≤ℤ s → s ≤ℤ b → s ≡ pos 0
+none_within s b none low le = omega (arith, ints)
+
+no_less : (b : ℤ) → (b -ℤ b) ≡ pos 0
+no_less b = omega (arith, ints)
+
+-- ---- adding
+
+module _ (ctx : Ctx) (m : EntryMap) (under : IsUnderway ctx m) (stands : HasAccount m ctx.op_source) (held : Asset)
+    (issued_asset : is_native held ≡ false) (limit : ℤ) where
+  abbrev src : AccountId
+  src = ctx.op_source
+
+  abbrev its : TrustLineAsset
+  its = line_asset_of held
+
+  module _ (valid : is_valid_asset held ≡ true) (other : is_issued_by held ctx.op_source ≡ false) (low : pos 1 ≤ℤ limit)
+      (high : limit ≤ℤ greatest_i64) (issuer : AccountEntry) where
+    abbrev entry : LedgerEntry
+    entry = spec.new_line ctx held limit issuer
+
+    abbrev new_t : TrustLineEntry
+    new_t = record {
+      account_id = src;
+      asset = its;
+      balance = pos 0;
+      limit = limit;
+      flags = spec.new_line_flags issuer;
+      ext = None;
+    }
+
+    new_range : IsTrustLineInRange new_t
+    new_range = record {
+      range = record {
+        balance = omega (arith, ints);
+        buying = omega (arith, ints);
+        selling = omega (arith, ints);
+        covered = omega (arith, ints);
+        fits = lower limit low;
+      };
+      limit = low;
+      greatest = high;
+      held = held_in_it held src issued_asset valid other;
+      flags = new_flags held issuer;
+      uses = omega (arith, ints);
+    }
+      where
+        lower : (n : ℤ) → pos 1 ≤ℤ n → pos 0 ≤ℤ n
+        lower n le = omega (arith, ints)
+
+    added_legal : (new : EntryMap) → line_at m src its ≡ None → map_after_adding ctx src entry m ≡ Ok new
+        → KeepsLegal ctx.id_pool m new
+    added_legal new none done v sum legal =
+        legal_as v (IsEntryLegal ctx.id_pool) _ nothing_owed _ sum new
+        (subentry_added_so v ctx.id_pool ctx.id_pool nothing_owed sum ctx src (line_multiplicity its) entry m new legal
+        refl (record {
+          free = no_line m src its legal.keyed none;
+          unsponsored = refl;
+          id_free = λ id. plus_none _ (legal.offers id);
+        }) (omega arith) (record {
+          range = record { body = new_range; paid = λ some. absurd (some refl) };
+          bound = λ none_set. (refl, refl);
+          few = tt;
+          fits = tt;
+          filled = tt;
+        }) stands (sponsors_ready ctx m src under.sponsorships) done)
+        (λ kind k. as_nothing _ (nothing_counted v entry new_t held
+        (record { asset = refl; selling = refl; buying = refl; uses = refl }) kind k))
+        (ap (λ n. sum +ℤ n) (nothing_held v.asset its) ∙ plus_nothing sum)
+
+    added_lawful : (done : Done) → line_at m src its ≡ None → spec.added ctx held limit issuer m ≡ Ok done
+        → IsLawful ctx m done
+    added_lawful done none is =
+        let went = went_after_charge (map_after_adding ctx src entry m) (spec.answer trust.LowReserve) _ done is in
+        let also = went.2 in
+        let made : Done = record { result = spec.answer trust.Success; entries = went.0; ctx = ctx; moves = [] } in
+        let same : made ≡ done = cc in
+        subst (IsLawful ctx m) same (lawful_still ctx m under (spec.answer trust.Success) went.0
+        (added_legal went.0 none went.1)
+        (subentry_kept ctx m src (line_multiplicity its) entry went.0 under.settled.legal.keyed
+        (λ id at. absurd (cc)) went.1))
+
+  -- ---- another limit
+
+  module _ (t : TrustLineEntry) (there : line_at m ctx.op_source (line_asset_of held) ≡ Some t)
+      (exceeded : spec.is_exceeded limit t ≡ false) (low : pos 0 ≤ℤ limit) where
+    limited_lawful : (done : Done) → int_eq limit (pos 0) ≡ false → limit ≤ℤ greatest_i64
+        → spec.limited ctx held limit m ≡ Ok done → IsLawful ctx m done
+    limited_lawful done some high is =
+        let new = with_line m src its (spec.with_limit limit) in
+        let went = went_on ((not (is_some (issuer_at m held)), spec.answer trust.NoIssuer) ∷ [])
+        (success ctx (spec.answer trust.Success) new []) done is in
+        let also = went.1 in
+        let made : Done = record { result = spec.answer trust.Success; entries = new; ctx = ctx; moves = [] } in
+        let same : made ≡ done = cc in
+        let was = line_legal (view m) ctx.id_pool nothing_owed _ m src its t under.settled.legal there in
+        subst (IsLawful ctx m) same (lawful_with ctx m under none_more (spec.answer trust.Success) new []
+        (shifts_as ctx.id_pool (λ x. of_asset x held (t.balance -ℤ t.balance)) (λ x. issued x []) m new
+        (λ x. ap (λ n. of_asset x held n) (no_less t.balance) ∙ same_zero (is_eq (asset_cmp x held))
+        ∙ sym (nothing_issued x))
+        (line_shifted ctx.id_pool m src held issued_asset (spec.with_limit limit) t there
+        (record { id = refl; asset = refl; liabilities = refl; uses = refl })
+        (record {
+          range = record {
+            balance = was.range.range.balance;
+            buying = was.range.range.buying;
+            selling = was.range.range.selling;
+            covered = was.range.range.covered;
+            fits = not_less limit (t.balance +ℤ (line_liabilities t).buying) exceeded;
+          };
+          limit = not_zero limit low some;
+          greatest = high;
+          held = was.range.held;
+          flags = was.range.flags;
+          uses = was.range.uses;
+        }) was.bound))
+        (line_left ctx.id_pool m src held issued_asset (spec.with_limit limit) t there ctx.base_reserve
+        under.settled.legal.keyed) no_moves)
+
+    -- ---- removing
+
+    abbrev its_key : LedgerKey
+    its_key = key.TrustLine src its
+
+    module _ (none : int_eq limit (pos 0) ≡ true) (unused : use_count t ≡ pos 0) where
+      its_line : IsIdleLine t held
+      its_line =
+          let was = line_legal (view m) ctx.id_pool nothing_owed _ m src its t under.settled.legal there in
+          let r = was.range.range in
+          let le = subst (λ n. (t.balance +ℤ (line_liabilities t).buying) ≤ℤ n) (is_zero limit none)
+          (not_less limit (t.balance +ℤ (line_liabilities t).buying) exceeded) in
+          let both = none_each t.balance (line_liabilities t).buying r.balance r.buying le in
+          record {
+            asset = was.asset;
+            selling = none_within (line_liabilities t).selling t.balance both.0 r.selling r.covered;
+            buying = both.1;
+            uses = unused;
+          }
+
+      its_balance : t.balance ≡ pos 0
+      its_balance =
+          let was = line_legal (view m) ctx.id_pool nothing_owed _ m src its t under.settled.legal there in
+          let r = was.range.range in
+          let le = subst (λ n. (t.balance +ℤ (line_liabilities t).buying) ≤ℤ n) (is_zero limit none)
+          (not_less limit (t.balance +ℤ (line_liabilities t).buying) exceeded) in
+          (none_each t.balance (line_liabilities t).buying r.balance r.buying le).0
+
+      module _ (e : LedgerEntry) (at : get m (key.TrustLine ctx.op_source (line_asset_of held))
+          ≡ Some (with_line_body e t)) where
+        abbrev e1 : LedgerEntry
+        e1 = with_line_body e t
+
+        abbrev times : ℕ
+        times = line_multiplicity t.asset
+
+        removed_legal : KeepsLegal ctx.id_pool m (map_after_removing_entry its_key m (Some e1))
+        removed_legal v sum legal = legal_as v (IsEntryLegal ctx.id_pool) _ nothing_owed _ sum _
+            (subentry_removed v ctx.id_pool nothing_owed sum m legal nothing_settled t.account_id times its_key e1 at
+            (subentry_of (body.TrustLine t) t.account_id times refl))
+            (λ kind k. none_taken _ (nothing_counted v e t held its_line kind k))
+            (minus_none sum (of_line v.asset t.asset t.balance)
+            (ap (of_line v.asset t.asset) its_balance ∙ nothing_held v.asset t.asset))
+
+        had : (a : AccountEntry) → account_at m t.account_id ≡ Some a → times ≤ a.num_sub_entries
+        had a standing =
+            let own = owns (view m) ctx.id_pool nothing_owed _ m under.settled.legal nothing_settled t.account_id times
+            its_key e1 at (subentry_of (body.TrustLine t) t.account_id times refl) in
+            let also = own.stands in
+            let same : own.account ≡ a = cc in
+            subst (λ (b : AccountEntry). times ≤ b.num_sub_entries) same own.enough
+
+        removed_left : Leaves ctx.base_reserve none_more m (map_after_removing_entry its_key m (Some e1))
+        removed_left =
+            let s = sponsor_of e1 in
+            let now = map_after_discounting t.account_id times s m in
+            let first = discharged_kept ctx.base_reserve times t.account_id s m under.settled.legal.keyed had
+            (without_subentry times s) (λ a next. next) in
+            keeps_both ctx.base_reserve m now (erase now its_key) first
+            (erased_kept ctx.base_reserve now its_key first.keyed (λ id same. absurd (cc)))
+
+    removed_lawful : (done : Done) → int_eq limit (pos 0) ≡ true → spec.removed ctx held t m ≡ Ok done
+        → IsLawful ctx m done
+    removed_lawful done none is =
+        let new = map_after_removing its_key m in
+        let went = went_on ((not (int_eq (use_count t) (pos 0)), spec.answer trust.CannotDelete) ∷ [])
+        (success ctx (spec.answer trust.Success) new []) done is in
+        let test = first_passed (not (int_eq (use_count t) (pos 0))) (spec.answer trust.CannotDelete) [] went.0 in
+        let unused = is_zero (use_count t) (not_true (int_eq (use_count t) (pos 0)) test.0) in
+        let also = went.1 in
+        let made : Done = record { result = spec.answer trust.Success; entries = new; ctx = ctx; moves = [] } in
+        let same : made ≡ done = cc in
+        let found = line_entry m src its t there in
+        let at = found.1.there ∙ ap Some (λ i. record found.0 { body = found.1.is i }) in
+        let removed_so : map_after_removing_entry its_key m (Some (with_line_body found.0 t)) ≡ new =
+        sym (ap (map_after_removing_entry its_key m) at) in
+        subst (IsLawful ctx m) same (lawful_still ctx m under (spec.answer trust.Success) new
+        (subst (KeepsLegal ctx.id_pool m) removed_so (removed_legal none unused found.0 at))
+        (subst (Leaves ctx.base_reserve none_more m) removed_so (removed_left none unused found.0 at)))
+
+-- ---- the operation
+
+module _ (ctx : Ctx) (m : EntryMap) (done : Done) (under : IsUnderway ctx m) (stands : HasAccount m ctx.op_source)
+    (limit : ℤ) (high : limit ≤ℤ greatest_i64) where
+  module _ (held : Asset) (issued_asset : is_native held ≡ false) (low : pos 0 ≤ℤ limit)
+      (valid : is_valid_asset held ≡ true) (other : is_issued_by held ctx.op_source ≡ false) where
+    by_limit : (t : TrustLineEntry) → line_at m ctx.op_source (line_asset_of held) ≡ Some t
+        → spec.is_exceeded limit t ≡ false → (b : Bool) → int_eq limit (pos 0) ≡ b
+        → (if b then spec.removed ctx held t m else spec.limited ctx held limit m) ≡ Ok done → IsLawful ctx m done
+    by_limit t there exceeded true none is =
+        removed_lawful ctx m under stands held issued_asset limit t there exceeded low done none is
+    by_limit t there exceeded false some is =
+        limited_lawful ctx m under stands held issued_asset limit t there exceeded low done some high is
+
+    by_line : (o : Option TrustLineEntry) → line_at m ctx.op_source (line_asset_of held) ≡ o
+        → spec.changed ctx held limit m o ≡ Ok done → IsLawful ctx m done
+    by_line (Some t) there is =
+        let went = went_on (spec.limit_tests limit t)
+        (if int_eq limit (pos 0) then spec.removed ctx held t m else spec.limited ctx held limit m) done is in
+        let test = first_passed (spec.is_exceeded limit t) (spec.answer trust.InvalidLimit) [] went.0 in
+        by_limit t there test.0 (int_eq limit (pos 0)) refl went.1
+    by_line None there is =
+        let went = went_on ((int_eq limit (pos 0), spec.answer trust.InvalidLimit) ∷ []) _ done is in
+        let test = first_passed (int_eq limit (pos 0)) (spec.answer trust.InvalidLimit) [] went.0 in
+        let issuer = went_after_some (issuer_at m held) (spec.answer trust.NoIssuer) _ done went.1 in
+        added_lawful ctx m under stands held issued_asset limit valid other (not_zero limit low test.0) high issuer.0
+        done there issuer.2
+
+  by_asset : (held : Asset) → spec.asset_changed ctx held limit m ≡ Ok done → IsLawful ctx m done
+  by_asset held is =
+      let went = went_on (spec.asked_tests ctx held limit) _ done is in
+      let below = int_lt limit (pos 0) in
+      let native = is_native held in
+      let bad = not (is_valid_asset held) in
+      let own = is_issued_by held ctx.op_source in
+      let test = first_passed (below || native || bad || own) (spec.answer trust.Malformed) [] went.0 in
+      let last = neither (below || native || bad) own test.0 in
+      let third = neither (below || native) bad last.0 in
+      let first = neither below native third.0 in
+      by_line held first.1 (not_below limit first.0) (not_true (is_valid_asset held) third.1) last.1
+      (line_of_asset m ctx.op_source held) refl went.1
+
+pub change_trust_is_lawful : AreLawfulWhere IsLimitFit spec.change_trust
+change_trust_is_lawful ctx op m done fit under stands is =
+    let went = went_after_some (spec.asset_asked op.line) NotSupported _ done is in
+    by_asset ctx m done under stands op.limit fit went.0 went.2

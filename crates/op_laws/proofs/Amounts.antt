@@ -83,7 +83,7 @@ still id_pool base m keyed =
 not_less : (x y : ℤ) → int_lt x y ≡ false → y ≤ℤ x
 not_less x y h = grind (arith, ints)
 
-ok_of : {F : Type 0} (o : Option EntryMap) (fault : F) (new : EntryMap) → ok_or o fault ≡ Ok new → o ≡ Some new
+pub ok_of : {F : Type 0} (o : Option EntryMap) (fault : F) (new : EntryMap) → ok_or o fault ≡ Ok new → o ≡ Some new
 ok_of None fault new is = absurd (cc)
 ok_of (Some m) fault new is = let same : m ≡ new = cc in ap Some same
 

@@ -20,7 +20,7 @@ use Rattle.op_laws.specs.Moves.{is_of_asset, is_issuer, issued}
 
 -- ---- issuers
 
-same_both_ways : (a b : AccountId) → is_same_account a b ≡ is_same_account b a
+pub same_both_ways : (a b : AccountId) → is_same_account a b ≡ is_same_account b a
 same_both_ways a b = by (is_same_account a b) (is_same_account b a) refl refl
   where
     by : (s t : Bool) → is_same_account a b ≡ s → is_same_account b a ≡ t → s ≡ t

@@ -24,4 +24,8 @@ pub mod SignerWeights
 pub mod SetOptions
 pub mod Merging
 pub mod TrustLines
+pub mod LineFlags
+pub mod Clawbacks
+pub mod NewBalances
+pub mod Claims
 pub mod AllOperations

@@ -35,7 +35,7 @@ use Rattle.op_laws.proofs.Lumens.{lumens_move, lumens_gained, nothing_gained, no
 use Rattle.op_laws.proofs.Standing.{none_more, leaves_itself, leaves_both}
 use Rattle.op_laws.proofs.Tests.{went_on, first_passed, neither, went_after_step}
 
-above : (n : ℤ) → int_le n (pos 0) ≡ false → pos 0 ≤ℤ n
+pub above : (n : ℤ) → int_le n (pos 0) ≡ false → pos 0 ≤ℤ n
 above n h = grind (arith, ints)
 
 -- ---- what a payment gives and issues

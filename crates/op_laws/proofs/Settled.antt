@@ -1,12 +1,16 @@
 -- Settled entries, by the forms in which changes are stated, and what they give.
-use Rattle.std.proofs.Common.{◌≡◌, refl, sym, ap, subst, ◌∙◌, ℕ, ◌≤◌, Bool, true, false, arith}
+use Rattle.std.proofs.Common.{◌≡◌, refl, sym, ap, subst, ◌∙◌, ℕ, ◌≤◌, Bool, true, false, Option, Some, None, arith}
 use Rattle.std.proofs.lemmas.Int.{ints}
 use Rattle.std.specs.Prelude.{ℤ, pos, ◌+ℤ◌, ◌-ℤ◌, ◌≤ℤ◌, if◌then◌else◌}
+use Rattle.std.specs.FinMap.{get}
 use Rattle.std.specs.Ordering.{is_eq}
+use Rattle.ledger_types.specs.declared.ids.AccountId.{AccountId}
 use Rattle.ledger_types.specs.declared.asset.Asset.{Asset}
 use Rattle.ledger_types.specs.declared.asset.Asset.TheVariants as asset
 use Rattle.ledger_types.specs.declared.asset.TrustLineAsset.{TrustLineAsset}
 use Rattle.ledger_types.specs.declared.asset.TrustLineAsset.TheVariants as line
+use Rattle.ledger_types.specs.declared.trust_line.TrustLineEntry.{TrustLineEntry}
+use Rattle.ledger_types.specs.declared.claimable_balance.ClaimableBalanceEntry.{ClaimableBalanceEntry}
 use Rattle.ledger_types.specs.declared.entry.LedgerEntry.{LedgerEntry}
 use Rattle.ledger_types.specs.declared.entry.LedgerEntryBody.{LedgerEntryBody}
 use Rattle.ledger_types.specs.declared.entry.LedgerEntryBody.TheVariants as body
@@ -16,6 +20,9 @@ use Rattle.ledger_types.specs.Keys.{key_of}
 use Rattle.ledger_types.specs.KeyOrder.{asset_cmp}
 use Rattle.entry_map.specs.EntryMap.{EntryMap}
 use Rattle.entry_slots.specs.AccountExtensions.{num_sponsored}
+use Rattle.entry_slots.specs.Balances.{balance_in, balance_of, balance_at}
+use Rattle.entry_slots.specs.Lines.{line_at}
+use Rattle.reserve_rules.specs.Reserve.{IsLineInRange}
 use Rattle.entry_sums.specs.Sums.{total}
 use Rattle.entry_sums.proofs.Summing.{total_not_below}
 use Rattle.legal_rules.specs.EntryKeys.{is_key}
@@ -24,13 +31,15 @@ use Rattle.legal_rules.specs.PoolShares.{uses}
 use Rattle.legal_rules.specs.Ranges.{IsBodyInRange}
 use Rattle.legal_rules.specs.Supply.{of_asset, of_line, held_in, held}
 use Rattle.legal_rules.specs.Legal.{view, pools_in}
-use Rattle.legal_rules.specs.Owing.{weight, nothing_owed, IsLegalOwing}
+use Rattle.legal_rules.specs.Owing.{weight, nothing_owed, IsEntryLegal, IsLegalOwing}
 use Rattle.legal_rules.proofs.Bounded.{account_legal}
 use Rattle.legal_rules.proofs.Covered.{sponsored_at_most, account_states}
 use Rattle.legal_rules.proofs.Legality.{owing_nothing_of, legal_of, view_of}
+use Rattle.legal_rules.proofs.Liable.{line_entry}
 use Rattle.legal_rules.proofs.Numbers.{taken_off}
 use Rattle.op_laws.specs.Underway.{AreEntriesLegal}
 use Rattle.op_laws.specs.Steps.{LegalSettles, SettledLegal, SettledAccounts, SettledReady, SettledInRange, SettledHeld}
+use Rattle.op_laws.specs.Steps.{SettledAmounts}
 
 -- ---- other views
 
@@ -81,6 +90,13 @@ pub settled_accounts : SettledAccounts
 settled_accounts id_pool m id a settled stands =
     (account_legal (view m) id_pool nothing_owed (total (held asset.Native) m) m id a settled.legal stands).range
 
+line_in_range : (id_pool : ℕ) (m : EntryMap) (id : AccountId) (held : TrustLineAsset) (t : TrustLineEntry)
+    → AreEntriesLegal id_pool m → line_at m id held ≡ Some t → IsLineInRange t
+line_in_range id_pool m id held t legal stands =
+    let found = line_entry m id held t stands in
+    (subst (IsBodyInRange id_pool) found.1.is
+    (legal.entries (key.TrustLine id held) found.0 found.1.there).range.body).range
+
 ready_of : (stated_sponsored stated_subs : ℤ) (sponsored subs : ℕ) → stated_sponsored ≡ pos sponsored
     → stated_subs ≡ pos subs → stated_sponsored ≤ℤ (stated_subs +ℤ pos 2) → subs ≤ 1000 → sponsored ≤ 4294967293
 ready_of stated_sponsored stated_subs sponsored subs is also le few = omega (arith, ints)
@@ -98,7 +114,8 @@ settled_ready id_pool m settled = record {
 
 pub settled_in_range : SettledInRange
 settled_in_range id_pool m settled = record {
-  in_range = λ id a stands. (settled_accounts id_pool m id a settled stands).range;
+  accounts = record { in_range = λ id a stands. (settled_accounts id_pool m id a settled stands).range };
+  lines = λ id held t stands. line_in_range id_pool m id held t settled.legal stands;
 }
 
 -- ---- what is held
@@ -134,6 +151,26 @@ in_not_below x id_pool (body.LiquidityPool pool) r =
     sum_not_below (of_asset x pool.params.asset_a pool.reserve_a) (of_asset x pool.params.asset_b pool.reserve_b)
     (of_not_below x pool.params.asset_a pool.reserve_a r.reserve_a)
     (of_not_below x pool.params.asset_b pool.reserve_b r.reserve_b)
+
+balance_body : (of : LedgerEntryBody) (x : ClaimableBalanceEntry) → balance_in of ≡ Some x
+    → of ≡ body.ClaimableBalance x
+balance_body (body.ClaimableBalance y) x h = let same : y ≡ x = cc in ap body.ClaimableBalance same
+balance_body other x h = absurd (cc)
+
+amount_low : (id_pool : ℕ) (of : LedgerEntryBody) (x : ClaimableBalanceEntry) → balance_in of ≡ Some x
+    → IsBodyInRange id_pool of → pos 0 ≤ℤ x.amount
+amount_low id_pool of x is range = lower x.amount (subst (IsBodyInRange id_pool) (balance_body of x is) range).amount
+
+pub settled_amounts : SettledAmounts
+unfolding balance_at
+settled_amounts id_pool m settled = record {
+  low = λ id x stands. by x (get m (key.ClaimableBalance id)) (settled.legal.entries (key.ClaimableBalance id)) stands;
+}
+  where
+    by : (x : ClaimableBalanceEntry) (o : Option LedgerEntry)
+        → ((e : LedgerEntry) → o ≡ Some e → IsEntryLegal id_pool e) → balance_of o ≡ Some x → pos 0 ≤ℤ x.amount
+    by x None each is = absurd (cc)
+    by x (Some e) each is = amount_low id_pool e.body x is (each e refl).range.body
 
 pub settled_held : SettledHeld
 settled_held id_pool m settled = total_not_below (held asset.Native) m

@@ -126,7 +126,7 @@ module _ (v : View) (e : LedgerEntry) (t : TrustLineEntry) (held : Asset) (idle 
   pub nothing_counted : (kind : Kind) (k : LedgerKey) → beside_reserves (weighed v (with_line_body e t)) kind k ≡ pos 0
   nothing_counted = subst CountsNothing (sym idle.asset) (nothing_of held)
 
-same_zero : (b : Bool) → (if b then pos 0 else pos 0) ≡ pos 0
+pub same_zero : (b : Bool) → (if b then pos 0 else pos 0) ≡ pos 0
 same_zero true = refl
 same_zero false = refl
 
@@ -162,10 +162,10 @@ held_in_it (asset.Alphanum12 code issuer) id issued valid other = (valid, apart_
 
 -- ---- numbers
 
-not_below : (n : ℤ) → int_lt n (pos 0) ≡ false → pos 0 ≤ℤ n
+pub not_below : (n : ℤ) → int_lt n (pos 0) ≡ false → pos 0 ≤ℤ n
 not_below n h = grind (arith, ints)
 
-not_less : (x y : ℤ) → int_lt x y ≡ false → y ≤ℤ x
+pub not_less : (x y : ℤ) → int_lt x y ≡ false → y ≤ℤ x
 not_less x y h = grind (arith, ints)
 
 is_zero : (n : ℤ) → int_eq n (pos 0) ≡ true → n ≡ pos 0
@@ -176,7 +176,7 @@ not_zero n low h =
     let apart : n ≢ pos 0 = λ same. let is = (Decides-int_eq n (pos 0)).1 same in absurd (cc) in
     omega (arith, ints)
 
-not_true : (b : Bool) → not b ≡ false → b ≡ true
+pub not_true : (b : Bool) → not b ≡ false → b ≡ true
 not_true true h = refl
 not_true false h = absurd (cc)
 
@@ -198,7 +198,7 @@ none_each b n low also le = (omega (arith, ints), omega (arith, ints))
 none_within : (s b : ℤ) → b ≡ pos 0 → pos 0 ≤ℤ s → s ≤ℤ b → s ≡ pos 0
 none_within s b none low le = omega (arith, ints)
 
-no_less : (b : ℤ) → (b -ℤ b) ≡ pos 0
+pub no_less : (b : ℤ) → (b -ℤ b) ≡ pos 0
 no_less b = omega (arith, ints)
 
 -- ---- adding

@@ -16,7 +16,7 @@ use Rattle.legal_rules.specs.Legal.{IsLegal}
 use Rattle.legal_rules.specs.Payments.{with_paid, with_seq_num}
 use Rattle.legal_rules.specs.Supply.{held, lumens_of}
 use Rattle.legal_rules.specs.Ranges.{IsAccountInRange}
-use Rattle.op_form.specs.Premises.{AccountsAreReady, AccountsAreInRange}
+use Rattle.op_form.specs.Premises.{AccountsAreReady, BalancesAreInRange, AreAmountsLow}
 use Rattle.op_laws.specs.Laws.{AllLawful}
 use Rattle.op_laws.specs.Underway.{AreSignersFew, IsSettled, LeavesSettled}
 
@@ -58,7 +58,11 @@ abbrev pub SettledReady : Type 0
 SettledReady = (id_pool : ℕ) (m : EntryMap) → IsSettled id_pool m → AccountsAreReady m
 
 abbrev pub SettledInRange : Type 0
-SettledInRange = (id_pool : ℕ) (m : EntryMap) → IsSettled id_pool m → AccountsAreInRange m
+SettledInRange = (id_pool : ℕ) (m : EntryMap) → IsSettled id_pool m → BalancesAreInRange m
+
+-- no claimable balance has less than nothing
+abbrev pub SettledAmounts : Type 0
+SettledAmounts = (id_pool : ℕ) (m : EntryMap) → IsSettled id_pool m → AreAmountsLow m
 
 -- no less than nothing is held in lumens
 abbrev pub SettledHeld : Type 0
@@ -73,4 +77,5 @@ pub record TransactionLaws : Type 0 where
   pub accounts : SettledAccounts
   pub ready : SettledReady
   pub in_range : SettledInRange
+  pub amounts : SettledAmounts
   pub held : SettledHeld

@@ -9,8 +9,15 @@ ghost use Rattle.op_payment.specs.Payment.{payment};
 ghost use Rattle.op_sponsor.specs.BeginSponsoringFutureReserves.{begin_sponsoring};
 ghost use Rattle.op_sponsor.specs.RevokeSponsorship.{revoke_sponsorship};
 ghost use Rattle.op_sponsor.specs.EndSponsoringFutureReserves.{end_sponsoring};
+ghost use Rattle.op_claim.specs.ClaimClaimableBalance.{claim_claimable_balance};
+ghost use Rattle.op_claim.specs.Clawback.{clawback};
+ghost use Rattle.op_claim.specs.ClawbackClaimableBalance.{clawback_claimable_balance};
+ghost use Rattle.op_claim.specs.CreateClaimableBalance.{create_claimable_balance};
+ghost use Rattle.op_flags.specs.AllowTrust.{allow_trust};
+ghost use Rattle.op_flags.specs.SetTrustLineFlags.{set_trust_line_flags};
 ghost use Rattle.op_trust.specs.ChangeTrust.{change_trust};
 ghost use Rattle.op_laws.specs.Laws.{AreLawful, AreLawfulWhere, AllLawful, IsBumpFit, IsLimitFit};
+ghost use Rattle.op_laws.specs.Laws.{AreClaimantsFew};
 
 /// Each CREATE_ACCOUNT that succeeds is lawful.
 pub fn create_account_is_lawful()
@@ -45,6 +52,36 @@ pub fn payment_is_lawful()
 /// Each CHANGE_TRUST to a limit of 64 bits that succeeds is lawful.
 pub fn change_trust_is_lawful()
     ensures { AreLawfulWhere IsLimitFit change_trust }
+{}
+
+/// Each ALLOW_TRUST that succeeds is lawful.
+pub fn allow_trust_is_lawful()
+    ensures { AreLawful allow_trust }
+{}
+
+/// Each SET_TRUST_LINE_FLAGS that succeeds is lawful.
+pub fn set_trust_line_flags_is_lawful()
+    ensures { AreLawful set_trust_line_flags }
+{}
+
+/// Each CREATE_CLAIMABLE_BALANCE for at most 10 claimants that succeeds is lawful.
+pub fn create_claimable_balance_is_lawful()
+    ensures { AreLawfulWhere AreClaimantsFew create_claimable_balance }
+{}
+
+/// Each CLAIM_CLAIMABLE_BALANCE that succeeds is lawful.
+pub fn claim_claimable_balance_is_lawful()
+    ensures { AreLawful claim_claimable_balance }
+{}
+
+/// Each CLAWBACK_CLAIMABLE_BALANCE that succeeds is lawful.
+pub fn clawback_claimable_balance_is_lawful()
+    ensures { AreLawful clawback_claimable_balance }
+{}
+
+/// Each CLAWBACK that succeeds is lawful.
+pub fn clawback_is_lawful()
+    ensures { AreLawful clawback }
 {}
 
 /// Each BEGIN_SPONSORING_FUTURE_RESERVES that succeeds is lawful.

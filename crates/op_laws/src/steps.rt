@@ -37,9 +37,14 @@ pub fn settled_ready()
     ensures { spec.SettledReady }
 {}
 
-/// Balances and liabilities of the accounts of settled entries are in their ranges.
+/// Balances and liabilities of the accounts and lines of settled entries are in their ranges.
 pub fn settled_in_range()
     ensures { spec.SettledInRange }
+{}
+
+/// No claimable balance of settled entries has less than nothing.
+pub fn settled_amounts()
+    ensures { spec.SettledAmounts }
 {}
 
 /// Settled entries hold no less than nothing in lumens.
@@ -58,5 +63,6 @@ pub fn transaction_laws()
     settled_accounts();
     settled_ready();
     settled_in_range();
+    settled_amounts();
     settled_held();
 }

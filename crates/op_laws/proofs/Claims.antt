@@ -1,0 +1,396 @@
+-- CREATE_CLAIMABLE_BALANCE, CLAIM_CLAIMABLE_BALANCE and CLAWBACK_CLAIMABLE_BALANCE are lawful.
+use Rattle.std.proofs.Common.{◌≡◌, ◌≢◌, refl, sym, ap, subst, ◌∙◌, ℕ, ◌+◌, ◌*◌, ◌≤◌, Bool, true, false, not, ◌&&◌, ◌||◌}
+use Rattle.std.proofs.Common.{◌∷◌, [], length, map, is_some, Option, Some, None, Ok, arith}
+use Rattle.std.proofs.lemmas.Int.{ints}
+use Rattle.std.specs.Prelude.{ℤ, pos, neg_ℤ, int_le, int_lt, ◌+ℤ◌, ◌-ℤ◌, ◌≤ℤ◌, if◌then◌else◌}
+use Rattle.std.specs.FinMap.{get}
+use Rattle.std.specs.Option.{ok_or}
+use Rattle.std.specs.Ordering.{is_eq}
+use Rattle.ledger_types.specs.declared.ids.AccountId.{AccountId}
+use Rattle.ledger_types.specs.declared.ids.ClaimableBalanceId.{ClaimableBalanceId}
+use Rattle.ledger_types.specs.declared.account.AccountEntry.{AccountEntry}
+use Rattle.ledger_types.specs.declared.asset.Asset.{Asset}
+use Rattle.ledger_types.specs.declared.asset.Asset.TheVariants as asset
+use Rattle.ledger_types.specs.declared.trust_line.TrustLineEntry.{TrustLineEntry}
+use Rattle.ledger_types.specs.declared.claimable_balance.ClaimableBalanceEntry.{ClaimableBalanceEntry}
+use Rattle.ledger_types.specs.declared.entry.LedgerEntry.{LedgerEntry}
+use Rattle.ledger_types.specs.declared.entry.LedgerEntryBody.TheVariants as body
+use Rattle.ledger_types.specs.declared.key.LedgerKey.{LedgerKey}
+use Rattle.ledger_types.specs.declared.key.LedgerKey.TheVariants as key
+use Rattle.ledger_types.specs.KeyOrder.{asset_cmp}
+use Rattle.ledger_types.specs.Keys.{key_of}
+use Rattle.op_types.specs.declared.balance_ops.CreateClaimableBalanceOp.{CreateClaimableBalanceOp}
+use Rattle.op_types.specs.declared.balance_results.CreateClaimableBalanceResult.TheVariants as create
+use Rattle.op_types.specs.declared.balance_results.ClaimClaimableBalanceResult.TheVariants as claim
+use Rattle.op_types.specs.declared.balance_results.ClawbackClaimableBalanceResult.TheVariants as claw
+use Rattle.op_types.specs.declared.operation_result.OperationResult.{OperationResult}
+use Rattle.op_types.specs.declared.operation_result.OperationResult.TheVariants.{NotSupported}
+use Rattle.valid_values.specs.Assets.{is_valid_asset}
+use Rattle.entry_map.specs.EntryMap.{EntryMap, put, erase}
+use Rattle.entry_slots.specs.Accounts.{account_at, with_account, HasAccount}
+use Rattle.entry_slots.specs.Balances.{balance_at}
+use Rattle.entry_slots.specs.EntrySponsor.{sponsor_of, with_sponsor}
+use Rattle.entry_slots.specs.Lines.{line_at, with_line}
+use Rattle.entry_slots.specs.Tests.{Tests}
+use Rattle.entry_sums.proofs.Lookups.{put_elsewhere}
+use Rattle.reserve_rules.specs.Reserve.{available}
+use Rattle.sponsor_rules.specs.declared.context.Ctx.{Ctx}
+use Rattle.sponsor_rules.specs.Adding.{map_after_adding, map_after_adding_balance}
+use Rattle.sponsor_rules.specs.Payers.{is_same_account, open_sponsor, payer_by, payer_of, payer_tests_at}
+use Rattle.sponsor_rules.specs.Paying.{map_after_charging, map_after_releasing}
+use Rattle.sponsor_rules.specs.Removing.{map_after_removing, map_after_removing_entry}
+use Rattle.legal_rules.specs.Legal.{view}
+use Rattle.legal_rules.specs.Owing.{nothing_owed, IsLegalOwing}
+use Rattle.legal_rules.specs.Ranges.{IsBodyInRange, IsBalanceInRange}
+use Rattle.legal_rules.specs.Sponsorships.{IsSponsorReady}
+use Rattle.legal_rules.specs.Supply.{of_asset}
+use Rattle.legal_rules.proofs.Given.{sponsors_ready}
+use Rattle.legal_rules.proofs.Kept.{balance_added_so, balance_removed_so}
+use Rattle.legal_rules.proofs.Liable.{line_entry, with_line_body, with_line_is}
+use Rattle.legal_rules.proofs.PaidFor.{nothing_settled}
+use Rattle.legal_rules.proofs.Steps.{account_entry, with_account_is, with_body}
+use Rattle.op_form.specs.declared.amounts.DebitFault.{DebitFault}
+use Rattle.op_form.specs.declared.amounts.DebitFault.TheVariants as debit
+use Rattle.op_form.specs.Amounts.{map_after_credit, map_after_debit, map_after_issued_debit, map_after_line_debit_of}
+use Rattle.op_form.specs.Amounts.{line_debit_tests, with_less}
+use Rattle.op_form.specs.Assets.{is_issued_by, line_asset_of}
+use Rattle.op_form.specs.Done.{Done, Move}
+use Rattle.op_form.specs.Done.{OfAccount, OfBalance}
+use Rattle.op_form.specs.Lumens.{map_after_lumens_debit, with_less_lumens}
+use Rattle.op_claim.specs.ClaimClaimableBalance as claiming
+use Rattle.op_claim.specs.ClawbackClaimableBalance as clawing
+use Rattle.op_claim.specs.CreateClaimableBalance as creating
+use Rattle.op_claim.specs.Predicates.{fixed_claimant}
+use Rattle.op_laws.specs.Laws.{IsLawful, AreLawful, AreLawfulWhere, AreClaimantsFew}
+use Rattle.op_laws.specs.Moves.{gained, issued, is_issuer}
+use Rattle.op_laws.specs.Underway.{AreEntriesLegal, IsUnderway}
+use Rattle.op_laws.proofs.Amounts.{IsMoved, lumens_more, unless_issuer, shifts_as, shifts_both, amount_taken, amount_given}
+use Rattle.op_laws.proofs.Amounts.{ok_of}
+use Rattle.op_laws.proofs.Charges.{charging_kept, releasing_kept, erased_kept, payer_had, put_beside}
+use Rattle.op_laws.proofs.IssuedMoves.{same_issuer, issued_so, issued_by_move}
+use Rattle.op_laws.proofs.Lawful.{lawful_with, shifted_after}
+use Rattle.op_laws.proofs.NewBalances.{IsBalanceEntry, balance_entry, claimants_in_range, new_flags, no_balance}
+use Rattle.op_laws.proofs.Paying.{given}
+use Rattle.op_laws.proofs.Payment.{above}
+use Rattle.op_laws.proofs.Standing.{IsKeyed, Leaves, none_more, for_one, keeps_both, leaves_both, accounts_kept, keyed_put}
+use Rattle.op_laws.proofs.Tests.{went_on, first_passed, neither, passed, went_after_some, went_after_step}
+use Rattle.op_laws.proofs.Tests.{went_after_charge}
+use Rattle.op_laws.proofs.TrustLines.{not_true}
+
+-- ---- what moves issue and give
+
+no_issuer : (held : Asset) (id : ClaimableBalanceId) → false ≡ is_issuer held (OfBalance id)
+no_issuer asset.Native id = refl
+no_issuer (asset.Alphanum4 code issuer) id = refl
+no_issuer (asset.Alphanum12 code issuer) id = refl
+
+claimed_of : (b t : Bool) (n : ℤ)
+    → (neg_ℤ (if b then n else pos 0) +ℤ (if t then pos 0 else (if b then n else pos 0)))
+    ≡ (if b then issued_so false t n else pos 0)
+claimed_of true true n = omega (arith, ints)
+claimed_of true false n = omega (arith, ints)
+claimed_of false true n = refl
+claimed_of false false n = refl
+
+abbrev claimed : ClaimableBalanceId → AccountId → Asset → ℤ → Move
+claimed id to held n = record { from = OfBalance id; to = OfAccount to; asset = held; amount = n }
+
+claimed_issued : (x held : Asset) (id : ClaimableBalanceId) (to : AccountId) (n : ℤ)
+    → (neg_ℤ (of_asset x held n) +ℤ unless_issuer x held to n) ≡ issued x (claimed id to held n ∷ [])
+claimed_issued x held id to n =
+    claimed_of (is_eq (asset_cmp x held)) (is_issued_by held to) n
+    ∙ (λ i. of_asset x held (issued_so (no_issuer held id i) (same_issuer held to i) n))
+    ∙ issued_by_move x held (OfBalance id) (OfAccount to) n
+
+clawed_of : (b : Bool) (n : ℤ) → neg_ℤ (if b then n else pos 0) ≡ (if b then issued_so false true n else pos 0)
+clawed_of true n = omega (arith, ints)
+clawed_of false n = refl
+
+clawed_issued : (x held : Asset) (id : ClaimableBalanceId) (to : AccountId) (n : ℤ) → is_issued_by held to ≡ true
+    → neg_ℤ (of_asset x held n) ≡ issued x (claimed id to held n ∷ [])
+clawed_issued x held id to n issuer =
+    clawed_of (is_eq (asset_cmp x held)) n
+    ∙ (λ i. of_asset x held (issued_so (no_issuer held id i) (sym issuer i) n))
+    ∙ (λ i. of_asset x held (issued_so (is_issuer held (OfBalance id)) (same_issuer held to i) n))
+    ∙ issued_by_move x held (OfBalance id) (OfAccount to) n
+
+aside_of : (b t : Bool) (n : ℤ)
+    → ((if t then pos 0 else (if b then neg_ℤ n else pos 0)) +ℤ (if b then n else pos 0))
+    ≡ (if b then issued_so t false n else pos 0)
+aside_of true true n = omega (arith, ints)
+aside_of true false n = omega (arith, ints)
+aside_of false true n = refl
+aside_of false false n = refl
+
+abbrev aside : AccountId → ClaimableBalanceId → Asset → ℤ → Move
+aside from id held n = record { from = OfAccount from; to = OfBalance id; asset = held; amount = n }
+
+aside_issued : (x held : Asset) (from : AccountId) (id : ClaimableBalanceId) (n : ℤ)
+    → (unless_issuer x held from (neg_ℤ n) +ℤ of_asset x held n) ≡ issued x (aside from id held n ∷ [])
+aside_issued x held from id n =
+    aside_of (is_eq (asset_cmp x held)) (is_issued_by held from) n
+    ∙ (λ i. of_asset x held (issued_so (same_issuer held from i) (no_issuer held id i) n))
+    ∙ issued_by_move x held (OfAccount from) (OfBalance id) n
+
+taken_once : (t : Bool) (n : ℤ) → (pos 0 +ℤ (if t then n else pos 0)) ≡ (((if t then n else pos 0) -ℤ pos 0) +ℤ pos 0)
+taken_once true n = omega (arith, ints)
+taken_once false n = omega (arith, ints)
+
+claimed_lumens : (id : ClaimableBalanceId) (to : AccountId) (held : Asset) (n : ℤ) (other : AccountId)
+    → (pos 0 +ℤ lumens_more held to n other) ≡ gained asset.Native other (claimed id to held n ∷ [])
+unfolding gained
+claimed_lumens id to asset.Native n other = taken_once (is_same_account to other) n
+claimed_lumens id to (asset.Alphanum4 code issuer) n other = refl
+claimed_lumens id to (asset.Alphanum12 code issuer) n other = refl
+
+given_once : (t : Bool) (n : ℤ)
+    → ((if t then neg_ℤ n else pos 0) +ℤ pos 0) ≡ ((pos 0 -ℤ (if t then n else pos 0)) +ℤ pos 0)
+given_once true n = omega (arith, ints)
+given_once false n = omega (arith, ints)
+
+aside_lumens : (from : AccountId) (id : ClaimableBalanceId) (held : Asset) (n : ℤ) (other : AccountId)
+    → (lumens_more held from (neg_ℤ n) other +ℤ pos 0) ≡ gained asset.Native other (aside from id held n ∷ [])
+unfolding gained
+aside_lumens from id asset.Native n other = given_once (is_same_account from other) n
+aside_lumens from id (asset.Alphanum4 code issuer) n other = refl
+aside_lumens from id (asset.Alphanum12 code issuer) n other = refl
+
+issuer_lumens : (id : ClaimableBalanceId) (to : AccountId) (held : Asset) (n : ℤ) → is_issued_by held to ≡ true
+    → (other : AccountId) → pos 0 ≡ gained asset.Native other (claimed id to held n ∷ [])
+unfolding gained
+issuer_lumens id to asset.Native n issuer other = absurd (cc)
+issuer_lumens id to (asset.Alphanum4 code issuer) n is other = refl
+issuer_lumens id to (asset.Alphanum12 code issuer) n is other = refl
+
+-- ---- a balance that is removed
+
+at_least_none : (n : ℤ) → pos 1 ≤ℤ n → pos 0 ≤ℤ n
+at_least_none n low = omega (arith, ints)
+
+module _ (id_pool base : ℕ) (m : EntryMap) (legal : AreEntriesLegal id_pool m) (id : ClaimableBalanceId)
+    (b : ClaimableBalanceEntry) (found : (e : LedgerEntry) × IsBalanceEntry m id b e) where
+  abbrev its_key : LedgerKey
+  its_key = key.ClaimableBalance id
+
+  abbrev e1 : LedgerEntry
+  e1 = record found.0 { body = body.ClaimableBalance b }
+
+  at : get m its_key ≡ Some e1
+  at = found.1.there ∙ ap Some (λ i. record found.0 { body = found.1.is i })
+
+  pub its_range : IsBalanceInRange b
+  its_range = (legal.entries its_key e1 at).range.body
+
+  pub balance_gone : IsMoved id_pool base (λ x. neg_ℤ (of_asset x b.asset b.amount)) none_more m
+      (map_after_removing its_key m)
+  balance_gone =
+      let n = length b.claimants in
+      let s = sponsor_of e1 in
+      let now = map_after_releasing n s m in
+      let first = releasing_kept base n s m legal.keyed in
+      record {
+        shifts = λ v sum was. balance_removed_so v id_pool nothing_owed sum n its_key e1 m was nothing_settled at refl;
+        left = subst (Leaves base none_more m) (sym (ap (map_after_removing_entry its_key m) at))
+            (keeps_both base m now (erase now its_key) first
+            (erased_kept base now its_key first.keyed (λ other same. absurd (cc))));
+      }
+
+-- ---- CLAIM_CLAIMABLE_BALANCE
+
+pub claim_claimable_balance_is_lawful : AreLawful claiming.claim_claimable_balance
+claim_claimable_balance_is_lawful ctx op m done under stands is =
+    let src = ctx.op_source in
+    let balance = went_after_some (balance_at m op.balance_id) (claiming.answer claim.DoesNotExist) _ done is in
+    let b = balance.0 in
+    let went = went_on (claiming.claim_tests ctx b) _ done balance.2 in
+    let found = balance_entry m op.balance_id b balance.1 in
+    let gone = balance_gone ctx.id_pool ctx.base_reserve m under.settled.legal op.balance_id b found in
+    let range = its_range ctx.id_pool ctx.base_reserve m under.settled.legal op.balance_id b found in
+    let low = at_least_none b.amount range.amount in
+    let now = map_after_removing (key.ClaimableBalance op.balance_id) m in
+    let shift = λ (x : Asset). neg_ℤ (of_asset x b.asset b.amount) in
+    let now_legal = shifted_after ctx m under none_more shift now gone.shifts in
+    let taken = went_after_step (map_after_credit src b.asset b.amount now) claiming.credit_result _ done went.1 in
+    let one = amount_taken ctx ctx.id_pool now now_legal src b.amount low taken.0 b.asset taken.1 in
+    let moves = claiming.claim_move ctx op b ∷ [] in
+    let also = taken.2 in
+    let made : Done = record { result = claiming.answer claim.Success; entries = taken.0; ctx = ctx; moves = moves } in
+    let same : made ≡ done = cc in
+    subst (IsLawful ctx m) same (lawful_with ctx m under _ (claiming.answer claim.Success) taken.0 moves
+    (shifts_as ctx.id_pool (λ x. neg_ℤ (of_asset x b.asset b.amount) +ℤ unless_issuer x b.asset src b.amount)
+    (λ x. issued x moves) m taken.0 (λ x. claimed_issued x b.asset op.balance_id src b.amount)
+    (shifts_both ctx.id_pool shift (λ x. unless_issuer x b.asset src b.amount) m now taken.0 gone.shifts one.shifts))
+    (leaves_both ctx.base_reserve _ _ m now taken.0 gone.left one.left)
+    (claimed_lumens op.balance_id src b.asset b.amount))
+
+-- ---- CLAWBACK_CLAIMABLE_BALANCE
+
+pub clawback_claimable_balance_is_lawful : AreLawful clawing.clawback_claimable_balance
+clawback_claimable_balance_is_lawful ctx op m done under stands is =
+    let src = ctx.op_source in
+    let balance = went_after_some (balance_at m op.balance_id) (clawing.answer claw.DoesNotExist) _ done is in
+    let b = balance.0 in
+    let flag : Tests OperationResult =
+    (not (clawing.is_balance_clawback_enabled b), clawing.answer claw.NotClawbackEnabled) ∷ [] in
+    let went = went_on (clawing.balance_tests ctx b) _ done balance.2 in
+    let first = first_passed (not (is_issued_by b.asset src)) (clawing.answer claw.NotIssuer) flag went.0 in
+    let issuer = not_true (is_issued_by b.asset src) first.0 in
+    let found = balance_entry m op.balance_id b balance.1 in
+    let gone = balance_gone ctx.id_pool ctx.base_reserve m under.settled.legal op.balance_id b found in
+    let new = map_after_removing (key.ClaimableBalance op.balance_id) m in
+    let moves = clawing.clawback_move ctx op b ∷ [] in
+    let also = went.1 in
+    let made : Done = record { result = clawing.answer claw.Success; entries = new; ctx = ctx; moves = moves } in
+    let same : made ≡ done = cc in
+    subst (IsLawful ctx m) same (lawful_with ctx m under none_more (clawing.answer claw.Success) new moves
+    (shifts_as ctx.id_pool (λ x. neg_ℤ (of_asset x b.asset b.amount)) (λ x. issued x moves) m new
+    (λ x. clawed_issued x b.asset op.balance_id src b.amount issuer) gone.shifts) gone.left
+    (issuer_lumens op.balance_id src b.asset b.amount issuer))
+
+-- ---- what a debit leaves under other keys
+
+account_beside : (m : EntryMap) (id : AccountId) (f : AccountEntry → AccountEntry) (a : AccountEntry)
+    → account_at m id ≡ Some a → (k : LedgerKey) → ((x : AccountId) → k ≢ key.Account x)
+    → get (with_account m id f) k ≡ get m k
+account_beside m id f a stands k apart =
+    let found = account_entry m id a stands in
+    ap (λ q. get q k) (with_account_is m id f a found.0 found.1)
+    ∙ put_elsewhere m (with_body found.0 (f a)) k (apart (f a).account_id)
+
+line_beside : (m : EntryMap) (id : AccountId) (held : Asset) (f : TrustLineEntry → TrustLineEntry) (t : TrustLineEntry)
+    → line_at m id (line_asset_of held) ≡ Some t → (balance : ClaimableBalanceId)
+    → get (with_line m id (line_asset_of held) f) (key.ClaimableBalance balance) ≡ get m (key.ClaimableBalance balance)
+line_beside m id held f t stands balance =
+    let found = line_entry m id (line_asset_of held) t stands in
+    ap (λ q. get q (key.ClaimableBalance balance)) (with_line_is m id (line_asset_of held) f t found.0 found.1)
+    ∙ put_elsewhere m (with_line_body found.0 (f t)) (key.ClaimableBalance balance) (λ same. absurd (cc))
+
+module _ (ctx : Ctx) (id : AccountId) (n : ℤ) (m new : EntryMap) (balance : ClaimableBalanceId) where
+  abbrev IsAsItWas : Type 0
+  IsAsItWas = get new (key.ClaimableBalance balance) ≡ get m (key.ClaimableBalance balance)
+
+  by_line : (held : Asset) (o : Option TrustLineEntry) → line_at m id (line_asset_of held) ≡ o
+      → map_after_line_debit_of id (line_asset_of held) n m o ≡ Ok new → IsAsItWas
+  by_line held None stands is = absurd (cc)
+  by_line held (Some t) stands is =
+      let tests = passed (line_debit_tests n t) (with_line m id (line_asset_of held) (with_less n)) new is in
+      ap (λ q. get q (key.ClaimableBalance balance)) (sym tests.1)
+      ∙ line_beside m id held (with_less n) t stands balance
+
+  by_issuer : (held : Asset) (b : Bool) → is_issued_by held id ≡ b
+      → (if b then Ok m else map_after_line_debit_of id (line_asset_of held) n m (line_at m id (line_asset_of held)))
+      ≡ Ok new → IsAsItWas
+  by_issuer held true issuer is = let same : m ≡ new = cc in ap (λ q. get q (key.ClaimableBalance balance)) (sym same)
+  by_issuer held false other is = by_line held (line_at m id (line_asset_of held)) refl is
+
+  balance_beside : (held : Asset) → map_after_debit ctx id held n m ≡ Ok new → IsAsItWas
+  balance_beside asset.Native is =
+      let h = given ctx id n m new (ok_of (map_after_lumens_debit ctx id n m) debit.Short new is) in
+      ap (λ q. get q (key.ClaimableBalance balance)) (sym h.is)
+      ∙ account_beside m id (with_less_lumens n) h.account h.stands (key.ClaimableBalance balance)
+      (λ x same. absurd (cc))
+  balance_beside (asset.Alphanum4 code issuer) is =
+      by_issuer (asset.Alphanum4 code issuer) (is_issued_by (asset.Alphanum4 code issuer) id) refl is
+  balance_beside (asset.Alphanum12 code issuer) is =
+      by_issuer (asset.Alphanum12 code issuer) (is_issued_by (asset.Alphanum12 code issuer) id) refl is
+
+-- ---- a balance that is added
+
+balance_left : (ctx : Ctx) (m : EntryMap) (payer : AccountId) (k : ℕ) (e : LedgerEntry) (new : EntryMap) → IsKeyed m
+    → ((id : AccountId) → key.Account id ≢ key_of e) → map_after_adding_balance ctx e payer k m ≡ Ok new
+    → Leaves ctx.base_reserve none_more m new
+balance_left ctx m payer k e new keyed apart done =
+    let now = map_after_charging k (Some payer) m in
+    let added = with_sponsor (Some payer) e in
+    let test = passed (payer_tests_at ctx m payer k) (put now added) new done in
+    let first = charging_kept ctx.base_reserve k (Some payer) m keyed
+    (λ x is. let same : payer ≡ x = cc in subst (λ w. (a : AccountEntry) → account_at m w ≡ Some a
+    → pos (k * ctx.base_reserve) ≤ℤ available a ctx.base_reserve) same (payer_had ctx m payer k test.0)) in
+    subst (Leaves ctx.base_reserve none_more m) test.1
+    (keeps_both ctx.base_reserve m now (put now added) first
+    (accounts_kept ctx.base_reserve now (put now added) (keyed_put now added first.keyed)
+    (put_beside now added apart)))
+
+payer_stands : (m : EntryMap) (owner : AccountId) (o : Option AccountId) → HasAccount m owner
+    → ((sponsor : AccountId) → o ≡ Some sponsor → HasAccount m sponsor) → HasAccount m (payer_by owner o)
+payer_stands m owner None stands sponsors = stands
+payer_stands m owner (Some sponsor) stands sponsors = sponsors sponsor refl
+
+at_least_one : (n : ℤ) → int_le n (pos 0) ≡ false → pos 1 ≤ℤ n
+at_least_one n h = grind (arith, ints)
+
+plus_none : (x : ℤ) → x ≤ℤ pos 1 → (x +ℤ pos 0) ≤ℤ pos 1
+plus_none x le = omega (arith, ints)
+
+-- ---- CREATE_CLAIMABLE_BALANCE
+
+module _ (ctx : Ctx) (op : CreateClaimableBalanceOp) (m : EntryMap) (done : Done) (few : AreClaimantsFew op)
+    (under : IsUnderway ctx m) (stands : HasAccount m ctx.op_source) (low : pos 1 ≤ℤ op.amount)
+    (valid : is_valid_asset op.asset ≡ true) (good : creating.are_claimants_bad op.claimants ≡ false)
+    (free : get m (key.ClaimableBalance (creating.new_id ctx)) ≡ None) where
+  abbrev src : AccountId
+  src = ctx.op_source
+
+  abbrev can : Bool
+  can = creating.can_claw_back ctx op m
+
+  abbrev entry : LedgerEntry
+  entry = creating.new_balance ctx op can
+
+  abbrev times : ℕ
+  times = length (map (fixed_claimant ctx.close_time) op.claimants)
+
+  entry_range : IsBodyInRange ctx.id_pool entry.body
+  entry_range = record {
+    amount = low;
+    asset = valid;
+    flags = new_flags can;
+    claimants = claimants_in_range ctx.close_time op.claimants good few;
+  }
+
+  given_added : creating.given_and_added ctx op m ≡ Ok done → IsLawful ctx m done
+  given_added is =
+      let n = op.amount in
+      let first = went_after_step (map_after_debit ctx src op.asset n m) creating.debit_result _ done is in
+      let now = first.0 in
+      let one = amount_given ctx ctx.id_pool m under.settled.legal src n (at_least_none n low) now op.asset first.1 in
+      let shift = λ (x : Asset). unless_issuer x op.asset src (neg_ℤ n) in
+      let now_legal = shifted_after ctx m under none_more shift now one.shifts in
+      let second = went_after_charge (map_after_adding ctx src entry now) (creating.answer create.LowReserve) _ done
+      first.2 in
+      let new = second.0 in
+      let ready = sponsors_ready ctx m src under.sponsorships in
+      let payer = payer_stands now src (open_sponsor ctx src) (one.left.stand src stands)
+      (λ sponsor at. one.left.stand sponsor (ready.stands sponsor at)) in
+      let moves = creating.create_move ctx op ∷ [] in
+      let also = second.2 in
+      let result = creating.answer (create.Success (creating.new_id ctx)) in
+      let made : Done = record { result = result; entries = new; ctx = ctx; moves = moves } in
+      let same : made ≡ done = cc in
+      subst (IsLawful ctx m) same (lawful_with ctx m under _ result new moves
+      (shifts_as ctx.id_pool (λ x. unless_issuer x op.asset src (neg_ℤ n) +ℤ of_asset x op.asset n)
+      (λ x. issued x moves) m new (λ x. aside_issued x op.asset src (creating.new_id ctx) n)
+      (shifts_both ctx.id_pool shift (λ x. of_asset x op.asset n) m now new one.shifts
+      (λ v sum legal. balance_added_so v ctx.id_pool nothing_owed sum ctx src times entry now new legal refl (record {
+        free = balance_beside ctx src n m now (creating.new_id ctx) op.asset first.1 ∙ free;
+        unsponsored = refl;
+        id_free = λ id. plus_none _ (legal.offers id);
+      }) entry_range payer second.1)))
+      (leaves_both ctx.base_reserve _ _ m now new one.left
+      (balance_left ctx now (payer_of ctx src) times entry new one.left.keyed (λ id at. absurd (cc)) second.1))
+      (aside_lumens src (creating.new_id ctx) op.asset n))
+
+pub create_claimable_balance_is_lawful : AreLawfulWhere AreClaimantsFew creating.create_claimable_balance
+create_claimable_balance_is_lawful ctx op m done few under stands is =
+    let went = went_on (creating.create_tests op) _ done is in
+    let none = int_le op.amount (pos 0) in
+    let bad = not (is_valid_asset op.asset) in
+    let claimants = creating.are_claimants_bad op.claimants in
+    let test = first_passed (none || bad || claimants) (creating.answer create.Malformed) [] went.0 in
+    let last = neither (none || bad) claimants test.0 in
+    let first = neither none bad last.0 in
+    let there = is_some (balance_at m (creating.new_id ctx)) in
+    let second = went_on ((there, NotSupported) ∷ []) _ done went.1 in
+    let free = first_passed there NotSupported [] second.0 in
+    given_added ctx op m done few under stands (at_least_one op.amount first.0) (not_true (is_valid_asset op.asset) first.1)
+    last.1 (no_balance m (creating.new_id ctx) under.settled.legal.keyed free.0) second.1

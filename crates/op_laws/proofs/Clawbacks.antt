@@ -1,0 +1,107 @@
+-- CLAWBACK is lawful.
+use Rattle.std.proofs.Common.{◌≡◌, refl, sym, ap, subst, ◌∙◌, Bool, true, false, not, ◌||◌, ◌∷◌, [], Option, Some, Ok}
+use Rattle.std.proofs.Common.{arith}
+use Rattle.std.proofs.lemmas.Int.{ints}
+use Rattle.std.specs.Prelude.{ℤ, pos, neg_ℤ, int_le, int_lt, ◌+ℤ◌, ◌-ℤ◌, ◌≤ℤ◌, if◌then◌else◌}
+use Rattle.ledger_types.specs.declared.ids.AccountId.{AccountId}
+use Rattle.ledger_types.specs.declared.asset.Asset.{Asset}
+use Rattle.ledger_types.specs.declared.asset.Asset.TheVariants as asset
+use Rattle.ledger_types.specs.Ids.{account_of}
+use Rattle.op_types.specs.declared.operation_result.OperationResult.{OperationResult}
+use Rattle.op_types.specs.declared.trust_ops.ClawbackOp.{ClawbackOp}
+use Rattle.op_types.specs.declared.trust_results.ClawbackResult.TheVariants as claw
+use Rattle.valid_values.specs.Assets.{is_valid_asset}
+use Rattle.entry_map.specs.EntryMap.{EntryMap}
+use Rattle.entry_slots.specs.Lines.{with_line}
+use Rattle.entry_slots.specs.Tests.{Tests}
+use Rattle.reserve_rules.specs.Reserve.{line_available}
+use Rattle.sponsor_rules.specs.declared.context.Ctx.{Ctx}
+use Rattle.sponsor_rules.specs.Payers.{is_same_account}
+use Rattle.sponsor_rules.proofs.Ids.{same_account}
+use Rattle.legal_rules.specs.Supply.{of_asset}
+use Rattle.op_form.specs.Amounts.{with_less}
+use Rattle.op_form.specs.Assets.{is_native, is_issued_by, line_asset_of, line_of_asset}
+use Rattle.op_form.specs.Done.{Done}
+use Rattle.op_form.specs.Done.{OfAccount}
+use Rattle.op_form.specs.Flags.{is_line_clawback_enabled}
+use Rattle.op_claim.specs.Clawback as spec
+use Rattle.op_laws.specs.Laws.{IsLawful, AreLawful}
+use Rattle.op_laws.specs.Moves.{gained, issued, is_issuer}
+use Rattle.op_laws.specs.Underway.{IsUnderway}
+use Rattle.op_laws.proofs.Amounts.{shifts_as, line_given}
+use Rattle.op_laws.proofs.IssuedMoves.{same_both_ways, same_issuer, issued_so, issued_by_move}
+use Rattle.op_laws.proofs.Lawful.{lawful_with}
+use Rattle.op_laws.proofs.LineFlags.{issued_is}
+use Rattle.op_laws.proofs.Payment.{above, asset_move}
+use Rattle.op_laws.proofs.Standing.{none_more}
+use Rattle.op_laws.proofs.Tests.{went_on, first_passed, neither, went_after_some}
+use Rattle.op_laws.proofs.TrustLines.{not_less, not_true}
+
+-- an asset has one issuer
+other_issuer : (held : Asset) (id other : AccountId) → is_issued_by held id ≡ true → is_same_account other id ≡ false
+    → is_issued_by held other ≡ false
+other_issuer asset.Native id other is apart = absurd (cc)
+other_issuer (asset.Alphanum4 code issuer) id other is apart =
+    ap (λ x. is_same_account x other) (same_account issuer id is) ∙ same_both_ways id other ∙ apart
+other_issuer (asset.Alphanum12 code issuer) id other is apart =
+    ap (λ x. is_same_account x other) (same_account issuer id is) ∙ same_both_ways id other ∙ apart
+
+redeemed : (n : ℤ) → neg_ℤ n ≡ issued_so false true n
+redeemed n = omega (arith, ints)
+
+-- what goes back to its issuer is redeemed
+redeemed_move : (x held : Asset) (from to : AccountId) (n : ℤ) → is_issued_by held to ≡ true
+    → is_issued_by held from ≡ false
+    → of_asset x held (neg_ℤ n) ≡ issued x (asset_move from to held n ∷ [])
+redeemed_move x held from to n issuer other =
+    ap (λ k. of_asset x held k) (redeemed n)
+    ∙ (λ i. of_asset x held (issued_so (sym other i) (sym issuer i) n))
+    ∙ (λ i. of_asset x held (issued_so (same_issuer held from i) (same_issuer held to i) n))
+    ∙ issued_by_move x held (OfAccount from) (OfAccount to) n
+
+no_lumens : (from to : AccountId) (held : Asset) (n : ℤ) → is_native held ≡ false → (id : AccountId)
+    → pos 0 ≡ gained asset.Native id (asset_move from to held n ∷ [])
+unfolding gained
+no_lumens from to asset.Native n is id = absurd (cc)
+no_lumens from to (asset.Alphanum4 code issuer) n is id = refl
+no_lumens from to (asset.Alphanum12 code issuer) n is id = refl
+
+pub clawback_is_lawful : AreLawful spec.clawback
+clawback_is_lawful ctx op m done under stands is =
+    let src = ctx.op_source in
+    let from = account_of op.from in
+    let held = op.asset in
+    let went = went_on (spec.clawback_tests ctx op) _ done is in
+    let none = int_le op.amount (pos 0) in
+    let bad = not (is_valid_asset held) in
+    let foreign = not (is_issued_by held src) in
+    let own = is_same_account from src in
+    let test = first_passed (none || bad || foreign || own) (spec.answer claw.Malformed) [] went.0 in
+    let fourth = neither (none || bad || foreign) own test.0 in
+    let third = neither (none || bad) foreign fourth.0 in
+    let second = neither none bad third.0 in
+    let issuer = not_true (is_issued_by held src) third.1 in
+    let issued_asset = issued_is held src issuer in
+    let low = above op.amount second.0 in
+    let line = went_after_some (line_of_asset m from held) (spec.answer claw.NoTrust) _ done went.1 in
+    let t = line.0 in
+    let short : Tests OperationResult = (int_lt (line_available t) op.amount, spec.answer claw.Underfunded) ∷ [] in
+    let passed = went_on (spec.line_tests op.amount t) _ done line.2 in
+    let flag = first_passed (not (is_line_clawback_enabled t)) (spec.answer claw.NotClawbackEnabled) short passed.0 in
+    let enough = first_passed (int_lt (line_available t) op.amount) (spec.answer claw.Underfunded) [] flag.1 in
+    let new = with_line m from (line_asset_of held) (with_less op.amount) in
+    let also = passed.1 in
+    let made : Done = record {
+      result = spec.answer claw.Success;
+      entries = new;
+      ctx = ctx;
+      moves = spec.clawback_move ctx op ∷ [];
+    } in
+    let same : made ≡ done = cc in
+    let moved = line_given ctx.id_pool ctx.base_reserve m under.settled.legal from held issued_asset t line.1 op.amount low
+    (not_less (line_available t) op.amount enough.0) in
+    subst (IsLawful ctx m) same (lawful_with ctx m under none_more (spec.answer claw.Success) new
+    (spec.clawback_move ctx op ∷ [])
+    (shifts_as ctx.id_pool (λ x. of_asset x held (neg_ℤ op.amount)) (λ x. issued x (spec.clawback_move ctx op ∷ [])) m new
+    (λ x. redeemed_move x held from src op.amount issuer (other_issuer held src from issuer fourth.1)) moved.shifts)
+    moved.left (no_lumens from src held op.amount issued_asset))

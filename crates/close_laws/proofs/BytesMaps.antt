@@ -41,7 +41,7 @@ use Rattle.close_laws.proofs.BytesPaid.{without_signer_bytes, signer_sponsor_byt
 abbrev pub AreBytesIf : {F : Type 0} → Result EntryMap F → Type 0
 AreBytesIf made = IfOk made AreBytes
 
-unless_bytes : {F : Type 0} (found : Option F) (m : EntryMap) → AreBytes m → AreBytesIf (unless_fault found m)
+pub unless_bytes : {F : Type 0} (found : Option F) (m : EntryMap) → AreBytes m → AreBytesIf (unless_fault found m)
 unless_bytes None m each = each
 unless_bytes (Some fault) m each = tt
 

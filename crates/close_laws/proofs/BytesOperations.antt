@@ -1,5 +1,5 @@
 -- Each operation leaves the bytes of entries.
-use Rattle.std.proofs.Common.{◌≡◌, ℕ, zero, suc, ◌<◌, refl, subst, List, [], ◌∷◌, Option, Some}
+use Rattle.std.proofs.Common.{◌≡◌, ℕ, zero, suc, ◌<◌, refl, List, [], ◌∷◌, Option, Some}
 use Rattle.std.proofs.Common.{None, Result, Ok, Err, IfOk, ℤ, take, drop, Bool, true, false, if◌then◌else◌, ◌||◌, arith}
 use Rattle.std.proofs.lemmas.Bool.Decides.{nat_tests}
 use Rattle.std.proofs.lemmas.List.Elements.{All-nil, All-cons, All-append, All-set, All-take, All-drop}
@@ -9,8 +9,6 @@ use Rattle.ledger_types.specs.declared.ids.AccountId.{AccountId}
 use Rattle.ledger_types.specs.declared.signer.Signer.{Signer}
 use Rattle.ledger_types.specs.declared.signer.SignerKey.{SignerKey}
 use Rattle.ledger_types.specs.declared.account.AccountEntry.{AccountEntry}
-use Rattle.ledger_types.specs.declared.asset.Asset.{Asset}
-use Rattle.ledger_types.specs.declared.asset.Asset.TheVariants as asset
 use Rattle.ledger_types.specs.declared.data_entry.DataEntry.{DataEntry}
 use Rattle.ledger_types.specs.declared.key.LedgerKey.{LedgerKey}
 use Rattle.ledger_types.specs.declared.key.LedgerKey.TheVariants as key
@@ -33,7 +31,6 @@ use Rattle.op_types.specs.declared.account_results.BumpSequenceResult.TheVariant
 use Rattle.op_types.specs.declared.account_results.ManageDataResult.TheVariants as manage
 use Rattle.op_types.specs.declared.account_results.SetOptionsResult.TheVariants as set
 use Rattle.op_types.specs.declared.payment_results.CreateAccountResult.TheVariants as create
-use Rattle.op_types.specs.declared.payment_results.PaymentResult.TheVariants as pay
 use Rattle.op_types.specs.declared.sponsor_results.EndSponsoringFutureReservesResult.TheVariants as end
 use Rattle.op_types.specs.declared.sponsor_results.RevokeSponsorshipResult.TheVariants as revoke
 use Rattle.xdr_core.specs.Format.{IsBytes}
@@ -43,20 +40,21 @@ use Rattle.xdr_core.specs.Xdr.{optional}
 use Rattle.xdr_entries.specs.Basic.{signer, signer_key}
 use Rattle.xdr_tx.specs.Operations.{operation_body, create_account_op, set_options_op, manage_data_op}
 use Rattle.entry_map.specs.EntryMap.{EntryMap}
-use Rattle.entry_slots.specs.Accounts.{account_at, with_account}
+use Rattle.entry_slots.specs.Accounts.{account_at}
 use Rattle.entry_slots.specs.DataEntries.{data_at}
 use Rattle.entry_slots.specs.Tests.{Tests, first_fault}
 use Rattle.sponsor_rules.specs.declared.context.Ctx.{Ctx}
 use Rattle.sponsor_rules.specs.declared.fault.AddFault.{AddFault}
 use Rattle.sponsor_rules.specs.declared.signer_place.FoundSigner.{FoundSigner}
-use Rattle.sponsor_rules.specs.Payers.{is_same_account, open_sponsor}
+use Rattle.sponsor_rules.specs.Payers.{open_sponsor}
 use Rattle.sponsor_rules.specs.SignerPlace.{found_signer}
 use Rattle.sponsor_rules.specs.Signers.{map_after_adding_signer, map_after_removing_signer, map_after_moving_signer}
 use Rattle.sponsor_rules.specs.Adding.{map_after_adding}
 use Rattle.sponsor_rules.specs.Moving.{map_after_moving}
 use Rattle.op_form.specs.Done.{Done, Attempt, done_of}
+use Rattle.op_form.specs.Amounts.{map_after_credit, map_after_debit}
 use Rattle.op_form.specs.Lumens as lumens
-use Rattle.op_form.specs.Steps.{unless_result, unless_refused, after, after_some, after_charge}
+use Rattle.op_form.specs.Steps.{unless_result, unless_refused, after, after_some, after_charge, after_step}
 use Rattle.op_account.specs.AccountMerge as merging
 use Rattle.op_account.specs.BumpSequence as bumping
 use Rattle.op_account.specs.CreateAccount as creating
@@ -77,6 +75,7 @@ use Rattle.close_rules.specs.State.{IsSpelled}
 use Rattle.close_laws.proofs.Bytes.{IsId, IsIdIf, no_id, AreAccountBytes, AreBytes}
 use Rattle.close_laws.proofs.Bytes.{KeepsAccounts, with_account_bytes, with_data_bytes, IsKey, IsOpener, AreSponsors}
 use Rattle.close_laws.proofs.Bytes.{open_sponsor_id}
+use Rattle.close_laws.proofs.BytesAmounts.{numbers, debit_bytes, credit_bytes, taken_bytes, given_bytes}
 use Rattle.close_laws.proofs.BytesMaps.{AreBytesIf, adding_account_bytes, adding_subentry_bytes, removing_bytes}
 use Rattle.close_laws.proofs.BytesMaps.{moving_bytes, adding_signer_bytes, removing_signer_bytes, moving_signer_bytes}
 
@@ -123,6 +122,12 @@ behind_charge : {B : Type 0} (P : B → Type 0) (made : Result EntryMap AddFault
 behind_charge P (Err fault) low next made holds = record { gives = tt }
 behind_charge P (Ok m) low next made holds = holds m made
 
+behind_change : {B F : Type 0} (P : B → Type 0) (made : Result EntryMap F) (answers : F → OperationResult)
+    (next : EntryMap → Result B OperationResult) → AreBytesIf made → ((m : EntryMap) → AreBytes m → Gives P (next m))
+    → Gives P (after_step made answers next)
+behind_change P (Err fault) answers next made holds = record { gives = tt }
+behind_change P (Ok m) answers next made holds = holds m made
+
 behind_step : {A B : Type 0} (Q : A → Type 0) (P : B → Type 0) (made : Result A OperationResult)
     (next : A → Result B OperationResult) → Gives Q made → ((a : A) → Q a → Gives P (next a))
     → Gives P (after made next)
@@ -132,55 +137,6 @@ behind_step Q P (Ok a) next made holds = holds a made.gives
 either_leaves : (b : Bool) (x y : Attempt) → Leaves x → Leaves y → Leaves (if b then x else y)
 either_leaves true x y here there = here
 either_leaves false x y here there = there
-
--- ---- lumens
-
--- a change of numbers alone
-numbers : (was account : AccountEntry) → AreAccountBytes was
-    → AreAccountBytes (record was { balance = account.balance; seq_num = account.seq_num })
-numbers was account bytes = record {
-  id = bytes.id;
-  inflation_dest = bytes.inflation_dest;
-  home_domain = bytes.home_domain;
-  thresholds = bytes.thresholds;
-  signers = bytes.signers;
-  sponsors = bytes.sponsors;
-}
-
-less_lumens : (amount : ℤ) → KeepsAccounts (lumens.with_less_lumens amount)
-less_lumens amount account bytes = numbers account (lumens.with_less_lumens amount account) bytes
-
-more_lumens : (amount : ℤ) → KeepsAccounts (lumens.with_more_lumens amount)
-more_lumens amount account bytes = numbers account (lumens.with_more_lumens amount account) bytes
-
-if_some : (b : Bool) (m made : EntryMap) → AreBytes made → (if b then None else Some made) ≡ Some m → AreBytes m
-if_some true m made each is = absurd (cc)
-if_some false m made each is = subst AreBytes (some_is is) each
-  where
-    some_is : Some made ≡ Some m → made ≡ m
-    some_is e = cc
-
-debit_of : (ctx : Ctx) (id : AccountId) (amount : ℤ) (m made : EntryMap) (found : Option AccountEntry) → AreBytes m
-    → lumens.map_after_lumens_debit_of ctx id amount m found ≡ Some made → AreBytes made
-debit_of ctx id amount m made None each is = absurd (cc)
-debit_of ctx id amount m made (Some account) each is =
-    if_some _ made (with_account m id (lumens.with_less_lumens amount))
-    (with_account_bytes m id (lumens.with_less_lumens amount) (less_lumens amount) each) is
-
-debit_bytes : (ctx : Ctx) (id : AccountId) (amount : ℤ) (m made : EntryMap) → AreBytes m
-    → lumens.map_after_lumens_debit ctx id amount m ≡ Some made → AreBytes made
-debit_bytes ctx id amount m made each is = debit_of ctx id amount m made (account_at m id) each is
-
-credit_of : (id : AccountId) (amount : ℤ) (m made : EntryMap) (found : Option AccountEntry) → AreBytes m
-    → lumens.map_after_lumens_credit_of id amount m found ≡ Some made → AreBytes made
-credit_of id amount m made None each is = absurd (cc)
-credit_of id amount m made (Some account) each is =
-    if_some _ made (with_account m id (lumens.with_more_lumens amount))
-    (with_account_bytes m id (lumens.with_more_lumens amount) (more_lumens amount) each) is
-
-credit_bytes : (id : AccountId) (amount : ℤ) (m made : EntryMap) → AreBytes m
-    → lumens.map_after_lumens_credit id amount m ≡ Some made → AreBytes made
-credit_bytes id amount m made each is = credit_of id amount m made (account_at m id) each is
 
 -- ---- accounts
 
@@ -280,29 +236,18 @@ bumped ctx op m work =
 
 -- ---- payments
 
-lumens_paid : (ctx : Ctx) (op : PaymentOp) (m : EntryMap) → AreWorkBytes ctx m → Leaves (paying.lumens_payment ctx op m)
-lumens_paid ctx op m work =
-    behind Work (paying.amount_tests op) _
-    (either_leaves (is_same_account (account_of op.destination) ctx.op_source) (paying.paid ctx op m)
+payment_paid : (ctx : Ctx) (op : PaymentOp) (m : EntryMap) → AreWorkBytes ctx m → Leaves (paying.payment ctx op m)
+payment_paid ctx op m work =
+    behind Work (paying.payment_tests op) _
+    (either_leaves (paying.is_to_itself ctx op) (paying.paid ctx op m)
     (unless_refused (paying.destination_tests op m) (paying.taken_and_given ctx op m))
     (record { gives = record { entries = work.entries; sponsors = work.sponsors } })
     (behind Work (paying.destination_tests op m) (paying.taken_and_given ctx op m)
-    (behind_some Work (lumens.map_after_lumens_credit (account_of op.destination) op.amount m) (paying.answer pay.LineFull) _
-    (λ taken is. behind_some Work (lumens.map_after_lumens_debit ctx ctx.op_source op.amount taken)
-    (paying.answer pay.Underfunded) _
-    (λ given paid. record {
-      gives = record {
-        entries = debit_bytes ctx ctx.op_source op.amount taken given
-            (credit_bytes (account_of op.destination) op.amount m taken work.entries is) paid;
-        sponsors = work.sponsors;
-      };
-    })))))
-
-paid_in : (of : Asset) (ctx : Ctx) (op : PaymentOp) (m : EntryMap) → AreWorkBytes ctx m
-    → Leaves (paying.payment_in of ctx op m)
-paid_in asset.Native ctx op m work = lumens_paid ctx op m work
-paid_in (asset.Alphanum4 code issuer) ctx op m work = record { gives = tt }
-paid_in (asset.Alphanum12 code issuer) ctx op m work = record { gives = tt }
+    (behind_change Work (map_after_credit (account_of op.destination) op.asset op.amount m)
+    paying.credit_result _ (taken_bytes (account_of op.destination) op.asset op.amount m work.entries)
+    (λ taken each. behind_change Work (map_after_debit ctx ctx.op_source op.asset op.amount taken)
+    paying.debit_result _ (given_bytes ctx ctx.op_source op.asset op.amount taken each)
+    (λ given bytes. record { gives = record { entries = bytes; sponsors = work.sponsors } })))))
 
 -- ---- data
 
@@ -576,7 +521,7 @@ any_bytes ctx (body.SetOptions op) m id spelled work = done_leaves ctx m (option
 any_bytes ctx (body.ManageData op) m id spelled work = done_leaves ctx m (managing.manage_data ctx op m) work
     (data_managed ctx op m id spelled work)
 any_bytes ctx (body.Payment op) m id spelled work =
-    done_leaves ctx m (paying.payment ctx op m) work (paid_in op.asset ctx op m work)
+    done_leaves ctx m (paying.payment ctx op m) work (payment_paid ctx op m work)
 any_bytes ctx (body.BeginSponsoringFutureReserves op) m id spelled work =
     done_leaves ctx m (beginning.begin_sponsoring ctx op m) work (begun ctx op m id work)
 any_bytes ctx body.EndSponsoringFutureReserves m id spelled work =

@@ -9,6 +9,7 @@ pub mod NextLegal
 pub mod Bytes
 pub mod BytesPaid
 pub mod BytesMaps
+pub mod BytesAmounts
 pub mod BytesOperations
 pub mod BytesSets
 pub mod Short

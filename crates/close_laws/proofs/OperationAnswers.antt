@@ -7,8 +7,6 @@ use Rattle.ledger_types.specs.declared.ids.AccountId.{AccountId}
 use Rattle.ledger_types.specs.declared.signer.Signer.{Signer}
 use Rattle.ledger_types.specs.declared.signer.SignerKey.{SignerKey}
 use Rattle.ledger_types.specs.declared.account.AccountEntry.{AccountEntry}
-use Rattle.ledger_types.specs.declared.asset.Asset.{Asset}
-use Rattle.ledger_types.specs.declared.asset.Asset.TheVariants as asset
 use Rattle.ledger_types.specs.declared.data_entry.DataEntry.{DataEntry}
 use Rattle.ledger_types.specs.declared.key.LedgerKey.{LedgerKey}
 use Rattle.ledger_types.specs.Ids.{account_of}
@@ -59,13 +57,18 @@ use Rattle.sponsor_rules.specs.declared.fault.AddFault.TheVariants as fault
 use Rattle.sponsor_rules.specs.declared.signer_place.FoundSigner.{FoundSigner}
 use Rattle.sponsor_rules.specs.Adding.{map_after_adding}
 use Rattle.sponsor_rules.specs.Moving.{map_after_moving}
-use Rattle.sponsor_rules.specs.Payers.{is_same_account, open_sponsor}
+use Rattle.sponsor_rules.specs.Payers.{open_sponsor}
 use Rattle.sponsor_rules.specs.SignerPlace.{found_signer}
 use Rattle.sponsor_rules.specs.Signers.{map_after_adding_signer, map_after_moving_signer, map_after_removing_signer}
 use Rattle.op_form.specs.Done.{Done, Attempt, done_of}
 use Rattle.op_form.specs.Faults.{fault_result}
+use Rattle.op_form.specs.declared.amounts.CreditFault.{CreditFault}
+use Rattle.op_form.specs.declared.amounts.CreditFault.TheVariants as credit
+use Rattle.op_form.specs.declared.amounts.DebitFault.{DebitFault}
+use Rattle.op_form.specs.declared.amounts.DebitFault.TheVariants as debit
+use Rattle.op_form.specs.Amounts.{map_after_credit, map_after_debit}
 use Rattle.op_form.specs.Lumens as lumens
-use Rattle.op_form.specs.Steps.{unless_result, unless_refused, after, after_some, after_charge}
+use Rattle.op_form.specs.Steps.{unless_result, unless_refused, after, after_some, after_charge, after_step}
 use Rattle.op_account.specs.AccountMerge as merging
 use Rattle.op_account.specs.BumpSequence as bumping
 use Rattle.op_account.specs.CreateAccount as creating
@@ -190,6 +193,12 @@ charge_answers : {B : Type 0} (P : B → Type 0) (made : Result EntryMap AddFaul
 charge_answers P (Err found) low next here answers = record { ends = charged found low here }
 charge_answers P (Ok m) low next here answers = answers m
 
+change_answers : {B F : Type 0} (P : B → Type 0) (made : Result EntryMap F) (answers : F → OperationResult)
+    (next : EntryMap → Result B OperationResult) → ((fault : F) → IsAnswer (answers fault))
+    → ((m : EntryMap) → Answers P (next m)) → Answers P (after_step made answers next)
+change_answers P (Err fault) answers next each rest = record { ends = each fault }
+change_answers P (Ok m) answers next each rest = rest m
+
 step_answers : {A B : Type 0} (P : B → Type 0) (made : Result A OperationResult)
     (next : A → Result B OperationResult) → Answers Any made → ((a : A) → Answers P (next a))
     → Answers P (after made next)
@@ -235,23 +244,29 @@ bump_answers ctx op m =
     (bumped bump.BadSeq, tt)
     (record { ends = (bumped bump.Success, refl) })
 
-pay_answers : (of : Asset) (ctx : Ctx) (op : PaymentOp) (m : EntryMap)
-    → Answers (IsDone ctx.id_pool) (paying.payment_in of ctx op m)
-pay_answers asset.Native ctx op m =
-    first_answers (IsDone ctx.id_pool) (paying.amount_tests op) _ (paid pay.Malformed, tt)
-    (either_answers ctx.id_pool (is_same_account (account_of op.destination) ctx.op_source) (paying.paid ctx op m)
+credited : (fault : CreditFault) → IsAnswer (paying.credit_result fault)
+credited credit.NoLine = paid pay.NoTrust
+credited credit.NotAuthorized = paid pay.NotAuthorized
+credited credit.Full = paid pay.LineFull
+
+debited : (fault : DebitFault) → IsAnswer (paying.debit_result fault)
+debited debit.NoLine = paid pay.SrcNoTrust
+debited debit.NotAuthorized = paid pay.SrcNotAuthorized
+debited debit.Short = paid pay.Underfunded
+
+pay_answers : (ctx : Ctx) (op : PaymentOp) (m : EntryMap) → Answers (IsDone ctx.id_pool) (paying.payment ctx op m)
+pay_answers ctx op m =
+    first_answers (IsDone ctx.id_pool) (paying.payment_tests op) _ (paid pay.Malformed, tt)
+    (either_answers ctx.id_pool (paying.is_to_itself ctx op) (paying.paid ctx op m)
     (unless_refused (paying.destination_tests op m) (paying.taken_and_given ctx op m))
     (record { ends = (paid pay.Success, refl) })
     (first_answers (IsDone ctx.id_pool) (paying.destination_tests op m) (paying.taken_and_given ctx op m)
     (paid pay.NoDestination, tt)
-    (some_answers (IsDone ctx.id_pool) (lumens.map_after_lumens_credit (account_of op.destination) op.amount m)
-    (paying.answer pay.LineFull) _
-    (paid pay.LineFull)
-    (λ taken. some_answers (IsDone ctx.id_pool) (lumens.map_after_lumens_debit ctx ctx.op_source op.amount taken)
-    (paying.answer pay.Underfunded) _ (paid pay.Underfunded)
+    (change_answers (IsDone ctx.id_pool) (map_after_credit (account_of op.destination) op.asset op.amount m)
+    paying.credit_result _ credited
+    (λ taken. change_answers (IsDone ctx.id_pool) (map_after_debit ctx ctx.op_source op.asset op.amount taken)
+    paying.debit_result _ debited
     (λ given. record { ends = (paid pay.Success, refl) })))))
-pay_answers (asset.Alphanum4 code issuer) ctx op m = record { ends = not_supported }
-pay_answers (asset.Alphanum12 code issuer) ctx op m = record { ends = not_supported }
 
 value_answers : (ctx : Ctx) (name value : List ℕ) (m : EntryMap) (found : Option DataEntry)
     → Answers (IsDone ctx.id_pool) (managing.valued ctx name value m found)
@@ -378,7 +393,7 @@ any_answers ctx (body.AccountMerge op) m = done_answers ctx m (merging.account_m
 any_answers ctx (body.BumpSequence op) m = done_answers ctx m (bumping.bump_sequence ctx op m) (bump_answers ctx op m)
 any_answers ctx (body.SetOptions op) m = done_answers ctx m (options.set_options ctx op m) (options_answers ctx op m)
 any_answers ctx (body.ManageData op) m = done_answers ctx m (managing.manage_data ctx op m) (data_answers ctx op m)
-any_answers ctx (body.Payment op) m = done_answers ctx m (paying.payment ctx op m) (pay_answers op.asset ctx op m)
+any_answers ctx (body.Payment op) m = done_answers ctx m (paying.payment ctx op m) (pay_answers ctx op m)
 any_answers ctx (body.BeginSponsoringFutureReserves op) m =
     done_answers ctx m (beginning.begin_sponsoring ctx op m) (begin_answers ctx op m)
 any_answers ctx body.EndSponsoringFutureReserves m =

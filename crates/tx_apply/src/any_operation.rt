@@ -22,7 +22,7 @@ pub(crate) fn apply_operation<B: Base>(
     requires seq { ctx.old.seq < 2147483647 }
     requires source { HasAccount entries.old.current ctx.old.op_source }
     requires ready { premises.AccountsAreReady entries.old.current }
-    requires in_range { premises.AccountsAreInRange entries.old.current }
+    requires in_range { premises.BalancesAreInRange entries.old.current }
     ensures { IfOk result (λ answer. Does answer ctx.new entries.old entries.new
         (spec.any_operation ctx.old operation.now.body entries.old.current)) }
 {

@@ -16,7 +16,7 @@ use std::sync::ledger::{Blank, Ledger};
 use std::{env, fs, io};
 
 /// How many cases there are.
-const CASES: u32 = 55;
+const CASES: u32 = 228;
 
 /// The most bytes that a read or a write moves in the first run of a case.
 const PIECE: usize = 100;

@@ -12,13 +12,12 @@ import os
 import sys
 
 import ledger_model as model
+import make_cases as sets  # that of whole sets of transactions: ledger_model puts its folder first
 from ledger_model import (
     DEAD, EMPTY, ENTRY, GREATEST, HEADER, INIT, ITEM, LIVE, META, NO_HASH, Bucket, Text, catchup, cut_image, i32, i64, key_of, ledger_of,
     many, marked, row, sha, u32, u64,
 )
 
-# the spellings of accounts, operations and transactions are those of the cases of whole sets
-sets = sys.modules["make_cases"]
 LUMEN, NOTHING, Account, Data, key, sent, var = (
     sets.LUMEN, sets.NOTHING, sets.Account, sets.Data, sets.key, sets.sent, sets.var
 )

@@ -1,5 +1,6 @@
 //! Runs the cases in a folder, each from five files: `N.args` has its words, one a line, `N.in` its input, and `N.out`,
-//! `N.err` and `N.status` have what it must write and answer, to the byte. Prints a line for each case.
+//! `N.err` and `N.status` have what it must write and answer, to the byte. Each is run twice: in pieces, and at one byte a
+//! read and a write. Prints a line for each case.
 //!
 //! The folder is the program's one argument, or `data` where there is none.
 #![tactic(auto)]
@@ -15,9 +16,9 @@ use std::sync::ledger::{Blank, Ledger};
 use std::{env, fs, io};
 
 /// How many cases there are.
-const CASES: u32 = 55;
+const CASES: u32 = 228;
 
-/// The most bytes that a read or a write moves.
+/// The most bytes that a read or a write moves in the first run of a case.
 const PIECE: usize = 100;
 
 /// The bytes of one file of a case.
@@ -47,7 +48,7 @@ fn words<R: Files + AllocGlobal>(rt: &R, folder: &str, case: u32) -> io::Result<
     Ok(words)
 }
 
-/// That all is as the files of a case have it, or what differs first.
+/// What differs first from the files of a case, if something does.
 fn compared<R: Files + AllocGlobal>(
     rt: &R,
     folder: &str,
@@ -55,17 +56,17 @@ fn compared<R: Files + AllocGlobal>(
     status: u8,
     out: &[u8],
     err: &[u8],
-) -> io::Result<&'static str> {
+) -> io::Result<Option<&'static str>> {
     if text(rt, folder, case, "status")?.trim().parse() != Ok(status) {
-        return Ok("another status");
+        return Ok(Some("another status"));
     }
     if out != file(rt, folder, case, "out")?.as_slice() {
-        return Ok("other output");
+        return Ok(Some("other output"));
     }
     if err != file(rt, folder, case, "err")?.as_slice() {
-        return Ok("other text on standard error");
+        return Ok(Some("other text on standard error"));
     }
-    Ok("as expected")
+    Ok(None)
 }
 
 /// Runs the program, and counts the steps of its merges in a book of their own.
@@ -96,14 +97,32 @@ fn status_of(
     run::<Brand>(alloc, words, input, out, err, Blank::new(1))
 }
 
-/// What a case shows.
-fn outcome<R: Files + AllocGlobal>(rt: &R, folder: &str, case: u32) -> io::Result<&'static str> {
+/// What differs first where a read and a write of a case move at most so many bytes, if something does.
+fn difference<R: Files + AllocGlobal>(
+    rt: &R,
+    folder: &str,
+    case: u32,
+    most: usize,
+) -> io::Result<Option<&'static str>>
+    requires { 0 < most }
+{
     let words = words(rt, folder, case)?;
-    let mut input = MemSource::new(file(rt, folder, case, "in")?, PIECE, Vec::new(rt.alloc()));
-    let mut out = MemSink::new(rt.alloc(), PIECE, Vec::new(rt.alloc()));
-    let mut err = MemSink::new(rt.alloc(), PIECE, Vec::new(rt.alloc()));
+    let mut input = MemSource::new(file(rt, folder, case, "in")?, most, Vec::new(rt.alloc()));
+    let mut out = MemSink::new(rt.alloc(), most, Vec::new(rt.alloc()));
+    let mut err = MemSink::new(rt.alloc(), most, Vec::new(rt.alloc()));
     let status = status_of(rt.alloc(), words.as_slice(), &mut input, &mut out, &mut err);
     compared(rt, folder, case, status, out.bytes(), err.bytes())
+}
+
+/// What a case shows.
+fn outcome<R: Files + AllocGlobal>(rt: &R, folder: &str, case: u32) -> io::Result<&'static str> {
+    if let Some(difference) = difference(rt, folder, case, PIECE)? {
+        return Ok(difference);
+    }
+    match difference(rt, folder, case, 1)? {
+        Some(_) => Ok("something else byte by byte"),
+        None => Ok("as expected, also byte by byte"),
+    }
 }
 
 fn main(rt: HostRuntime) -> io::Result<()> {

@@ -1,6 +1,6 @@
-ghost use Rattle.std.specs.Prelude.{◌≡◌, ◌<◌};
+ghost use Rattle.std.specs.Prelude.{◌≡◌, ◌<◌, Some};
 
-use outside::{MemSink, MemSource, Steps, read_all};
+use outside::{Failed, MemSink, MemSource, Sink, Steps, read_all};
 use replay::{end_without_memory, run_program};
 use std::alloc::{AllocError, Global};
 use std::marker::Brand;
@@ -42,31 +42,46 @@ fn words_of(alloc: Global, texts: &[&str]) -> Result<Vec<String>, AllocError> {
     Ok(words)
 }
 
-/// Whether the program ends with this status over these words and this input, writes nothing and tells this line.
-fn ends<L: Ledger>(
+/// Runs the program, and counts the steps of its merges in a book of their own.
+fn run<O: Sink, L: Ledger>(
     alloc: Global,
     words: &[&str],
     input: &mut MemSource,
-    tells: Calls,
-    end: (u8, &str),
+    out: &mut O,
+    err: &mut MemSink,
     blank: Blank,
-) -> Result<bool, AllocError>
+) -> Result<u8, AllocError>
     requires name { blank.name ≡ L.name }
     requires parts { blank.parts ≡ L.parts }
     requires some { 0 < L.parts }
 {
     let words = words_of(alloc, words)?;
+    let mut steps: Steps<L> = Steps::new(blank);
+    Ok(run_program(alloc, words.as_slice(), input, out, err, &mut steps))
+}
+
+/// The status of the program over these words and streams.
+fn status_of<O: Sink>(
+    alloc: Global,
+    words: &[&str],
+    input: &mut MemSource,
+    out: &mut O,
+    err: &mut MemSink,
+) -> Result<u8, AllocError> {
+    run::<O, Brand>(alloc, words, input, out, err, Blank::new(1))
+}
+
+/// Whether the program ends with this status over these words and this input, writes nothing and tells this line.
+fn ends(
+    alloc: Global,
+    words: &[&str],
+    input: &mut MemSource,
+    tells: Calls,
+    end: (u8, &str),
+) -> Result<bool, AllocError> {
     let mut out = sink(alloc, pieces_of(100))?;
     let mut err = sink(alloc, tells)?;
-    let mut steps: Steps<L> = Steps::new(blank);
-    let status = run_program(
-        alloc,
-        words.as_slice(),
-        input,
-        &mut out,
-        &mut err,
-        &mut steps,
-    );
+    let status = status_of(alloc, words, input, &mut out, &mut err)?;
     Ok(status == end.0 && out.bytes().is_empty() && err.bytes() == end.1.as_bytes())
 }
 
@@ -82,14 +97,7 @@ fn catchup_ends(
 {
     let mut input = source(alloc, bytes, reads)?;
     let words = ["catchup", "--network", NETWORK];
-    ends::<Brand>(
-        alloc,
-        words.as_slice(),
-        &mut input,
-        tells,
-        end,
-        Blank::new(1),
-    )
+    ends(alloc, words.as_slice(), &mut input, tells, end)
 }
 
 #[test]
@@ -130,14 +138,7 @@ fn answers_5_where_an_end_can_not_be_told(rt: HostRuntime) {
 fn is_no_command(alloc: Global, words: &[&str]) -> Result<bool, AllocError> {
     let bytes = b"any input";
     let mut input = source(alloc, bytes, pieces_of(100))?;
-    let is_refused = ends::<Brand>(
-        alloc,
-        words,
-        &mut input,
-        pieces_of(100),
-        (2, "usage\n"),
-        Blank::new(1),
-    )?;
+    let is_refused = ends(alloc, words, &mut input, pieces_of(100), (2, "usage\n"))?;
     Ok(is_refused && is_left(alloc, &mut input, bytes))
 }
 
@@ -176,4 +177,138 @@ fn without_memory(alloc: Global, tells: Calls, line: &str) -> Result<(u8, bool),
 fn ends_without_memory_before_anything_is_read(rt: HostRuntime) {
     assert!(rt; without_memory(rt.alloc(), pieces_of(100), "no memory\n") == Ok((8, true)));
     assert!(rt; without_memory(rt.alloc(), pieces_of(0), "") == Ok((5, true)));
+}
+
+// ---- a run that closes two ledgers
+
+/// The input of the stored run, the file `stdin`: an image of 664 bytes, and records that end at 756 and 952.
+const INPUT: &str =
+    "534c493180000144000000126db7d803e74f1ffa7d8f5adc0bf95b3e15bf4c8373fffadf546227cc6c6742cb000000000000000000000000\
+    000000000000000000000000000000000000000000000000000003e80000000000000000df3f619804a92fdb4057192dc43dd748ea778adc\
+    52bc498ce80524c014b811191ec98c46855f08ef661e4f508e738381e3653bad0996eb0ab68b14c2d7adb6d100000002000000003b9aca00\
+    000000000000000000000000000000000000000000000064004c4b40000003e8ca978112ca1bbdcafac231b39a23dc4da786eff8147c4e72\
+    b9807785afee48bb3e23e8160039594a33894f6564e1b1348bbd7a0088d42c4acb73eeaed59c009d2e7d2c03a9507ae265ecf5b5356885a5\
+    3393a2029d241394997265a1a25aefc618ac3e7343f016890c510e93f935261169d9e3f565436429830faf0934f4f8e40000000000000000\
+    0000009c8000000cffffffff0000001200000000800000880000000200000002000000000000000061616161616161616161616161616161\
+    61616161616161616161616161616161000000003b9aca000000000000000007000000010000000000000000000000000001010100000001\
+    000000022bb80d537b1da3e38bd30361aa855686bde0eacd7162fef6a25fe97bf527a25b0000000100000000000000000000000000000000\
+    0000000000000000000000000000000000000000000000000000000000000000000000000000000000000000000000000000000000000000\
+    0000000000000000000000000000000000000000000000000000000000000000000000000000000000000000000000000000000000000000\
+    0000000000000000000000000000000000000000000000000000000000000000000000000000000000000000000000008000005800000003\
+    896a64738defb625a86d487718cbfc7631e673833102d58899110e2f470acbeb0000000001cca415de156dde0c3a6535ece5db95c9b9469d\
+    2ea7e6b5d435080cb480aa0500000000000003ed0000000000000000800000c0000000042fa98cab523c571129b15bc61a0fc8e59a62e7ad\
+    1710219ad9f683c3b0a3dda30000000100000002000000006161616161616161616161616161616161616161616161616161616161616161\
+    000000640000000000000008000000000000000000000001000000000000000b00000000000000090000000000000001f527a25b00000006\
+    7365637265740000c0310341219ada6bacaa76cd71da2a419bcd8d063a1563da6078cbc516e9763e00000000000003f20000000000000000";
+
+/// What it prints. The lines of its records end at 78 and 230, and all at 301.
+const TEXT: &str = "closed 3 2fa98cab523c571129b15bc61a0fc8e59a62e7ad1710219ad9f683c3b0a3dda3 0 0\n\
+    tx e60e448775bf6727d905ac74f798c234de8890ea220211b69def1b88c6e6d264 100 0\n\
+    closed 4 fa171e1e06b492293cc6acdb913ceb8edb81311816531dda29933424a5ed3595 1 1\n\
+    end 4 fa171e1e06b492293cc6acdb913ceb8edb81311816531dda29933424a5ed3595\n";
+
+/// A sink that takes so many writes, and nothing of any other one.
+#[derive(Drop)]
+struct Filling {
+    bytes: Vec<u8>,
+    left: usize,
+    faults: u64,
+}
+
+impl Sink for Filling {
+    ghost taken = { λ s. Some s.bytes.items };
+
+    ghost faults = { λ s. s.faults };
+
+    fn write(&mut self, piece: &[u8]) -> Result<usize, Failed> {
+        if self.left == 0 {
+            self.faults = self.faults.saturating_add(1);
+            return Ok(0);
+        }
+        if self.bytes.extend_from_slice(piece).is_err() {
+            self.faults = self.faults.saturating_add(1);
+            return Err(Failed);
+        }
+        self.left -= 1;
+        Ok(piece.len())
+    }
+}
+
+/// How the stored run ends: its status, how much of its text is written, and the line that is told.
+type End = (u8, usize, &'static str);
+
+/// The status of the stored run over these streams, and whether the line that is told is that of its end.
+fn stored_status<O: Sink>(
+    alloc: Global,
+    reads: Calls,
+    out: &mut O,
+    line: &str,
+) -> Result<(u8, bool), AllocError>
+    requires { 0 < reads.most }
+{
+    let Ok(bytes) = hex::decode(alloc, INPUT) else {
+        return Err(AllocError);
+    };
+    let mut input = source(alloc, bytes.as_slice(), reads)?;
+    let mut err = sink(alloc, pieces_of(100))?;
+    let words = ["catchup", "--network", NETWORK];
+    let status = status_of(alloc, words.as_slice(), &mut input, out, &mut err)?;
+    Ok((status, err.bytes() == line.as_bytes()))
+}
+
+/// Whether what was written is the front of the stored text that has so many bytes.
+fn is_front(written: &[u8], count: usize) -> bool {
+    written.len() == count && TEXT.as_bytes().starts_with(written)
+}
+
+/// Whether the stored run ends so, where calls fail so.
+fn stored_ends(alloc: Global, reads: Calls, writes: Calls, end: End) -> Result<bool, AllocError>
+    requires { 0 < reads.most }
+{
+    let mut out = sink(alloc, writes)?;
+    let told = stored_status(alloc, reads, &mut out, end.2)?;
+    Ok(told == (end.0, true) && is_front(out.bytes(), end.1))
+}
+
+/// Whether the stored run ends so, over a sink that takes so many writes.
+fn filling_ends(alloc: Global, left: usize, end: End) -> Result<bool, AllocError> {
+    let mut out = Filling {
+        bytes: Vec::new(alloc),
+        left,
+        faults: 0,
+    };
+    let told = stored_status(alloc, pieces_of(100), &mut out, end.2)?;
+    Ok(told == (end.0, true) && is_front(out.bytes.as_slice(), end.1))
+}
+
+#[test]
+fn a_read_that_fails_leaves_the_lines_of_the_records_before(rt: HostRuntime) {
+    for failing in 1..13 {
+        let reads = Calls { most: 100, failing };
+        let end = match failing {
+            1..=8 => (4, 0, "read fault\n"),
+            9 | 10 => (4, 78, "read fault\n"),
+            11 => (4, 230, "read fault\n"),
+            _ => (0, 301, ""),
+        };
+        assert!(rt; stored_ends(rt.alloc(), reads, pieces_of(100), end) == Ok(true));
+    }
+}
+
+#[test]
+fn a_write_that_fails_leaves_a_front_of_the_text(rt: HostRuntime) {
+    for (failing, written) in [(1, 0), (2, 78), (3, 178), (4, 230)] {
+        let writes = Calls { most: 100, failing };
+        let end = (5, written, "write fault\n");
+        assert!(rt; stored_ends(rt.alloc(), pieces_of(100), writes, end) == Ok(true));
+    }
+}
+
+#[test]
+fn a_write_that_takes_nothing_leaves_a_front_of_the_text(rt: HostRuntime) {
+    for (left, written) in [(0, 0), (1, 78), (2, 230)] {
+        let end = (5, written, "write fault\n");
+        assert!(rt; filling_ends(rt.alloc(), left, end) == Ok(true));
+    }
+    assert!(rt; filling_ends(rt.alloc(), 3, (0, 301, "")) == Ok(true));
 }

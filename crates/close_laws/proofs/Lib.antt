@@ -22,3 +22,4 @@ pub mod HeaderSpelled
 pub mod Taken
 pub mod NextClosing
 pub mod OneClose
+pub mod OneImage

@@ -1,5 +1,5 @@
 -- What a start image at the front of an input comes to.
-use Rattle.std.proofs.Common.{◌≡◌, ℕ, zero, suc, ◌-◌, ◌^◌, ◌<◌, ◌≤◌, List, [], ◌∷◌, ◌++◌, length, drop, Option, Some, None, IfSome, Result, Ok, Err}
+use Rattle.std.proofs.Common.{◌≡◌, ℕ, ◌^◌, ◌<◌, ◌≤◌, List, [], ◌++◌, length, drop, Option, Some, None, IfSome, Result, Ok, Err}
 use Rattle.std.proofs.Common.{refl, sym, ap, subst, ◌∙◌, append_assoc, append-nil, zero-add, arith, inl, inr}
 use Rattle.std.specs.Io.KnownBytes.{Consumes, IsAtEnd}
 use Rattle.std.proofs.KnownBytes.{Consumes-trans}
@@ -16,7 +16,7 @@ use Rattle.xdr_core.specs.Format.{IsBytes}
 use Rattle.xdr_core.proofs.FormatLaws.{faults_placed}
 use Rattle.xdr_core.proofs.LeafLaws.{drop_front}
 use Rattle.xdr_header.specs.declared.image.StartImage.{StartImage}
-use Rattle.xdr_header.specs.Image.{start_image, files}
+use Rattle.xdr_header.specs.Image.{start_image}
 use Rattle.xdr_header.proofs.ImageLaws.{start_image_laws}
 use Rattle.hash_ids.specs.Ids.{network_id_of}
 use Rattle.close_rules.specs.declared.image_fault.ImageFault.{ImageFault}
@@ -53,16 +53,6 @@ ended r = r
 at_of : (at : ℕ) (q : Place) → ended (Ok at) ≡ Ok q.at → at ≡ q.at
 at_of at q e = cc
 
-files_count : (n left : ℕ) (vs : List (List ℕ)) → (files n left).within vs → length vs ≡ n
-unfolding files
-files_count zero left vs h = ap length h
-files_count (suc n) left [] h = absurd h
-files_count (suc n) left (v ∷ vs) h = ap (λ (k : ℕ). suc k) (files_count n (left - length v) vs h.1)
-
-image_count : (image : StartImage) → start_image.within image → length image.files ≡ 22
-unfolding start_image
-image_count image h = files_count 22 536870912 image.files h.1.1
-
 pub image_within : (new : List ℕ) (at : ℕ) (image : StartImage) (q : Place) → IsBytes new → image_end new ≡ Ok at
     → read_image new ≡ Ok (image, q) → at ≤ length new
 image_within new at image q fits measured e =
@@ -87,7 +77,6 @@ image_cut input new at image q grown fits measured low e later =
     sym grown.grown ∙ parts ∙ ap (λ (t : List ℕ). front ++ t) (sym rest) in
     record {
       front = front;
-      count = image_count image s.within;
       begins = λ rest. start_image_laws.lawful.again 0 image rest s.within s.sized
           ∙ ap (λ (n : ℕ). Ok (image, record { at = n; rest = rest })) (zero-add (length front));
       len = len;

@@ -30,7 +30,6 @@ Begins front image = (rest : List ℕ)
 -- an image was cut from what the source gave
 pub record Cut (image : StartImage) (at : ℕ) (ahead : List ℕ) (input : Seen) : Type 0 where
   pub front : List ℕ
-  pub count : length image.files ≡ 22
   pub begins : Begins front image
   pub len : at ≡ length front
   pub low : at ≤ 2 ^ 64

@@ -41,8 +41,8 @@ use Rattle.close_rules.specs.declared.image_fault.ImageRule.TheVariants as rule
 use Rattle.close_rules.specs.State.{IsClosingState, IsSpelled, AreBuilt, max_file_total}
 use Rattle.close_rules.specs.EntryRules.{IsFirstBroken, entry_rules}
 use Rattle.close_rules.specs.Images.{header_in, read_whole, if_whole, AreFilesOf, HasHeader}
-use Rattle.close_rules.specs.Images.{HasLevels, HasEntries}
-use Rattle.ledger_close.specs.States.{state_with, IsKept}
+use Rattle.close_rules.specs.Images.{HasLevels, HasEntries, state_of}
+use Rattle.ledger_close.specs.States.{IsKept}
 use Rattle.ledger_close.specs.Answers.{JudgesImage}
 use Rattle.ledger_close.specs.ImageFiles.{IsFileFault}
 use Rattle.ledger_close.specs.Judging.{IsHeaderJudged, AreFewFiles, Stands, AreJudged}
@@ -302,7 +302,7 @@ is_legal image h levels m has kept =
 
 is_closing : (network : Hash) (image : StartImage) (h : LedgerHeader) (levels : List Pair) (m : EntryMap)
     → HasEntries image h levels m → IsSpelled ledger_header h → AreBuilt m → IsFirstBroken h m entry_rules None
-    → IsClosingState (state_with network h m levels)
+    → IsClosingState (state_of network h levels m)
 is_closing network image h levels m has spelled built kept = record {
   legal = is_legal image h levels m has kept;
   count = has.files.files.files.count;
@@ -338,6 +338,6 @@ is_kept network digest image h m levels w hashed number = record {
 }
 
 pub whole_judged : (network : Hash) (image : StartImage) (h : LedgerHeader) (levels : List Pair) (m : EntryMap)
-    → IsWhole image h levels m → JudgesImage network image (Ok (state_with network h m levels))
+    → IsWhole image h levels m → JudgesImage network image (Ok (state_of network h levels m))
 whole_judged network image h levels m w =
     (h, levels, m, whole_has image h levels m w, w.judged.1, w.judged.2, refl)

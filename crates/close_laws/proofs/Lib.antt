@@ -23,3 +23,4 @@ pub mod HeaderSpelled
 pub mod Taken
 pub mod NextClosing
 pub mod OneClose
+pub mod OneImage

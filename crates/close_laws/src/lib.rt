@@ -1,7 +1,8 @@
-//! Laws of a close, over its definitions: what a state and a record that isn't refused lead to.
+//! Laws of a close, over its definitions: what a state and a record that isn't refused lead to, and what an image does.
 #![tactic(auto)]
 
 pub mod closes;
 pub mod entries;
 pub mod header;
+pub mod images;
 pub mod results;

@@ -37,7 +37,7 @@ use Rattle.ledger_close.specs.Worked.{Leaves}
 use Rattle.ledger_close.specs.Leveled.{IsLeveled}
 use Rattle.ledger_close.specs.Closing.{IsClosedBy}
 use Rattle.ledger_close.specs.Answers.{Answers, terms_of}
-use Rattle.ledger_close.specs.States.{state_with}
+use Rattle.close_rules.specs.Images.{state_of}
 use Rattle.ledger_close.proofs.Parts.{fills, of_bytes}
 
 -- ---- the header
@@ -96,7 +96,7 @@ pub closes : (s : ClosingState) (closing : CloseRecord) (worked : Worked) (step 
     → IsLeveled s (all_upgraded s.header (map upgrade_in closing.scp_value.upgrades)).ledger_version worked.entries step
     → IsClosed s closing (record {
       results = worked.done.results.results;
-      state = state_with s.network (finished (upgraded_header s closing) (list_hash step.pairs)) worked.entries step.pairs;
+      state = state_of s.network (finished (upgraded_header s closing) (list_hash step.pairs)) step.pairs worked.entries;
     })
 closes s closing worked step leaves leveled = record {
   results = leaves.done.results;
@@ -182,4 +182,4 @@ answered s bytes closing (Err fault.NoMemory) text reads is = tt
 -- ---- the whole
 
 abbrev pub closed_with : List TransactionResultPair → Hash → LedgerHeader → EntryMap → List Pair → Closed
-closed_with results network h m levels = record { results = results; state = state_with network h m levels }
+closed_with results network h m levels = record { results = results; state = state_of network h levels m }

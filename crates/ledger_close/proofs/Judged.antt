@@ -1,6 +1,8 @@
 -- What parts of an image's judging say of the whole.
 use Rattle.std.proofs.Common.{◌≡◌, ◌≢◌, ℕ, ◌≤◌, inl, inr, List, [], ◌∷◌, map, Option, Some, None}
-use Rattle.std.proofs.Common.{pos, Ok, Err, refl, sym, ap, ◌∙◌, subst, arith, All}
+use Rattle.std.proofs.Common.{pos, Ok, Err, refl, sym, ap, ◌∙◌, subst, arith, All, ◌*◌, length}
+use Rattle.std.specs.List.{flat_map}
+use Rattle.bucket_core.specs.File.{file_of}
 use Rattle.std.specs.List.{AllByRecursion}
 use Rattle.std.specs.FinMap.{get, entries, get-entries}
 use Rattle.std.proofs.lemmas.List.{length-append}
@@ -39,8 +41,8 @@ use Rattle.close_rules.specs.declared.image_fault.ImageRule.TheVariants as rule
 use Rattle.close_rules.specs.State.{IsClosingState, IsSpelled, AreBuilt, max_file_total}
 use Rattle.close_rules.specs.EntryRules.{IsFirstBroken, entry_rules}
 use Rattle.close_rules.specs.Images.{header_in, read_whole, if_whole, AreFilesOf, HasHeader}
-use Rattle.close_rules.specs.Images.{HasLevels, HasEntries}
-use Rattle.ledger_close.specs.States.{state_with, IsKept}
+use Rattle.close_rules.specs.Images.{HasLevels, HasEntries, state_of}
+use Rattle.ledger_close.specs.States.{IsKept}
 use Rattle.ledger_close.specs.Answers.{JudgesImage}
 use Rattle.ledger_close.specs.ImageFiles.{IsFileFault}
 use Rattle.ledger_close.specs.Judging.{IsHeaderJudged, AreFewFiles, Stands, AreJudged}
@@ -69,6 +71,19 @@ too_long law files levels answer is are long =
     subst (λ (a : ImageFault). IsFileFault a ((others : List Pair) → AreFewFiles files others → ⊥)) (sym is)
     (λ others few. long (subst (λ (l : List Pair). file_total l ≤ max_file_total)
     (levels_are_one law files others levels few.are are) few.few))
+
+-- levels have two files each
+pair_files : (levels : List Pair)
+    → length (flat_map (λ (pair : Pair). file_of pair.curr ∷ file_of pair.snap ∷ []) levels) ≡ 2 * length levels
+pair_files [] = refl
+pair_files (pair ∷ levels) = omega (arith, pair_files levels)
+
+-- files of another number are those of no levels
+pub no_levels : (files : List (List ℕ)) (answer : ImageFault) → answer ≡ fault.BadImage rule.Bucket
+    → (length files ≡ 22 → ⊥) → IsFileFault answer ((levels : List Pair) → AreFewFiles files levels → ⊥)
+no_levels files answer is other =
+    subst (λ (a : ImageFault). IsFileFault a ((levels : List Pair) → AreFewFiles files levels → ⊥)) (sym is)
+    (λ levels few. other (ap length few.are.are ∙ pair_files levels ∙ ap (λ (n : ℕ). 2 * n) few.are.count))
 
 -- the first four rules are kept
 pub has_levels : (image : StartImage) (h : LedgerHeader) (levels : List Pair) → HasHeader image h
@@ -287,7 +302,7 @@ is_legal image h levels m has kept =
 
 is_closing : (network : Hash) (image : StartImage) (h : LedgerHeader) (levels : List Pair) (m : EntryMap)
     → HasEntries image h levels m → IsSpelled ledger_header h → AreBuilt m → IsFirstBroken h m entry_rules None
-    → IsClosingState (state_with network h m levels)
+    → IsClosingState (state_of network h levels m)
 is_closing network image h levels m has spelled built kept = record {
   legal = is_legal image h levels m has kept;
   count = has.files.files.files.count;
@@ -323,6 +338,6 @@ is_kept network digest image h m levels w hashed number = record {
 }
 
 pub whole_judged : (network : Hash) (image : StartImage) (h : LedgerHeader) (levels : List Pair) (m : EntryMap)
-    → IsWhole image h levels m → JudgesImage network image (Ok (state_with network h m levels))
+    → IsWhole image h levels m → JudgesImage network image (Ok (state_of network h levels m))
 whole_judged network image h levels m w =
     (h, levels, m, whole_has image h levels m w, w.judged.1, w.judged.2, refl)

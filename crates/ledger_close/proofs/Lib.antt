@@ -4,3 +4,4 @@ pub mod Judged
 pub mod Works
 pub mod Installs
 pub mod Finishing
+pub mod Counting

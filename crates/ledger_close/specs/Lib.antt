@@ -4,5 +4,6 @@ pub mod Worked
 pub mod Leveled
 pub mod Heading
 pub mod Closing
+pub mod Counted
 pub mod ImageFiles
 pub mod Judging

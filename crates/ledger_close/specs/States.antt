@@ -14,9 +14,7 @@ use Rattle.bucket_levels.specs.Pairs.{Pair, pair_code}
 use Rattle.bucket_levels.specs.Levels.{LevelsAt}
 use Rattle.close_rules.specs.State.{ClosingState, IsClosingState}
 use Rattle.close_rules.specs.Close.{Closed}
-
-abbrev pub state_with : Hash → LedgerHeader → EntryMap → List Pair → ClosingState
-state_with network h m levels = record { network = network; header = h; entries = m; levels = levels }
+use Rattle.close_rules.specs.Images.{state_of}
 
 -- how states and closes are told apart
 abbrev pub state_code : Coded ClosingState
@@ -24,7 +22,7 @@ state_code =
     code_by (Hash × (LedgerHeader × (EntryMap × List Pair)))
     (coded× hash.the_row.coded (coded× header.the_row.coded (coded× map_code (coded_list pair_code))))
     (λ s. (s.network, (s.header, (s.entries, s.levels))))
-    (λ (network, (h, (m, levels))). state_with network h m levels) (λ _. refl)
+    (λ (network, (h, (m, levels))). state_of network h levels m) (λ _. refl)
 
 abbrev pub closed_code : Coded Closed
 closed_code =
@@ -33,7 +31,7 @@ closed_code =
 
 -- what a ledger keeps beside its state: the hash of its header, and levels of its number
 pub record IsKept (network digest : Hash) (h : LedgerHeader) (m : EntryMap) (levels : LevelsAt) : Type 0 where
-  pub state : IsClosingState (state_with network h m levels.pairs)
+  pub state : IsClosingState (state_of network h levels.pairs m)
   pub hashed : digest ≡ ledger_hash_of h
   pub number : levels.seq ≡ h.ledger_seq
 

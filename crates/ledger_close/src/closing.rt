@@ -7,6 +7,7 @@ ghost use Rattle.close_rules.specs.State.{IsSpelled};
 ghost use Rattle.close_rules.specs.Refusals.{record_fault};
 ghost use Rattle.ledger_close.specs.Answers as answer;
 ghost use Rattle.ledger_close.specs.Closing as spec;
+ghost use Rattle.ledger_close.specs.Counted.{AreStepsWith, AreSteps};
 ghost use Rattle.ledger_close.specs.Worked.{Leaves};
 
 use crate::apply::Worked;
@@ -45,7 +46,8 @@ impl Ledger {
         requires unrefused { record_fault self.now closing ≡ None }
         requires next { next ≡ all_upgraded self.now.header (map upgrade_in closing.scp_value.upgrades) }
         requires worked { Leaves self.now closing worked }
-        ensures { spec.IsFinished self.now closing result }
+        ensures finished { spec.IsFinished self.now closing result }
+        ensures steps { AreStepsWith self.now closing steps.old steps.new }
     {
         let _ = &self.network;
         entries_stay_spellable();
@@ -82,7 +84,8 @@ impl Ledger {
         steps: &mut Steps<L>,
     ) -> Result<Prepared, CloseFault>
         requires { IsSpelled close_record closing }
-        ensures { spec.IsClosedBy self.now closing result }
+        ensures closed { spec.IsClosedBy self.now closing result }
+        ensures steps { AreStepsWith self.now closing steps.old steps.new }
     {
         let _ = &self.network;
         let next = match self.judge_terms(&closing) {
@@ -97,14 +100,16 @@ impl Ledger {
     }
 
     /// Prepares the close of a record, which are these bytes, at most 16777216: its results, and the state behind it; or
-    /// the first fault of the record. The ledger stays as it is.
+    /// the first fault of the record. The ledger stays as it is. Where levels are merged, the steps rise by at most the
+    /// items of the files that are; else they stay.
     pub fn prepare<L: Count>(
         &self,
         bytes: &[u8],
         steps: &mut Steps<L>,
     ) -> Result<Prepared, CloseFault>
         requires { length bytes.now ≤ 16777216 }
-        ensures { answer.Answers self.now bytes.now result }
+        ensures answers { answer.Answers self.now bytes.now result }
+        ensures steps { AreSteps self.now bytes.now steps.old steps.new }
     {
         let closing = match read_closing(self.allocator(), bytes) {
             Ok(closing) => closing,

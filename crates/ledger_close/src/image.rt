@@ -68,12 +68,14 @@ fn judge_header(alloc: Global, image: &StartImage) -> Result<LedgerHeader, Image
 
 /// The files of an image's levels, by the fourth rule.
 fn judge_files(alloc: Global, files: &[ItemList<u8>]) -> Result<Vec<LevelPair>, ImageFault>
-    requires { length files.now ≡ 22 }
     ensures ok { IfOk result (λ pairs. judging.AreFewFiles files.now (map pair_of pairs.items)) }
     ensures bad { IfErr result
         (λ wrong. IsFileFault wrong ((levels : List Pair) → judging.AreFewFiles files.now levels → ⊥)) }
 {
     a_file_is_of_one_bucket();
+    if files.len() != 22 {
+        return Err(broken(ImageRule::Bucket));
+    }
     let pairs = match read_pairs(alloc, files) {
         Ok(pairs) => pairs,
         Err(fault) => return Err(fault),
@@ -124,10 +126,8 @@ fn judge_entries(
 }
 
 impl Ledger {
-    /// The ledger behind a start image, on the network with this id; or the first rule that the image breaks. The image
-    /// has 22 files.
+    /// The ledger behind a start image, on the network with this id; or the first rule that the image breaks.
     pub fn from_image(image: StartImage, network: Hash) -> Result<Ledger, ImageFault>
-        requires { length image.files ≡ 22 }
         ensures { answer.JudgesImage network image result }
     {
         let alloc = image.header.allocator();

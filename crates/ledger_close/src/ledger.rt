@@ -28,13 +28,14 @@ pub struct Ledger {
 
 impl Model for Ledger {
     ghost use Rattle.close_rules.specs.State.{ClosingState};
-    ghost use Rattle.ledger_close.specs.States.{state_with, state_code, IsKept};
+    ghost use Rattle.close_rules.specs.Images.{state_of};
+    ghost use Rattle.ledger_close.specs.States.{state_code, IsKept};
 
     ghost Value = { ClosingState };
 
     ghost coded = { state_code };
 
-    ghost view = { λ l. state_with l.network l.header l.entries l.levels.pairs };
+    ghost view = { λ l. state_of l.network l.header l.levels.pairs l.entries };
 
     ghost invariant = { λ l. IsKept l.network l.digest l.header l.entries l.levels };
 }

@@ -4,6 +4,7 @@ ghost use Rattle.std.specs.Prelude.{◌<◌, IfOk};
 ghost use Rattle.entry_map.specs.EntryMap.{EntryMap, IsKeyed};
 ghost use Rattle.entry_changes.specs.Next.{IsExactBatch};
 ghost use Rattle.entry_changes.specs.Spellable.{AreSpellable};
+ghost use Rattle.ledger_close.specs.Counted.{AreStepsTo};
 ghost use Rattle.ledger_close.specs.Leveled.{IsLeveled};
 
 use crate::ledger::Ledger;
@@ -25,8 +26,10 @@ impl Ledger {
     ) -> Result<LevelStep, AllocError>
         requires seq { self.now.header.ledger_seq < 2147483647 }
         requires spellable { (after : EntryMap) × IsExactBatch self.now.entries after batch.now × AreSpellable after }
-        ensures { (after : EntryMap) → IsExactBatch self.now.entries after batch.now → IsKeyed after
+        ensures levels { (after : EntryMap) → IsExactBatch self.now.entries after batch.now → IsKeyed after
             → IfOk result (IsLeveled self.now version after) }
+        ensures steps { (after : EntryMap) → IsExactBatch self.now.entries after batch.now → IsKeyed after
+            → AreStepsTo self.now after steps.old steps.new }
     {
         let seq = self.header.ledger_seq + 1;
         let fresh = fresh_bucket(alloc, version, batch)?;

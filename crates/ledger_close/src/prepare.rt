@@ -23,7 +23,8 @@ pub struct Prepared {
 
 impl Model for Prepared {
     ghost use Rattle.close_rules.specs.Close.{Closed};
-    ghost use Rattle.ledger_close.specs.States.{state_with, closed_code, IsReady};
+    ghost use Rattle.close_rules.specs.Images.{state_of};
+    ghost use Rattle.ledger_close.specs.States.{closed_code, IsReady};
 
     ghost Value = { Closed };
 
@@ -31,7 +32,7 @@ impl Model for Prepared {
 
     ghost view = { λ p. record {
       results = p.results.results;
-      state = state_with p.network p.header p.entries p.step.pairs;
+      state = state_of p.network p.header p.step.pairs p.entries;
     } };
 
     ghost invariant = { λ p. IsReady p.digest p.header p.step };

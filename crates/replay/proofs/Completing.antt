@@ -1,40 +1,131 @@
--- Where nothing failed, a run is whole.
-use Rattle.std.proofs.Common.{◌≡◌, ℕ, List, Option, IfSome, refl, subst, inl, inr, ◌⊎◌}
+-- Where nothing failed a run is whole, and an outcome is answered unless something failed.
+use Rattle.std.proofs.Common.{◌≡◌, ℕ, List, [], ◌++◌, Option, Some, IfSome, Ok, refl, sym, subst, ◌∙◌, inl, inr, ◌⊎◌}
+use Rattle.std.proofs.Common.{append-nil}
 use Rattle.run_streams.specs.Seen.{Seen, Failed, Received}
+use Rattle.xdr_core.specs.declared.fault.XdrFault.{XdrFault}
+use Rattle.xdr_core.specs.Place.{Reading}
+use Rattle.xdr_header.specs.declared.image.StartImage.{StartImage}
+use Rattle.hash_ids.specs.Ids.{network_id_of}
+use Rattle.close_rules.specs.State.{ClosingState}
 use Rattle.run_outcome.specs.declared.status.Status.{Status}
 use Rattle.run_outcome.specs.declared.status.Status.TheVariants as status
 use Rattle.run_outcome.specs.Statuses.{IsCutShort}
-use Rattle.run_outcome.specs.Outcome.{Outcome, IsOutcome}
-use Rattle.run_outcome.specs.Run.{Answered}
-use Rattle.replay.specs.Completeness.{IsWhole, RunsAreComplete}
+use Rattle.run_outcome.specs.Command.{command_of}
+use Rattle.run_outcome.specs.Lines.{end_line}
+use Rattle.run_outcome.specs.Outcome.{Outcome, frames, IsOutcomeOf, IsOutcome}
+use Rattle.run_outcome.specs.Run.{AnsweredTo, DidCatchUp, RanAs, Ran}
+use Rattle.replay.specs.Completeness.{NoneFailed, Catchups, Runs, IsComplete, AreAccepted, IsDone, IsAnswered}
+use Rattle.replay.proofs.OneOutcome.{outcomes_are_one}
 
--- what cuts a run short
-cut : (IsOne : Outcome → Type 0) (out : Seen) (end : Status) → IsCutShort end → (end ≡ status.ReadFault → ⊥)
-    → (end ≡ status.WriteFault → ⊥) → IsWhole IsOne out end
-cut IsOne out status.ReadFault h no_read no_write = absurd (no_read refl)
-cut IsOne out status.WriteFault h no_read no_write = absurd (no_write refl)
-cut IsOne out status.NoMemory h no_read no_write = inr refl
-cut IsOne out status.Done h no_read no_write = absurd h
-cut IsOne out status.Usage h no_read no_write = absurd h
-cut IsOne out status.Refused h no_read no_write = absurd h
-cut IsOne out (status.BadInput at) h no_read no_write = absurd h
-cut IsOne out (status.BadImage rule) h no_read no_write = absurd h
-cut IsOne out status.ImageNotBuilt h no_read no_write = absurd h
+-- the run that the words ask for
+catchup_of : (words : List (List ℕ)) (passphrase : List ℕ) (input out err : Seen) (end : Status)
+    → Ran words input out err end → command_of words ≡ Some passphrase → DidCatchUp passphrase input out err end
+catchup_of words passphrase input out err end ran command =
+    subst (λ (c : Option (List ℕ)). RanAs c input out err end) command ran
 
-whole : (IsOne : Outcome → Type 0) (out : Seen) (end : Status)
-    → ((o : Outcome) × IsOne o × (end ≡ o.status) × Received out o.text) ⊎ IsCutShort end
-    → (end ≡ status.ReadFault → ⊥) → (end ≡ status.WriteFault → ⊥) → IsWhole IsOne out end
-whole IsOne out end (inl h) no_read no_write = inl h
-whole IsOne out end (inr h) no_read no_write = cut IsOne out end h no_read no_write
+-- what is claimed of each run of `catchup` is of those that words ask for
+runs_of : (P : (passphrase input : List ℕ) → (Seen → Seen → Seen → Status → Type 0)) → Catchups P → Runs P
+runs_of P h words passphrase bytes input out err end ran command told =
+    h passphrase bytes input out err end (catchup_of words passphrase input out err end ran command) told
 
-either : (out err : Seen) → (Failed out → ⊥) → (Failed err → ⊥) → Failed out ⊎ Failed err → ⊥
-either out err no_out no_err (inl h) = no_out h
-either out err no_out no_err (inr h) = no_err h
+answered_to : (passphrase bytes : List ℕ) (input out err : Seen) (end : Status) → DidCatchUp passphrase input out err end
+    → input.before ≡ Some bytes → AnsweredTo passphrase bytes out end
+answered_to passphrase bytes input out err end did told =
+    subst (λ (before : Option (List ℕ)). IfSome before (λ given. AnsweredTo passphrase given out end)) told did.answered
 
-pub runs_complete : RunsAreComplete
-runs_complete words passphrase bytes input out err end ran command told no_input no_out no_err =
-    let answered : Answered (IsOutcome passphrase bytes) out end =
-    subst (λ (before : Option (List ℕ)). IfSome before (λ given. Answered (IsOutcome passphrase given) out end)) told
-    (ran.answered passphrase command) in
-    whole (IsOutcome passphrase bytes) out end answered.whole_or_cut (λ e. no_input (ran.read_fault e))
-    (λ e. either out err no_out no_err (ran.write_fault e))
+-- ---- the other side
+
+-- why an end cut a run short
+abbrev Failing : (input out err : Seen) → (end : Status) → Type 0
+Failing input out err end =
+    ((end ≡ status.ReadFault) × Failed input) ⊎ ((end ≡ status.WriteFault) × (Failed out ⊎ Failed err))
+    ⊎ (end ≡ status.NoMemory)
+
+failing : (passphrase : List ℕ) (input out err : Seen) (end : Status) → DidCatchUp passphrase input out err end
+    → IsCutShort end → Failing input out err end
+failing passphrase input out err status.ReadFault did short = inl (refl, (did.read_fault refl).0)
+failing passphrase input out err status.WriteFault did short = inr (inl (refl, did.write_fault refl))
+failing passphrase input out err status.NoMemory did short = inr (inr refl)
+failing passphrase input out err status.Done did short = absurd short
+failing passphrase input out err status.Usage did short = absurd short
+failing passphrase input out err status.Refused did short = absurd short
+failing passphrase input out err (status.BadInput at) did short = absurd short
+failing passphrase input out err (status.BadImage rule) did short = absurd short
+failing passphrase input out err status.ImageNotBuilt did short = absurd short
+
+answered_own : (passphrase bytes : List ℕ) (input out err : Seen) (end : Status) (o : Outcome)
+    → DidCatchUp passphrase input out err end → AnsweredTo passphrase bytes out end → IsOutcome passphrase bytes o
+    → ((end ≡ o.status) × Received out o.text) ⊎ Failing input out err end
+answered_own passphrase bytes input out err end o did (inl (x, is, e, h)) y =
+    let same = outcomes_are_one passphrase bytes x o is y in
+    inl (subst (λ (z : Outcome). (end ≡ z.status) × Received out z.text) same (e, h))
+answered_own passphrase bytes input out err end o did (inr (short, front, f, h)) y =
+    inr (failing passphrase input out err end did short)
+
+pub catchups_answered : Catchups IsAnswered
+catchups_answered passphrase bytes input out err end did told o is =
+    answered_own passphrase bytes input out err end o did (answered_to passphrase bytes input out err end did told) is
+
+pub runs_answered : Runs IsAnswered
+runs_answered = runs_of IsAnswered catchups_answered
+
+-- ---- where nothing failed
+
+only_memory : (input out err : Seen) (end : Status) → NoneFailed input out err → Failing input out err end
+    → end ≡ status.NoMemory
+only_memory input out err end none (inl (e, failed)) = absurd (none.no_read failed)
+only_memory input out err end none (inr (inl (e, inl failed))) = absurd (none.no_write failed)
+only_memory input out err end none (inr (inl (e, inr failed))) = absurd (none.no_line failed)
+only_memory input out err end none (inr (inr e)) = e
+
+complete : (passphrase bytes : List ℕ) (input out err : Seen) (end : Status) → DidCatchUp passphrase input out err end
+    → NoneFailed input out err → AnsweredTo passphrase bytes out end
+    → ((o : Outcome) × IsOutcome passphrase bytes o × (end ≡ o.status) × Received out o.text) ⊎ (end ≡ status.NoMemory)
+complete passphrase bytes input out err end did none (inl h) = inl h
+complete passphrase bytes input out err end did none (inr (short, front, f, h)) =
+    inr (only_memory input out err end none (failing passphrase input out err end did short))
+
+pub catchups_complete : Catchups IsComplete
+catchups_complete passphrase bytes input out err end did told none =
+    complete passphrase bytes input out err end did none (answered_to passphrase bytes input out err end did told)
+
+pub runs_complete : Runs IsComplete
+runs_complete = runs_of IsComplete catchups_complete
+
+-- ---- where all records are accepted
+
+accepted : (passphrase bytes lines : List ℕ) (now : ClosingState) → AreAccepted passphrase bytes lines now
+    → IsOutcome passphrase bytes (record { status = status.Done; text = lines ++ end_line now.header })
+accepted passphrase bytes lines now a =
+    subst (λ (r : Reading XdrFault StartImage). IsOutcomeOf (network_id_of passphrase) r
+    (record { status = status.Done; text = lines ++ end_line now.header })) (sym a.reads) (
+      Ok a.start,
+      a.judged,
+      record {
+        records = a.records;
+        rest = [];
+        cut = a.cut ∙ sym (append-nil (frames a.records));
+        short = a.short;
+        lines = lines;
+        state = now;
+        closed = a.closed;
+        last = record { status = status.Done; text = end_line now.header };
+        ends = refl;
+        is = refl;
+      },
+    )
+
+done : (input out err : Seen) (end : Status) (text : List ℕ) → NoneFailed input out err
+    → ((end ≡ status.Done) × Received out text) ⊎ Failing input out err end
+    → ((end ≡ status.Done) × Received out text) ⊎ (end ≡ status.NoMemory)
+done input out err end text none (inl h) = inl h
+done input out err end text none (inr failed) = inr (only_memory input out err end none failed)
+
+pub catchups_done : Catchups IsDone
+catchups_done passphrase bytes input out err end did told lines now a none =
+    done input out err end (lines ++ end_line now.header) none
+    (catchups_answered passphrase bytes input out err end did told
+    (record { status = status.Done; text = lines ++ end_line now.header }) (accepted passphrase bytes lines now a))
+
+pub runs_done : Runs IsDone
+runs_done = runs_of IsDone catchups_done

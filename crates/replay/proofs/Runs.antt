@@ -1,6 +1,6 @@
 -- One record more or less at the front of a run, and the end of a run.
 use Rattle.std.proofs.Common.{◌≡◌, ℕ, ◌+◌, ◌≤◌, List, [], ◌∷◌, ◌++◌, length, Result, Ok, Err, refl, sym, ap}
-use Rattle.std.proofs.Common.{subst, ◌∙◌, add-zero, append_assoc, arith}
+use Rattle.std.proofs.Common.{subst, ◌∙◌, add-zero, append_assoc, arith, inl, inr}
 use Rattle.std.specs.Prelude.{All, map, Option, Some, None}
 use Rattle.std.proofs.lemmas.List.{length-append}
 use Rattle.std.proofs.lemmas.List.Elements.{All-cons, All-head, All-tail}
@@ -19,7 +19,8 @@ use Rattle.run_outcome.specs.declared.status.Status.{Status}
 use Rattle.run_outcome.specs.declared.status.Status.TheVariants as status
 use Rattle.run_outcome.specs.Lines.{refused_line}
 use Rattle.run_outcome.specs.Outcome.{Outcome, behind, framed, frames, max_record_len, lines_of, AreClosed, IsStopped}
-use Rattle.run_outcome.specs.Outcome.{IsEnd, IsRun}
+use Rattle.run_outcome.specs.Outcome.{IsEnd, IsRun, AreClosedAhead, IsRunFront}
+use Rattle.replay.proofs.Fronts.{front_later, nothing_front}
 use Rattle.replay.proofs.Marking.{read_mark, framed_is_read, framed_above}
 
 -- ---- closes
@@ -90,11 +91,11 @@ same_end s at [] a b h i = h ∙ sym i
 same_end s at (byte ∷ more) a b h i =
     same_stop s (read_mark (record { at = at; rest = byte ∷ more })) a b h i
 
-abbrev AreShort : List (List ℕ) → Type 0
+abbrev pub AreShort : List (List ℕ) → Type 0
 AreShort records = All (λ bytes. length bytes ≤ max_record_len) records
 
 -- no record: what ends the run stands at its front
-at_front : (s state : ClosingState) (at : ℕ) (text rest : List ℕ) (end : Outcome) → IsEnd state (at + 0) rest end
+pub at_front : (s state : ClosingState) (at : ℕ) (text rest : List ℕ) (end : Outcome) → IsEnd state (at + 0) rest end
     → state ≡ s → text ≡ rest → IsEnd s at text end
 at_front s state at text rest end ends same e =
     let first = subst (λ (x : ClosingState). IsEnd x (at + 0) rest end) same ends in
@@ -209,6 +210,49 @@ prepended s bytes c at others o fits closes run =
           ∙ ap (λ (t : List ℕ). outcome run.last.status t)
           (sym (append_assoc (lines_of c) run.lines run.last.text));
     }
+
+-- ---- records that close ledgers, in a run that may go on
+
+abbrev pub no_records : (s : ClosingState) (p : Place) → AreClosedAhead s p []
+no_records s p = record {
+  records = [];
+  rest = p.rest;
+  cut = refl;
+  short = λ k d lt. absurd (omega (arith, lt));
+  state = s;
+  closed = (refl, refl);
+}
+
+pub one_more : (s : ClosingState) (bytes : List ℕ) (c : Closed) (at next : ℕ) (others lines : List ℕ)
+    → length bytes ≤ max_record_len → IsClose s bytes (Ok c)
+    → AreClosedAhead c.state (record { at = next; rest = others }) lines
+    → AreClosedAhead s (record { at = at; rest = framed bytes ++ others }) (lines_of c ++ lines)
+one_more s bytes c at next others lines fits closes a = record {
+  records = bytes ∷ a.records;
+  rest = a.rest;
+  cut = ap (λ (t : List ℕ). framed bytes ++ t) a.cut ∙ sym (append_assoc (framed bytes) (frames a.records) a.rest);
+  short = All-cons (λ b. length b ≤ max_record_len) bytes a.records fits a.short;
+  state = a.state;
+  closed = (c, lines, closes, a.closed, refl);
+}
+
+pub empty_front : (s : ClosingState) (p : Place) → IsRunFront s p []
+empty_front s p = inl ([], no_records s p, nothing_front [])
+
+pub later_front : (s : ClosingState) (bytes : List ℕ) (c : Closed) (at : ℕ) (others front : List ℕ)
+    → length bytes ≤ max_record_len → IsClose s bytes (Ok c)
+    → IsRunFront c.state (record { at = at + length (framed bytes); rest = others }) front
+    → IsRunFront s (record { at = at; rest = framed bytes ++ others }) (lines_of c ++ front)
+later_front s bytes c at others front fits closes (inl (lines, a, f)) = inl (
+  lines_of c ++ lines,
+  one_more s bytes c at (at + length (framed bytes)) others lines fits closes a,
+  front_later (lines_of c) front lines f,
+)
+later_front s bytes c at others front fits closes (inr (o, run, f)) = inr (
+  behind (lines_of c) o,
+  prepended s bytes c at others o fits closes run,
+  front_later (lines_of c) front o.text f,
+)
 
 -- ---- numbers of ledgers
 

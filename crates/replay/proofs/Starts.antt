@@ -1,6 +1,6 @@
 -- What a start image at the front of an input comes to.
-use Rattle.std.proofs.Common.{◌≡◌, ℕ, zero, suc, ◌-◌, ◌^◌, ◌<◌, ◌≤◌, List, [], ◌∷◌, ◌++◌, length, drop, Option, Some, None, IfSome, Result, Ok, Err}
-use Rattle.std.proofs.Common.{refl, sym, ap, subst, ◌∙◌, append_assoc, append-nil, zero-add, arith, inl, inr, ◌⊎◌}
+use Rattle.std.proofs.Common.{◌≡◌, ℕ, ◌^◌, ◌<◌, ◌≤◌, List, [], ◌++◌, length, drop, Option, Some, None, IfSome, Result, Ok, Err}
+use Rattle.std.proofs.Common.{refl, sym, ap, subst, ◌∙◌, append_assoc, append-nil, zero-add, arith, inl, inr}
 use Rattle.std.specs.Io.KnownBytes.{Consumes, IsAtEnd}
 use Rattle.std.proofs.KnownBytes.{Consumes-trans}
 use Rattle.std.proofs.lemmas.List.{length-append}
@@ -16,7 +16,7 @@ use Rattle.xdr_core.specs.Format.{IsBytes}
 use Rattle.xdr_core.proofs.FormatLaws.{faults_placed}
 use Rattle.xdr_core.proofs.LeafLaws.{drop_front}
 use Rattle.xdr_header.specs.declared.image.StartImage.{StartImage}
-use Rattle.xdr_header.specs.Image.{start_image, files}
+use Rattle.xdr_header.specs.Image.{start_image}
 use Rattle.xdr_header.proofs.ImageLaws.{start_image_laws}
 use Rattle.hash_ids.specs.Ids.{network_id_of}
 use Rattle.close_rules.specs.declared.image_fault.ImageFault.{ImageFault}
@@ -26,12 +26,12 @@ use Rattle.close_rules.specs.Images.{IsJudged}
 use Rattle.run_outcome.specs.declared.status.Status.{Status}
 use Rattle.run_outcome.specs.declared.status.Status.TheVariants as status
 use Rattle.run_outcome.specs.Statuses.{IsCutShort}
-use Rattle.run_outcome.specs.Outcome.{Outcome, silent, IsRun, IsStarted, IsOutcomeOf, IsOutcome, AreLinesOf}
-use Rattle.run_outcome.specs.Run.{Answered, CaughtUp}
-use Rattle.replay.specs.Following.{Followed}
-use Rattle.replay.specs.Starting.{Cut, IsUnstarted, IsJudgedSo, StartsAt}
-use Rattle.replay.proofs.Turning.{over, told_front, none_left, short_or_not, cut_answered, no_front, rose_before}
-use Rattle.replay.proofs.Judging.{only_started}
+use Rattle.run_outcome.specs.Outcome.{silent, IsRun, IsStarted, IsOutcomeOf, IsOutcome, AreLinesOf}
+use Rattle.run_outcome.specs.Outcome.{IsRunFront, IsOutputFrontOf, IsOutputFront}
+use Rattle.run_outcome.specs.Run.{Answered, AnsweredTo}
+use Rattle.replay.specs.Following.{AnsweredFrom, Followed}
+use Rattle.replay.specs.Starting.{Cut, CaughtUp, IsUnstarted, IsJudgedSo, StartsAt}
+use Rattle.replay.proofs.Turning.{over, told_front, none_left, short_or_not, cut_answered, rose_before}
 
 abbrev read_image : List ℕ → Reading XdrFault StartImage
 read_image text = start_image.read (start_of text)
@@ -52,16 +52,6 @@ ended r = r
 
 at_of : (at : ℕ) (q : Place) → ended (Ok at) ≡ Ok q.at → at ≡ q.at
 at_of at q e = cc
-
-files_count : (n left : ℕ) (vs : List (List ℕ)) → (files n left).within vs → length vs ≡ n
-unfolding files
-files_count zero left vs h = ap length h
-files_count (suc n) left [] h = absurd h
-files_count (suc n) left (v ∷ vs) h = ap (λ (k : ℕ). suc k) (files_count n (left - length v) vs h.1)
-
-image_count : (image : StartImage) → start_image.within image → length image.files ≡ 22
-unfolding start_image
-image_count image h = files_count 22 536870912 image.files h.1.1
 
 pub image_within : (new : List ℕ) (at : ℕ) (image : StartImage) (q : Place) → IsBytes new → image_end new ≡ Ok at
     → read_image new ≡ Ok (image, q) → at ≤ length new
@@ -87,7 +77,6 @@ image_cut input new at image q grown fits measured low e later =
     sym grown.grown ∙ parts ∙ ap (λ (t : List ℕ). front ++ t) (sym rest) in
     record {
       front = front;
-      count = image_count image s.within;
       begins = λ rest. start_image_laws.lawful.again 0 image rest s.within s.sized
           ∙ ap (λ (n : ℕ). Ok (image, record { at = n; rest = rest })) (zero-add (length front));
       len = len;
@@ -98,9 +87,15 @@ image_cut input new at image q grown fits measured low e later =
 
 -- ---- runs that wrote nothing
 
+empty_output : (network : Hash) (r : Reading XdrFault StartImage) → IsOutputFrontOf network r []
+empty_output network (Err wrong) = refl
+empty_output network (Ok x) = inl refl
+
 unwritten : (passphrase : List ℕ) (input out : Seen) (end : Status) → IsCutShort end → Received out []
-    → IfSome input.before (λ bytes. Answered (IsOutcome passphrase bytes) out end)
-unwritten passphrase input out end short h = cut_answered (IsOutcome passphrase) input.before out end h short
+    → IfSome input.before (λ bytes. AnsweredTo passphrase bytes out end)
+unwritten passphrase input out end short h =
+    cut_answered (IsOutcome passphrase) (IsOutputFront passphrase) input.before out end h short
+    (λ bytes. empty_output (network_id_of passphrase) (read_image bytes))
 
 pub unread_memory : (passphrase : List ℕ) (input : Seen) → IsUnstarted passphrase input status.NoMemory
 unread_memory passphrase input out h = record {
@@ -134,16 +129,13 @@ unread_failed passphrase input new grown short failed out h = record {
 -- an outcome that has no text
 silent_end : (passphrase : List ℕ) (input out : Seen) (end : Status) → Received out []
     → IfSome input.before (λ bytes. IsOutcome passphrase bytes (silent end))
-    → IfSome input.before (λ bytes. Answered (IsOutcome passphrase bytes) out end)
+    → IfSome input.before (λ bytes. AnsweredTo passphrase bytes out end)
 silent_end passphrase input out end h ends = answered_by input.before ends
   where
     answered_by : (before : Option (List ℕ)) → IfSome before (λ bytes. IsOutcome passphrase bytes (silent end))
-        → IfSome before (λ bytes. Answered (IsOutcome passphrase bytes) out end)
+        → IfSome before (λ bytes. AnsweredTo passphrase bytes out end)
     answered_by None i = tt
-    answered_by (Some bytes) i = record {
-      whole_or_cut = inl (silent end, i, refl, h);
-      prefix = λ o is. no_front out o.text h;
-    }
+    answered_by (Some bytes) i = inl (silent end, i, refl, h)
 
 -- what a fault comes to behind which more bytes stand, where they can
 fault_stays : (new others : List ℕ) (now : Option (List ℕ)) (wrong : XdrFault) → IsBytes new
@@ -185,7 +177,7 @@ front_reading image at ahead others input c =
 judged_end : (passphrase : List ℕ) (image : StartImage) (at : ℕ) (ahead : List ℕ) (input : Seen) (end : Status)
     (judged : Result ClosingState ImageFault) → Cut image at ahead input
     → IsJudged (network_id_of passphrase) image judged → ((p : Place) → IsStarted judged p (silent end))
-    → (out : Seen) → Received out [] → IfSome input.before (λ bytes. Answered (IsOutcome passphrase bytes) out end)
+    → (out : Seen) → Received out [] → IfSome input.before (λ bytes. AnsweredTo passphrase bytes out end)
 judged_end passphrase image at ahead input end judged c is started out h =
     silent_end passphrase input out end h (told_front input.before input.now (c.front ++ ahead)
     (λ bytes. IsOutcome passphrase bytes (silent end)) c.gave
@@ -222,18 +214,11 @@ unjudged passphrase image at ahead input (status.BadInput wrong) c is out h = ab
 
 -- ---- a whole run
 
-run_of : (passphrase : List ℕ) (image : StartImage) (s : ClosingState) (p : Place) (o : Outcome)
-    → IsJudged (network_id_of passphrase) image (Ok s) → IsOutcomeOf (network_id_of passphrase) (Ok (image, p)) o
-    → IsRun s p o
-run_of passphrase image s p o judged is =
-    subst (λ (j : Result ClosingState ImageFault). IsStarted j p o)
-    (sym (only_started (network_id_of passphrase) image s is.0 judged is.1)) is.2
-
 answered_by : (passphrase : List ℕ) (s : ClosingState) (at : ℕ) (ahead : List ℕ) (input : Seen)
     (start : StartsAt passphrase s at ahead input) (before now : Option (List ℕ)) (out : Seen) (end : Status)
     → Consumes before now (start.cut.front ++ ahead)
-    → IfSome now (λ bytes. Answered (IsRun s (record { at = at; rest = ahead ++ bytes })) out end)
-    → IfSome before (λ bytes. Answered (IsOutcome passphrase bytes) out end)
+    → IfSome now (λ bytes. AnsweredFrom s at (ahead ++ bytes) out end)
+    → IfSome before (λ bytes. AnsweredTo passphrase bytes out end)
 answered_by passphrase s at ahead input start None now out end gave h = tt
 answered_by passphrase s at ahead input start (Some x) None out end gave h = absurd gave
 answered_by passphrase s at ahead input start (Some x) (Some y) out end gave h =
@@ -241,16 +226,14 @@ answered_by passphrase s at ahead input start (Some x) (Some y) out end gave h =
     let network : Hash = network_id_of passphrase in
     let e : read_image x ≡ Ok (start.image, p) =
     ap read_image gave ∙ front_reading start.image at ahead y input start.cut in
-    subst (λ (r : Reading XdrFault StartImage). Answered (IsOutcomeOf network r) out end) (sym e) (record {
-      whole_or_cut = whole p h.whole_or_cut;
-      prefix = λ o is. h.prefix o (run_of passphrase start.image s p o start.judged is);
-    })
+    subst (λ (r : Reading XdrFault StartImage). Answered (IsOutcomeOf network r) (IsOutputFrontOf network r) out end)
+    (sym e) (whole p h)
   where
-    whole : (p : Place) → ((o : Outcome) × IsRun s p o × (end ≡ o.status) × Received out o.text) ⊎ IsCutShort end
-        → ((o : Outcome) × IsOutcomeOf (network_id_of passphrase) (Ok (start.image, p)) o × (end ≡ o.status)
-        × Received out o.text) ⊎ IsCutShort end
+    whole : (p : Place) → Answered (IsRun s p) (IsRunFront s p) out end
+        → Answered (IsOutcomeOf (network_id_of passphrase) (Ok (start.image, p)))
+        (IsOutputFrontOf (network_id_of passphrase) (Ok (start.image, p))) out end
     whole p (inl (o, run, e, received)) = inl (o, (Ok s, start.judged, run), e, received)
-    whole p (inr short) = inr short
+    whole p (inr (short, front, f, received)) = inr (short, front, inr (s, start.judged, f), received)
 
 pub caught_up : (passphrase : List ℕ) (s : ClosingState) (at : ℕ) (ahead : List ℕ) (input out : Seen) (now : Option (List ℕ))
     (faults : ℕ) (end : Status) → StartsAt passphrase s at ahead input

@@ -1,24 +1,55 @@
 -- The line of an end, and whole runs of the program.
-use Rattle.std.proofs.Common.{◌≡◌, ℕ, List, [], Option, Some, None, IfSome, refl, sym, subst, ◌∙◌, inl, inr}
+use Rattle.std.proofs.Common.{◌≡◌, ℕ, List, Option, Some, None, IfSome, Result, Ok, Err, refl, sym, ap, subst, inl, inr}
 use Rattle.run_streams.specs.Seen.{Seen, Failed, Received, IsUntouched}
+use Rattle.ledger_types.specs.declared.ids.Hash.{Hash}
+use Rattle.xdr_core.specs.declared.fault.XdrFault.{XdrFault}
+use Rattle.xdr_core.specs.Place.{Place, Reading, start_of}
+use Rattle.xdr_header.specs.declared.image.StartImage.{StartImage}
+use Rattle.xdr_header.specs.Image.{start_image}
+use Rattle.hash_ids.specs.Ids.{network_id_of}
+use Rattle.close_rules.specs.declared.image_fault.ImageFault.{ImageFault}
+use Rattle.close_rules.specs.declared.image_fault.ImageFault.TheVariants as fault
+use Rattle.close_rules.specs.State.{ClosingState}
+use Rattle.close_rules.specs.Images.{IsJudged}
 use Rattle.run_outcome.specs.declared.status.Status.{Status}
 use Rattle.run_outcome.specs.declared.status.Status.TheVariants as status
 use Rattle.run_outcome.specs.Statuses.{status_line, IsCutShort}
 use Rattle.run_outcome.specs.Command.{command_of}
-use Rattle.run_outcome.specs.Outcome.{Outcome, IsOutcome}
-use Rattle.run_outcome.specs.Run.{Answered, Told, CaughtUp, Ran}
-use Rattle.replay.specs.Telling.{IsTold, IsToldOrRefused, DidCatchUp}
+use Rattle.run_outcome.specs.Outcome.{Outcome, IsStarted, IsOutcomeOf, IsOutputFrontOf}
+use Rattle.run_outcome.specs.Run.{IsTold, AnsweredTo, DidCatchUp, RanAs, Ran}
+use Rattle.replay.specs.Starting.{CaughtUp}
+use Rattle.replay.specs.Telling.{IsToldOrRefused}
+use Rattle.replay.proofs.Fronts.{whole_front}
+
+-- the text of an outcome is a front of itself
+started_front : (network : Hash) (image : StartImage) (p : Place) (judged : Result ClosingState ImageFault) (o : Outcome)
+    → IsJudged network image judged → IsStarted judged p o → IsOutputFrontOf network (Ok (image, p)) o.text
+started_front network image p (Ok s) o is h = inr (s, is, inr (o, h, whole_front o.text))
+started_front network image p (Err (fault.BadImage rule)) o is h = inl (ap (λ (x : Outcome). x.text) h)
+started_front network image p (Err fault.NotBuilt) o is h = inl (ap (λ (x : Outcome). x.text) h)
+started_front network image p (Err fault.NoMemory) o is h = absurd h
+
+outcome_front : (network : Hash) (r : Reading XdrFault StartImage) (o : Outcome) → IsOutcomeOf network r o
+    → IsOutputFrontOf network r o.text
+outcome_front network (Err wrong) o h = ap (λ (x : Outcome). x.text) h
+outcome_front network (Ok x) o h = started_front network x.0 x.1 h.0 o h.1 h.2
 
 -- an end that cuts a run short in place of another one
-shorter : (IsOne : Outcome → Type 0) (out : Seen) (end after : Status) → IsCutShort after → Answered IsOne out end
-    → Answered IsOne out after
-shorter IsOne out end after short a = record { whole_or_cut = inr short; prefix = a.prefix }
+shorter : (passphrase bytes : List ℕ) (out : Seen) (end after : Status) → IsCutShort after
+    → AnsweredTo passphrase bytes out end → AnsweredTo passphrase bytes out after
+shorter passphrase bytes out end after short (inl (o, is, e, received)) = inr (
+  short,
+  o.text,
+  outcome_front (network_id_of passphrase) (start_image.read (start_of bytes)) o is,
+  received,
+)
+shorter passphrase bytes out end after short (inr (old, front, f, received)) = inr (short, front, f, received)
 
 shorter_if : (passphrase : List ℕ) (before : Option (List ℕ)) (out : Seen) (end after : Status) → IsCutShort after
-    → IfSome before (λ bytes. Answered (IsOutcome passphrase bytes) out end)
-    → IfSome before (λ bytes. Answered (IsOutcome passphrase bytes) out after)
+    → IfSome before (λ bytes. AnsweredTo passphrase bytes out end)
+    → IfSome before (λ bytes. AnsweredTo passphrase bytes out after)
 shorter_if passphrase None out end after short h = tt
-shorter_if passphrase (Some bytes) out end after short h = shorter (IsOutcome passphrase bytes) out end after short h
+shorter_if passphrase (Some bytes) out end after short h = shorter passphrase bytes out end after short h
 
 told_whole : (passphrase : List ℕ) (input out err : Seen) (end : Status) → CaughtUp passphrase input out end
     → Received err (status_line end) → DidCatchUp passphrase input out err end
@@ -28,8 +59,7 @@ told_whole passphrase input out err end run h = record {
   read_fault = run.read_fault;
   write_fault = λ e. inl (run.write_fault e);
   no_usage = run.no_usage;
-  told = λ e. h;
-  write_fault_told = λ e. inl h;
+  told = inl h;
 }
 
 told_failed : (passphrase : List ℕ) (input out err : Seen) (end : Status) → CaughtUp passphrase input out end
@@ -40,8 +70,7 @@ told_failed passphrase input out err end run failed = record {
   read_fault = λ e. absurd cc;
   write_fault = λ e. inr failed;
   no_usage = λ e. cc;
-  told = λ e. absurd (e refl);
-  write_fault_told = λ e. inr failed;
+  told = inr (refl, failed);
 }
 
 told_no_memory : (passphrase : List ℕ) (input out err : Seen) (end : Status) → CaughtUp passphrase input out end
@@ -52,8 +81,7 @@ told_no_memory passphrase input out err end run h = record {
   read_fault = λ e. absurd cc;
   write_fault = λ e. absurd cc;
   no_usage = λ e. cc;
-  told = λ e. h;
-  write_fault_told = λ e. absurd cc;
+  told = inl h;
 }
 
 pub did_catch_up : (passphrase : List ℕ) (input out err : Seen) (end after : Status)
@@ -69,52 +97,13 @@ did_catch_up passphrase input out err end after run (inr (inr (e, failed))) =
 
 -- ---- the words
 
-abbrev some : List ℕ → Option (List ℕ)
-some x = Some x
-
-same_word : (x y : List ℕ) → some x ≡ Some y → x ≡ y
-same_word x y e = cc
-
 pub ran_command : (words : List (List ℕ)) (passphrase : List ℕ) (input out err : Seen) (end : Status)
     → command_of words ≡ Some passphrase → DidCatchUp passphrase input out err end → Ran words input out err end
-ran_command words passphrase input out err end command did = record {
-  usage = λ none. let both : some passphrase ≡ None = sym command ∙ none in absurd cc;
-  usage_only = λ e. absurd (did.no_usage e);
-  answered = λ other e. subst (λ (p : List ℕ). IfSome input.before (λ bytes. Answered (IsOutcome p bytes) out end))
-      (same_word passphrase other (sym command ∙ e)) did.answered;
-  ended = did.ended;
-  read_fault = λ e. (did.read_fault e).0;
-  read_lines = λ other e fault. subst (λ (p : List ℕ). Told p input out) (same_word passphrase other (sym command ∙ e))
-      (did.read_fault fault).1;
-  write_fault = did.write_fault;
-  told = did.told;
-  write_fault_told = did.write_fault_told;
-}
-
-nothing_in : (words : List (List ℕ)) (passphrase : List ℕ) → command_of words ≡ None → command_of words ≡ Some passphrase → ⊥
-nothing_in words passphrase none command = let both : some passphrase ≡ None = sym command ∙ none in absurd cc
+ran_command words passphrase input out err end command did =
+    subst (λ (c : Option (List ℕ)). RanAs c input out err end) (sym command) did
 
 pub ran_usage : (words : List (List ℕ)) (input out err : Seen) (end : Status) → command_of words ≡ None
-    → IsUntouched input → Received out [] → IsTold status.Usage err end → Ran words input out err end
-ran_usage words input out err end none same h (inl (e, line)) = subst (Ran words input out err) (sym e) (record {
-  usage = λ _. (inl refl, h, same);
-  usage_only = λ _. none;
-  answered = λ p command. absurd (nothing_in words p none command);
-  ended = λ e. absurd cc;
-  read_fault = λ e. absurd cc;
-  read_lines = λ p command. absurd (nothing_in words p none command);
-  write_fault = λ e. absurd cc;
-  told = λ e. line;
-  write_fault_told = λ e. absurd cc;
-})
-ran_usage words input out err end none same h (inr (e, failed)) = subst (Ran words input out err) (sym e) (record {
-  usage = λ _. (inr refl, h, same);
-  usage_only = λ e. absurd cc;
-  answered = λ p command. absurd (nothing_in words p none command);
-  ended = λ e. absurd cc;
-  read_fault = λ e. absurd cc;
-  read_lines = λ p command. absurd (nothing_in words p none command);
-  write_fault = λ e. inr failed;
-  told = λ e. absurd (e refl);
-  write_fault_told = λ e. inr failed;
-})
+    → IsUntouched input → IsUntouched out → IsTold status.Usage err end → Ran words input out err end
+ran_usage words input out err end none same_input same_out told =
+    subst (λ (c : Option (List ℕ)). RanAs c input out err end) (sym none)
+    (record { told = told; unread = same_input; unwritten = same_out })

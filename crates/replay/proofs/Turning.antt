@@ -2,12 +2,12 @@
 use Rattle.std.proofs.Common.{◌≡◌, ℕ, ◌+◌, ◌-◌, ◌*◌, ◌^◌, ◌<◌, ◌≤◌, List, [], ◌∷◌, ◌++◌, length, take, drop, Option, Some, None}
 use Rattle.std.proofs.Common.{IfSome, Result, Ok, Err, refl, sym, ap, subst, ◌∙◌, append_assoc, append-nil, arith, inl, inr, ◌⊎◌}
 use Rattle.std.specs.Prelude.{◌≢◌, IsNone}
-use Rattle.std.specs.Io.KnownBytes.{Appends, Consumes, IsAtEnd}
+use Rattle.std.specs.Io.KnownBytes.{Consumes, IsAtEnd}
 use Rattle.std.proofs.KnownBytes.{Appends-trans, Consumes-trans}
-use Rattle.std.proofs.lemmas.List.{length-append, take-append-le}
-use Rattle.std.proofs.Math.Seq.{take-append-add, take-length}
-use Rattle.outside.specs.Streams.{Rose, TookPrefix}
-use Rattle.run_streams.specs.Seen.{Seen, Failed, Received, ReceivedPrefix}
+use Rattle.std.proofs.lemmas.List.{length-append}
+use Rattle.std.proofs.lemmas.List.Elements.{All-cons}
+use Rattle.outside.specs.Streams.{Rose}
+use Rattle.run_streams.specs.Seen.{Seen, Failed, Received}
 use Rattle.record_stream.specs.Filling.{Grown}
 use Rattle.record_stream.specs.Measured.{end_by, record_end}
 use Rattle.record_stream.specs.Piece.{IsShort, IsPiece}
@@ -28,14 +28,15 @@ use Rattle.run_outcome.specs.declared.status.Status.TheVariants as status
 use Rattle.run_outcome.specs.Statuses.{IsCutShort}
 use Rattle.run_outcome.specs.Lines.{end_line, refused_line}
 use Rattle.run_outcome.specs.Outcome.{Outcome, silent, behind, framed, max_record_len, lines_of, IsStopped, IsEnd, IsRun}
-use Rattle.run_outcome.specs.Outcome.{frames, AreClosed}
+use Rattle.run_outcome.specs.Outcome.{frames, AreClosed, IsRunFront}
 use Rattle.run_outcome.specs.Run.{Answered}
 use Rattle.replay.specs.Following.{WroteOn, Refuses, Closes, Passes, EndsAt, Turned}
-use Rattle.replay.specs.Following.{Wrote, Stops, Followed, FollowedFrom, Standing, Goes, WholeLines}
+use Rattle.replay.specs.Following.{Wrote, Stops, AnsweredFrom, Followed, FollowedFrom, Standing, Goes, WholeLines}
 use Rattle.xdr_core.proofs.FormatLaws.{faults_placed, mark_laws}
 use Rattle.replay.proofs.Marking.{read_mark, framed_is_read, framed_above, framed_len, fault_behind, empty_is_short, front_of}
 use Rattle.ledger_types.specs.declared.header.LedgerHeader.{LedgerHeader}
-use Rattle.replay.proofs.Runs.{next_seq, peeled, prepended, one_end, ended_run}
+use Rattle.replay.proofs.Fronts.{front_more}
+use Rattle.replay.proofs.Runs.{next_seq, prepended, ended_run, no_records, one_more, empty_front, later_front}
 
 -- ---- streams, one use behind another
 
@@ -47,55 +48,25 @@ over before now faults_before faults_now =
 abbrev pub joined : Seen → Seen → Seen
 joined first second = over first.before second.now first.faults_before second.faults_now
 
-front_behind : (a b c : Option (List ℕ)) (lines text : List ℕ) → Appends a b lines → TookPrefix b c text
-    → TookPrefix a c (lines ++ text)
-front_behind a b c lines text first (n, le, then) = (
-  length lines + n,
-  omega (arith, length-append lines text),
-  subst (Appends a c) (sym (take-append-add lines text n)) (Appends-trans a b c lines (take n text) first then),
-)
-
-front_of_more : (a b : Option (List ℕ)) (lines text : List ℕ) → TookPrefix a b lines → TookPrefix a b (lines ++ text)
-front_of_more a b lines text (n, le, h) = (
-  n,
-  omega (arith, length-append lines text),
-  subst (Appends a b) (sym (take-append-le n lines text le)) h,
-)
-
-pub no_front : (out : Seen) (text : List ℕ) → Received out [] → TookPrefix out.before out.now text
-no_front out text h = (0, omega arith, h)
-
-whole_front : (out : Seen) (text : List ℕ) → Received out text → TookPrefix out.before out.now text
-whole_front out text h = (length text, omega arith, subst (Appends out.before out.now) (sym (take-length text)) h)
-
 -- ---- a record, and then the rest of the run
 
 answered_behind : (s : ClosingState) (bytes : List ℕ) (c : Closed) (at : ℕ) (others : List ℕ) (out : Seen)
     (later : Option (List ℕ)) (faults : ℕ) (end : Status) → length bytes ≤ max_record_len → IsClose s bytes (Ok c)
     → Received out (lines_of c)
-    → Answered (IsRun c.state (record { at = at + length (framed bytes); rest = others }))
-    (over out.now later out.faults_now faults) end
-    → Answered (IsRun s (record { at = at; rest = framed bytes ++ others }))
-    (over out.before later out.faults_before faults) end
-answered_behind s bytes c at others out later faults end fits closes received a = record {
-  whole_or_cut = whole a.whole_or_cut;
-  prefix = λ o run. let p = peeled s bytes c at others o fits closes run in
-      let front : TookPrefix out.before later (lines_of c ++ p.0.text) =
-      front_behind out.before out.now later (lines_of c) p.0.text received (a.prefix p.0 p.1) in
-      subst (λ (x : Outcome). TookPrefix out.before later x.text) (sym p.2) front;
-}
-  where
-    whole : ((o : Outcome) × IsRun c.state (record { at = at + length (framed bytes); rest = others }) o
-        × (end ≡ o.status) × Appends out.now later o.text) ⊎ IsCutShort end
-        → ((o : Outcome) × IsRun s (record { at = at; rest = framed bytes ++ others }) o × (end ≡ o.status)
-        × Appends out.before later o.text) ⊎ IsCutShort end
-    whole (inl (o, run, e, h)) = inl (
-      behind (lines_of c) o,
-      prepended s bytes c at others o fits closes run,
-      e,
-      Appends-trans out.before out.now later (lines_of c) o.text received h,
-    )
-    whole (inr h) = inr h
+    → AnsweredFrom c.state (at + length (framed bytes)) others (over out.now later out.faults_now faults) end
+    → AnsweredFrom s at (framed bytes ++ others) (over out.before later out.faults_before faults) end
+answered_behind s bytes c at others out later faults end fits closes received (inl (o, run, e, h)) = inl (
+  behind (lines_of c) o,
+  prepended s bytes c at others o fits closes run,
+  e,
+  Appends-trans out.before out.now later (lines_of c) o.text received h,
+)
+answered_behind s bytes c at others out later faults end fits closes received (inr (short, front, f, h)) = inr (
+  short,
+  lines_of c ++ front,
+  later_front s bytes c at others front fits closes f,
+  Appends-trans out.before out.now later (lines_of c) front received h,
+)
 
 -- the text from the old place on, by what was given
 text_behind : (ahead given framed_one rest x y : List ℕ) → ahead ++ given ≡ framed_one ++ rest → x ≡ given ++ y
@@ -106,21 +77,20 @@ text_behind ahead given framed_one rest x y cut e =
 
 gone_answered : (old new : Standing) (input out : Seen) (g : Goes old new input out) (before now : Option (List ℕ))
     (out_now : Option (List ℕ)) (out_faults : ℕ) (end : Status) → Consumes before now g.given
-    → IfSome now (λ bytes. Answered (IsRun new.state (record { at = new.at; rest = new.ahead ++ bytes }))
+    → IfSome now (λ bytes. AnsweredFrom new.state new.at (new.ahead ++ bytes)
     (over out.now out_now out.faults_now out_faults) end)
-    → IfSome before (λ bytes. Answered (IsRun old.state (record { at = old.at; rest = old.ahead ++ bytes }))
+    → IfSome before (λ bytes. AnsweredFrom old.state old.at (old.ahead ++ bytes)
     (over out.before out_now out.faults_before out_faults) end)
 gone_answered old new input out g None now out_now out_faults end gave h = tt
 gone_answered old new input out g (Some x) None out_now out_faults end gave h = absurd gave
 gone_answered old new input out g (Some x) (Some y) out_now out_faults end gave h =
     let rest : List ℕ = new.ahead ++ y in
     let seen_out : Seen = over out.now out_now out.faults_now out_faults in
-    let first = subst (λ (s : ClosingState). Answered (IsRun s (record { at = new.at; rest = rest })) seen_out end) g.state h in
-    let second = subst (λ (n : ℕ). Answered (IsRun g.closed.state (record { at = n; rest = rest })) seen_out end) g.at first in
+    let first = subst (λ (s : ClosingState). AnsweredFrom s new.at rest seen_out end) g.state h in
+    let second = subst (λ (n : ℕ). AnsweredFrom g.closed.state n rest seen_out end) g.at first in
     let third = answered_behind old.state g.bytes g.closed old.at rest out out_now out_faults end g.short g.closes
     g.received second in
-    subst (λ (t : List ℕ). Answered (IsRun old.state (record { at = old.at; rest = t }))
-    (over out.before out_now out.faults_before out_faults) end)
+    subst (λ (t : List ℕ). AnsweredFrom old.state old.at t (over out.before out_now out.faults_before out_faults) end)
     (sym (text_behind old.ahead g.given (framed g.bytes) new.ahead x y g.cut gave)) third
 
 pub rose_before : (a b c : ℕ) → a ≤ b → Rose b c → Rose a c
@@ -138,19 +108,23 @@ gone_lines old new input out g now out_now faults out_faults w = record {
   lines = lines_of g.closed ++ w.lines;
   received = Appends-trans out.before out.now out_now (lines_of g.closed) w.lines g.received w.received;
   all = record {
-    records = g.bytes ∷ w.all.records;
-    rest = w.all.rest;
-    cut = text_behind old.ahead g.given (framed g.bytes) new.ahead (g.given ++ w.given) w.given g.cut refl
-        ∙ ap (λ (t : List ℕ). framed g.bytes ++ t) w.all.cut
-        ∙ sym (append_assoc (framed g.bytes) (frames w.all.records) w.all.rest);
-    state = w.all.state;
-    closed = (
-      g.closed,
-      w.lines,
-      g.closes,
-      subst (λ (s : ClosingState). AreClosed s w.all.records w.lines w.all.state) g.state w.all.closed,
-      refl,
-    );
+    ahead = record {
+      records = g.bytes ∷ w.all.ahead.records;
+      rest = w.all.ahead.rest;
+      cut = text_behind old.ahead g.given (framed g.bytes) new.ahead (g.given ++ w.given) w.given g.cut refl
+          ∙ ap (λ (t : List ℕ). framed g.bytes ++ t) w.all.ahead.cut
+          ∙ sym (append_assoc (framed g.bytes) (frames w.all.ahead.records) w.all.ahead.rest);
+      short = All-cons (λ b. length b ≤ max_record_len) g.bytes w.all.ahead.records g.short w.all.ahead.short;
+      state = w.all.ahead.state;
+      closed = (
+        g.closed,
+        w.lines,
+        g.closes,
+        subst (λ (s : ClosingState). AreClosed s w.all.ahead.records w.lines w.all.ahead.state) g.state
+            w.all.ahead.closed,
+        refl,
+      );
+    };
     partial = w.all.partial;
   };
 }
@@ -182,25 +156,25 @@ if_some : (o : Option (List ℕ)) (P Q : List ℕ → Type 0) → ((x : List ℕ
 if_some None P Q f h = tt
 if_some (Some x) P Q f h = f x h
 
-some_front : (s : ClosingState) (at : ℕ) (text : List ℕ) (last o : Outcome) (out : Seen) → IsEnd s at text last
-    → ReceivedPrefix out last.text → IsRun s (record { at = at; rest = text }) o → ReceivedPrefix out o.text
-some_front s at text last o out h front run =
-    subst (λ (x : Outcome). ReceivedPrefix out x.text) (sym (one_end s at text last o h run)) front
-
 -- nothing was written
-pub cut_answered : (IsOne : List ℕ → Outcome → Type 0) (before : Option (List ℕ)) (out : Seen) (end : Status)
-    → Received out [] → IsCutShort end → IfSome before (λ bytes. Answered (IsOne bytes) out end)
-cut_answered IsOne None out end h short = tt
-cut_answered IsOne (Some bytes) out end h short = record {
-  whole_or_cut = inr short;
-  prefix = λ o run. no_front out o.text h;
-}
+pub cut_answered : (IsOne : List ℕ → Outcome → Type 0) (IsOneFront : List ℕ → List ℕ → Type 0)
+    (before : Option (List ℕ)) (out : Seen) (end : Status) → Received out [] → IsCutShort end
+    → ((bytes : List ℕ) → IsOneFront bytes [])
+    → IfSome before (λ bytes. Answered (IsOne bytes) (IsOneFront bytes) out end)
+cut_answered IsOne IsOneFront None out end h short empty = tt
+cut_answered IsOne IsOneFront (Some bytes) out end h short empty = inr (short, [], empty bytes, h)
+
+unfollowed : (s : ClosingState) (at : ℕ) (ahead : List ℕ) (before : Option (List ℕ)) (out : Seen) (end : Status)
+    → Received out [] → IsCutShort end → IfSome before (λ bytes. AnsweredFrom s at (ahead ++ bytes) out end)
+unfollowed s at ahead before out end h short =
+    cut_answered (λ bytes. IsRun s (record { at = at; rest = ahead ++ bytes }))
+    (λ bytes. IsRunFront s (record { at = at; rest = ahead ++ bytes })) before out end h short
+    (λ bytes. empty_front s (record { at = at; rest = ahead ++ bytes }))
 
 pub nothing_followed : (s : ClosingState) (at : ℕ) (ahead : List ℕ) (input out : Seen) → Received out []
     → Followed s at ahead input out status.NoMemory
 nothing_followed s at ahead input out h = record {
-  answered = cut_answered (λ bytes. IsRun s (record { at = at; rest = ahead ++ bytes })) input.before out
-      status.NoMemory h tt;
+  answered = unfollowed s at ahead input.before out status.NoMemory h tt;
   ended = λ e. absurd cc;
   read_fault = λ e. absurd cc;
   write_fault = λ e. absurd cc;
@@ -212,11 +186,8 @@ pub stopped : (s : ClosingState) (at : ℕ) (ahead : List ℕ) (input out : Seen
     → (last.status ≡ status.Done → IsAtEnd input.now) → IsLast last.status → Followed s at ahead input out end
 stopped s at ahead input out end last ends (inl (e, received)) done is_last = record {
   answered = if_some input.before (λ bytes. IsEnd s at (ahead ++ bytes) last)
-      (λ bytes. Answered (IsRun s (record { at = at; rest = ahead ++ bytes })) out end)
-      (λ bytes h. record {
-        whole_or_cut = inl (last, ended_run s at (ahead ++ bytes) last h, e, received);
-        prefix = λ o run. some_front s at (ahead ++ bytes) last o out h (whole_front out last.text received) run;
-      }) ends;
+      (λ bytes. AnsweredFrom s at (ahead ++ bytes) out end)
+      (λ bytes h. inl (last, ended_run s at (ahead ++ bytes) last h, e, received)) ends;
   ended = λ d. done (sym e ∙ d);
   read_fault = λ r. absurd (is_last.no_read (sym e ∙ r));
   write_fault = λ r. absurd (is_last.no_write (sym e ∙ r));
@@ -224,11 +195,13 @@ stopped s at ahead input out end last ends (inl (e, received)) done is_last = re
 }
 stopped s at ahead input out end last ends (inr (inl (e, failed, front))) done is_last = record {
   answered = if_some input.before (λ bytes. IsEnd s at (ahead ++ bytes) last)
-      (λ bytes. Answered (IsRun s (record { at = at; rest = ahead ++ bytes })) out end)
-      (λ bytes h. record {
-        whole_or_cut = inr (subst IsCutShort (sym e) tt);
-        prefix = λ o run. some_front s at (ahead ++ bytes) last o out h front run;
-      }) ends;
+      (λ bytes. AnsweredFrom s at (ahead ++ bytes) out end)
+      (λ bytes h. inr (
+        subst IsCutShort (sym e) tt,
+        take front.0 last.text,
+        inr (last, ended_run s at (ahead ++ bytes) last h, (front.0, front.1, refl)),
+        front.2,
+      )) ends;
   ended = λ d. absurd cc;
   read_fault = λ r. absurd cc;
   write_fault = λ r. failed;
@@ -253,8 +226,7 @@ pub read_failed : (s : ClosingState) (at : ℕ) (ahead new : List ℕ) (input ou
     → Grown input.before input.now ahead new → IsShort record_end new → Failed input → Received out []
     → Followed s at ahead input out status.ReadFault
 read_failed s at ahead new input out grown short failed h = record {
-  answered = cut_answered (λ bytes. IsRun s (record { at = at; rest = ahead ++ bytes })) input.before out
-      status.ReadFault h tt;
+  answered = unfollowed s at ahead input.before out status.ReadFault h tt;
   ended = λ e. absurd cc;
   read_fault = λ e. (
     failed,
@@ -264,11 +236,7 @@ read_failed s at ahead new input out grown short failed h = record {
       lines = [];
       received = h;
       all = record {
-        records = [];
-        rest = ahead ++ grown.given;
-        cut = refl;
-        state = s;
-        closed = (refl, refl);
+        ahead = no_records s (record { at = at; rest = ahead ++ grown.given });
         partial = λ bytes more fits cut. no_record new bytes more short.0 short.1 fits (grown.grown ∙ cut);
       };
     },
@@ -396,16 +364,20 @@ pub record_stops : (s : ClosingState) (at : ℕ) (ahead new rest bytes : List �
 record_stops s at ahead new rest bytes input out end grown cut fits (inl (c, closes, e, failed, front)) =
     subst (Followed s at ahead input out) (sym e) (record {
       answered = told_front input.before input.now grown.given
-          (λ given. Answered (IsRun s (record { at = at; rest = ahead ++ given })) out status.WriteFault) grown.gave
-          (λ others told. subst (λ (t : List ℕ).
-          Answered (IsRun s (record { at = at; rest = t })) out status.WriteFault)
+          (λ given. AnsweredFrom s at (ahead ++ given) out status.WriteFault) grown.gave
+          (λ others told. subst (λ (t : List ℕ). AnsweredFrom s at t out status.WriteFault)
           (sym (front_text ahead new grown.given (framed bytes) rest others grown.grown cut))
-          (record {
-            whole_or_cut = inr tt;
-            prefix = λ o run. let p = peeled s bytes c at (rest ++ others) o fits closes run in
-                subst (λ (x : Outcome). ReceivedPrefix out x.text) (sym p.2)
-                (front_of_more out.before out.now (lines_of c) p.0.text front);
-          }));
+          (inr (
+            tt,
+            take front.0 (lines_of c),
+            inl (
+              lines_of c ++ [],
+              one_more s bytes c at at (rest ++ others) [] fits closes
+                  (no_records c.state (record { at = at; rest = rest ++ others })),
+              front_more (take front.0 (lines_of c)) (lines_of c) [] (front.0, front.1, refl),
+            ),
+            front.2,
+          )));
       ended = λ d. absurd cc;
       read_fault = λ d. absurd cc;
       write_fault = λ d. failed;

@@ -1,18 +1,70 @@
--- Where nothing failed, a run is whole.
-use Rattle.std.specs.Prelude.{◌≡◌, ℕ, List, Some, ◌⊎◌}
+-- What runs of `catchup` answer, as they are run by the words or alone: where nothing failed, where all records are
+-- accepted, and where the outcome is another one.
+use Rattle.std.specs.Prelude.{◌≡◌, ℕ, ◌≤◌, List, ◌++◌, length, All, Some, Ok, ◌⊎◌}
 use Rattle.run_streams.specs.Seen.{Seen, Failed, Received}
+use Rattle.xdr_core.specs.Place.{Place, start_of}
+use Rattle.xdr_header.specs.declared.image.StartImage.{StartImage}
+use Rattle.xdr_header.specs.Image.{start_image}
+use Rattle.hash_ids.specs.Ids.{network_id_of}
+use Rattle.close_rules.specs.State.{ClosingState}
+use Rattle.close_rules.specs.Images.{IsJudged}
 use Rattle.run_outcome.specs.declared.status.Status.{Status}
 use Rattle.run_outcome.specs.declared.status.Status.TheVariants as status
 use Rattle.run_outcome.specs.Command.{command_of}
-use Rattle.run_outcome.specs.Outcome.{Outcome, IsOutcome}
-use Rattle.run_outcome.specs.Run.{Ran}
+use Rattle.run_outcome.specs.Lines.{end_line}
+use Rattle.run_outcome.specs.Outcome.{Outcome, IsOutcome, max_record_len, frames, AreClosed}
+use Rattle.run_outcome.specs.Run.{DidCatchUp, Ran}
 
--- the end and the output are those of an outcome, or memory was refused
-abbrev pub IsWhole : (IsOne : Outcome → Type 0) → Seen → Status → Type 0
-IsWhole IsOne out end =
-    ((o : Outcome) × IsOne o × (end ≡ o.status) × Received out o.text) ⊎ (end ≡ status.NoMemory)
+-- no stream's count of faults rose
+pub record NoneFailed (input out err : Seen) : Type 0 where
+  pub no_read : Failed input → ⊥
+  pub no_write : Failed out → ⊥
+  pub no_line : Failed err → ⊥
 
-abbrev pub RunsAreComplete : Type 0
-RunsAreComplete = (words : List (List ℕ)) (passphrase bytes : List ℕ) (input out err : Seen) (end : Status)
+-- a claim of each run of `catchup` on an input
+abbrev pub Catchups : ((passphrase input : List ℕ) → (Seen → Seen → Seen → Status → Type 0)) → Type 0
+Catchups P = (passphrase bytes : List ℕ) (input out err : Seen) (end : Status)
+    → DidCatchUp passphrase input out err end → input.before ≡ Some bytes → P passphrase bytes input out err end
+
+-- the same, of the runs that the words ask for
+abbrev pub Runs : ((passphrase input : List ℕ) → (Seen → Seen → Seen → Status → Type 0)) → Type 0
+Runs P = (words : List (List ℕ)) (passphrase bytes : List ℕ) (input out err : Seen) (end : Status)
     → Ran words input out err end → command_of words ≡ Some passphrase → input.before ≡ Some bytes
-    → (Failed input → ⊥) → (Failed out → ⊥) → (Failed err → ⊥) → IsWhole (IsOutcome passphrase bytes) out end
+    → P passphrase bytes input out err end
+
+-- ---- where nothing failed
+
+-- the end and the output are those of the outcome, or memory was refused
+abbrev pub IsComplete : (passphrase bytes : List ℕ) → (input out err : Seen) → (end : Status) → Type 0
+IsComplete passphrase bytes input out err end = NoneFailed input out err
+    → ((o : Outcome) × IsOutcome passphrase bytes o × (end ≡ o.status) × Received out o.text) ⊎ (end ≡ status.NoMemory)
+
+-- ---- where all records are accepted
+
+-- a legal image, and behind it records that all close ledgers: their lines, and the state behind the last
+pub record AreAccepted (passphrase bytes lines : List ℕ) (now : ClosingState) : Type 0 where
+  pub image : StartImage
+  pub place : Place
+  pub reads : start_image.read (start_of bytes) ≡ Ok (image, place)
+  pub start : ClosingState
+  pub judged : IsJudged (network_id_of passphrase) image (Ok start)
+  pub records : List (List ℕ)
+  pub cut : place.rest ≡ frames records
+  pub short : All (λ record_bytes. length record_bytes ≤ max_record_len) records
+  pub closed : AreClosed start records lines now
+
+-- all is done and the text is whole, or memory was refused
+abbrev pub IsDone : (passphrase bytes : List ℕ) → (input out err : Seen) → (end : Status) → Type 0
+IsDone passphrase bytes input out err end = (lines : List ℕ) (now : ClosingState)
+    → AreAccepted passphrase bytes lines now → NoneFailed input out err
+    → ((end ≡ status.Done) × Received out (lines ++ end_line now.header)) ⊎ (end ≡ status.NoMemory)
+
+-- ---- the other side
+
+-- an outcome is answered with its status and text, unless a stream failed or memory was refused
+abbrev pub IsAnswered : (passphrase bytes : List ℕ) → (input out err : Seen) → (end : Status) → Type 0
+IsAnswered passphrase bytes input out err end = (o : Outcome) → IsOutcome passphrase bytes o
+    → ((end ≡ o.status) × Received out o.text)
+    ⊎ ((end ≡ status.ReadFault) × Failed input)
+    ⊎ ((end ≡ status.WriteFault) × (Failed out ⊎ Failed err))
+    ⊎ (end ≡ status.NoMemory)

@@ -13,7 +13,7 @@ use Rattle.close_rules.specs.Close.{Closed, IsClose}
 use Rattle.run_outcome.specs.declared.status.Status.{Status}
 use Rattle.run_outcome.specs.declared.status.Status.TheVariants as status
 use Rattle.run_outcome.specs.Lines.{end_line, refused_line}
-use Rattle.run_outcome.specs.Outcome.{framed, max_record_len, lines_of, IsRun, AreWhole}
+use Rattle.run_outcome.specs.Outcome.{framed, max_record_len, lines_of, IsRun, AreWhole, IsRunFront}
 use Rattle.run_outcome.specs.Run.{Answered}
 
 -- ---- writing
@@ -33,6 +33,11 @@ WroteOn out text (Some end) =
 
 -- ---- the rest of a run
 
+-- the end and the output are those of a run from a place on, or are cut short
+abbrev pub AnsweredFrom : ClosingState → (at : ℕ) → (rest : List ℕ) → (out : Seen) → (end : Status) → Type 0
+AnsweredFrom s at rest out end =
+    Answered (IsRun s (record { at = at; rest = rest })) (IsRunFront s (record { at = at; rest = rest })) out end
+
 -- the lines of every whole record that is ahead or was given
 pub record WholeLines (s : ClosingState) (at : ℕ) (ahead : List ℕ) (input out : Seen) : Type 0 where
   pub given : List ℕ
@@ -43,7 +48,7 @@ pub record WholeLines (s : ClosingState) (at : ℕ) (ahead : List ℕ) (input ou
 
 -- the records from a place on, of which these bytes are ahead and the others still in the source
 pub record Followed (s : ClosingState) (at : ℕ) (ahead : List ℕ) (input out : Seen) (end : Status) : Type 0 where
-  pub answered : IfSome input.before (λ bytes. Answered (IsRun s (record { at = at; rest = ahead ++ bytes })) out end)
+  pub answered : IfSome input.before (λ bytes. AnsweredFrom s at (ahead ++ bytes) out end)
   pub ended : end ≡ status.Done → IsAtEnd input.now
   pub read_fault : end ≡ status.ReadFault → Failed input × WholeLines s at ahead input out
   pub write_fault : end ≡ status.WriteFault → Failed out

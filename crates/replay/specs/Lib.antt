@@ -1,4 +1,5 @@
 pub mod Following
 pub mod Starting
 pub mod Telling
+pub mod Outcomes
 pub mod Completeness

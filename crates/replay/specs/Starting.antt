@@ -1,6 +1,7 @@
 -- What the start image at the front of an input comes to.
-use Rattle.std.specs.Prelude.{◌≡◌, ℕ, ◌≤◌, ◌^◌, List, [], ◌++◌, length, Result, Ok, Err}
-use Rattle.run_streams.specs.Seen.{Seen, Gave, Received}
+use Rattle.std.specs.Prelude.{◌≡◌, ◌≢◌, ℕ, ◌≤◌, ◌^◌, List, [], ◌++◌, length, IfSome, Result, Ok, Err}
+use Rattle.std.specs.Io.KnownBytes.{IsAtEnd}
+use Rattle.run_streams.specs.Seen.{Seen, Failed, Gave, Received}
 use Rattle.ledger_types.specs.declared.ids.Hash.{Hash}
 use Rattle.xdr_core.specs.Place.{start_of}
 use Rattle.xdr_header.specs.declared.image.StartImage.{StartImage}
@@ -11,7 +12,15 @@ use Rattle.close_rules.specs.Images.{IsJudged}
 use Rattle.close_rules.specs.declared.image_fault.ImageFault.TheVariants as image_fault
 use Rattle.run_outcome.specs.declared.status.Status.{Status}
 use Rattle.run_outcome.specs.declared.status.Status.TheVariants as status
-use Rattle.run_outcome.specs.Run.{CaughtUp}
+use Rattle.run_outcome.specs.Run.{AnsweredTo, Told}
+
+-- a passphrase's run of `catchup`, over these streams, with this end; all but the line on standard error
+pub record CaughtUp (passphrase : List ℕ) (input out : Seen) (end : Status) : Type 0 where
+  pub answered : IfSome input.before (λ bytes. AnsweredTo passphrase bytes out end)
+  pub ended : end ≡ status.Done → IsAtEnd input.now
+  pub read_fault : end ≡ status.ReadFault → Failed input × Told passphrase input out
+  pub write_fault : end ≡ status.WriteFault → Failed out
+  pub no_usage : end ≢ status.Usage
 
 -- whatever begins with these bytes has this image at its front
 abbrev pub Begins : List ℕ → StartImage → Type 0
@@ -21,7 +30,6 @@ Begins front image = (rest : List ℕ)
 -- an image was cut from what the source gave
 pub record Cut (image : StartImage) (at : ℕ) (ahead : List ℕ) (input : Seen) : Type 0 where
   pub front : List ℕ
-  pub count : length image.files ≡ 22
   pub begins : Begins front image
   pub len : at ≡ length front
   pub low : at ≤ 2 ^ 64

@@ -1,7 +1,7 @@
 //! The command `catchup`, but for the line on standard error.
 
 ghost use Rattle.run_streams.specs.Seen.{seen};
-ghost use Rattle.run_outcome.specs.Run.{CaughtUp};
+ghost use Rattle.replay.specs.Starting.{CaughtUp};
 
 use crate::closes::follow;
 use crate::start::{Started, start};

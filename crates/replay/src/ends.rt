@@ -6,7 +6,8 @@ ghost use Rattle.run_outcome.specs.Lines.{end_line, refused_line};
 ghost use Rattle.run_outcome.specs.Statuses.{status_line};
 ghost use Rattle.run_outcome.specs.declared.status.Status.TheVariants as status;
 ghost use Rattle.replay.specs.Following.{Wrote};
-ghost use Rattle.replay.specs.Telling.{IsTold, IsToldOrRefused};
+ghost use Rattle.run_outcome.specs.Run.{IsTold};
+ghost use Rattle.replay.specs.Telling.{IsToldOrRefused};
 
 use ledger_close::{CloseFault, Ledger};
 use outside::{Sink, write_all};

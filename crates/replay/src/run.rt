@@ -3,11 +3,10 @@
 ghost use Rattle.std.specs.Prelude.{◌≡◌, None, Some, MatchOption};
 ghost use Rattle.run_streams.specs.Seen.{seen};
 ghost use Rattle.run_outcome.specs.Command.{command_of};
-ghost use Rattle.run_outcome.specs.Run.{Ran};
+ghost use Rattle.run_outcome.specs.Run.{words_of, IsTold, DidCatchUp, Ran};
 ghost use Rattle.run_outcome.specs.Statuses.{status_code};
 ghost use Rattle.run_outcome.specs.declared.status.Status.{Status};
 ghost use Rattle.run_outcome.specs.declared.status.Status.TheVariants as status;
-ghost use Rattle.replay.specs.Telling.{words_of, DidCatchUp, IsTold};
 
 use crate::catchup::catch_up;
 use crate::ends::{tell, tell_no_memory, tell_usage};

@@ -1,6 +1,6 @@
 //! The start image at the front of an input.
 
-ghost use Rattle.std.specs.Prelude.{◌≡◌, ◌≤◌, ◌^◌, [], length, MatchResult, IfOk, Ok};
+ghost use Rattle.std.specs.Prelude.{◌≡◌, ◌≤◌, ◌^◌, [], MatchResult, IfOk, Ok};
 ghost use Rattle.xdr_core.specs.Format.{IsBytes};
 ghost use Rattle.xdr_core.specs.Place.{Place, start_of};
 ghost use Rattle.xdr_header.specs.Image.{start_image};
@@ -83,7 +83,6 @@ fn read_image<I: Source>(
 
 /// The ledger of an image on the network with this passphrase, or the end of a run from it.
 fn judge(passphrase: &str, image: StartImage) -> Result<Ledger, Status>
-    requires { length image.files ≡ 22 }
     ensures { IsJudgedSo (network_id_of passphrase.now) image result }
 {
     let Ok(network) = network_id(passphrase) else {

@@ -1,7 +1,6 @@
 use Rattle.std.proofs.Common.{refl}
 use Rattle.run_streams.specs.Seen.{seen}
-use Rattle.std.proofs.KnownBytes.{Appends-nil}
-use Rattle.replay.specs.Telling.{words_of}
+use Rattle.run_outcome.specs.Run.{words_of}
 use Rattle.replay.proofs.Tellings.{ran_command, ran_usage}
 use Rattle.replay.proofs.run.run.Goals as goal
 
@@ -19,4 +18,4 @@ returns-in-None g c =
     (seen g.I.Source.left g.I.Source.faults c.args.input.now c.args.input.now)
     (seen g.O.Sink.taken g.O.Sink.faults c.args.out.now c.args.out.now)
     (seen g.E.Sink.taken g.E.Sink.faults c.args.err.now c.tell_usage.new.err) c.tell_usage.result c.in-None.ensures
-    (refl, refl) (Appends-nil (g.O.Sink.taken c.args.out.now)) c.tell_usage.ensures
+    (refl, refl) (refl, refl) c.tell_usage.ensures

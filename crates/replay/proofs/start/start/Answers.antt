@@ -2,9 +2,6 @@ use Rattle.run_streams.specs.Seen.{seen}
 use Rattle.replay.proofs.Starts.{unjudged}
 use Rattle.replay.proofs.start.start.Goals as goal
 
-pub judge-requires : goal.judge-requires
-judge-requires g c = c.in_ok-image.ensures.count
-
 pub returns-in-Err : goal.returns-in-Err
 returns-in-Err g c =
     unjudged c.args.passphrase.now c.in_ok-image.field-0.image c.in_ok-image.field-0.at c.read_image.new.ahead.items

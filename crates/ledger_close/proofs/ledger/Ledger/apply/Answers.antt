@@ -4,7 +4,7 @@ use Rattle.close_rules.specs.Refusals.{set_fault}
 use Rattle.close_rules.specs.Close.{applied_in}
 use Rattle.close_laws.proofs.SpelledSets.{set_spelled}
 use Rattle.close_laws.proofs.SpelledEntries.{signers_few}
-use Rattle.ledger_close.specs.States.{state_with}
+use Rattle.close_rules.specs.Images.{state_of}
 use Rattle.ledger_close.specs.Answers.{FaultIs}
 use Rattle.ledger_close.specs.declared.apply.Worked.{Worked}
 use Rattle.ledger_close.specs.Worked.{Leaves}
@@ -22,7 +22,7 @@ apply_set-requires-clause-within c = (set_spelled c.args.closing.now c.requires.
 pub returns-in-Err : goal.returns-in-Err
 returns-in-Err c =
     let l = c.self.inside in
-    let s = state_with l.network l.header l.entries l.levels.pairs in
+    let s = state_of l.network l.header l.levels.pairs l.entries in
     let here = refused_set s c.args.closing.now c.in_ok-entries.entries c.apply_set.new.entries c.in-Err.fault
     c.in_ok-entries.ensures c.in-Err.ensures.answer in
     let told = subst (λ f. FaultIs f (λ g. set_fault s c.args.closing.now ≡ Rattle.std.proofs.Common.Some g))
@@ -33,7 +33,7 @@ returns-in-Err c =
 pub next-requires : goal.next-requires
 next-requires c =
     let l = c.self.inside in
-    let s = state_with l.network l.header l.entries l.levels.pairs in
+    let s = state_of l.network l.header l.levels.pairs l.entries in
     let closing = c.args.closing.now in (
       (applied_in s closing).entries,
       applied_keyed s closing c.in_ok-entries.entries c.in_ok-entries.ensures c.in-Ok.ensures.conserved,
@@ -44,7 +44,7 @@ next-requires c =
 pub returns : goal.returns
 returns c =
     let l = c.self.inside in
-    let s = state_with l.network l.header l.entries l.levels.pairs in
+    let s = state_of l.network l.header l.levels.pairs l.entries in
     let closing = c.args.closing.now in
     let begun = c.in_ok-entries.ensures in
     let answer = c.in-Ok.ensures.answer in

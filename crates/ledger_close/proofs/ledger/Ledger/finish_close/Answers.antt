@@ -1,4 +1,9 @@
-use Rattle.std.proofs.Common.{refl, sym, ap, ◌∙◌, subst, arith}
+use Rattle.std.proofs.Common.{ℕ, refl, sym, ap, ◌∙◌, subst, arith}
+use Rattle.entry_changes.specs.Next.{IsExactBatch}
+use Rattle.ledger_close.specs.declared.apply.Worked.{Worked}
+use Rattle.ledger_close.specs.Counted.{AreStepsTo, AreStepsWith}
+use Rattle.ledger_close.specs.Worked.{Leaves}
+use Rattle.ledger_close.proofs.Counting.{steps_with}
 use Rattle.ledger_types.specs.declared.ids.Hash.{Hash}
 use Rattle.ledger_types.specs.declared.header.LedgerHeader.{LedgerHeader}
 use Rattle.xdr_header.specs.declared.record.CloseRecord.{CloseRecord}
@@ -20,6 +25,15 @@ keyed_behind : NextIsLegal → (s : ClosingState) (closing : CloseRecord) (after
     → AreClosed s closing after → IsKeyed after
 keyed_behind law s closing after can closed =
     keyed_by after (law s closing after s.header.bucket_list_hash can closed).keyed
+
+-- the steps of a close are those of its levels
+counted : NextIsLegal → (s : ClosingState) (closing : CloseRecord) (worked : Worked) (old new : ℕ) → IsClosable s closing
+    → Leaves s closing worked
+    → ((after : EntryMap) → IsExactBatch s.entries after worked.batch → IsKeyed after → AreStepsTo s after old new)
+    → AreStepsWith s closing old new
+counted law s closing worked old new can left few =
+    steps_with s closing worked.entries old new can.unrefused left.entries
+    (few worked.entries left.batch (keyed_behind law s closing worked.entries can left.entries))
 
 pub level-requires-clause-seq : goal.level-requires-clause-seq
 level-requires-clause-seq g c =
@@ -44,11 +58,11 @@ file_total-bytes-requires g c =
     record { state = state; spelled = c.requires.spelled; unrefused = c.requires.unrefused } in
     let keyed = keyed_behind c.next_is_legal.ensures c.args.self.now c.args.closing c.args.worked.entries can
     c.requires.worked.entries in
-    let leveled = c.in_ok-step.ensures c.args.worked.entries c.requires.worked.batch keyed in
+    let leveled = c.in_ok-step.ensures.levels c.args.worked.entries c.requires.worked.batch keyed in
     omega (arith, leveled.levels.count)
 
-pub returns-then-bytes-gt-MAX_FILE_TOTAL : goal.returns-then-bytes-gt-MAX_FILE_TOTAL
-returns-then-bytes-gt-MAX_FILE_TOTAL g c =
+pub returns-then-bytes-gt-MAX_FILE_TOTAL-clause-finished : goal.returns-then-bytes-gt-MAX_FILE_TOTAL-clause-finished
+returns-then-bytes-gt-MAX_FILE_TOTAL-clause-finished g c =
     let s = c.args.self.now in
     let state = subst IsClosingState c.self.view_is c.self.invariant.state in
     let can : IsClosable s c.args.closing =
@@ -56,7 +70,7 @@ returns-then-bytes-gt-MAX_FILE_TOTAL g c =
     let keyed = keyed_behind c.next_is_legal.ensures s c.args.closing c.args.worked.entries can
     c.requires.worked.entries in
     let leveled = subst (λ (h : LedgerHeader). IsLeveled s h.ledger_version c.args.worked.entries c.in_ok-step.step)
-    c.requires.next (c.in_ok-step.ensures c.args.worked.entries c.requires.worked.batch keyed) in
+    c.requires.next (c.in_ok-step.ensures.levels c.args.worked.entries c.requires.worked.batch keyed) in
     let step = c.in_ok-step.step in (
       closed_with c.args.worked.done.results.results s.network
           (finished (upgraded_header s c.args.closing) (list_hash step.pairs)) c.args.worked.entries step.pairs,
@@ -92,7 +106,7 @@ invariant_of-result g c =
     let can : IsClosable s closing =
     record { state = state; spelled = c.requires.spelled; unrefused = c.requires.unrefused } in
     let keyed = keyed_behind c.next_is_legal.ensures s closing c.args.worked.entries can c.requires.worked.entries in
-    let leveled = c.in_ok-step.ensures c.args.worked.entries c.requires.worked.batch keyed in
+    let leveled = c.in_ok-step.ensures.levels c.args.worked.entries c.requires.worked.batch keyed in
     let header_is = c.in_ok-header.ensures closing refl c.requires.next c.requires.worked.done in
     let range = next_range s closing (list_hash c.in_ok-step.step.pairs) state.legal.header c.requires.unrefused
     (seq_below s closing c.requires.unrefused state.legal.header.seq_high) in
@@ -101,8 +115,8 @@ invariant_of-result g c =
       number = leveled.seq ∙ sym (ap (λ (h : LedgerHeader). h.ledger_seq) header_is ∙ range.counts.ledger_seq);
     }
 
-pub returns : goal.returns
-returns g c =
+pub returns-clause-finished : goal.returns-clause-finished
+returns-clause-finished g c =
     let s = c.args.self.now in
     let closing = c.args.closing in
     let worked = c.args.worked in
@@ -112,7 +126,7 @@ returns g c =
     record { state = state; spelled = c.requires.spelled; unrefused = c.requires.unrefused } in
     let keyed = keyed_behind c.next_is_legal.ensures s closing worked.entries can c.requires.worked.entries in
     let leveled = subst (λ (h : LedgerHeader). IsLeveled s h.ledger_version worked.entries step) c.requires.next
-    (c.in_ok-step.ensures worked.entries c.requires.worked.batch keyed) in
+    (c.in_ok-step.ensures.levels worked.entries c.requires.worked.batch keyed) in
     let header_is = c.in_ok-header.ensures closing refl c.requires.next c.requires.worked.done in
     let made = closes s closing worked step c.requires.worked leveled in
     let headed = subst (λ (h : LedgerHeader).
@@ -123,3 +137,43 @@ returns g c =
           (sym (ap (λ (x : ClosingState). x.network) c.self.view_is)) headed,
       omega (arith, c.file_total-bytes.ensures, c.if-bytes-gt-MAX_FILE_TOTAL.false),
     )
+
+pub returns-in_err-step-clause-steps : goal.returns-in_err-step-clause-steps
+returns-in_err-step-clause-steps g c =
+    counted c.next_is_legal.ensures c.args.self.now c.args.closing c.args.worked _ _ (record {
+      state = subst IsClosingState c.self.view_is c.self.invariant.state;
+      spelled = c.requires.spelled;
+      unrefused = c.requires.unrefused;
+    }) c.requires.worked c.level.ensures.steps
+
+pub returns-then-bytes-gt-MAX_FILE_TOTAL-clause-steps : goal.returns-then-bytes-gt-MAX_FILE_TOTAL-clause-steps
+returns-then-bytes-gt-MAX_FILE_TOTAL-clause-steps g c =
+    counted c.next_is_legal.ensures c.args.self.now c.args.closing c.args.worked _ _ (record {
+      state = subst IsClosingState c.self.view_is c.self.invariant.state;
+      spelled = c.requires.spelled;
+      unrefused = c.requires.unrefused;
+    }) c.requires.worked c.level.ensures.steps
+
+pub returns-in_err-header-clause-steps : goal.returns-in_err-header-clause-steps
+returns-in_err-header-clause-steps g c =
+    counted c.next_is_legal.ensures c.args.self.now c.args.closing c.args.worked _ _ (record {
+      state = subst IsClosingState c.self.view_is c.self.invariant.state;
+      spelled = c.requires.spelled;
+      unrefused = c.requires.unrefused;
+    }) c.requires.worked c.level.ensures.steps
+
+pub returns-in_err-digest-clause-steps : goal.returns-in_err-digest-clause-steps
+returns-in_err-digest-clause-steps g c =
+    counted c.next_is_legal.ensures c.args.self.now c.args.closing c.args.worked _ _ (record {
+      state = subst IsClosingState c.self.view_is c.self.invariant.state;
+      spelled = c.requires.spelled;
+      unrefused = c.requires.unrefused;
+    }) c.requires.worked c.level.ensures.steps
+
+pub returns-clause-steps : goal.returns-clause-steps
+returns-clause-steps g c =
+    counted c.next_is_legal.ensures c.args.self.now c.args.closing c.args.worked _ _ (record {
+      state = subst IsClosingState c.self.view_is c.self.invariant.state;
+      spelled = c.requires.spelled;
+      unrefused = c.requires.unrefused;
+    }) c.requires.worked c.level.ensures.steps

@@ -3,7 +3,8 @@ use Rattle.bucket_levels.specs.Levels.{LevelsAt}
 use Rattle.bucket_levels.specs.Step.{IsStep}
 use Rattle.close_rules.specs.State.{ClosingState}
 use Rattle.close_rules.specs.Close.{Closed, IsClose}
-use Rattle.ledger_close.specs.States.{state_with, IsKept}
+use Rattle.close_rules.specs.Images.{state_of}
+use Rattle.ledger_close.specs.States.{IsKept}
 use Rattle.ledger_close.proofs.Installs.{installed_number, installed_step, installed_state}
 use Rattle.ledger_close.proofs.ledger.Ledger.install.Goals as goal
 
@@ -18,8 +19,8 @@ pub take_step-requires-clause-next : goal.take_step-requires-clause-next
 take_step-requires-clause-next c =
     let l = c.self.inside in
     let p = c.prepared.inside in
-    let s = state_with l.network l.header l.entries l.levels.pairs in
-    let closed : Closed = record { results = p.results.results; state = state_with p.network p.header p.entries p.step.pairs } in
+    let s = state_of l.network l.header l.levels.pairs l.entries in
+    let closed : Closed = record { results = p.results.results; state = state_of p.network p.header p.step.pairs p.entries } in
     let by = kept_close s c.args.self.now closed c.args.prepared c.self.view_is c.prepared.view_is c.requires in
     c.prepared.invariant.number ∙ installed_number s closed c.self.invariant.state by
     ∙ ap (λ (n : ℕ). n + 1) (sym c.self.invariant.number)
@@ -28,8 +29,8 @@ pub take_step-requires-clause-planned : goal.take_step-requires-clause-planned
 take_step-requires-clause-planned c =
     let l = c.self.inside in
     let p = c.prepared.inside in
-    let s = state_with l.network l.header l.entries l.levels.pairs in
-    let closed : Closed = record { results = p.results.results; state = state_with p.network p.header p.entries p.step.pairs } in
+    let s = state_of l.network l.header l.levels.pairs l.entries in
+    let closed : Closed = record { results = p.results.results; state = state_of p.network p.header p.step.pairs p.entries } in
     let by = kept_close s c.args.self.now closed c.args.prepared c.self.view_is c.prepared.view_is c.requires in
     let step = installed_step s closed by in (
       step.0,
@@ -41,8 +42,8 @@ pub invariant_of-self : goal.invariant_of-self
 invariant_of-self c =
     let l = c.self.inside in
     let p = c.prepared.inside in
-    let s = state_with l.network l.header l.entries l.levels.pairs in
-    let closed : Closed = record { results = p.results.results; state = state_with p.network p.header p.entries p.step.pairs } in
+    let s = state_of l.network l.header l.levels.pairs l.entries in
+    let closed : Closed = record { results = p.results.results; state = state_of p.network p.header p.step.pairs p.entries } in
     let by = kept_close s c.args.self.now closed c.args.prepared c.self.view_is c.prepared.view_is c.requires in
     subst (λ (x : LevelsAt). IsKept p.network p.digest p.header p.entries x) (sym c.take_step.ensures) record {
       state = installed_state c.taken_is_closable.ensures c.next_is_closing.ensures s closed c.self.invariant.state by;

@@ -1,8 +1,14 @@
 use Rattle.std.proofs.Common.{arith}
 use Rattle.ledger_close.proofs.Finishing.{answered}
+use Rattle.ledger_close.proofs.Counting.{steps_of}
 use Rattle.ledger_close.proofs.ledger.Ledger.prepare.Goals as goal
 
-pub returns : goal.returns
-returns g c =
+pub returns-clause-answers : goal.returns-clause-answers
+returns-clause-answers g c =
     answered c.args.self.now c.args.bytes.now c.in-Ok.closing c.close.result (λ i. omega (arith, c.type_inv.bytes i))
-    c.in-Ok.ensures.0 c.close.ensures
+    c.in-Ok.ensures.0 c.close.ensures.closed
+
+pub returns-clause-steps : goal.returns-clause-steps
+returns-clause-steps g c =
+    steps_of c.args.self.now c.args.bytes.now c.in-Ok.closing _ _ (λ i. omega (arith, c.type_inv.bytes i))
+    c.in-Ok.ensures.0 c.close.ensures.steps

@@ -35,3 +35,6 @@ pub mod Changed
 pub mod PoolsKept
 pub mod Given
 pub mod First
+pub mod Evaluated
+pub mod Whole
+pub mod Breaking

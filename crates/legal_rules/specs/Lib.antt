@@ -23,3 +23,4 @@ pub mod ChangeLaws
 pub mod PoolLaws
 pub mod Consequences
 pub mod FirstStates
+pub mod WholeStates

@@ -1,5 +1,5 @@
 -- A small legal state with an entry of every kind, and changes of it of which each breaks one rule.
-use Rattle.std.specs.Prelude.{ℕ, ◌*◌, ◌+◌, ◌^◌, ℤ, pos, List, [], ◌∷◌, Option, Some, None, replicate}
+use Rattle.std.specs.Prelude.{◌≡◌, ℕ, ◌*◌, ◌+◌, ◌^◌, ℤ, pos, List, [], ◌∷◌, Option, Some, None, replicate}
 use Rattle.std.specs.FinMap.{empty}
 use Rattle.ledger_types.specs.declared.ids.AccountId.{AccountId}
 use Rattle.ledger_types.specs.declared.ids.Hash.{Hash}
@@ -22,6 +22,8 @@ use Rattle.ledger_types.specs.declared.entry.LedgerEntryBody.TheVariants as body
 use Rattle.ledger_types.specs.declared.predicate.ClaimPredicate.TheVariants.{Unconditional}
 use Rattle.hash_ids.specs.Ids.{pool_id_of}
 use Rattle.entry_map.specs.EntryMap.{EntryMap, put}
+use Rattle.reserve_rules.specs.Reserve.{greatest_i64}
+use Rattle.legal_rules.specs.OfferLiabilities.{bound_of}
 use Rattle.legal_rules.specs.Legal.{IsLegal}
 
 -- ---- the entries
@@ -267,3 +269,21 @@ pub record RulesBind : Type 0 where
   pub lumens_without_claimable_balances :
       IsLegal (record whole_header { total_coins = pos 1345 }) whole_entries → ⊥
   pub lumens_without_the_fee_pool : IsLegal (record whole_header { total_coins = pos 1370 }) whole_entries → ⊥
+
+-- ---- what offers bind
+
+-- an offer of so much at a price of n/d
+abbrev pub offered : (amount n d : ℤ) → OfferEntry
+offered amount n d = record sale { amount = amount; price = record { n = n; d = d } }
+
+-- the wheat and the sheep of offers by the exchange table, rounded
+pub record BoundsAreRounded : Type 0 where
+  pub exact : bound_of (offered (pos 10) (pos 2) (pos 1)) ≡ record { wheat = 10; sheep = 20 }
+  pub two_thirds : bound_of (offered (pos 7) (pos 2) (pos 3)) ≡ record { wheat = 6; sheep = 4 }
+  pub three_halves : bound_of (offered (pos 7) (pos 3) (pos 2)) ≡ record { wheat = 7; sheep = 10 }
+  pub more_at_three_halves : bound_of (offered (pos 27) (pos 3) (pos 2)) ≡ record { wheat = 27; sheep = 40 }
+  pub three_sevenths : bound_of (offered (pos 5) (pos 3) (pos 7)) ≡ record { wheat = 5; sheep = 2 }
+  pub too_small : bound_of (offered (pos 2) (pos 1) (pos 3)) ≡ record { wheat = 0; sheep = 0 }
+  -- no more is taken than 64 bits hold
+  pub greatest : bound_of (offered greatest_i64 (pos 2147483647) (pos 1))
+      ≡ record { wheat = 4294967298; sheep = 9223372036854775806 }

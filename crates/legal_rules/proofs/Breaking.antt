@@ -24,7 +24,8 @@ use Rattle.legal_rules.specs.OfferLiabilities.{bound_of}
 use Rattle.legal_rules.specs.Legal.{IsLegal, IsAuthorized}
 use Rattle.legal_rules.specs.Supply.{held}
 use Rattle.legal_rules.specs.OfferIds.{offer_with}
-use Rattle.legal_rules.specs.WholeStates.{whole_list, whole_header, whole_entries, RulesBind, entry_by, issuer, owner}
+use Rattle.legal_rules.specs.WholeStates.{own_data, own_promise, two_sales}
+use Rattle.legal_rules.specs.WholeStates.{whole_list, whole_header, whole_entries, RulesBind, entry_by, owner}
 use Rattle.legal_rules.specs.WholeStates.{sponsor, stranger, dollars, note, promise, pool, sale, owner_account, state_of}
 use Rattle.legal_rules.specs.WholeStates.{sponsor_account, account_ext, line_ext, pool_id}
 use Rattle.legal_rules.proofs.Evaluated.{book_in, lumens_in, get_in, total_in, value, stands_in, view_in}
@@ -146,12 +147,18 @@ versions same = omega arith
 first_there : (e : LedgerEntry) (es : List LedgerEntry) → get (state_of (e ∷ es)) (key_of e) ≡ Some e
 first_there e es = put_there (state_of es) e
 
-abbrev twice : List LedgerEntry
-twice = entry_by None (body.Offer (record sale { seller_id = issuer })) ∷ whole_list
-
-two_offers_of_one_id : IsLegal whole_header (state_of twice) → ⊥
-two_offers_of_one_id legal = two_low (subst (λ n. n ≤ℤ pos 1) (total_in (offer_with (pos 1)) twice)
+two_offers_of_one_id : IsLegal whole_header (state_of two_sales) → ⊥
+two_offers_of_one_id legal = two_low (subst (λ n. n ≤ℤ pos 1) (total_in (offer_with (pos 1)) two_sales)
     (legal.offers (pos 1)))
+
+data_paid : IsLegal whole_header (state_of own_data) → ⊥
+data_paid legal = (legal.entries (key.Data owner (120 ∷ [])) (entry_by (Some owner) (body.Data note))
+    (get_in own_data (key.Data owner (120 ∷ [])))).paid (λ none. cc) refl
+
+unpaid : IsLegal whole_header (state_of own_promise) → ⊥
+unpaid legal = (legal.entries (key_of (entry_by None (body.ClaimableBalance promise)))
+    (entry_by None (body.ClaimableBalance promise))
+    (get_in own_promise (key_of (entry_by None (body.ClaimableBalance promise))))).paid refl
 
 abbrev open_line : LedgerEntry
 open_line = entry_by None (body.TrustLine (record dollars { flags = 4 }))
@@ -185,10 +192,8 @@ rules_bind = record {
   an_offer_above_the_pool_of_ids = λ legal. id_low (legal.entries (key.Offer owner (pos 1))
       (entry_by None (body.Offer sale)) (get_in whole_list (key.Offer owner (pos 1)))).body.id_high;
   a_line_of_an_offer_without_authorisation = unauthorised;
-  data_that_its_owner_sponsors = λ legal. (legal.entries _ (entry_by (Some owner) (body.Data note))
-      (first_there (entry_by (Some owner) (body.Data note)) whole_list)).paid (λ none. cc) refl;
-  a_claimable_balance_without_sponsor = λ legal. (legal.entries _ (entry_by None (body.ClaimableBalance promise))
-      (first_there (entry_by None (body.ClaimableBalance promise)) whole_list)).paid refl;
+  data_that_its_owner_sponsors = data_paid;
+  a_claimable_balance_without_sponsor = unpaid;
   a_pool_with_a_sponsor = λ legal. absurd (let none = (legal.entries _ (entry_by (Some sponsor) (body.LiquidityPool pool))
       (first_there (entry_by (Some sponsor) (body.LiquidityPool pool)) whole_list)).paid in cc);
   two_offers_of_one_id = two_offers_of_one_id;

@@ -38,3 +38,4 @@ pub mod Evaluated
 pub mod Whole
 pub mod Breaking
 pub mod Rounded
+pub mod SharesKept

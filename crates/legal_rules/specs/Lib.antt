@@ -24,3 +24,4 @@ pub mod PoolLaws
 pub mod Consequences
 pub mod FirstStates
 pub mod WholeStates
+pub mod ShareLaws

@@ -220,6 +220,34 @@ line_ext selling uses = Some (record {
   ext = Some (record { liquidity_pool_use_count = uses });
 })
 
+abbrev pub sponsor_of_so_many : ℕ → LedgerEntry
+sponsor_of_so_many n = entry_by None (body.Account (record sponsor_account {
+  ext = account_ext (pos 0) (pos 0) 0 n [];
+}))
+
+-- data whose owner is its sponsor, with the counts of both accounts
+abbrev pub own_data : List LedgerEntry
+own_data =
+    entry_by (Some owner) (body.Data note)
+    ∷ entry_by (Some sponsor) (body.Account (record owner_account {
+      ext = account_ext (pos 20) (pos 0) 6 1 (Some sponsor ∷ []);
+    }))
+    ∷ sponsor_of_so_many 7 ∷ whole_list
+
+-- a claimable balance that nobody pays for, with the count of who did
+abbrev pub own_promise : List LedgerEntry
+own_promise = entry_by None (body.ClaimableBalance promise) ∷ sponsor_of_so_many 6 ∷ whole_list
+
+-- an offer of the issuer with the id of the other one, with the counts of the issuer
+abbrev pub two_sales : List LedgerEntry
+two_sales =
+    entry_by None (body.Offer (record sale { seller_id = issuer; amount = pos 7; price = record { n = pos 3; d = pos 2 } }))
+    ∷ entry_by None (body.Account (record issuer_account {
+      num_sub_entries = 1;
+      ext = Some (record { liabilities = record { buying = pos 10; selling = pos 0 }; ext = None });
+    }))
+    ∷ whole_list
+
 -- each of these states breaks a rule
 pub record RulesBind : Type 0 where
   -- the header
@@ -229,15 +257,12 @@ pub record RulesBind : Type 0 where
   -- each entry by itself
   pub an_offer_above_the_pool_of_ids : IsLegal (record whole_header { id_pool = 0 }) whole_entries → ⊥
   pub a_line_of_an_offer_without_authorisation : IsLegal whole_header (with_dollars (record dollars { flags = 4 })) → ⊥
-  pub data_that_its_owner_sponsors :
-      IsLegal whole_header (put whole_entries (entry_by (Some owner) (body.Data note))) → ⊥
-  pub a_claimable_balance_without_sponsor :
-      IsLegal whole_header (put whole_entries (entry_by None (body.ClaimableBalance promise))) → ⊥
+  pub data_that_its_owner_sponsors : IsLegal whole_header (state_of own_data) → ⊥
+  pub a_claimable_balance_without_sponsor : IsLegal whole_header (state_of own_promise) → ⊥
   pub a_pool_with_a_sponsor :
       IsLegal whole_header (put whole_entries (entry_by (Some sponsor) (body.LiquidityPool pool))) → ⊥
   -- owners, sponsors and distinct ids
-  pub two_offers_of_one_id :
-      IsLegal whole_header (put whole_entries (entry_by None (body.Offer (record sale { seller_id = issuer })))) → ⊥
+  pub two_offers_of_one_id : IsLegal whole_header (state_of two_sales) → ⊥
   pub data_of_no_account : IsLegal whole_header
       (put whole_entries (entry_by None (body.Data (record note { account_id = stranger })))) → ⊥
   -- liabilities

@@ -26,30 +26,30 @@ pub record AreOwned (m : EntryMap) : Type 0 where
   pub standing : EachEntry (λ k e. All (λ q. get m q ≢ None) (needed_keys (pools_in m) e)) m
   pub offers : AreOffersApart m
 
--- 9
+-- 9: liabilities are those of the offers; that they lie within balance, room and limit is for the seventh
 pub record AreLiable (m : EntryMap) : Type 0 where
   pub selling : IsBooked Selling m
   pub buying : IsBooked Buying m
 
--- 10
+-- 10: the subentries of each account are counted, and few
 pub record AreSubentriesCounted (m : EntryMap) : Type 0 where
   pub booked : IsBooked Subentries m
   pub few : EachEntry (λ k e. AreSubentriesFew e.body) m
 
--- 11
+-- 11: reserves that one account pays for another are counted with both of them, and fit 32 bits beside the subentries
 pub record AreSponsorsCounted (m : EntryMap) : Type 0 where
   pub sponsoring : IsBooked Sponsoring m
   pub sponsored : IsBooked Sponsored m
   pub fits : EachEntry (λ k e. DoReservesFit e.body) m
 
--- 12
+-- 12: shares, lines of shares and uses of lines are counted, and each pool is filled or empty
 pub record ArePoolsCounted (m : EntryMap) : Type 0 where
   pub shares : IsBooked Shares m
   pub share_lines : IsBooked ShareLines m
   pub uses : IsBooked Uses m
   pub filled : EachEntry (λ k e. IsFilledOrEmpty e.body) m
 
--- 13
+-- 13: the lumens of all entries and those of the fee pool are all that the header has
 abbrev pub AreLumensCounted : LedgerHeader → EntryMap → Type 0
 AreLumensCounted h m = (total (held asset.Native) m +ℤ h.fee_pool) ≡ h.total_coins
 

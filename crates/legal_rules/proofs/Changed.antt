@@ -35,6 +35,14 @@ use Rattle.legal_rules.specs.Books.{View, counted}
 use Rattle.legal_rules.specs.Supply.{of_line}
 use Rattle.legal_rules.specs.ChangeLaws.{KeepsBooks, AccountChanged, KeepsLineBooks, in_shares, LineChanged}
 use Rattle.legal_rules.specs.ChangeLaws.{UsesCounted}
+use Rattle.std.specs.Prelude.{if◌then◌else◌}
+use Rattle.std.specs.Ordering.{is_eq}
+use Rattle.ledger_types.specs.KeyOrder.{asset_cmp}
+use Rattle.ledger_types.specs.declared.asset.PoolParams.{PoolParams}
+use Rattle.legal_rules.specs.Supply.{of_asset, held_in}
+use Rattle.entry_slots.specs.Pools.{pool_at, with_pool}
+use Rattle.legal_rules.specs.Ranges.{IsPoolInRange}
+use Rattle.legal_rules.specs.Bounds.{IsFilledOrEmpty}
 use Rattle.legal_rules.specs.ChangeLaws.{KeepsParams, PoolChanged}
 use Rattle.legal_rules.specs.Owing.{weight, Owed, nothing_owed, in_book, plus, IsEntryLegal}
 use Rattle.legal_rules.specs.Owing.{IsLegalOwing}
@@ -308,8 +316,15 @@ module _ (p q : LiquidityPoolEntry) (h : KeepsParams p q) where
   pool_books v e Buying k = (λ i. pos 0 -ℤ (if ours k i then pos 0 else pos 0)) ∙ sym (plus_nothing _)
   pool_books v e Uses k = (λ i. pos 0 -ℤ (if ours k i then pos 0 else pos 0)) ∙ sym (plus_nothing _)
 
-pub pool_changed : PoolChanged
-pool_changed v id_pool owed sum m id f p legal stands keeps range filled =
+-- the same, by what the pool holds of the asset at hand
+pub pool_changed_by : (v : View) (id_pool : ℕ) (owed : Owed) (sum : ℤ) (m : EntryMap) (id : Hash)
+    (f : LiquidityPoolEntry → LiquidityPoolEntry) (p : LiquidityPoolEntry) → IsLegalOwing v id_pool owed sum m
+    → pool_at m id ≡ Some p → KeepsParams p (f p) → IsPoolInRange (f p) → IsFilledOrEmpty (body.LiquidityPool (f p))
+    → IsLegalOwing v id_pool
+    (plus owed (plus (in_book Shares (key.LiquidityPool id) (p.total_pool_shares -ℤ (f p).total_pool_shares))
+    (in_book ShareLines (key.LiquidityPool id) (p.pool_shares_trust_line_count -ℤ (f p).pool_shares_trust_line_count))))
+    (sum +ℤ (held_in v.asset (body.LiquidityPool (f p)) -ℤ held_in v.asset (body.LiquidityPool p))) (with_pool m id f)
+pool_changed_by v id_pool owed sum m id f p legal stands keeps range filled =
     let found = pool_entry m id p stands in
     let e0 = with_pool_body found.0 p in
     let there : get m (key.LiquidityPool id) ≡ Some e0 = found.1.there
@@ -335,3 +350,23 @@ pool_changed v id_pool owed sum m id f p legal stands keeps range filled =
     })))
     (λ kind k. ap (λ q. owed kind k +ℤ plus (in_book Shares q (p.total_pool_shares -ℤ (f p).total_pool_shares))
     (in_book ShareLines q (p.pool_shares_trust_line_count -ℤ (f p).pool_shares_trust_line_count)) kind k) same) refl
+
+by_reserves : (s t : Bool) (a b c d : ℤ)
+    → (((if s then c else pos 0) +ℤ (if t then d else pos 0)) -ℤ ((if s then a else pos 0) +ℤ (if t then b else pos 0)))
+    ≡ ((if s then c -ℤ a else pos 0) +ℤ (if t then d -ℤ b else pos 0))
+by_reserves true true a b c d = omega (arith, ints)
+by_reserves true false a b c d = omega (arith, ints)
+by_reserves false true a b c d = omega (arith, ints)
+by_reserves false false a b c d = refl
+
+pub pool_changed : PoolChanged
+pool_changed v id_pool owed sum m id f p legal stands keeps range filled =
+    subst (λ n. IsLegalOwing v id_pool
+    (plus owed (plus (in_book Shares (key.LiquidityPool id) (p.total_pool_shares -ℤ (f p).total_pool_shares))
+    (in_book ShareLines (key.LiquidityPool id) (p.pool_shares_trust_line_count -ℤ (f p).pool_shares_trust_line_count))))
+    (sum +ℤ n) (with_pool m id f)) (ap (λ (params : PoolParams).
+    (of_asset v.asset params.asset_a (f p).reserve_a +ℤ of_asset v.asset params.asset_b (f p).reserve_b)
+    -ℤ held_in v.asset (body.LiquidityPool p)) keeps.params
+    ∙ by_reserves (is_eq (asset_cmp v.asset p.params.asset_a)) (is_eq (asset_cmp v.asset p.params.asset_b)) p.reserve_a
+    p.reserve_b (f p).reserve_a (f p).reserve_b)
+    (pool_changed_by v id_pool owed sum m id f p legal stands keeps range filled)

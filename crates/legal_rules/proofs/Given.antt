@@ -32,6 +32,9 @@ use Rattle.legal_rules.specs.Legal.{view, IsLegal}
 use Rattle.legal_rules.specs.Owing.{nothing_owed}
 use Rattle.legal_rules.proofs.Bounded.{account_legal, IsAccountLegal}
 use Rattle.legal_rules.proofs.Covered.{sponsored_at_most, account_states, minimum_low}
+use Rattle.legal_rules.specs.Consequences.{LegalIsOwingNothing}
+use Rattle.legal_rules.proofs.Legality.{legal_of}
+use Rattle.legal_rules.specs.Legal.{pools_in}
 use Rattle.legal_rules.proofs.Legality.{owing_nothing}
 use Rattle.legal_rules.proofs.Lows.{for_account_low}
 use Rattle.legal_rules.proofs.Merging.{nothing_counts}
@@ -168,3 +171,9 @@ sponsors_ready ctx m owner sound = record {
 pub legal_owes_nothing : LegalOwesNothing
 legal_owes_nothing h m owed sum legal owing kind k = sym (owing.books kind k)
     ∙ (owing_nothing h m legal).books kind k
+
+pub legal_is_owing_nothing : LegalIsOwingNothing
+legal_is_owing_nothing h m = (
+  λ legal. (legal.header, owing_nothing h m legal),
+  λ owing. legal_of h (pools_in m) m owing.0 owing.1,
+)

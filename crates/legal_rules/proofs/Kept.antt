@@ -1,5 +1,5 @@
 -- Entries that are added and removed, by sponsor_rules' definitions.
-use Rattle.std.proofs.Common.{◌≡◌, refl, sym, ap, subst, ◌∙◌, ℕ, List, Option, Some, None, Ok}
+use Rattle.std.proofs.Common.{length, ◌≡◌, refl, sym, ap, subst, ◌∙◌, ℕ, List, Option, Some, None, Ok}
 use Rattle.std.proofs.Common.{arith}
 use Rattle.std.proofs.lemmas.Int.{ints}
 use Rattle.std.specs.Prelude.{ℤ, pos, neg_ℤ, ◌+ℤ◌, ◌-ℤ◌, ◌≤ℤ◌}
@@ -27,6 +27,10 @@ use Rattle.legal_rules.specs.Legal.{view, pools_in, IsLegal}
 use Rattle.legal_rules.specs.Owing.{weighed, nothing_owed, plus, less, beside_reserves, IsEntryLegal, IsLegalOwing}
 use Rattle.legal_rules.specs.EntryLaws.{SubentryAdded, BalanceAdded, AccountAdded, SubentryRemoved, BalanceRemoved}
 use Rattle.legal_rules.specs.EntryLaws.{EntryMoved, new_data, AddingDataKeeps, RemovingDataKeeps, MovingKeeps}
+use Rattle.sponsor_rules.specs.Charge.{charge_of}
+use Rattle.sponsor_rules.specs.declared.charge.Charge.TheVariants as charge
+use Rattle.ledger_types.specs.declared.entry.LedgerEntryBody.{LedgerEntryBody}
+use Rattle.legal_rules.specs.Supply.{held_in}
 use Rattle.legal_rules.proofs.Adding.{subentry_added}
 use Rattle.legal_rules.proofs.Balances.{balance_added, balance_removed}
 use Rattle.legal_rules.proofs.NewAccounts.{account_added}
@@ -54,9 +58,11 @@ subentry_added_so v id_pool next owed sum ctx owner n entry old new legal is fre
     }) new (sym (ap (λ c. map_after_adding_by ctx owner entry c (account_in entry.body) old) is) ∙ done)
 
 pub balance_added_so : BalanceAdded
-balance_added_so v id_pool owed sum ctx owner n entry old new legal is fresh range stands done =
-    balance_added v id_pool owed sum ctx entry (payer_of ctx owner) n old new legal is fresh.free range stands
-    (sym (ap (λ c. map_after_adding_by ctx owner entry c (account_in entry.body) old) is) ∙ done)
+balance_added_so v id_pool owed sum ctx owner b entry old new legal is fresh range stands done =
+    let charged : charge_of entry.body ≡ charge.Payer (length b.claimants) = ap charge_of is in
+    subst (λ (x : LedgerEntryBody). IsLegalOwing v id_pool owed (sum +ℤ held_in v.asset x) new) is
+    (balance_added v id_pool owed sum ctx entry (payer_of ctx owner) (length b.claimants) old new legal charged fresh.free
+    range stands (sym (ap (λ c. map_after_adding_by ctx owner entry c (account_in entry.body) old) charged) ∙ done))
 
 pub account_added_so : AccountAdded
 account_added_so v id_pool owed sum ctx a entry old new legal is bare fresh range ready done =

@@ -20,7 +20,6 @@ pub mod Removing
 pub mod Moving
 pub mod Paid
 pub mod Covered
-pub mod Paying
 pub mod Balances
 pub mod NewAccounts
 pub mod SignerOrder
@@ -35,3 +34,8 @@ pub mod Changed
 pub mod PoolsKept
 pub mod Given
 pub mod First
+pub mod Evaluated
+pub mod Whole
+pub mod Breaking
+pub mod Rounded
+pub mod SharesKept

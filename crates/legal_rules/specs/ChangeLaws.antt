@@ -18,7 +18,7 @@ use Rattle.sponsor_laws.specs.Sums.{signer_sponsors}
 use Rattle.legal_rules.specs.EntryKeys.{for_key}
 use Rattle.legal_rules.specs.PoolShares.{pool_named}
 use Rattle.legal_rules.specs.Books.{Shares, ShareLines, Uses, View}
-use Rattle.legal_rules.specs.Supply.{lumens_of, of_line, held_in}
+use Rattle.legal_rules.specs.Supply.{lumens_of, of_asset, of_line}
 use Rattle.legal_rules.specs.Bounds.{IsFilledOrEmpty}
 use Rattle.legal_rules.specs.Ranges.{IsAccountInRange, IsTrustLineInRange, IsPoolInRange}
 use Rattle.legal_rules.specs.Owing.{Owed, in_book, plus, IsBoundRightly, IsLegalOwing}
@@ -83,7 +83,8 @@ pub record KeepsParams (was pool : LiquidityPoolEntry) : Type 0 where
   pub id : pool.pool_id ≡ was.pool_id
   pub params : pool.params ≡ was.params
 
--- A pool is changed: its books owe what its shares and its count of lines fell by.
+-- A pool is changed: its books owe what its shares and its count of lines fell by, and so much more is held of its
+-- assets as its reserves rose by.
 abbrev pub PoolChanged : Type 0
 PoolChanged =
     (v : View) (id_pool : ℕ) (owed : Owed) (sum : ℤ) (m : EntryMap) (id : Hash)
@@ -92,4 +93,5 @@ PoolChanged =
     → IsLegalOwing v id_pool
     (plus owed (plus (in_book Shares (key.LiquidityPool id) (p.total_pool_shares -ℤ (f p).total_pool_shares))
     (in_book ShareLines (key.LiquidityPool id) (p.pool_shares_trust_line_count -ℤ (f p).pool_shares_trust_line_count))))
-    (sum +ℤ (held_in v.asset (body.LiquidityPool (f p)) -ℤ held_in v.asset (body.LiquidityPool p))) (with_pool m id f)
+    (sum +ℤ (of_asset v.asset p.params.asset_a ((f p).reserve_a -ℤ p.reserve_a)
+    +ℤ of_asset v.asset p.params.asset_b ((f p).reserve_b -ℤ p.reserve_b))) (with_pool m id f)

@@ -13,9 +13,10 @@ use Rattle.sponsor_laws.specs.Sums.{SponsorsNothing}
 use Rattle.legal_rules.specs.Sponsorships.{AreSponsorshipsSound, IsSponsorReady}
 use Rattle.legal_rules.specs.Books.{Kind}
 use Rattle.ledger_types.specs.declared.key.LedgerKey.{LedgerKey}
-use Rattle.std.specs.Prelude.{ℤ}
+use Rattle.std.specs.Prelude.{ℤ, ◌-ℤ◌, ◌↔◌}
+use Rattle.legal_rules.specs.Headers.{IsHeaderInRange}
 use Rattle.legal_rules.specs.Legal.{view, IsLegal}
-use Rattle.legal_rules.specs.Owing.{Owed, IsLegalOwing}
+use Rattle.legal_rules.specs.Owing.{Owed, nothing_owed, IsLegalOwing}
 
 -- balance and liabilities are in their ranges
 abbrev pub AccountsInRange : Type 0
@@ -50,3 +51,8 @@ SponsorsReady = (ctx : Ctx) (m : EntryMap) (owner : AccountId) → AreSponsorshi
 abbrev pub LegalOwesNothing : Type 0
 LegalOwesNothing = (h : LedgerHeader) (m : EntryMap) (owed : Owed) (sum : ℤ) → IsLegal h m
     → IsLegalOwing (view m) h.id_pool owed sum m → (kind : Kind) (k : LedgerKey) → owed kind k ≡ pos 0
+
+-- The two forms of legality say the same: books that balance, and books that owe nothing.
+abbrev pub LegalIsOwingNothing : Type 0
+LegalIsOwingNothing = (h : LedgerHeader) (m : EntryMap) → IsLegal h m
+    ↔ (IsHeaderInRange h × IsLegalOwing (view m) h.id_pool nothing_owed (h.total_coins -ℤ h.fee_pool) m)

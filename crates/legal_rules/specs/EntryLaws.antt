@@ -25,7 +25,8 @@ use Rattle.sponsor_rules.specs.Removing.{map_after_removing}
 use Rattle.sponsor_laws.specs.Laws.{PayerStands}
 use Rattle.entry_sums.specs.Sums.{total}
 use Rattle.legal_rules.specs.Books.{Subentries, Sponsoring, Sponsored, View}
-use Rattle.legal_rules.specs.Supply.{held}
+use Rattle.ledger_types.specs.declared.claimable_balance.ClaimableBalanceEntry.{ClaimableBalanceEntry}
+use Rattle.legal_rules.specs.Supply.{of_asset, held}
 use Rattle.legal_rules.specs.OfferIds.{offer_with}
 use Rattle.legal_rules.specs.Ranges.{IsBodyInRange, IsDataInRange}
 use Rattle.legal_rules.specs.Sponsorships.{IsSponsorReady}
@@ -54,13 +55,14 @@ SubentryAdded =
     → map_after_adding ctx owner entry old ≡ Ok new
     → IsLegalOwing v next (plus owed (beside_reserves (weighed v entry))) (sum +ℤ held v.asset entry) new
 
--- A claimable balance is added: nothing is owed.
+-- A claimable balance is added: nothing is owed, and so much more is held of its asset as its amount is.
 abbrev pub BalanceAdded : Type 0
 BalanceAdded =
-    (v : View) (id_pool : ℕ) (owed : Owed) (sum : ℤ) (ctx : Ctx) (owner : AccountId) (n : ℕ) (entry : LedgerEntry)
-    (old new : EntryMap) → IsLegalOwing v id_pool owed sum old → charge_of entry.body ≡ charge.Payer n
-    → IsFresh old entry → IsBodyInRange id_pool entry.body → HasAccount old (payer_of ctx owner)
-    → map_after_adding ctx owner entry old ≡ Ok new → IsLegalOwing v id_pool owed (sum +ℤ held v.asset entry) new
+    (v : View) (id_pool : ℕ) (owed : Owed) (sum : ℤ) (ctx : Ctx) (owner : AccountId) (b : ClaimableBalanceEntry)
+    (entry : LedgerEntry) (old new : EntryMap) → IsLegalOwing v id_pool owed sum old
+    → entry.body ≡ body.ClaimableBalance b → IsFresh old entry → IsBodyInRange id_pool entry.body
+    → HasAccount old (payer_of ctx owner) → map_after_adding ctx owner entry old ≡ Ok new
+    → IsLegalOwing v id_pool owed (sum +ℤ of_asset v.asset b.asset b.amount) new
 
 -- an account that has nothing but its lumens
 pub record IsNewAccount (a : AccountEntry) : Type 0 where

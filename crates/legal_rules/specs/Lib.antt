@@ -23,3 +23,5 @@ pub mod ChangeLaws
 pub mod PoolLaws
 pub mod Consequences
 pub mod FirstStates
+pub mod WholeStates
+pub mod ShareLaws

@@ -1,16 +1,13 @@
 -- That lumens which move, fees and sequence numbers keep a state legal.
-use Rattle.std.specs.Prelude.{◌≡◌, ℤ, pos, neg_ℤ, ◌≤ℤ◌, Some, Ok}
+use Rattle.std.specs.Prelude.{◌≡◌, ℤ, pos, neg_ℤ, ◌≤ℤ◌, Some}
 use Rattle.ledger_types.specs.declared.ids.AccountId.{AccountId}
-use Rattle.ledger_types.specs.declared.asset.Asset.{Asset}
 use Rattle.ledger_types.specs.declared.account.AccountEntry.{AccountEntry}
 use Rattle.ledger_types.specs.declared.header.LedgerHeader.{LedgerHeader}
 use Rattle.entry_map.specs.EntryMap.{EntryMap}
 use Rattle.entry_slots.specs.Accounts.{account_at}
 use Rattle.reserve_rules.specs.Reserve.{greatest_i64, room}
-use Rattle.entry_sums.specs.Sums.{total}
-use Rattle.legal_rules.specs.Supply.{held}
 use Rattle.legal_rules.specs.Legal.{IsLegal}
-use Rattle.legal_rules.specs.Payments.{with_paid, with_seq_num, with_fee, paying}
+use Rattle.legal_rules.specs.Payments.{with_paid, with_seq_num, with_fee}
 
 abbrev pub FeesKeep : Type 0
 FeesKeep =
@@ -29,14 +26,3 @@ MovesKeep =
     → pos 0 ≤ℤ amount → account_at m to ≡ Some a → amount ≤ℤ room a
     → account_at (with_paid to amount m) from ≡ Some b → amount ≤ℤ b.balance
     → IsLegal h (with_paid from (neg_ℤ amount) (with_paid to amount m))
-
-abbrev pub PaymentsKeep : Type 0
-PaymentsKeep =
-    (h : LedgerHeader) (source destination : AccountId) (amount : ℤ) (old new : EntryMap) → IsLegal h old
-    → paying h.base_reserve source destination amount old ≡ Ok new → IsLegal h new
-
--- the supply of each asset stays
-abbrev pub PaymentsConserve : Type 0
-PaymentsConserve =
-    (x : Asset) (h : LedgerHeader) (source destination : AccountId) (amount : ℤ) (old new : EntryMap) → IsLegal h old
-    → paying h.base_reserve source destination amount old ≡ Ok new → total (held x) new ≡ total (held x) old

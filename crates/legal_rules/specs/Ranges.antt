@@ -57,6 +57,7 @@ pub record AreSignersInRange (id : AccountId) (signers : List Signer)
 pub record IsAccountInRange (a : AccountEntry) : Type 0 where
   pub range : IsInRange a
   pub seq_num : pos 0 ≤ℤ a.seq_num
+  -- the width of the type, which changes have to keep; the other widths are those of what can be written
   pub greatest_seq_num : a.seq_num ≤ℤ greatest_i64
   pub flags : AreAccountFlags a.flags
   pub home_domain : is_valid_text a.home_domain ≡ true
@@ -81,6 +82,7 @@ AreLineFlags other flags = (flags ≤ 7) × (flags % 4 ≢ 3)
 pub record IsTrustLineInRange (t : TrustLineEntry) : Type 0 where
   pub range : IsLineInRange t
   pub limit : pos 1 ≤ℤ t.limit
+  -- the width of the type, as that of a sequence number
   pub greatest : t.limit ≤ℤ greatest_i64
   pub held : IsHeldIn t.account_id t.asset
   pub flags : AreLineFlags t.asset t.flags

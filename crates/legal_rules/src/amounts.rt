@@ -1,6 +1,6 @@
-//! Laws of lumens: fees, sequence numbers, moves and payments.
+//! Laws of lumens: fees, sequence numbers and moves.
 
-ghost use Rattle.legal_rules.specs.PaymentLaws.{FeesKeep, SeqNumsKeep, MovesKeep, PaymentsKeep, PaymentsConserve};
+ghost use Rattle.legal_rules.specs.PaymentLaws.{FeesKeep, SeqNumsKeep, MovesKeep};
 
 /// Charging a fee that an account has keeps the state legal.
 pub fn fees_keep()
@@ -15,14 +15,4 @@ pub fn seq_nums_keep()
 /// Lumens that move between accounts keep the state legal.
 pub fn moves_keep()
     ensures { MovesKeep }
-{}
-
-/// A payment of lumens keeps the state legal.
-pub fn payments_keep()
-    ensures { PaymentsKeep }
-{}
-
-/// A payment of lumens keeps the supply of each asset.
-pub fn payments_conserve()
-    ensures { PaymentsConserve }
 {}

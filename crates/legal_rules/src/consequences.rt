@@ -1,7 +1,7 @@
 //! What a legal state gives of its accounts.
 
 ghost use Rattle.legal_rules.specs.Consequences.{AccountsInRange, AccountsReady, MinBalancesLow, SignersFew};
-ghost use Rattle.legal_rules.specs.Consequences.{IdleSponsorsNothing, SponsorsReady, LegalOwesNothing};
+ghost use Rattle.legal_rules.specs.Consequences.{IdleSponsorsNothing, SponsorsReady, LegalOwesNothing, LegalIsOwingNothing};
 
 /// Balance and liabilities of an account are in their ranges.
 pub fn accounts_in_range()
@@ -36,4 +36,9 @@ pub fn sponsors_ready()
 /// In a legal state no book owes anything, so that a change that leaves something open leaves no legal state.
 pub fn legal_owes_nothing()
     ensures { LegalOwesNothing }
+{}
+
+/// A state is legal exactly where its header is in its ranges and its books owe nothing.
+pub fn legal_is_owing_nothing()
+    ensures { LegalIsOwingNothing }
 {}

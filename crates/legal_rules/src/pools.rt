@@ -1,6 +1,7 @@
-//! Laws of pools that are made and removed (CAP-0038).
+//! Laws of pools that are made and removed, and of lines of their shares (CAP-0038).
 
 ghost use Rattle.legal_rules.specs.PoolLaws.{NewPoolsKeep, RemovedPoolsKeep};
+ghost use Rattle.legal_rules.specs.ShareLaws.{ShareLineAdded, ShareLineRemoved};
 
 /// A pool that is put where none stood, and that nobody has shares of, keeps the state legal.
 pub fn new_pools_keep()
@@ -10,4 +11,15 @@ pub fn new_pools_keep()
 /// A pool without lines that is erased leaves the state legal.
 pub fn removed_pools_keep()
     ensures { RemovedPoolsKeep }
+{}
+
+/// A line of pool shares that is added leaves open its shares and itself for the pool, and a use for each line that its
+/// account needs.
+pub fn share_line_added()
+    ensures { ShareLineAdded }
+{}
+
+/// A line of pool shares that is removed takes the same with it.
+pub fn share_line_removed()
+    ensures { ShareLineRemoved }
 {}

@@ -337,8 +337,17 @@ module _ (ctx : Ctx) (op : CreateClaimableBalanceOp) (m : EntryMap) (done : Done
   abbrev entry : LedgerEntry
   entry = creating.new_balance ctx op can
 
+  abbrev balance : ClaimableBalanceEntry
+  balance = record {
+    balance_id = creating.new_id ctx;
+    claimants = map (fixed_claimant ctx.close_time) op.claimants;
+    asset = op.asset;
+    amount = op.amount;
+    ext = creating.flagged_ext can;
+  }
+
   abbrev times : ℕ
-  times = length (map (fixed_claimant ctx.close_time) op.claimants)
+  times = length balance.claimants
 
   entry_range : IsBodyInRange ctx.id_pool entry.body
   entry_range = record {
@@ -371,7 +380,7 @@ module _ (ctx : Ctx) (op : CreateClaimableBalanceOp) (m : EntryMap) (done : Done
       (shifts_as ctx.id_pool (λ x. unless_issuer x op.asset src (neg_ℤ n) +ℤ of_asset x op.asset n)
       (λ x. issued x moves) m new (λ x. aside_issued x op.asset src (creating.new_id ctx) n)
       (shifts_both ctx.id_pool shift (λ x. of_asset x op.asset n) m now new one.shifts
-      (λ v sum legal. balance_added_so v ctx.id_pool nothing_owed sum ctx src times entry now new legal refl (record {
+      (λ v sum legal. balance_added_so v ctx.id_pool nothing_owed sum ctx src balance entry now new legal refl (record {
         free = balance_beside ctx src n m now (creating.new_id ctx) op.asset first.1 ∙ free;
         unsponsored = refl;
         id_free = λ id. plus_none _ (legal.offers id);

@@ -1,8 +1,7 @@
 -- CLAIM_CLAIMABLE_BALANCE (ClaimClaimableBalanceOpFrame in stellar-core; CAP-0023).
-use Rattle.std.specs.Prelude.{ℕ, not, ◌&&◌, ◌∷◌, [], List, Bool, false, Option, Some, None}
+use Rattle.std.specs.Prelude.{ℕ, not, ◌∷◌, [], List, Bool, false, Option, Some, None}
 use Rattle.std.specs.List.{find}
 use Rattle.ledger_types.specs.declared.ids.AccountId.{AccountId}
-use Rattle.ledger_types.specs.declared.ids.ClaimableBalanceId.{ClaimableBalanceId}
 use Rattle.ledger_types.specs.declared.claimable_balance.ClaimableBalanceEntry.{ClaimableBalanceEntry}
 use Rattle.ledger_types.specs.declared.claimable_balance.Claimant.{Claimant}
 use Rattle.ledger_types.specs.declared.key.LedgerKey.TheVariants as key

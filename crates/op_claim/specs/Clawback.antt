@@ -1,5 +1,5 @@
 -- CLAWBACK (ClawbackOpFrame in stellar-core; CAP-0035).
-use Rattle.std.specs.Prelude.{ℤ, pos, int_le, int_lt, not, ◌||◌, ◌∷◌, [], Option}
+use Rattle.std.specs.Prelude.{ℤ, pos, int_le, int_lt, not, ◌||◌, ◌∷◌, []}
 use Rattle.ledger_types.specs.declared.trust_line.TrustLineEntry.{TrustLineEntry}
 use Rattle.ledger_types.specs.Ids.{account_of}
 use Rattle.op_types.specs.declared.operation_result.OperationResult.{OperationResult}
@@ -27,12 +27,11 @@ answer code = Inner (tr.Clawback code)
 
 -- nobody issues lumens
 abbrev pub clawback_tests : Ctx → ClawbackOp → Tests OperationResult
-clawback_tests ctx claw_op =
-    (
-      int_le claw_op.amount (pos 0) || not (is_valid_asset claw_op.asset) || not (is_issued_by claw_op.asset ctx.op_source)
-          || is_same_account (account_of claw_op.from) ctx.op_source,
-      answer claw.Malformed,
-    ) ∷ []
+clawback_tests ctx claw_op = (
+  int_le claw_op.amount (pos 0) || not (is_valid_asset claw_op.asset) || not (is_issued_by claw_op.asset ctx.op_source)
+      || is_same_account (account_of claw_op.from) ctx.op_source,
+  answer claw.Malformed,
+) ∷ []
 
 abbrev pub line_tests : ℤ → TrustLineEntry → Tests OperationResult
 line_tests amount line =

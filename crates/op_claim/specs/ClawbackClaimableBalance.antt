@@ -1,5 +1,5 @@
 -- CLAWBACK_CLAIMABLE_BALANCE (ClawbackClaimableBalanceOpFrame in stellar-core; CAP-0035).
-use Rattle.std.specs.Prelude.{not, nat_eq, bit_and, ◌∷◌, [], Bool, Option}
+use Rattle.std.specs.Prelude.{not, ◌∷◌, [], Bool}
 use Rattle.ledger_types.specs.declared.claimable_balance.ClaimableBalanceEntry.{ClaimableBalanceEntry}
 use Rattle.ledger_types.specs.declared.key.LedgerKey.TheVariants as key
 use Rattle.op_types.specs.declared.balance_ops.ClawbackClaimableBalanceOp.{ClawbackClaimableBalanceOp}

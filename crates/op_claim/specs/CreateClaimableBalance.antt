@@ -1,8 +1,7 @@
 -- CREATE_CLAIMABLE_BALANCE (CreateClaimableBalanceOpFrame in stellar-core; CAP-0023, CAP-0035 for the flag).
-use Rattle.std.specs.Prelude.{ℕ, ◌+◌, pos, int_le, not, ◌||◌, ◌&&◌, List, [], ◌∷◌, map, is_some, Bool, true, false}
+use Rattle.std.specs.Prelude.{◌+◌, pos, int_le, not, ◌||◌, List, [], ◌∷◌, map, is_some, Bool, true, false}
 use Rattle.std.specs.Prelude.{Option, Some, None, if◌then◌else◌}
 use Rattle.std.specs.List.{list_all, list_any}
-use Rattle.ledger_types.specs.declared.ids.AccountId.{AccountId}
 use Rattle.ledger_types.specs.declared.ids.ClaimableBalanceId.{ClaimableBalanceId}
 use Rattle.ledger_types.specs.declared.asset.Asset.{Asset}
 use Rattle.ledger_types.specs.declared.account.AccountEntry.{AccountEntry}
@@ -62,11 +61,10 @@ abbrev pub are_claimants_bad : List Claimant → Bool
 are_claimants_bad claimants = is_empty claimants || has_twice claimants || not (are_predicates_valid claimants)
 
 abbrev pub create_tests : CreateClaimableBalanceOp → Tests OperationResult
-create_tests create_op =
-    (
-      int_le create_op.amount (pos 0) || not (is_valid_asset create_op.asset) || are_claimants_bad create_op.claimants,
-      answer create.Malformed,
-    ) ∷ []
+create_tests create_op = (
+  int_le create_op.amount (pos 0) || not (is_valid_asset create_op.asset) || are_claimants_bad create_op.claimants,
+  answer create.Malformed,
+) ∷ []
 
 -- ---- the new balance
 

@@ -1,7 +1,7 @@
 -- When a claimant may claim, and what becomes of times that count from the close (validatePredicate and
 -- updatePredicatesForApply in stellar-core; CAP-0023).
-use Rattle.std.specs.Prelude.{ℕ, zero, suc, ℤ, pos, ◌+ℤ◌, int_lt, ◌&&◌, ◌||◌, not, List, [], ◌∷◌, map, Bool, true, false}
-use Rattle.std.specs.Prelude.{Option, Some, None, if◌then◌else◌}
+use Rattle.std.specs.Prelude.{ℕ, zero, suc, ℤ, pos, ◌+ℤ◌, int_lt, ◌&&◌, ◌||◌, not, [], ◌∷◌, map, Bool, true, false}
+use Rattle.std.specs.Prelude.{Some, if◌then◌else◌}
 use Rattle.std.specs.Option.{option_map}
 use Rattle.ledger_types.specs.declared.claimable_balance.Claimant.{Claimant}
 use Rattle.ledger_types.specs.declared.predicate.ClaimPredicate.{ClaimPredicate}

@@ -29,13 +29,15 @@ fn holds_below(close_time: u64, levels: u32, predicate: &ClaimPredicate) -> bool
         ClaimPredicate::Unconditional => true,
         ClaimPredicate::And(parts) => match parts.as_slice() {
             [first, second] => {
-                holds_below(close_time, levels - 1, first) && holds_below(close_time, levels - 1, second)
+                holds_below(close_time, levels - 1, first)
+                    && holds_below(close_time, levels - 1, second)
             }
             _ => false,
         },
         ClaimPredicate::Or(parts) => match parts.as_slice() {
             [first, second] => {
-                holds_below(close_time, levels - 1, first) || holds_below(close_time, levels - 1, second)
+                holds_below(close_time, levels - 1, first)
+                    || holds_below(close_time, levels - 1, second)
             }
             _ => false,
         },
@@ -51,7 +53,11 @@ fn time_after(close_time: u64, seconds: i64) -> i64
     ensures { result ≡ spec.time_after close_time seconds }
 {
     let time = i128::from(close_time) + i128::from(seconds);
-    if time < i128::from(i64::MAX) { time as i64 } else { i64::MAX }
+    if time < i128::from(i64::MAX) {
+        time as i64
+    } else {
+        i64::MAX
+    }
 }
 
 /// The same predicate with no time from the close, down to so many levels.
@@ -108,7 +114,11 @@ fn all_fixed_below(
 }
 
 /// A claimant as the balance keeps it that is made in the ledger which closes at this time.
-fn fixed_claimant(alloc: Global, close_time: u64, claimant: &Claimant) -> Result<Claimant, AllocError>
+fn fixed_claimant(
+    alloc: Global,
+    close_time: u64,
+    claimant: &Claimant,
+) -> Result<Claimant, AllocError>
     ensures { IfOk result (λ fixed. fixed ≡ spec.fixed_claimant close_time claimant.now) }
 {
     Ok(Claimant {

@@ -1,5 +1,5 @@
 -- ALLOW_TRUST (AllowTrustOpFrame in stellar-core; CAP-0018).
-use Rattle.std.specs.Prelude.{ℕ, nat_lt, nat_eq, bit_and, bit_or, bit_xor, not, ◌&&◌, ◌||◌, ◌∷◌, [], Bool, Option}
+use Rattle.std.specs.Prelude.{ℕ, nat_lt, nat_eq, bit_and, bit_or, bit_xor, not, ◌&&◌, ◌||◌, ◌∷◌, [], Bool}
 use Rattle.ledger_types.specs.declared.ids.AccountId.{AccountId}
 use Rattle.ledger_types.specs.declared.account.AccountEntry.{AccountEntry}
 use Rattle.ledger_types.specs.declared.asset.Asset.{Asset}
@@ -40,12 +40,11 @@ asset_allowed ctx allow_op = asset_with allow_op.asset ctx.op_source
 
 -- authorisation is nothing, AUTHORIZED (1) or AUTHORIZED_TO_MAINTAIN_LIABILITIES (2)
 abbrev pub allow_tests : Ctx → AllowTrustOp → Tests OperationResult
-allow_tests ctx allow_op =
-    (
-      nat_lt 2 allow_op.authorize || not (is_valid_asset (asset_allowed ctx allow_op))
-          || is_same_account allow_op.trustor ctx.op_source,
-      answer allow.Malformed,
-    ) ∷ []
+allow_tests ctx allow_op = (
+  nat_lt 2 allow_op.authorize || not (is_valid_asset (asset_allowed ctx allow_op))
+      || is_same_account allow_op.trustor ctx.op_source,
+  answer allow.Malformed,
+) ∷ []
 
 -- an authorisation is taken back, or from one that is whole only that to maintain liabilities is left
 abbrev pub takes_back : AllowTrustOp → TrustLineEntry → Bool

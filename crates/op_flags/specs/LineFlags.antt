@@ -1,6 +1,6 @@
 -- Flags of a line that its asset's issuer changes, and what goes with an authorisation (TrustFlagsOpFrameBase in
 -- stellar-core; CAP-0018).
-use Rattle.std.specs.Prelude.{ℕ, ℤ, pos, not, ◌&&◌, ◌||◌, ◌∷◌, [], Bool, if◌then◌else◌}
+use Rattle.std.specs.Prelude.{ℕ, pos, not, ◌&&◌, ◌||◌, ◌∷◌, [], Bool}
 use Rattle.std.specs.Ordering.{int_eq}
 use Rattle.ledger_types.specs.declared.ids.AccountId.{AccountId}
 use Rattle.ledger_types.specs.declared.asset.Asset.{Asset}

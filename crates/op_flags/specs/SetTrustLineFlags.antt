@@ -1,5 +1,5 @@
 -- SET_TRUST_LINE_FLAGS (SetTrustLineFlagsOpFrame in stellar-core; CAP-0035).
-use Rattle.std.specs.Prelude.{ℕ, nat_lt, nat_eq, bit_and, bit_or, bit_xor, not, ◌&&◌, ◌||◌, ◌∷◌, [], Bool, Option}
+use Rattle.std.specs.Prelude.{ℕ, nat_lt, nat_eq, bit_and, bit_or, bit_xor, not, ◌&&◌, ◌||◌, ◌∷◌, [], Bool}
 use Rattle.ledger_types.specs.declared.account.AccountEntry.{AccountEntry}
 use Rattle.ledger_types.specs.declared.trust_line.TrustLineEntry.{TrustLineEntry}
 use Rattle.op_types.specs.declared.operation_result.OperationResult.{OperationResult}

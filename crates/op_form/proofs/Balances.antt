@@ -24,7 +24,7 @@ use Rattle.entry_slots.specs.LineExtensions.{line_liabilities}
 use Rattle.reserve_rules.specs.Reserve.{IsInRange, IsLineInRange, greatest_i64, room, line_room}
 use Rattle.op_form.specs.Amounts.{with_more}
 use Rattle.op_form.specs.Lumens.{with_more_lumens, map_after_lumens_credit, map_after_lumens_credit_of}
-use Rattle.op_form.specs.Premises.{IsInRangeAt, AccountsAreInRange, IsLineInRangeAt, BalancesAreInRange}
+use Rattle.op_form.specs.Premises.{BalancesAreInRange}
 use Rattle.op_form.proofs.Premises.{in_range_with}
 
 -- ---- an entry that is put or erased
@@ -142,9 +142,9 @@ taken_by id amount m new a true test stands is low all = absurd (cc)
 taken_by id amount m new a false test stands is low all =
     let same : with_account m id (with_more_lumens amount) ≡ new = cc in
     subst BalancesAreInRange same (account_changed m id (with_more_lumens amount) (λ b there.
-      let one : a ≡ b = cc in
-      subst (λ (x : AccountEntry). IsInRange (with_more_lumens amount x)) one
-      (more_in_range a amount (all.accounts.in_range id a stands) low (not_less (room a) amount test))) all)
+    let one : a ≡ b = cc in
+    subst (λ (x : AccountEntry). IsInRange (with_more_lumens amount x)) one
+    (more_in_range a amount (all.accounts.in_range id a stands) low (not_less (room a) amount test))) all)
 
 taken_of : (id : AccountId) (amount : ℤ) (m new : EntryMap) (o : Option AccountEntry) → account_at m id ≡ o
     → map_after_lumens_credit_of id amount m o ≡ Some new → pos 0 ≤ℤ amount → BalancesAreInRange m

@@ -1,10 +1,10 @@
 -- Balances and liabilities of accounts that stay in their ranges.
-use Rattle.std.proofs.Common.{◌≡◌, ◌≢◌, refl, sym, ap, subst, ◌∙◌, pos, ◌+ℤ◌, ◌≤ℤ◌, Option, Some, None}
+use Rattle.std.proofs.Common.{◌≡◌, ◌≢◌, sym, ap, subst, ◌∙◌, pos, ◌+ℤ◌, ◌≤ℤ◌, Some}
 use Rattle.ledger_types.specs.declared.ids.AccountId.{AccountId}
 use Rattle.ledger_types.specs.declared.account.AccountEntry.{AccountEntry}
 use Rattle.ledger_types.specs.declared.price.Liabilities.{Liabilities}
 use Rattle.entry_map.specs.EntryMap.{EntryMap}
-use Rattle.entry_slots.specs.Accounts.{account_at, account_of_slot}
+use Rattle.entry_slots.specs.Accounts.{account_of_slot}
 use Rattle.entry_slots.specs.AccountExtensions.{account_liabilities}
 use Rattle.reserve_rules.specs.Reserve.{IsInRange, greatest_i64}
 use Rattle.sponsor_rules.specs.Keeping.{KeepsMeans, HasMeans, ChangesAtMost}

@@ -1,5 +1,5 @@
 -- Assets that are issued: who issues one, and which line holds it (isIssuer and assetToTrustLineAsset in stellar-core).
-use Rattle.std.specs.Prelude.{Bool, true, false, Option, Some, None}
+use Rattle.std.specs.Prelude.{Bool, true, false, Option, None}
 use Rattle.ledger_types.specs.declared.ids.AccountId.{AccountId}
 use Rattle.ledger_types.specs.declared.account.AccountEntry.{AccountEntry}
 use Rattle.ledger_types.specs.declared.asset.Asset.{Asset}

@@ -295,10 +295,7 @@ fn store_more<B: Base>(
 }
 
 /// Stores a line. All balances stay in their ranges.
-fn store_in_range<B: Base>(
-    entries: &mut Entries<'_, B>,
-    slot: LineSlot,
-) -> Result<(), AllocError>
+fn store_in_range<B: Base>(entries: &mut Entries<'_, B>, slot: LineSlot) -> Result<(), AllocError>
     requires in_range { reserve.IsLineInRange slot.line }
     requires others { BalancesAreInRange entries.old.current }
     ensures stored { OnOk result (

@@ -92,25 +92,25 @@ difference_of x held issued a is new old =
 
 module _ (id_pool : ℕ) (m : EntryMap) (id : AccountId) (held : Asset) (issued : is_native held ≡ false)
     (f : TrustLineEntry → TrustLineEntry) (t : TrustLineEntry) (stands : line_at m id (line_asset_of held) ≡ Some t)
-    where
-  abbrev new : EntryMap
-  new = with_line m id (line_asset_of held) f
+  where
+    abbrev new : EntryMap
+    new = with_line m id (line_asset_of held) f
 
-  -- A line keeps what books say of it, and its own rules.
-  pub line_shifted : KeepsLineBooks t (f t) → IsTrustLineInRange (f t) → IsBoundRightly (body.TrustLine (f t))
-      → ShiftsLegal id_pool (λ x. of_asset x held ((f t).balance -ℤ t.balance)) m new
-  line_shifted keeps range bound v sum legal =
-      let its = (line_legal v id_pool nothing_owed sum m id (line_asset_of held) t legal stands).asset in
-      legal_as v (IsEntryLegal id_pool) _ nothing_owed _ (sum +ℤ of_asset v.asset held ((f t).balance -ℤ t.balance)) new
-      (line_changed v id_pool nothing_owed sum m id (line_asset_of held) f t legal stands keeps range bound)
-      (λ kind k. ap (λ (a : TrustLineAsset). pos 0 +ℤ in_shares a ((f t).balance -ℤ t.balance) kind k) its
-      ∙ no_shares held ((f t).balance -ℤ t.balance) kind k)
-      (ap (λ n. sum +ℤ n) (difference_of v.asset held issued t.asset its (f t).balance t.balance))
+    -- A line keeps what books say of it, and its own rules.
+    pub line_shifted : KeepsLineBooks t (f t) → IsTrustLineInRange (f t) → IsBoundRightly (body.TrustLine (f t))
+        → ShiftsLegal id_pool (λ x. of_asset x held ((f t).balance -ℤ t.balance)) m new
+    line_shifted keeps range bound v sum legal =
+        let its = (line_legal v id_pool nothing_owed sum m id (line_asset_of held) t legal stands).asset in
+        legal_as v (IsEntryLegal id_pool) _ nothing_owed _ (sum +ℤ of_asset v.asset held ((f t).balance -ℤ t.balance)) new
+        (line_changed v id_pool nothing_owed sum m id (line_asset_of held) f t legal stands keeps range bound)
+        (λ kind k. ap (λ (a : TrustLineAsset). pos 0 +ℤ in_shares a ((f t).balance -ℤ t.balance) kind k) its
+        ∙ no_shares held ((f t).balance -ℤ t.balance) kind k)
+        (ap (λ n. sum +ℤ n) (difference_of v.asset held issued t.asset its (f t).balance t.balance))
 
-  -- No account changes.
-  pub line_left : (base : ℕ) → IsKeyed m → Leaves base none_more m new
-  line_left base keyed =
-      let found = line_entry m id (line_asset_of held) t stands in
-      let e = with_line_body found.0 (f t) in
-      subst (Leaves base none_more m) (sym (with_line_is m id (line_asset_of held) f t found.0 found.1))
-      (accounts_kept base m (put m e) (keyed_put m e keyed) (put_beside m e (λ other same. absurd (cc))))
+    -- No account changes.
+    pub line_left : (base : ℕ) → IsKeyed m → Leaves base none_more m new
+    line_left base keyed =
+        let found = line_entry m id (line_asset_of held) t stands in
+        let e = with_line_body found.0 (f t) in
+        subst (Leaves base none_more m) (sym (with_line_is m id (line_asset_of held) f t found.0 found.1))
+        (accounts_kept base m (put m e) (keyed_put m e keyed) (put_beside m e (λ other same. absurd (cc))))

@@ -34,12 +34,11 @@ payment_tests payment_op =
 
 -- what is paid to its issuer needs no account of it
 abbrev pub destination_tests : PaymentOp → EntryMap → Tests OperationResult
-destination_tests payment_op m =
-    (
-      not (is_issued_by payment_op.asset (account_of payment_op.destination))
-          && not (is_some (account_at m (account_of payment_op.destination))),
-      answer pay.NoDestination,
-    ) ∷ []
+destination_tests payment_op m = (
+  not (is_issued_by payment_op.asset (account_of payment_op.destination))
+      && not (is_some (account_at m (account_of payment_op.destination))),
+  answer pay.NoDestination,
+) ∷ []
 
 -- lumens that an account pays to itself
 abbrev pub is_to_itself : Ctx → PaymentOp → Bool

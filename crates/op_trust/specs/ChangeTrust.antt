@@ -1,8 +1,7 @@
 -- CHANGE_TRUST for credit assets (ChangeTrustOpFrame in stellar-core; CAP-0033 for who pays, CAP-0035 for the flags).
 use Rattle.std.specs.Prelude.{ℕ, ◌+◌, ℤ, pos, ◌+ℤ◌, int_lt, bit_or, not, ◌||◌, ◌∷◌, [], is_some, Bool}
-use Rattle.std.specs.Prelude.{Option, Some, None, Err, if◌then◌else◌}
+use Rattle.std.specs.Prelude.{Option, Some, None, if◌then◌else◌}
 use Rattle.std.specs.Ordering.{int_eq}
-use Rattle.ledger_types.specs.declared.ids.AccountId.{AccountId}
 use Rattle.ledger_types.specs.declared.asset.Asset.{Asset}
 use Rattle.ledger_types.specs.declared.asset.Asset.TheVariants as asset
 use Rattle.ledger_types.specs.declared.asset.ChangeTrustAsset.{ChangeTrustAsset}
@@ -45,11 +44,10 @@ asset_asked (asked.PoolShare params) = None
 
 -- no line is held in lumens, nor by the issuer
 abbrev pub asked_tests : Ctx → Asset → ℤ → Tests OperationResult
-asked_tests ctx held limit =
-    (
-      int_lt limit (pos 0) || is_native held || not (is_valid_asset held) || is_issued_by held ctx.op_source,
-      answer trust.Malformed,
-    ) ∷ []
+asked_tests ctx held limit = (
+  int_lt limit (pos 0) || is_native held || not (is_valid_asset held) || is_issued_by held ctx.op_source,
+  answer trust.Malformed,
+) ∷ []
 
 -- a limit doesn't hold the balance and what the account's offers would take
 abbrev pub is_exceeded : ℤ → TrustLineEntry → Bool

@@ -18,8 +18,8 @@ use ledger_types::{
     AccountEntry, Asset, ChangeTrustAsset, LedgerEntry, LedgerEntryBody, LedgerKey, TrustLineEntry,
 };
 use op_form::{
-    fault_result, is_account_clawback_enabled, is_auth_required, is_issued_by, is_native, line_asset_of,
-    load_issuer,
+    fault_result, is_account_clawback_enabled, is_auth_required, is_issued_by, is_native,
+    line_asset_of, load_issuer,
 };
 use op_types::{ChangeTrustOp, ChangeTrustResult, OperationResult, OperationResultTr};
 use sponsor_rules::{AddFault, Ctx, add_entry, remove_entry};
@@ -83,7 +83,11 @@ fn change<B: Base>(
     ensures { IfOk result (λ r.
         Makes r ctx.now entries.old entries.new (spec.asset_changed ctx.now asset.now limit entries.old.current)) }
 {
-    if limit < 0 || is_native(asset) || !is_valid_asset(asset) || is_issued_by(asset, &ctx.op_source) {
+    if limit < 0
+        || is_native(asset)
+        || !is_valid_asset(asset)
+        || is_issued_by(asset, &ctx.op_source)
+    {
         return Ok(answer(ChangeTrustResult::Malformed));
     }
     match load_line(entries, &ctx.op_source, &line_asset_of(asset))? {
@@ -221,7 +225,12 @@ fn add_line<B: Base>(
         Makes r ctx.now entries.old entries.new (
         spec.added ctx.now asset.now limit issuer.now entries.old.current)) }
 {
-    match add_entry(entries, ctx, &ctx.op_source, new_line(asset, limit, ctx, issuer)) {
+    match add_entry(
+        entries,
+        ctx,
+        &ctx.op_source,
+        new_line(asset, limit, ctx, issuer),
+    ) {
         Ok(()) => Ok(answer(ChangeTrustResult::Success)),
         Err(AddFault::NoMemory) => Err(AllocError),
         Err(fault) => Ok(fault_result(fault, answer(ChangeTrustResult::LowReserve))),
@@ -232,7 +241,11 @@ fn add_line<B: Base>(
 fn new_line_flags(issuer: &AccountEntry) -> u32
     ensures { result ≡ spec.new_line_flags issuer.now }
 {
-    let authorized = if is_auth_required(issuer) { 0 } else { AUTHORIZED };
+    let authorized = if is_auth_required(issuer) {
+        0
+    } else {
+        AUTHORIZED
+    };
     let clawback = if is_account_clawback_enabled(issuer) {
         TRUSTLINE_CLAWBACK_ENABLED
     } else {

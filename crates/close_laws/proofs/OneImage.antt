@@ -1,6 +1,6 @@
 -- An image is judged to be one thing.
-use Rattle.std.proofs.Common.{◌≡◌, ℕ, List, [], ◌∷◌, Option, Some, None, Result, Ok, Err, refl, sym, ap, subst, ◌∙◌, inl, inr}
-use Rattle.std.proofs.Common.{◌⊎◌}
+use Rattle.std.proofs.Common.{◌≡◌, ℕ, List, [], ◌∷◌, Option, Some, None, Result, Ok, Err, refl, sym, ap, subst, ◌∙◌}
+use Rattle.std.proofs.Common.{inl, inr, ◌⊎◌}
 use Rattle.std.specs.Prelude.{All}
 use Rattle.std.specs.List.{flat_map}
 use Rattle.std.specs.FinMap.{same_map}
@@ -34,8 +34,8 @@ some h = Some h
 some_is : (a b : LedgerHeader) → some a ≡ Some b → a ≡ b
 some_is a b e = cc
 
-same_header : (image : StartImage) (a b : LedgerHeader) → header_in image.header ≡ Some a → header_in image.header ≡ Some b
-    → a ≡ b
+same_header : (image : StartImage) (a b : LedgerHeader) → header_in image.header ≡ Some a
+    → header_in image.header ≡ Some b → a ≡ b
 same_header image a b h i = some_is a b (sym h ∙ i)
 
 abbrev pair_files : Pair → List (List ℕ)

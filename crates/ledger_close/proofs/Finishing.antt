@@ -96,7 +96,8 @@ pub closes : (s : ClosingState) (closing : CloseRecord) (worked : Worked) (step 
     → IsLeveled s (all_upgraded s.header (map upgrade_in closing.scp_value.upgrades)).ledger_version worked.entries step
     → IsClosed s closing (record {
       results = worked.done.results.results;
-      state = state_of s.network (finished (upgraded_header s closing) (list_hash step.pairs)) step.pairs worked.entries;
+      state = state_of s.network (finished (upgraded_header s closing) (list_hash step.pairs)) step.pairs
+          worked.entries;
     })
 closes s closing worked step leaves leveled = record {
   results = leaves.done.results;

@@ -28,8 +28,8 @@ runs_of : (P : (passphrase input : List ℕ) → (Seen → Seen → Seen → Sta
 runs_of P h words passphrase bytes input out err end ran command told =
     h passphrase bytes input out err end (catchup_of words passphrase input out err end ran command) told
 
-answered_to : (passphrase bytes : List ℕ) (input out err : Seen) (end : Status) → DidCatchUp passphrase input out err end
-    → input.before ≡ Some bytes → AnsweredTo passphrase bytes out end
+answered_to : (passphrase bytes : List ℕ) (input out err : Seen) (end : Status)
+    → DidCatchUp passphrase input out err end → input.before ≡ Some bytes → AnsweredTo passphrase bytes out end
 answered_to passphrase bytes input out err end did told =
     subst (λ (before : Option (List ℕ)). IfSome before (λ given. AnsweredTo passphrase given out end)) told did.answered
 

@@ -16,8 +16,8 @@ use Rattle.close_rules.specs.declared.image_fault.ImageFault.TheVariants as faul
 use Rattle.close_rules.specs.State.{ClosingState}
 use Rattle.close_laws.proofs.OneImage.{images_are_one}
 use Rattle.run_outcome.specs.declared.status.Status.{Status}
-use Rattle.run_outcome.specs.Outcome.{Outcome, behind, framed, frames, max_record_len, lines_of, AreClosed, IsEnd, IsRun}
-use Rattle.run_outcome.specs.Outcome.{IsStarted, IsOutcomeOf, IsFront, IsRunFront, IsOutputFrontOf}
+use Rattle.run_outcome.specs.Outcome.{Outcome, behind, framed, frames, max_record_len, lines_of, AreClosed, IsEnd}
+use Rattle.run_outcome.specs.Outcome.{IsRun, IsStarted, IsOutcomeOf, IsFront, IsRunFront, IsOutputFrontOf}
 use Rattle.replay.specs.Outcomes.{RunsAreOne, OutcomesAreOne, FrontsAreOfOutcomes, OutputsAreFronts}
 use Rattle.replay.proofs.Fronts.{nothing_front, whole_front, front_more}
 use Rattle.replay.proofs.Runs.{AreShort, at_front, one_end, peeled}
@@ -92,8 +92,8 @@ ahead_front [] s at text rest lines state o cut short closed run =
 ahead_front (w ∷ ws) s at text rest lines state o cut short closed run =
     let later = peeled s w closed.0 at (frames ws ++ rest) o (All-head Short w ws short) closed.2
     (cut_run s at text w ws rest o cut run) in
-    let tail = ahead_front ws closed.0.state (at + length (framed w)) (frames ws ++ rest) rest closed.1 state later.0 refl
-    (All-tail Short w ws short) closed.3 later.1 in (
+    let tail = ahead_front ws closed.0.state (at + length (framed w)) (frames ws ++ rest) rest closed.1 state later.0
+    refl (All-tail Short w ws short) closed.3 later.1 in (
       tail.0,
       ap (λ (x : Outcome). x.text) later.2 ∙ ap (λ (t : List ℕ). lines_of closed.0 ++ t) tail.1
           ∙ sym (append_assoc (lines_of closed.0) closed.1 tail.0)

@@ -13,6 +13,6 @@ pub returns-then-not-are_few-clause-bad : goal.returns-then-not-are_few-clause-b
 returns-then-not-are_few-clause-bad c =
     let same : c.as_slice.result.now ≡ c.in-Ok.pairs.items = search rules in
     let long : file_total (map pair_of c.as_slice.result.now) ≤ max_file_total → ⊥ = search rules in
-    too_long c.a_file_is_of_one_bucket.ensures c.args.files.now (map pair_of c.in-Ok.pairs.items) c.broken-then-not-are_few.result
-    c.broken-then-not-are_few.ensures c.in-Ok.ensures.ok
+    too_long c.a_file_is_of_one_bucket.ensures c.args.files.now (map pair_of c.in-Ok.pairs.items)
+    c.broken-then-not-are_few.result c.broken-then-not-are_few.ensures c.in-Ok.ensures.ok
     (λ few. long (subst (λ (p : List LevelPair). file_total (map pair_of p) ≤ max_file_total) (sym same) few))

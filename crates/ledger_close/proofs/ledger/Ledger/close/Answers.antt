@@ -13,7 +13,9 @@ apply-requires-clause-seq g c =
     seq_by_terms c.args.self.now c.args.closing c.in-Ok.ensures.0 state.legal.header.seq_high
 
 pub returns-in-Err-apply-clause-closed : goal.returns-in-Err-apply-clause-closed
-returns-in-Err-apply-clause-closed g c = by_set_refused c.args.self.now c.args.closing c.in-Err-apply.fault c.in-Ok.ensures.0 c.in-Err-apply.ensures
+returns-in-Err-apply-clause-closed g c =
+    by_set_refused c.args.self.now c.args.closing c.in-Err-apply.fault c.in-Ok.ensures.0
+    c.in-Err-apply.ensures
 
 pub finish_close-requires-clause-unrefused : goal.finish_close-requires-clause-unrefused
 finish_close-requires-clause-unrefused g c =
@@ -22,4 +24,5 @@ finish_close-requires-clause-unrefused g c =
 pub returns-clause-closed : goal.returns-clause-closed
 returns-clause-closed g c =
     goes_on c.args.self.now c.args.closing c.finish_close.result
-    (by_set c.args.self.now c.args.closing None c.in-Ok.ensures.0 c.in-Ok-apply.ensures.0) c.finish_close.ensures.finished
+    (by_set c.args.self.now c.args.closing None c.in-Ok.ensures.0 c.in-Ok-apply.ensures.0)
+    c.finish_close.ensures.finished

@@ -27,8 +27,8 @@ keyed_behind law s closing after can closed =
     keyed_by after (law s closing after s.header.bucket_list_hash can closed).keyed
 
 -- the steps of a close are those of its levels
-counted : NextIsLegal → (s : ClosingState) (closing : CloseRecord) (worked : Worked) (old new : ℕ) → IsClosable s closing
-    → Leaves s closing worked
+counted : NextIsLegal → (s : ClosingState) (closing : CloseRecord) (worked : Worked) (old new : ℕ)
+    → IsClosable s closing → Leaves s closing worked
     → ((after : EntryMap) → IsExactBatch s.entries after worked.batch → IsKeyed after → AreStepsTo s after old new)
     → AreStepsWith s closing old new
 counted law s closing worked old new can left few =

@@ -1,26 +1,21 @@
 -- Amounts of any asset that accounts give and take.
-use Rattle.std.proofs.Common.{◌≡◌, refl, sym, ap, subst, ◌∙◌, ℕ, Bool, true, false, not, ◌∷◌, [], Option, Some, None}
-use Rattle.std.proofs.Common.{Result, Ok, Err, arith}
+use Rattle.std.proofs.Common.{◌≡◌, refl, ap, subst, ℕ, Bool, true, false, not, ◌∷◌, [], Option, Some, None}
+use Rattle.std.proofs.Common.{Ok, arith}
 use Rattle.std.proofs.lemmas.Int.{ints}
 use Rattle.std.specs.Prelude.{ℤ, pos, neg_ℤ, int_lt, ◌+ℤ◌, ◌-ℤ◌, ◌≤ℤ◌, if◌then◌else◌}
 use Rattle.std.specs.Option.{ok_or}
-use Rattle.std.specs.Ordering.{is_eq}
 use Rattle.ledger_types.specs.declared.ids.AccountId.{AccountId}
 use Rattle.ledger_types.specs.declared.asset.Asset.{Asset}
 use Rattle.ledger_types.specs.declared.asset.Asset.TheVariants as asset
 use Rattle.ledger_types.specs.declared.trust_line.TrustLineEntry.{TrustLineEntry}
-use Rattle.ledger_types.specs.declared.entry.LedgerEntryBody.TheVariants as body
-use Rattle.ledger_types.specs.KeyOrder.{asset_cmp}
 use Rattle.entry_map.specs.EntryMap.{EntryMap}
 use Rattle.entry_slots.specs.LineExtensions.{line_liabilities}
 use Rattle.entry_slots.specs.Lines.{line_at, with_line}
 use Rattle.entry_slots.specs.Tests.{Tests}
 use Rattle.reserve_rules.specs.Reserve.{IsLineInRange, line_available, line_room}
 use Rattle.sponsor_rules.specs.declared.context.Ctx.{Ctx}
-use Rattle.legal_rules.specs.ChangeLaws.{KeepsLineBooks}
 use Rattle.legal_rules.specs.Legal.{view}
-use Rattle.legal_rules.specs.Owing.{nothing_owed, IsBoundRightly, IsLegalOwing}
-use Rattle.legal_rules.specs.Ranges.{IsTrustLineInRange}
+use Rattle.legal_rules.specs.Owing.{nothing_owed, IsLegalOwing}
 use Rattle.legal_rules.specs.Supply.{of_asset}
 use Rattle.op_form.specs.declared.amounts.CreditFault.{CreditFault}
 use Rattle.op_form.specs.declared.amounts.CreditFault.TheVariants as credit

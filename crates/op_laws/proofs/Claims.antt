@@ -1,10 +1,9 @@
 -- CREATE_CLAIMABLE_BALANCE, CLAIM_CLAIMABLE_BALANCE and CLAWBACK_CLAIMABLE_BALANCE are lawful.
-use Rattle.std.proofs.Common.{◌≡◌, ◌≢◌, refl, sym, ap, subst, ◌∙◌, ℕ, ◌+◌, ◌*◌, ◌≤◌, Bool, true, false, not, ◌&&◌, ◌||◌}
+use Rattle.std.proofs.Common.{◌≡◌, ◌≢◌, refl, sym, ap, subst, ◌∙◌, ℕ, ◌*◌, Bool, true, false, not, ◌||◌}
 use Rattle.std.proofs.Common.{◌∷◌, [], length, map, is_some, Option, Some, None, Ok, arith}
 use Rattle.std.proofs.lemmas.Int.{ints}
-use Rattle.std.specs.Prelude.{ℤ, pos, neg_ℤ, int_le, int_lt, ◌+ℤ◌, ◌-ℤ◌, ◌≤ℤ◌, if◌then◌else◌}
+use Rattle.std.specs.Prelude.{ℤ, pos, neg_ℤ, int_le, ◌+ℤ◌, ◌-ℤ◌, ◌≤ℤ◌, if◌then◌else◌}
 use Rattle.std.specs.FinMap.{get}
-use Rattle.std.specs.Option.{ok_or}
 use Rattle.std.specs.Ordering.{is_eq}
 use Rattle.ledger_types.specs.declared.ids.AccountId.{AccountId}
 use Rattle.ledger_types.specs.declared.ids.ClaimableBalanceId.{ClaimableBalanceId}
@@ -39,19 +38,16 @@ use Rattle.sponsor_rules.specs.Adding.{map_after_adding, map_after_adding_balanc
 use Rattle.sponsor_rules.specs.Payers.{is_same_account, open_sponsor, payer_by, payer_of, payer_tests_at}
 use Rattle.sponsor_rules.specs.Paying.{map_after_charging, map_after_releasing}
 use Rattle.sponsor_rules.specs.Removing.{map_after_removing, map_after_removing_entry}
-use Rattle.legal_rules.specs.Legal.{view}
-use Rattle.legal_rules.specs.Owing.{nothing_owed, IsLegalOwing}
+use Rattle.legal_rules.specs.Owing.{nothing_owed}
 use Rattle.legal_rules.specs.Ranges.{IsBodyInRange, IsBalanceInRange}
-use Rattle.legal_rules.specs.Sponsorships.{IsSponsorReady}
 use Rattle.legal_rules.specs.Supply.{of_asset}
 use Rattle.legal_rules.proofs.Given.{sponsors_ready}
 use Rattle.legal_rules.proofs.Kept.{balance_added_so, balance_removed_so}
 use Rattle.legal_rules.proofs.Liable.{line_entry, with_line_body, with_line_is}
 use Rattle.legal_rules.proofs.PaidFor.{nothing_settled}
 use Rattle.legal_rules.proofs.Steps.{account_entry, with_account_is, with_body}
-use Rattle.op_form.specs.declared.amounts.DebitFault.{DebitFault}
 use Rattle.op_form.specs.declared.amounts.DebitFault.TheVariants as debit
-use Rattle.op_form.specs.Amounts.{map_after_credit, map_after_debit, map_after_issued_debit, map_after_line_debit_of}
+use Rattle.op_form.specs.Amounts.{map_after_credit, map_after_debit, map_after_line_debit_of}
 use Rattle.op_form.specs.Amounts.{line_debit_tests, with_less}
 use Rattle.op_form.specs.Assets.{is_issued_by, line_asset_of}
 use Rattle.op_form.specs.Done.{Done, Move}
@@ -71,8 +67,7 @@ use Rattle.op_laws.proofs.IssuedMoves.{same_issuer, issued_so, issued_by_move}
 use Rattle.op_laws.proofs.Lawful.{lawful_with, shifted_after}
 use Rattle.op_laws.proofs.NewBalances.{IsBalanceEntry, balance_entry, claimants_in_range, new_flags, no_balance}
 use Rattle.op_laws.proofs.Paying.{given}
-use Rattle.op_laws.proofs.Payment.{above}
-use Rattle.op_laws.proofs.Standing.{IsKeyed, Leaves, none_more, for_one, keeps_both, leaves_both, accounts_kept, keyed_put}
+use Rattle.op_laws.proofs.Standing.{IsKeyed, Leaves, none_more, keeps_both, leaves_both, accounts_kept, keyed_put}
 use Rattle.op_laws.proofs.Tests.{went_on, first_passed, neither, passed, went_after_some, went_after_step}
 use Rattle.op_laws.proofs.Tests.{went_after_charge}
 use Rattle.op_laws.proofs.TrustLines.{not_true}

@@ -1,21 +1,18 @@
 -- CLAWBACK is lawful.
-use Rattle.std.proofs.Common.{◌≡◌, refl, sym, ap, subst, ◌∙◌, Bool, true, false, not, ◌||◌, ◌∷◌, [], Option, Some, Ok}
+use Rattle.std.proofs.Common.{◌≡◌, refl, sym, ap, subst, ◌∙◌, true, false, not, ◌||◌, ◌∷◌, []}
 use Rattle.std.proofs.Common.{arith}
 use Rattle.std.proofs.lemmas.Int.{ints}
-use Rattle.std.specs.Prelude.{ℤ, pos, neg_ℤ, int_le, int_lt, ◌+ℤ◌, ◌-ℤ◌, ◌≤ℤ◌, if◌then◌else◌}
+use Rattle.std.specs.Prelude.{ℤ, pos, neg_ℤ, int_le, int_lt}
 use Rattle.ledger_types.specs.declared.ids.AccountId.{AccountId}
 use Rattle.ledger_types.specs.declared.asset.Asset.{Asset}
 use Rattle.ledger_types.specs.declared.asset.Asset.TheVariants as asset
 use Rattle.ledger_types.specs.Ids.{account_of}
 use Rattle.op_types.specs.declared.operation_result.OperationResult.{OperationResult}
-use Rattle.op_types.specs.declared.trust_ops.ClawbackOp.{ClawbackOp}
 use Rattle.op_types.specs.declared.trust_results.ClawbackResult.TheVariants as claw
 use Rattle.valid_values.specs.Assets.{is_valid_asset}
-use Rattle.entry_map.specs.EntryMap.{EntryMap}
 use Rattle.entry_slots.specs.Lines.{with_line}
 use Rattle.entry_slots.specs.Tests.{Tests}
 use Rattle.reserve_rules.specs.Reserve.{line_available}
-use Rattle.sponsor_rules.specs.declared.context.Ctx.{Ctx}
 use Rattle.sponsor_rules.specs.Payers.{is_same_account}
 use Rattle.sponsor_rules.proofs.Ids.{same_account}
 use Rattle.legal_rules.specs.Supply.{of_asset}
@@ -26,8 +23,7 @@ use Rattle.op_form.specs.Done.{OfAccount}
 use Rattle.op_form.specs.Flags.{is_line_clawback_enabled}
 use Rattle.op_claim.specs.Clawback as spec
 use Rattle.op_laws.specs.Laws.{IsLawful, AreLawful}
-use Rattle.op_laws.specs.Moves.{gained, issued, is_issuer}
-use Rattle.op_laws.specs.Underway.{IsUnderway}
+use Rattle.op_laws.specs.Moves.{gained, issued}
 use Rattle.op_laws.proofs.Amounts.{shifts_as, line_given}
 use Rattle.op_laws.proofs.IssuedMoves.{same_both_ways, same_issuer, issued_so, issued_by_move}
 use Rattle.op_laws.proofs.Lawful.{lawful_with}

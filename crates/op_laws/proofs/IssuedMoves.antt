@@ -1,8 +1,7 @@
 -- What one move issues of each asset.
-use Rattle.std.proofs.Common.{◌≡◌, refl, sym, ap, subst, ◌∙◌, Bool, true, false, [], ◌∷◌, arith}
-use Rattle.std.proofs.lemmas.Bool.Decides.{nat_tests}
+use Rattle.std.proofs.Common.{◌≡◌, refl, sym, ap, subst, Bool, true, false, [], ◌∷◌, arith}
 use Rattle.std.proofs.lemmas.Int.{ints}
-use Rattle.std.specs.Prelude.{ℤ, pos, neg_ℤ, ◌+ℤ◌, ◌-ℤ◌, ◌&&◌, if◌then◌else◌}
+use Rattle.std.specs.Prelude.{ℤ, pos, ◌+ℤ◌, ◌-ℤ◌, ◌&&◌, if◌then◌else◌}
 use Rattle.std.specs.declared.cmp.Ordering.{Ordering}
 use Rattle.std.specs.declared.cmp.Ordering.TheVariants.{Less, Equal, Greater}
 use Rattle.std.specs.Ordering.{is_eq}
@@ -15,8 +14,8 @@ use Rattle.sponsor_rules.specs.Payers.{is_same_account}
 use Rattle.sponsor_rules.proofs.Ids.{same_account, is_itself}
 use Rattle.legal_rules.specs.Supply.{of_asset}
 use Rattle.op_form.specs.Assets.{is_issued_by}
-use Rattle.op_form.specs.Done.{Holder, OfAccount, Move}
-use Rattle.op_laws.specs.Moves.{is_of_asset, is_issuer, issued}
+use Rattle.op_form.specs.Done.{Holder, OfAccount}
+use Rattle.op_laws.specs.Moves.{is_issuer, issued}
 
 -- ---- issuers
 

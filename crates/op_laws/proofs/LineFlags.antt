@@ -1,14 +1,12 @@
 -- ALLOW_TRUST and SET_TRUST_LINE_FLAGS are lawful.
 use Rattle.std.proofs.Common.{◌≡◌, ◌≢◌, refl, sym, ap, subst, ◌∙◌, ℕ, zero, suc, ◌%◌, ◌^◌, ◌<◌, ◌≤◌, Bool, true, false}
-use Rattle.std.proofs.Common.{not, ◌&&◌, ◌||◌, ◌∷◌, [], nat_eq, nat_lt, bit_and, bit_or, bit_xor, Option, Some, None, Ok}
+use Rattle.std.proofs.Common.{not, ◌&&◌, ◌||◌, ◌∷◌, [], nat_eq, nat_lt, bit_and, bit_or, bit_xor, Some, Ok}
 use Rattle.std.proofs.Common.{arith}
 use Rattle.std.proofs.lemmas.Bool.Decides.{Decides-int_eq}
-use Rattle.std.proofs.lemmas.Int.{ints}
 use Rattle.std.proofs.lemmas.Nat.{or_lt, xor_lt, and_le_l}
-use Rattle.std.specs.Prelude.{ℤ, pos, ◌+ℤ◌, ◌-ℤ◌}
+use Rattle.std.specs.Prelude.{pos, ◌-ℤ◌}
 use Rattle.std.specs.Ordering.{int_eq, is_eq}
 use Rattle.ledger_types.specs.declared.ids.AccountId.{AccountId}
-use Rattle.ledger_types.specs.declared.account.AccountEntry.{AccountEntry}
 use Rattle.ledger_types.specs.declared.price.Liabilities.{Liabilities}
 use Rattle.ledger_types.specs.declared.asset.Asset.{Asset}
 use Rattle.ledger_types.specs.declared.asset.Asset.TheVariants as asset
@@ -18,10 +16,8 @@ use Rattle.ledger_types.specs.declared.entry.LedgerEntryBody.TheVariants as body
 use Rattle.ledger_types.specs.KeyOrder.{asset_cmp}
 use Rattle.op_types.specs.declared.operation_result.OperationResult.{OperationResult}
 use Rattle.op_types.specs.declared.operation_result.OperationResult.TheVariants.{NoAccount, NotSupported}
-use Rattle.op_types.specs.declared.trust_ops.AllowTrustOp.{AllowTrustOp}
 use Rattle.op_types.specs.declared.trust_ops.AssetCode.{AssetCode}
 use Rattle.op_types.specs.declared.trust_ops.AssetCode.TheVariants as code
-use Rattle.op_types.specs.declared.trust_ops.SetTrustLineFlagsOp.{SetTrustLineFlagsOp}
 use Rattle.op_types.specs.declared.trust_results.AllowTrustResult.TheVariants as allow
 use Rattle.op_types.specs.declared.trust_results.SetTrustLineFlagsResult.TheVariants as set
 use Rattle.valid_values.specs.Assets.{is_valid_asset}

@@ -1,25 +1,23 @@
 -- What a new claimable balance is: in its ranges, under a key where nothing stands.
-use Rattle.std.proofs.Common.{◌≡◌, ◌≢◌, refl, sym, ap, subst, ◌∙◌, ℕ, zero, suc, ◌+◌, ◌<◌, ◌≤◌, Bool, true, false, not}
+use Rattle.std.proofs.Common.{◌≡◌, ◌≢◌, refl, sym, ap, subst, ◌∙◌, ℕ, zero, suc, ◌≤◌, Bool, true, false, not}
 use Rattle.std.proofs.Common.{◌&&◌, ◌||◌, List, [], ◌∷◌, map, length, is_some, Option, Some, None, arith}
 use Rattle.std.proofs.lemmas.Int.{ints}
 use Rattle.std.proofs.lemmas.List.{length-map}
-use Rattle.std.proofs.lemmas.List.Elements.{All-nil, All-cons, All-head, All-tail, All-map}
+use Rattle.std.proofs.lemmas.List.Elements.{All-nil, All-cons}
 use Rattle.std.proofs.lemmas.List.Kept.{AllPairs-cons}
 use Rattle.std.specs.Prelude.{ℤ, pos, int_lt, int_le, ◌+ℤ◌, ◌≤ℤ◌, All, if◌then◌else◌}
 use Rattle.std.specs.FinMap.{get}
-use Rattle.std.specs.List.{AllPairs, list_all, list_any}
-use Rattle.ledger_types.specs.declared.ids.AccountId.{AccountId}
+use Rattle.std.specs.List.{AllPairs}
 use Rattle.ledger_types.specs.declared.ids.ClaimableBalanceId.{ClaimableBalanceId}
 use Rattle.ledger_types.specs.declared.claimable_balance.Claimant.{Claimant}
 use Rattle.ledger_types.specs.declared.claimable_balance.ClaimableBalanceEntry.{ClaimableBalanceEntry}
 use Rattle.ledger_types.specs.declared.predicate.ClaimPredicate.{ClaimPredicate}
-use Rattle.ledger_types.specs.declared.predicate.ClaimPredicate.TheViews.{out-ClaimPredicate, roll-ClaimPredicate}
+use Rattle.ledger_types.specs.declared.predicate.ClaimPredicate.TheViews.{out-ClaimPredicate}
 use Rattle.ledger_types.specs.declared.predicate.ClaimPredicate.TheViews.{out-roll-ClaimPredicate}
 use Rattle.ledger_types.specs.declared.predicate.ClaimPredicate.TheOpen.{ClaimPredicate-F}
 use Rattle.ledger_types.specs.declared.entry.LedgerEntry.{LedgerEntry}
 use Rattle.ledger_types.specs.declared.entry.LedgerEntryBody.{LedgerEntryBody}
 use Rattle.ledger_types.specs.declared.entry.LedgerEntryBody.TheVariants as body
-use Rattle.ledger_types.specs.declared.key.LedgerKey.{LedgerKey}
 use Rattle.ledger_types.specs.declared.key.LedgerKey.TheVariants as key
 use Rattle.ledger_types.specs.Keys.{key_of, key_of_body}
 use Rattle.valid_values.specs.Predicates.{is_valid_below, is_valid_level, is_valid_predicate, is_valid_stored_predicate}
@@ -29,7 +27,7 @@ use Rattle.reserve_rules.specs.Reserve.{greatest_i64}
 use Rattle.sponsor_rules.specs.Payers.{is_same_account}
 use Rattle.sponsor_rules.proofs.Ids.{is_itself}
 use Rattle.legal_rules.specs.Ranges.{AreClaimantsInRange, balance_flags}
-use Rattle.op_claim.specs.Predicates.{fixed_level, fixed_below, fixed_predicate, fixed_claimant, least, time_after}
+use Rattle.op_claim.specs.Predicates.{fixed_level, fixed_below, fixed_claimant, time_after}
 use Rattle.op_claim.specs.CreateClaimableBalance as spec
 use Rattle.op_laws.proofs.Standing.{IsKeyed}
 use Rattle.op_laws.proofs.Tests.{neither}

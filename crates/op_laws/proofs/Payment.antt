@@ -1,8 +1,8 @@
 -- PAYMENT is lawful.
-use Rattle.std.proofs.Common.{◌≡◌, refl, sym, ap, subst, ◌∙◌, Bool, true, false, not, ◌&&◌, ◌||◌, is_some, [], ◌∷◌, Ok}
+use Rattle.std.proofs.Common.{◌≡◌, refl, sym, subst, ◌∙◌, Bool, true, false, not, ◌&&◌, ◌||◌, [], ◌∷◌, Ok}
 use Rattle.std.proofs.Common.{arith}
 use Rattle.std.proofs.lemmas.Int.{ints}
-use Rattle.std.specs.Prelude.{ℤ, pos, neg_ℤ, int_le, ◌+ℤ◌, ◌-ℤ◌, ◌≤ℤ◌, if◌then◌else◌}
+use Rattle.std.specs.Prelude.{ℤ, pos, neg_ℤ, int_le, ◌+ℤ◌, ◌≤ℤ◌, if◌then◌else◌}
 use Rattle.std.specs.Ordering.{is_eq}
 use Rattle.ledger_types.specs.declared.ids.AccountId.{AccountId}
 use Rattle.ledger_types.specs.declared.asset.Asset.{Asset}
@@ -14,7 +14,6 @@ use Rattle.entry_map.specs.EntryMap.{EntryMap}
 use Rattle.sponsor_rules.specs.declared.context.Ctx.{Ctx}
 use Rattle.sponsor_rules.specs.Payers.{is_same_account}
 use Rattle.sponsor_rules.proofs.Ids.{same_account}
-use Rattle.legal_rules.specs.Legal.{view}
 use Rattle.legal_rules.specs.Supply.{of_asset}
 use Rattle.op_types.specs.declared.payment_ops.PaymentOp.{PaymentOp}
 use Rattle.op_types.specs.declared.payment_results.PaymentResult.TheVariants as pay
@@ -26,9 +25,9 @@ use Rattle.op_form.specs.Steps.{unless_refused}
 use Rattle.op_payment.specs.Payment.{answer, credit_result, debit_result, destination_tests, is_to_itself, paid, payment}
 use Rattle.op_payment.specs.Payment.{payment_move, payment_tests, taken_and_given}
 use Rattle.op_laws.specs.Laws.{IsLawful, AreLawful}
-use Rattle.op_laws.specs.Moves.{gained, issued, is_issuer}
+use Rattle.op_laws.specs.Moves.{gained, issued}
 use Rattle.op_laws.specs.Underway.{IsUnderway}
-use Rattle.op_laws.proofs.Amounts.{IsMoved, lumens_more, unless_issuer, shifts_as, shifts_both, amount_taken, amount_given}
+use Rattle.op_laws.proofs.Amounts.{lumens_more, unless_issuer, shifts_as, shifts_both, amount_taken, amount_given}
 use Rattle.op_laws.proofs.IssuedMoves.{same_issuer, issued_so, issued_by_move}
 use Rattle.op_laws.proofs.Lawful.{lawful_here, lawful_with, shifted_after}
 use Rattle.op_laws.proofs.Lumens.{lumens_move, lumens_gained, nothing_gained, none_issued}

@@ -20,7 +20,6 @@ use Rattle.ledger_types.specs.declared.key.LedgerKey.{LedgerKey}
 use Rattle.ledger_types.specs.declared.key.LedgerKey.TheVariants as key
 use Rattle.ledger_types.specs.Keys.{key_of, key_of_body}
 use Rattle.ledger_types.specs.KeyOrder.{asset_cmp}
-use Rattle.op_types.specs.declared.trust_ops.ChangeTrustOp.{ChangeTrustOp}
 use Rattle.op_types.specs.declared.trust_results.ChangeTrustResult.TheVariants as trust
 use Rattle.op_types.specs.declared.operation_result.OperationResult.TheVariants.{NotSupported}
 use Rattle.valid_values.specs.Assets.{is_valid_asset}
@@ -40,12 +39,12 @@ use Rattle.legal_rules.specs.EntryKeys.{is_key}
 use Rattle.legal_rules.specs.Books.{Kind, Subentries, Sponsoring, Sponsored, Selling, Buying, Shares, ShareLines, Uses}
 use Rattle.legal_rules.specs.Books.{View}
 use Rattle.legal_rules.specs.Legal.{view}
-use Rattle.legal_rules.specs.Owing.{weighed, nothing_owed, beside_reserves, IsEntryLegal, IsLegalOwing}
+use Rattle.legal_rules.specs.Owing.{weighed, nothing_owed, beside_reserves, IsEntryLegal}
 use Rattle.legal_rules.specs.Ranges.{IsHeldIn, AreLineFlags, IsTrustLineInRange}
 use Rattle.legal_rules.specs.Supply.{of_asset, of_line}
 use Rattle.legal_rules.proofs.Given.{sponsors_ready}
 use Rattle.legal_rules.proofs.Kept.{subentry_added_so}
-use Rattle.legal_rules.proofs.Numbers.{plus_nothing, nothing_less}
+use Rattle.legal_rules.proofs.Numbers.{plus_nothing}
 use Rattle.legal_rules.proofs.PaidFor.{nothing_settled}
 use Rattle.legal_rules.proofs.Removing.{subentry_removed, owns}
 use Rattle.legal_rules.proofs.Steps.{legal_as}

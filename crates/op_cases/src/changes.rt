@@ -145,8 +145,16 @@ fn tell_extensions<R: Print>(rt: &R, account: &AccountEntry) -> io::Result<()> {
     tell_number(rt, "selling", account_liabilities(account).selling)
 }
 
-/// Whose line it is, and of which pool or issuer.
+/// Whose line it is, of which pool or issuer, and what it holds, where it holds something.
 fn tell_line<R: Print>(rt: &R, line: &TrustLineEntry) -> io::Result<()> {
+    tell_line_key(rt, line)?;
+    match line.balance {
+        0 => Ok(()),
+        balance => print!(rt; " balance {balance}"),
+    }
+}
+
+fn tell_line_key<R: Print>(rt: &R, line: &TrustLineEntry) -> io::Result<()> {
     let letter = letter_of(&line.account_id.0);
     match line.asset {
         TrustLineAsset::Alphanum4 { code: _, issuer } => {

@@ -249,6 +249,27 @@ pub fn line_entry(
     )
 }
 
+/// The entry of a line that holds something.
+pub fn held_entry(
+    account_id: AccountId,
+    asset: TrustLineAsset,
+    balance: i64,
+    limit: i64,
+    flags: u32,
+) -> LedgerEntry {
+    entry_of(
+        LedgerEntryBody::TrustLine(TrustLineEntry {
+            account_id,
+            asset,
+            balance,
+            limit,
+            flags,
+            ext: None,
+        }),
+        None,
+    )
+}
+
 /// The entry of an offer that sells a stroop for one of an asset of the seller's own.
 pub fn offer_entry(seller_id: AccountId, offer_id: i64, sponsor: Option<AccountId>) -> LedgerEntry {
     entry_of(

@@ -1,16 +1,19 @@
-//! Ledgers to which operations may be applied: every account is in its ranges, and others may pay for it.
+//! Ledgers to which operations may be applied: accounts and lines are in their ranges, and others may pay for accounts.
 
-ghost use Rattle.std.specs.Prelude.{◌≡◌, ◌<◌, true, Some, [], IfOk, OnOk};
+ghost use Rattle.std.specs.Prelude.{◌≡◌, ◌<◌, ◌+ℤ◌, ◌≤ℤ◌, pos, true, Some, [], IfOk, OnOk};
 ghost use Rattle.std.specs.FinMap.{from_entries};
 ghost use Rattle.ledger_types.specs.declared.account.AccountEntry.{AccountEntry as AnAccount};
+ghost use Rattle.ledger_types.specs.declared.trust_line.TrustLineEntry.{TrustLineEntry as ALine};
 ghost use Rattle.entry_slots.specs.Accounts.{account_in, HasAccount};
-ghost use Rattle.reserve_rules.specs.Reserve.{IsInRange};
+ghost use Rattle.entry_slots.specs.LineExtensions.{line_liabilities};
+ghost use Rattle.entry_slots.specs.Lines.{line_in};
+ghost use Rattle.reserve_rules.specs.Reserve.{IsInRange, IsLineInRange};
 ghost use Rattle.sponsor_rules.specs.Payers.{IsReadyAccount};
 ghost use Rattle.op_cases.specs.Ready.{IsReadyLedger};
 
 use entry_map::{Entries, MapBase};
-use entry_slots::{account_liabilities, num_sponsored};
-use ledger_types::{AccountEntry, LedgerEntry, LedgerEntryBody};
+use entry_slots::{account_liabilities, line_liabilities, num_sponsored};
+use ledger_types::{AccountEntry, LedgerEntry, LedgerEntryBody, TrustLineEntry};
 use op_form::stands;
 use op_types::{Operation, OperationBody, OperationResult};
 use sponsor_rules::Ctx;
@@ -54,14 +57,55 @@ fn is_fine_account(account: &AccountEntry) -> bool
     is_ready(account) && is_in_range(account)
 }
 
+/// Whether a line's balance and what would be bought fit its limit.
+fn fits_limit(line: &TrustLineEntry) -> bool
+    ensures buying { result ≡ true → pos 0 ≤ℤ (line_liabilities line.now).buying }
+    ensures fits { result ≡ true → (line.now.balance +ℤ (line_liabilities line.now).buying) ≤ℤ line.now.limit }
+{
+    let buying = line_liabilities(line).buying;
+    if buying < 0 {
+        return false;
+    }
+    if line.limit < 0 {
+        return false;
+    }
+    line.balance <= line.limit - buying
+}
+
+/// Whether a line's balance covers what would be sold.
+fn is_covered(line: &TrustLineEntry) -> bool
+    ensures selling { result ≡ true → pos 0 ≤ℤ (line_liabilities line.now).selling }
+    ensures balance { result ≡ true → pos 0 ≤ℤ line.now.balance }
+    ensures covered { result ≡ true → (line_liabilities line.now).selling ≤ℤ line.now.balance }
+{
+    let selling = line_liabilities(line).selling;
+    if line.balance < 0 {
+        return false;
+    }
+    if selling < 0 {
+        return false;
+    }
+    selling <= line.balance
+}
+
+/// Whether balance and liabilities of a line are in their ranges.
+fn is_fine_line(line: &TrustLineEntry) -> bool
+    ensures { result ≡ true → IsLineInRange line.now }
+{
+    is_covered(line) && fits_limit(line)
+}
+
 fn is_fine(entry: &LedgerEntry) -> bool
     ensures ready { result ≡ true →
         (account : AnAccount) → account_in entry.now.body ≡ Some account → IsReadyAccount account }
     ensures range { result ≡ true →
         (account : AnAccount) → account_in entry.now.body ≡ Some account → IsInRange account }
+    ensures lines { result ≡ true →
+        (line : ALine) → line_in entry.now.body ≡ Some line → IsLineInRange line }
 {
     match &entry.body {
         LedgerEntryBody::Account(account) => is_fine_account(account),
+        LedgerEntryBody::TrustLine(line) => is_fine_line(line),
         _ => true,
     }
 }

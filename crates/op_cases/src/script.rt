@@ -6,7 +6,9 @@ ghost use Rattle.op_cases.specs.Ready.{IsReadyLedger};
 
 use crate::answers::{answer, moved_balance};
 use crate::changes::tell_changes;
-use crate::entries::{account_entry, balance_entry, data_entry, line_entry, offer_entry};
+use crate::entries::{
+    account_entry, balance_entry, data_entry, held_entry, line_entry, offer_entry,
+};
 use crate::ledger::{applied, no_entries, put_all};
 use crate::operations::operation;
 use crate::words::{account_named, bytes_named, letter_of, line_asset};
@@ -94,6 +96,16 @@ fn line_in(id: &str, asset: &str, payer: &[&str]) -> Option<LedgerEntry> {
     Some(line_entry(id, asset, sponsor))
 }
 
+/// A line with a balance, a limit and flags.
+fn held_in(id: &str, asset: &str, balance: &str, limit: &str, flags: &str) -> Option<LedgerEntry> {
+    let id = account_named(id)?;
+    let asset = line_asset(&[asset])?;
+    let (Ok(balance), Ok(limit), Ok(flags)) = (balance.parse(), limit.parse(), flags.parse()) else {
+        return None;
+    };
+    Some(held_entry(id, asset, balance, limit, flags))
+}
+
 fn offer_in(id: &str, number: &str, payer: &[&str]) -> Option<LedgerEntry> {
     let id = account_named(id)?;
     let sponsor = sponsor_in(payer)?;
@@ -135,6 +147,7 @@ fn balance_in(
 fn plain_entry_in(words: &[&str]) -> Option<LedgerEntry> {
     match *words {
         ["line", id, asset, ref payer @ ..] => line_in(id, asset, payer),
+        ["held", id, asset, balance, limit, flags] => held_in(id, asset, balance, limit, flags),
         ["offer", id, number, ref payer @ ..] => offer_in(id, number, payer),
         _ => None,
     }

@@ -1,6 +1,7 @@
 use Rattle.std.proofs.Common.{◌≡◌, true, rules, sym, subst}
 use Rattle.entry_map.specs.Undo.{Undo}
-use Rattle.op_form.proofs.Premises.{ready_with, in_range_with}
+use Rattle.op_form.proofs.Balances.{balances_put}
+use Rattle.op_form.proofs.Premises.{ready_with}
 use Rattle.op_cases.specs.Ready.{IsReadyLedger}
 use Rattle.op_cases.proofs.ledger.put.Goals as goal
 
@@ -9,5 +10,8 @@ returns c =
     let fine : c.is_fine.result ≡ true = search rules in
     subst (λ (u : Undo). IsReadyLedger u.current) (sym c.in_ok-put.ensures) (record {
       ready = ready_with c.args.entries.now.current c.args.entry (c.is_fine.ensures.ready fine) c.requires.ready;
-      in_range = in_range_with c.args.entries.now.current c.args.entry (c.is_fine.ensures.range fine) c.requires.in_range;
+      in_range = balances_put c.args.entries.now.current c.args.entry (record {
+        account = c.is_fine.ensures.range fine;
+        line = c.is_fine.ensures.lines fine;
+      }) c.requires.in_range;
     })

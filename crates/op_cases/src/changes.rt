@@ -145,13 +145,12 @@ fn tell_extensions<R: Print>(rt: &R, account: &AccountEntry) -> io::Result<()> {
     tell_number(rt, "selling", account_liabilities(account).selling)
 }
 
-/// Whose line it is, of which pool or issuer, and what it holds, where it holds something.
+/// Whose line it is, of which pool or issuer, and its numbers that aren't 0.
 fn tell_line<R: Print>(rt: &R, line: &TrustLineEntry) -> io::Result<()> {
     tell_line_key(rt, line)?;
-    match line.balance {
-        0 => Ok(()),
-        balance => print!(rt; " balance {balance}"),
-    }
+    tell_number(rt, "balance", line.balance)?;
+    tell_number(rt, "limit", line.limit)?;
+    tell_number(rt, "flags", i64::from(line.flags))
 }
 
 fn tell_line_key<R: Print>(rt: &R, line: &TrustLineEntry) -> io::Result<()> {

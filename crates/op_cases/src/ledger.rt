@@ -175,6 +175,10 @@ fn applied_by_type(
         OperationBody::BeginSponsoringFutureReserves(_)
         | OperationBody::EndSponsoringFutureReserves
         | OperationBody::RevokeSponsorship(_) => op_sponsor::apply(op, ctx, entries),
+        OperationBody::ChangeTrust(_) => op_trust::apply(op, ctx, entries),
+        OperationBody::AllowTrust(_) | OperationBody::SetTrustLineFlags(_) => {
+            op_flags::apply(op, ctx, entries)
+        }
         _ => op_payment::apply(op, ctx, entries),
     }
 }

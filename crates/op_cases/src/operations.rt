@@ -1,10 +1,13 @@
 //! Operations, read from words.
 
 use crate::words::{account_named, bytes_named, line_asset, signer_key, text_of};
-use ledger_types::{Asset, ClaimableBalanceId, Hash, LedgerKey, MuxedAccount, Signer};
+use ledger_types::{
+    Asset, ChangeTrustAsset, ClaimableBalanceId, Hash, LedgerKey, MuxedAccount, PoolParams, Signer,
+};
 use op_types::{
-    AccountMergeOp, BeginSponsoringFutureReservesOp, BumpSequenceOp, CreateAccountOp, ManageDataOp,
-    OperationBody, PaymentOp, RevokeSponsorshipOp, SetOptionsOp,
+    AccountMergeOp, AllowTrustOp, AssetCode, BeginSponsoringFutureReservesOp, BumpSequenceOp,
+    ChangeTrustOp, CreateAccountOp, ManageDataOp, OperationBody, PaymentOp, RevokeSponsorshipOp,
+    SetOptionsOp, SetTrustLineFlagsOp,
 };
 use std::alloc::{AllocError, Global};
 
@@ -261,6 +264,68 @@ fn payment_in(issuer: &str, id: &str, amount: &str) -> Option<OperationBody> {
     payment(id, Asset::Alphanum4 { code: USD, issuer }, amount)
 }
 
+/// What a line is asked in: `native`, or an issuer, of USD.
+fn line_asked(word: &str) -> Option<ChangeTrustAsset> {
+    match word {
+        "native" => Some(ChangeTrustAsset::Native),
+        issuer => {
+            let issuer = account_named(issuer)?;
+            Some(ChangeTrustAsset::Alphanum4 { code: USD, issuer })
+        }
+    }
+}
+
+fn change_trust(line: ChangeTrustAsset, limit: &str) -> Option<OperationBody> {
+    match limit.parse() {
+        Ok(limit) => Some(OperationBody::ChangeTrust(ChangeTrustOp { line, limit })),
+        Err(_) => None,
+    }
+}
+
+fn change_trust_in(asset: &str, limit: &str) -> Option<OperationBody> {
+    let line = line_asked(asset)?;
+    change_trust(line, limit)
+}
+
+/// A line of shares of the pool of lumens and an issuer's USD.
+fn change_trust_in_pool(issuer: &str, limit: &str) -> Option<OperationBody> {
+    let issuer = account_named(issuer)?;
+    let params = PoolParams {
+        asset_a: Asset::Native,
+        asset_b: Asset::Alphanum4 { code: USD, issuer },
+        fee: 30,
+    };
+    change_trust(ChangeTrustAsset::PoolShare(params), limit)
+}
+
+fn allow_trust(trustor: &str, authorize: &str) -> Option<OperationBody> {
+    let trustor = account_named(trustor)?;
+    match authorize.parse() {
+        Ok(authorize) => Some(OperationBody::AllowTrust(AllowTrustOp {
+            trustor,
+            asset: AssetCode::Alphanum4(USD),
+            authorize,
+        })),
+        Err(_) => None,
+    }
+}
+
+fn line_flags(issuer: &str, trustor: &str, clear: &str, set: &str) -> Option<OperationBody> {
+    let issuer = account_named(issuer)?;
+    let trustor = account_named(trustor)?;
+    match (clear.parse(), set.parse()) {
+        (Ok(clear_flags), Ok(set_flags)) => {
+            Some(OperationBody::SetTrustLineFlags(SetTrustLineFlagsOp {
+                trustor,
+                asset: Asset::Alphanum4 { code: USD, issuer },
+                clear_flags,
+                set_flags,
+            }))
+        }
+        _ => None,
+    }
+}
+
 fn revoke_plain(kind: &str, words: &[&str]) -> Option<OperationBody> {
     let key = plain_key(kind, words)?;
     Some(revoke(key))
@@ -282,6 +347,17 @@ fn plain(name: &str, words: &[&str]) -> Option<OperationBody> {
         ("payment", [id, amount]) => payment(id, Asset::Native, amount),
         ("payment_in", [issuer, id, amount]) => payment_in(issuer, id, amount),
         ("account_merge", [id]) => merge(id),
+        _ => plain_on_lines(name, words),
+    }
+}
+
+/// The same of one on trust lines, or another.
+fn plain_on_lines(name: &str, words: &[&str]) -> Option<OperationBody> {
+    match (name, words) {
+        ("change_trust", [asset, limit]) => change_trust_in(asset, limit),
+        ("change_trust_pool", [issuer, limit]) => change_trust_in_pool(issuer, limit),
+        ("allow_trust", [trustor, authorize]) => allow_trust(trustor, authorize),
+        ("line_flags", [issuer, trustor, clear, set]) => line_flags(issuer, trustor, clear, set),
         _ => plain_on_sponsorships(name, words),
     }
 }

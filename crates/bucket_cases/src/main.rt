@@ -1,9 +1,9 @@
-//! Runs the cases of bucket files in a folder, and prints the number of lines of each table, and before it each line that
-//! goes otherwise. A line of `files.tsv` has a file in hexadecimal, and what it has to be: `file` with its version, the
-//! number of its items and its hash, or its first fault with the fault's place. A line of `merges.tsv` has a level, an
-//! older and a newer file, and their merge; `-` is the empty file. A line of `levels.tsv` has the number of a ledger, the
-//! file of what it changed, and the hash of the levels behind it; the levels are empty before the first line, and are made
-//! anew of their files behind one in the middle.
+//! Runs the cases of bucket files in a folder, and prints the number of lines of each table, and before it each line
+//! that goes otherwise. A line of `files.tsv` has a file in hexadecimal, and what it has to be: `file` with its
+//! version, the number of its items and its hash, or its first fault with the fault's place. A line of `merges.tsv`
+//! has a level, an older and a newer file, and their merge; `-` is the empty file. A line of `levels.tsv` has the
+//! number of a ledger, the file of what it changed, and the hash of the levels behind it; the levels are empty before
+//! the first line, and are made anew of their files behind one in the middle.
 //!
 //! The folder is the program's one argument, or `data` where there is none.
 #![tactic(auto)]

@@ -124,4 +124,5 @@ still_none bytes known next old new h g = record { before = g.after; known = g.k
 pub first_told : (bytes : List ℕ) (known : Known) (old new : Place) (wrong : BucketFault)
     (h : NoneYet bytes known old) → NextJudged h.before old (Err wrong) new
     → JudgedBy {T = Unit {0}} (first_fault bytes) (Err wrong)
-first_told bytes known old new wrong h g = retold Known (Unit {0}) (first_fault bytes) (fault_from h.before old) wrong h.same g
+first_told bytes known old new wrong h g =
+    retold Known (Unit {0}) (first_fault bytes) (fault_from h.before old) wrong h.same g

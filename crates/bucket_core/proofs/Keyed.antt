@@ -1,5 +1,6 @@
 -- Lists of changes in the order of their keys, and the maps that they make.
-use Rattle.std.proofs.Common.{◌≡◌, Bool, true, false, cond, T, ◌&&◌, List, [], ◌∷◌, map, Option, Some, None, refl, sym, ap}
+use Rattle.std.proofs.Common.{◌≡◌, Bool, true, false, cond, T, ◌&&◌, List, [], ◌∷◌, map, Option, Some, None, refl}
+use Rattle.std.proofs.Common.{sym, ap}
 use Rattle.std.proofs.Common.{subst, ◌∙◌}
 use Rattle.std.specs.List.{AllByRecursion}
 use Rattle.std.specs.declared.cmp.Ordering.{Ordering}
@@ -71,7 +72,8 @@ found_below k m (x ∷ es) e h =
 
 -- what is found behind the first entry is found
 found_behind : (x : Pair) (es : List Pair) (k : LedgerKey) (c : Change) → T (is_sorted key_cmp (x ∷ es))
-    → find key_cmp k es ≡ Some c → (b : Bool) → eq_by_cmp key_cmp k x.0 ≡ b → cond b (Some x.1) (find key_cmp k es) ≡ Some c
+    → find key_cmp k es ≡ Some c → (b : Bool) → eq_by_cmp key_cmp k x.0 ≡ b
+    → cond b (Some x.1) (find key_cmp k es) ≡ Some c
 found_behind x es k c h f true e =
     let none = found_below k x.0 es (equal (key_cmp k x.0) e) (first _ _ h) in
     absurd (cc (none, f))
@@ -100,7 +102,8 @@ pub found_is_each : (P : LedgerKey → Change → Type 0) (es : List Pair) → A
     → (k : LedgerKey) (c : Change) → find key_cmp k es ≡ Some c → P k c
 found_is_each P [] all k c f = absurd (cc)
 found_is_each P (x ∷ es) all k c f =
-    found_or_not P x k c (find key_cmp k es) all.0 (λ g. found_is_each P es all.1 k c g) (eq_by_cmp key_cmp k x.0) refl f
+    found_or_not P x k c (find key_cmp k es) all.0 (λ g. found_is_each P es all.1 k c g)
+    (eq_by_cmp key_cmp k x.0) refl f
 
 -- ---- maps
 

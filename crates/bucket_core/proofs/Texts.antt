@@ -1,5 +1,6 @@
 -- What is read from the texts of items.
-use Rattle.std.proofs.Common.{◌≡◌, ℕ, ◌+◌, ℤ, negsuc, pos, List, [], ◌++◌, length, Option, Some, Ok, Err, refl, sym, ap, subst, ◌∙◌}
+use Rattle.std.proofs.Common.{◌≡◌, ℕ, ◌+◌, ℤ, negsuc, pos, List, [], ◌++◌, length, Option, Some, Ok, Err, refl, sym}
+use Rattle.std.proofs.Common.{ap, subst, ◌∙◌}
 use Rattle.std.proofs.lemmas.List.{append-nil}
 use Rattle.std.specs.Prelude.{Result, IfSome}
 use Rattle.std.specs.Result.{result_ok}
@@ -27,7 +28,8 @@ item_is_read : (text : List ℕ) (e : BucketEntry) (p : Place) → IsItemText te
     → bucket_entry.read p ≡ Ok (e, behind e)
 item_is_read text e p h a =
     ap (λ (x : Place). bucket_entry.read x) a
-    ∙ subst (λ (t : List ℕ). bucket_entry.read (start_of t) ≡ Ok (e, record { at = 0 + length (bucket_entry.spell e); rest = [] }))
+    ∙ subst (λ (t : List ℕ). bucket_entry.read (start_of t)
+    ≡ Ok (e, record { at = 0 + length (bucket_entry.spell e); rest = [] }))
     (append-nil (bucket_entry.spell e) ∙ sym h.spelled)
     (bucket_entry_laws.lawful.again 0 e [] h.within h.sized)
 
@@ -61,7 +63,8 @@ meta_is_read text v h =
       middle = record { at = at; rest = u32.spell v ++ end };
       after = record { at = at + length (u32.spell v); rest = end };
       kind = ap (λ (t : List ℕ). i32.read (start_of t)) h.spelled
-          ∙ i32_lawful.again 0 (negsuc 0) (u32.spell v ++ end) (i32_within (negsuc 0)) (discriminant_fits (negsuc 0) tt);
+          ∙ i32_lawful.again 0 (negsuc 0) (u32.spell v ++ end) (i32_within (negsuc 0))
+          (discriminant_fits (negsuc 0) tt);
       version = u32_lawful.again at v end h.within.0 h.sized.0;
     }
 

@@ -10,7 +10,9 @@ use Rattle.ledger_types.specs.declared.asset.PoolParams.{PoolParams}
 use Rattle.ledger_types.specs.declared.price.Price.{Price}
 use Rattle.ledger_types.specs.declared.trust_line.TrustLineEntryExtensionV1.{TrustLineEntryExtensionV1}
 use Rattle.ledger_types.specs.declared.claimable_balance.Claimant.{Claimant}
-use Rattle.ledger_types.specs.declared.claimable_balance.ClaimableBalanceEntryExtensionV1.{ClaimableBalanceEntryExtensionV1}
+use Rattle.ledger_types.specs.declared.claimable_balance.ClaimableBalanceEntryExtensionV1.{
+  ClaimableBalanceEntryExtensionV1,
+}
 use Rattle.ledger_types.specs.declared.entry.LedgerEntry.{LedgerEntry}
 use Rattle.ledger_types.specs.declared.entry.LedgerEntryBody.{LedgerEntryBody}
 use Rattle.ledger_types.specs.declared.entry.LedgerEntryBody.TheVariants as body
@@ -59,7 +61,8 @@ pool_rest = pool_params ⨾ i64 ⨾ i64 ⨾ i64 ⨾ i64
 
 body_holds_key : (b : LedgerEntryBody)
     → (tail : List ℕ) × (ledger_entry_body.spell b ≡ ledger_key.spell (key_of_body b) ++ tail)
-unfolding ledger_entry_body account_entry account_head trust_line_entry offer_entry data_entry claimable_balance_entry liquidity_pool_entry ledger_key
+unfolding ledger_entry_body account_entry account_head trust_line_entry offer_entry data_entry claimable_balance_entry
+    liquidity_pool_entry ledger_key
 body_holds_key (body.Account e) = one_of_head (pos 0) account_id account_rest account_tail (account_fields.from e)
 body_holds_key (body.TrustLine e) = two_after (pos 1) account_id trust_line_asset line_rest (line_fields.from e)
 body_holds_key (body.Offer e) = two_after (pos 2) account_id i64 offer_rest (offer_fields.from e)
@@ -68,7 +71,8 @@ body_holds_key (body.ClaimableBalance e) = one_after (pos 4) claimable_balance_i
 body_holds_key (body.LiquidityPool e) = one_after (pos 5) hash pool_rest (pool_fields.from e)
 
 body_key_within : (b : LedgerEntryBody) → ledger_entry_body.within b → ledger_key.within (key_of_body b)
-unfolding ledger_entry_body account_entry account_head trust_line_entry offer_entry data_entry claimable_balance_entry liquidity_pool_entry ledger_key
+unfolding ledger_entry_body account_entry account_head trust_line_entry offer_entry data_entry claimable_balance_entry
+    liquidity_pool_entry ledger_key
 body_key_within (body.Account e) h = h.0.0
 body_key_within (body.TrustLine e) h = (h.0, h.1.0)
 body_key_within (body.Offer e) h = (h.0, h.1.0)
@@ -77,7 +81,8 @@ body_key_within (body.ClaimableBalance e) h = h.0
 body_key_within (body.LiquidityPool e) h = h.0
 
 body_key_sized : (b : LedgerEntryBody) → ledger_entry_body.sized b → ledger_key.sized (key_of_body b)
-unfolding ledger_entry_body account_entry account_head trust_line_entry offer_entry data_entry claimable_balance_entry liquidity_pool_entry ledger_key
+unfolding ledger_entry_body account_entry account_head trust_line_entry offer_entry data_entry claimable_balance_entry
+    liquidity_pool_entry ledger_key
 body_key_sized (body.Account e) h = h.0.0
 body_key_sized (body.TrustLine e) h = (h.0, h.1.0)
 body_key_sized (body.Offer e) h = (h.0, h.1.0)

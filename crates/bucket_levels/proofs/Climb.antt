@@ -1,4 +1,5 @@
--- From the newest level to the deepest: behind a step the levels say of a key what the fresh file and the old ones said.
+-- From the newest level to the deepest: behind a step the levels say of a key what the fresh file and the old ones
+-- said.
 use Rattle.std.proofs.Common.{◌≡◌, ℕ, zero, suc, ◌+◌, ◌<◌, Bool, true, false, cond, eqb, List, [], ◌∷◌, length}
 use Rattle.std.proofs.Common.{None, refl, sym, ap, subst, ◌∙◌, arith}
 use Rattle.std.proofs.lemmas.Bool.{eqb-true}
@@ -122,7 +123,8 @@ nothing_below k old (suc n) i e d ten = absurd (omega (arith, eqb-true i 10 ten)
 comes_in : (seq : ℕ) (fresh : Contents) (old new : List Pair) (k : LedgerKey) → AreSteps seq fresh old new
     → (pair_at old 10).snap ≡ None → (n i : ℕ) (newer : Contents) → i + suc n ≡ level_count
     → IsMerge i (base_at seq old i) newer (pair_at new i).curr → (pair_at new i).snap ≡ snap_after seq old i
-    → (spills i seq ≡ true → Replaces (in_front (change_at (pair_at old i).snap k) (by_levels k (pair_at old) (suc i) n))
+    → (spills i seq ≡ true
+    → Replaces (in_front (change_at (pair_at old i).snap k) (by_levels k (pair_at old) (suc i) n))
     (by_levels k (pair_at new) (suc i) n))
     → (b : Bool) → spills i seq ≡ b
     → Replaces (in_front (change_at newer k) (by_levels k (pair_at old) i (suc n)))
@@ -141,7 +143,8 @@ comes_in seq fresh old new k steps d n i newer e m s below false is =
     let rest = by_levels k (pair_at old) (suc i) n in
     let base = subst (λ (b : Bool). IsMerge i (cond b None p.curr) newer q.curr) is m in
     let same = stays_below seq fresh old new k steps n i (omega arith) is in
-    subst (λ (xs : List Change). Replaces (in_front (change_at newer k) (by_level k p rest)) (by_level k q xs)) (sym same)
+    subst (λ (xs : List Change). Replaces (in_front (change_at newer k) (by_level k p rest)) (by_level k q xs))
+    (sym same)
     (takes_in i k newer p q rest (nothing_below k old n i e d) base
     (s ∙ ap (λ (b : Bool). cond b p.curr p.snap) is))
 

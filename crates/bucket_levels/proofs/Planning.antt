@@ -1,5 +1,6 @@
 -- A step is planned level by level.
-use Rattle.std.proofs.Common.{◌≡◌, ℕ, zero, suc, ◌+◌, ◌-◌, ◌<◌, ◌≤◌, List, [], ◌∷◌, ◌++◌, length, map, get_or, refl, sym}
+use Rattle.std.proofs.Common.{◌≡◌, ℕ, zero, suc, ◌+◌, ◌-◌, ◌<◌, ◌≤◌, List, [], ◌∷◌, ◌++◌, length, map, get_or, refl}
+use Rattle.std.proofs.Common.{sym}
 use Rattle.std.proofs.Common.{ap, subst, ◌∙◌, add-one, arith, below_more}
 use Rattle.std.proofs.lemmas.List.{get_or-map, get_or_append_left, get_or_push, length_push, map-append}
 use Rattle.bucket_core.specs.Bucket.{Contents}
@@ -48,7 +49,8 @@ work_more seq fresh old level = ap (work_above seq fresh old) (add-one level)
 work_within : (seq : ℕ) (fresh : Contents) (old : List Pair) (n level : ℕ) → level + n ≡ level_count
     → work_above seq fresh old level ≤ work_above seq fresh old level_count
 work_within seq fresh old zero level e =
-    let same = ap (work_above seq fresh old) (let f : level ≡ level_count = omega (arith, e) in f) in omega (arith, same)
+    let same = ap (work_above seq fresh old) (let f : level ≡ level_count = omega (arith, e) in f) in
+    omega (arith, same)
 work_within seq fresh old (suc n) level e =
     let more = work_more seq fresh old level in
     let rest = work_within seq fresh old n (level + 1) (omega (arith, e)) in

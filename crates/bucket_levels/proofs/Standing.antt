@@ -8,7 +8,8 @@ use Rattle.bucket_core.specs.Bucket.{Change, Init, Live, Dead, Contents, change_
 use Rattle.bucket_levels.specs.Spills.{level_count}
 use Rattle.bucket_levels.specs.Pairs.{Pair, pair_at}
 use Rattle.bucket_levels.specs.Step.{IsStep}
-use Rattle.bucket_levels.specs.Meaning.{in_front, entry_after, entry_by, changes_of, files_of, MayStandOn, AreMarkedWell}
+use Rattle.bucket_levels.specs.Meaning.{in_front, entry_after, entry_by, changes_of, files_of, MayStandOn}
+use Rattle.bucket_levels.specs.Meaning.{AreMarkedWell}
 use Rattle.bucket_levels.specs.Meaning.{StandFor, AreWellMarked}
 use Rattle.bucket_levels.specs.Fresh.{BecameOf, IsFresh}
 use Rattle.bucket_levels.specs.Laws.{StepsStand}

@@ -93,7 +93,8 @@ impl Levels {
         &self.pair(level).snap
     }
 
-    /// The curr of a level from 1 to 10 behind a step, onto which the snap above is merged where the level above spills.
+    /// The curr of a level from 1 to 10 behind a step, onto which the snap above is merged where the level above
+    /// spills.
     fn curr_below<L: Ledger>(
         &self,
         level: u32,
@@ -149,8 +150,8 @@ impl Levels {
         Ok(LevelPair { curr, snap })
     }
 
-    /// The step of ledger `seq`, the one behind the levels' own, with the bucket of what it changed. It raises the steps
-    /// by at most the items of the files that it merges. The levels stay as they are.
+    /// The step of ledger `seq`, the one behind the levels' own, with the bucket of what it changed. It raises the
+    /// steps by at most the items of the files that it merges. The levels stay as they are.
     pub fn plan_batch<L: Ledger>(
         &self,
         seq: u32,

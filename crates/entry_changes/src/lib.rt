@@ -1,2 +1,3 @@
-//! What a close changes of the entries, as definitions: which entries stand behind it, and which of them can be written.
+//! What a close changes of the entries, as definitions: which entries stand behind it, and which of them can be
+//! written.
 #![tactic(auto)]

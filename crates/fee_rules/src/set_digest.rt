@@ -60,9 +60,9 @@ pub(crate) fn hash_of_queued(
     hash_ids::set_hash(&set.previous_ledger_hash, texts.as_slice())
 }
 
-/// The hash of a set: SHA-256 of the hash of the ledger before it and of the spellings of its envelopes in the order of
-/// their own hashes, without a count (TxSetFrame::getContentsHash in stellar-core). The set has a spelling: its lists and
-/// texts keep their bounds.
+/// The hash of a set: SHA-256 of the hash of the ledger before it and of the spellings of its envelopes in the order
+/// of their own hashes, without a count (TxSetFrame::getContentsHash in stellar-core). The set has a spelling: its
+/// lists and texts keep their bounds.
 pub fn set_hash(alloc: Global, set: &TransactionSet) -> Result<Hash, AllocError>
     requires { transaction_set.within set.now }
     ensures { IfOk result (λ hash. hash ≡ spec.hash_of_set set.now) }

@@ -152,8 +152,8 @@ fn upgrade_all(header: &mut LedgerHeader, upgrades: &[ItemList<u8>])
     }
 }
 
-/// Upgrades a header by the spellings of upgrades, in their order, or tells the first one that is bad, or else the first
-/// one that isn't made here; the header stays then.
+/// Upgrades a header by the spellings of upgrades, in their order, or tells the first one that is bad, or else the
+/// first one that isn't made here; the header stays then.
 pub fn apply_upgrades(
     header: &mut LedgerHeader,
     upgrades: &[ItemList<u8>],

@@ -20,7 +20,8 @@ fn words<R: Env + AllocGlobal>(rt: &R) -> io::Result<Vec<String>> {
     Ok(words)
 }
 
-/// Runs the command of the words over the streams of the process. The steps of merges are counted in a book of their own.
+/// Runs the command of the words over the streams of the process. The steps of merges are counted in a book of their
+/// own.
 fn run<L: Ledger>(rt: &HostRuntime, blank: Blank) -> u8
     requires name { blank.name ≡ L.name }
     requires parts { blank.parts ≡ L.parts }

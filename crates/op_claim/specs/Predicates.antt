@@ -25,7 +25,7 @@ holds_level close_time holds (ClaimPredicate-F.Not (Some part)) = not (holds par
 holds_level close_time holds (ClaimPredicate-F.BeforeAbsoluteTime time) = int_lt (pos close_time) time
 holds_level close_time holds other = false
 
--- a predicate of at most so many levels; one of more doesn't hold
+-- a predicate of at most so many levels; in one of more, what lies deeper counts as false
 unfoldable pub holds_below : ℕ → ℕ → ClaimPredicate → Bool
 holds_below close_time zero predicate = false
 holds_below close_time (suc levels) predicate =

@@ -64,7 +64,8 @@ allowed_flags allow_op line = bit_or (bit_xor line.flags (bit_and line.flags aut
 abbrev pub line_allowed : Ctx → AllowTrustOp → EntryMap → AccountEntry → TrustLineEntry → Attempt
 line_allowed ctx allow_op m source line =
     unless_refused (revoke_tests allow_op source line)
-    (flagged ctx allow_op.trustor (asset_allowed ctx allow_op) (allowed_flags allow_op line) (answer allow.Success) line m)
+    (flagged ctx allow_op.trustor (asset_allowed ctx allow_op) (allowed_flags allow_op line)
+    (answer allow.Success) line m)
 
 abbrev pub allow_trust : Ctx → AllowTrustOp → EntryMap → Attempt
 allow_trust ctx allow_op m =

@@ -1,5 +1,6 @@
 -- Balances and liabilities of accounts and of lines that stay in their ranges.
-use Rattle.std.proofs.Common.{◌≡◌, ◌⊎◌, inl, inr, refl, sym, ap, subst, ◌∙◌, Bool, true, false, cond, Option, Some, None}
+use Rattle.std.proofs.Common.{◌≡◌, ◌⊎◌, inl, inr, refl, sym, ap, subst, ◌∙◌, Bool, true, false, cond, Option, Some}
+use Rattle.std.proofs.Common.{None}
 use Rattle.std.proofs.Common.{arith}
 use Rattle.std.proofs.lemmas.Int.{ints}
 use Rattle.std.specs.Prelude.{ℤ, pos, ◌+ℤ◌, ◌-ℤ◌, ◌≤ℤ◌, if◌then◌else◌}
@@ -17,7 +18,8 @@ use Rattle.ledger_types.specs.declared.key.LedgerKey.TheVariants as key
 use Rattle.ledger_types.specs.Keys.{key_of}
 use Rattle.ledger_types.proofs.KeyOrdering.{keys_total}
 use Rattle.entry_map.specs.EntryMap.{EntryMap, put, erase}
-use Rattle.entry_slots.specs.Accounts.{account_in, account_of, account_at, with_account, with_account_of, with_account_in}
+use Rattle.entry_slots.specs.Accounts.{account_in, account_of, account_at, with_account, with_account_of}
+use Rattle.entry_slots.specs.Accounts.{with_account_in}
 use Rattle.entry_slots.specs.AccountExtensions.{account_liabilities}
 use Rattle.entry_slots.specs.Lines.{line_in, line_of, line_at}
 use Rattle.entry_slots.specs.LineExtensions.{line_liabilities}

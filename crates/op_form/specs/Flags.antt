@@ -2,7 +2,9 @@
 use Rattle.std.specs.Prelude.{ℕ, not, nat_eq, bit_and, Bool, Option, Some, None}
 use Rattle.ledger_types.specs.declared.account.AccountEntry.{AccountEntry}
 use Rattle.ledger_types.specs.declared.claimable_balance.ClaimableBalanceEntry.{ClaimableBalanceEntry}
-use Rattle.ledger_types.specs.declared.claimable_balance.ClaimableBalanceEntryExtensionV1.{ClaimableBalanceEntryExtensionV1}
+use Rattle.ledger_types.specs.declared.claimable_balance.ClaimableBalanceEntryExtensionV1.{
+  ClaimableBalanceEntryExtensionV1,
+}
 use Rattle.ledger_types.specs.declared.trust_line.TrustLineEntry.{TrustLineEntry}
 
 -- one of these flags is set

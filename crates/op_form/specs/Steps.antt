@@ -41,7 +41,8 @@ abbrev pub success : Ctx → OperationResult → EntryMap → List Move → Atte
 success ctx result m moves = Ok (record { result = result; entries = m; ctx = ctx; moves = moves })
 
 -- goes on with the map that a step gives, or ends with what answers its fault
-abbrev pub after_step : {B F : Type 0} → Result EntryMap F → (F → OperationResult) → (EntryMap → Result B OperationResult)
+abbrev pub after_step : {B F : Type 0} → Result EntryMap F → (F → OperationResult)
+    → (EntryMap → Result B OperationResult)
     → Result B OperationResult
 after_step (Err fault) answers next = Err (answers fault)
 after_step (Ok m) answers next = next m

@@ -173,8 +173,8 @@ fn less(balance: i64, amount: i64) -> i64
 
 // ---- taking
 
-/// Gives an amount of an asset to an account. It answers why it can't, and nothing has changed, or nothing. An issuer of
-/// the asset keeps none of it.
+/// Gives an amount of an asset to an account. It answers why it can't, and nothing has changed, or nothing. An issuer
+/// of the asset keeps none of it.
 pub fn credit<B: Base>(
     entries: &mut Entries<'_, B>,
     id: &AccountId,

@@ -27,7 +27,8 @@ pub fn debit_lumens<B: Base>(
     requires amount { pos 0 ≤ℤ amount }
     requires range { IsInRangeAt entries.old.current id.now }
     ensures given { IfOk result (λ paid.
-        spec.Gives paid entries.old entries.new (spec.map_after_lumens_debit ctx.now id.now amount entries.old.current)) }
+        spec.Gives paid entries.old entries.new
+        (spec.map_after_lumens_debit ctx.now id.now amount entries.old.current)) }
     ensures others { OnOk result (keeping.ChangesAtMost (Some id.now) entries.old.current entries.new.current) }
 {
     let Some(slot) = load_account(entries, id)? else {

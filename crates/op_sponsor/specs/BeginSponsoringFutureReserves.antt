@@ -4,7 +4,9 @@ use Rattle.op_types.specs.declared.operation_result.OperationResult.{OperationRe
 use Rattle.op_types.specs.declared.operation_result.OperationResult.TheVariants.{Inner}
 use Rattle.op_types.specs.declared.operation_result.OperationResultTr.TheVariants as tr
 use Rattle.op_types.specs.declared.sponsor_ops.BeginSponsoringFutureReservesOp.{BeginSponsoringFutureReservesOp}
-use Rattle.op_types.specs.declared.sponsor_results.BeginSponsoringFutureReservesResult.{BeginSponsoringFutureReservesResult}
+use Rattle.op_types.specs.declared.sponsor_results.BeginSponsoringFutureReservesResult.{
+  BeginSponsoringFutureReservesResult,
+}
 use Rattle.op_types.specs.declared.sponsor_results.BeginSponsoringFutureReservesResult.TheVariants as begin
 use Rattle.entry_map.specs.EntryMap.{EntryMap}
 use Rattle.entry_slots.specs.Tests.{Tests}

@@ -17,7 +17,8 @@ answer code = Inner (tr.EndSponsoringFutureReserves code)
 
 -- where the sponsorship stands that is open for the source
 unfoldable pub place_of_sponsorship : Ctx → Option ℕ
-place_of_sponsorship ctx = position (λ sponsorship. is_same_account sponsorship.sponsored ctx.op_source) ctx.sponsorships
+place_of_sponsorship ctx =
+    position (λ sponsorship. is_same_account sponsorship.sponsored ctx.op_source) ctx.sponsorships
 
 abbrev pub without_sponsorship : ℕ → Ctx → Ctx
 without_sponsorship place ctx = record ctx { sponsorships = remove ctx.sponsorships place }

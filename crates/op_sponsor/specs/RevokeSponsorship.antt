@@ -1,5 +1,6 @@
 -- REVOKE_SPONSORSHIP (RevokeSponsorshipOpFrame in stellar-core; CAP-0033).
-use Rattle.std.specs.Prelude.{ℕ, ◌&&◌, ◌||◌, not, ◌∷◌, [], pos, int_le, nat_eq, is_some, Bool, true, false, length, Option}
+use Rattle.std.specs.Prelude.{ℕ, ◌&&◌, ◌||◌, not, ◌∷◌, [], pos, int_le, nat_eq, is_some, Bool, true, false, length}
+use Rattle.std.specs.Prelude.{Option}
 use Rattle.std.specs.Prelude.{Some, None}
 use Rattle.std.specs.FinMap.{get}
 use Rattle.ledger_types.specs.declared.ids.AccountId.{AccountId}
@@ -42,7 +43,8 @@ answer code = Inner (tr.RevokeSponsorship code)
 -- lines are held in valid credit assets of others and in shares of pools
 abbrev pub is_held : AccountId → TrustLineAsset → Bool
 is_held id line.Native = false
-is_held id (line.Alphanum4 code issuer) = is_valid_asset (asset.Alphanum4 code issuer) && not (is_same_account issuer id)
+is_held id (line.Alphanum4 code issuer) =
+    is_valid_asset (asset.Alphanum4 code issuer) && not (is_same_account issuer id)
 is_held id (line.Alphanum12 code issuer) =
     is_valid_asset (asset.Alphanum12 code issuer) && not (is_same_account issuer id)
 is_held id (line.PoolShare pool) = true
@@ -70,7 +72,10 @@ is_payer id None None = false
 abbrev pub entry_tests : Ctx → LedgerEntry → Tests OperationResult
 entry_tests ctx entry =
     (not (is_payer ctx.op_source (sponsor_of entry) (owner_of entry.body)), answer revoke.NotSponsor)
-    ∷ (is_some (balance_in entry.body) && not (is_some (open_sponsor ctx ctx.op_source)), answer revoke.OnlyTransferable)
+    ∷ (
+      is_some (balance_in entry.body) && not (is_some (open_sponsor ctx ctx.op_source)),
+      answer revoke.OnlyTransferable,
+    )
     ∷ []
 
 -- The open sponsor of the source pays from now on, unless that is the owner, and else the owner. What has no sponsor

@@ -114,7 +114,8 @@ fn change_line<B: Base>(
     entries: &mut Entries<'_, B>,
     slot: LineSlot,
 ) -> Result<OperationResult, AllocError>
-    requires loaded { Some slot ≡ lines.line_slot_at entries.old.current ctx.now.op_source (assets.line_asset_of asset.now) }
+    requires loaded { Some slot ≡ lines.line_slot_at entries.old.current ctx.now.op_source
+        (assets.line_asset_of asset.now) }
     requires in_range { IsLineInRange slot.line }
     ensures { IfOk result (λ r.
         Makes r ctx.now entries.old entries.new (
@@ -183,7 +184,8 @@ fn store_limit<B: Base>(
     ensures { OnOk result (
         entries.new ≡
         with_current entries.old (
-        lines.with_line entries.old.current ctx.now.op_source (assets.line_asset_of asset.now) (spec.with_limit limit))) }
+        lines.with_line entries.old.current ctx.now.op_source (assets.line_asset_of asset.now)
+        (spec.with_limit limit))) }
 {
     let mut slot = slot;
     slot.line.limit = limit;

@@ -7,7 +7,8 @@ use Rattle.op_types.specs.declared.payment_results.CreateAccountResult.TheVarian
 use Rattle.op_types.specs.declared.payment_results.PaymentResult.{PaymentResult}
 use Rattle.op_types.specs.declared.payment_results.PaymentResult.TheVariants as payment
 use Rattle.op_types.specs.declared.payment_results.PathPaymentStrictReceiveResult.{PathPaymentStrictReceiveResult}
-use Rattle.op_types.specs.declared.payment_results.PathPaymentStrictReceiveResult.TheVariants as path_payment_strict_receive
+use Rattle.op_types.specs.declared.payment_results.PathPaymentStrictReceiveResult.TheVariants
+    as path_payment_strict_receive
 use Rattle.op_types.specs.declared.payment_results.PathPaymentStrictSendResult.{PathPaymentStrictSendResult}
 use Rattle.op_types.specs.declared.payment_results.PathPaymentStrictSendResult.TheVariants as path_payment_strict_send
 use Rattle.op_types.specs.declared.offer_results.ManageOfferResult.{ManageOfferResult}
@@ -30,16 +31,21 @@ use Rattle.op_types.specs.declared.balance_results.CreateClaimableBalanceResult.
 use Rattle.op_types.specs.declared.balance_results.CreateClaimableBalanceResult.TheVariants as create_claimable_balance
 use Rattle.op_types.specs.declared.balance_results.ClaimClaimableBalanceResult.{ClaimClaimableBalanceResult}
 use Rattle.op_types.specs.declared.balance_results.ClaimClaimableBalanceResult.TheVariants as claim_claimable_balance
-use Rattle.op_types.specs.declared.sponsor_results.BeginSponsoringFutureReservesResult.{BeginSponsoringFutureReservesResult}
-use Rattle.op_types.specs.declared.sponsor_results.BeginSponsoringFutureReservesResult.TheVariants as begin_sponsoring_future_reserves
+use Rattle.op_types.specs.declared.sponsor_results.BeginSponsoringFutureReservesResult.{
+  BeginSponsoringFutureReservesResult,
+}
+use Rattle.op_types.specs.declared.sponsor_results.BeginSponsoringFutureReservesResult.TheVariants
+    as begin_sponsoring_future_reserves
 use Rattle.op_types.specs.declared.sponsor_results.EndSponsoringFutureReservesResult.{EndSponsoringFutureReservesResult}
-use Rattle.op_types.specs.declared.sponsor_results.EndSponsoringFutureReservesResult.TheVariants as end_sponsoring_future_reserves
+use Rattle.op_types.specs.declared.sponsor_results.EndSponsoringFutureReservesResult.TheVariants
+    as end_sponsoring_future_reserves
 use Rattle.op_types.specs.declared.sponsor_results.RevokeSponsorshipResult.{RevokeSponsorshipResult}
 use Rattle.op_types.specs.declared.sponsor_results.RevokeSponsorshipResult.TheVariants as revoke_sponsorship
 use Rattle.op_types.specs.declared.trust_results.ClawbackResult.{ClawbackResult}
 use Rattle.op_types.specs.declared.trust_results.ClawbackResult.TheVariants as clawback
 use Rattle.op_types.specs.declared.balance_results.ClawbackClaimableBalanceResult.{ClawbackClaimableBalanceResult}
-use Rattle.op_types.specs.declared.balance_results.ClawbackClaimableBalanceResult.TheVariants as clawback_claimable_balance
+use Rattle.op_types.specs.declared.balance_results.ClawbackClaimableBalanceResult.TheVariants
+    as clawback_claimable_balance
 use Rattle.op_types.specs.declared.trust_results.SetTrustLineFlagsResult.{SetTrustLineFlagsResult}
 use Rattle.op_types.specs.declared.trust_results.SetTrustLineFlagsResult.TheVariants as set_trust_line_flags
 use Rattle.op_types.specs.declared.pool_results.LiquidityPoolDepositResult.{LiquidityPoolDepositResult}

@@ -1,5 +1,5 @@
-//! What comes piece by piece from a source: a start image, and records of closes behind it. The source is read no further
-//! than the piece at hand needs, but for the rest of the last read.
+//! What comes piece by piece from a source: a start image, and records of closes behind it. The source is read no
+//! further than the piece at hand needs, but for the rest of the last read.
 #![tactic(auto)]
 
 mod ahead;

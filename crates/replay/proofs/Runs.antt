@@ -28,10 +28,12 @@ use Rattle.replay.proofs.Marking.{read_mark, framed_is_read, framed_above}
 abbrev answer : Result Closed CloseFault → Result Closed CloseFault
 answer r = r
 
-same_close : (s : ClosingState) (bytes : List ℕ) (a b : Closed) → IsClose s bytes (Ok a) → IsClose s bytes (Ok b) → a ≡ b
+same_close : (s : ClosingState) (bytes : List ℕ) (a b : Closed) → IsClose s bytes (Ok a) → IsClose s bytes (Ok b)
+    → a ≡ b
 same_close s bytes a b h i = let e : answer (Ok a) ≡ Ok b = closes_are_one s bytes (Ok a) (Ok b) h i in cc
 
-same_refusal : (s : ClosingState) (bytes : List ℕ) (a b : CloseFault) → IsClose s bytes (Err a) → IsClose s bytes (Err b)
+same_refusal : (s : ClosingState) (bytes : List ℕ) (a b : CloseFault) → IsClose s bytes (Err a)
+    → IsClose s bytes (Err b)
     → a ≡ b
 same_refusal s bytes a b h i = let e : answer (Err a) ≡ Err b = closes_are_one s bytes (Err a) (Err b) h i in cc
 
@@ -81,7 +83,8 @@ outcome end t = record { status = end; text = t }
 abbrev refusal : ClosingState → CloseFault → Outcome
 refusal s w = outcome status.Refused (refused_line s.header w)
 
-same_stop : (s : ClosingState) (r : Reading XdrFault (List ℕ)) (a b : Outcome) → IsStopped s r a → IsStopped s r b → a ≡ b
+same_stop : (s : ClosingState) (r : Reading XdrFault (List ℕ)) (a b : Outcome) → IsStopped s r a → IsStopped s r b
+    → a ≡ b
 same_stop s (Err wrong) a b h i = h ∙ sym i
 same_stop s (Ok x) a b h i =
     h.2 ∙ ap (λ (w : CloseFault). refusal s w) (same_refusal s x.0 h.0 i.0 h.1 i.1) ∙ sym i.2

@@ -1,5 +1,6 @@
 -- What a start image at the front of an input comes to.
-use Rattle.std.proofs.Common.{◌≡◌, ℕ, ◌^◌, ◌<◌, ◌≤◌, List, [], ◌++◌, length, drop, Option, Some, None, IfSome, Result, Ok, Err}
+use Rattle.std.proofs.Common.{◌≡◌, ℕ, ◌^◌, ◌<◌, ◌≤◌, List, [], ◌++◌, length, drop, Option, Some, None, IfSome, Result}
+use Rattle.std.proofs.Common.{Ok, Err}
 use Rattle.std.proofs.Common.{refl, sym, ap, subst, ◌∙◌, append_assoc, append-nil, zero-add, arith, inl, inr}
 use Rattle.std.specs.Io.KnownBytes.{Consumes, IsAtEnd}
 use Rattle.std.proofs.KnownBytes.{Consumes-trans}
@@ -70,7 +71,8 @@ image_cut input new at image q grown fits measured low e later =
     let s = start_image_laws.lawful.takes (start_of new) q image fits e in
     let front : List ℕ = start_image.spell image in
     let len : at ≡ length front =
-    at_of at q (sym measured ∙ ap (λ (r : Reading XdrFault StartImage). end_by r) e) ∙ s.taken.at ∙ zero-add (length front) in
+    at_of at q (sym measured ∙ ap (λ (r : Reading XdrFault StartImage). end_by r) e) ∙ s.taken.at
+    ∙ zero-add (length front) in
     let parts : new ≡ front ++ q.rest = s.taken.parts in
     let rest : drop at new ≡ q.rest = ap (drop at) parts ∙ drop_front at front q.rest (sym len) in
     let given : grown.given ≡ front ++ drop at new =
@@ -235,7 +237,8 @@ answered_by passphrase s at ahead input start (Some x) (Some y) out end gave h =
     whole p (inl (o, run, e, received)) = inl (o, (Ok s, start.judged, run), e, received)
     whole p (inr (short, front, f, received)) = inr (short, front, inr (s, start.judged, f), received)
 
-pub caught_up : (passphrase : List ℕ) (s : ClosingState) (at : ℕ) (ahead : List ℕ) (input out : Seen) (now : Option (List ℕ))
+pub caught_up : (passphrase : List ℕ) (s : ClosingState) (at : ℕ) (ahead : List ℕ) (input out : Seen)
+    (now : Option (List ℕ))
     (faults : ℕ) (end : Status) → StartsAt passphrase s at ahead input
     → Followed s at ahead (over input.now now input.faults_now faults) out end
     → CaughtUp passphrase (over input.before now input.faults_before faults) out end

@@ -23,7 +23,8 @@ use Rattle.replay.proofs.Fronts.{whole_front}
 
 -- the text of an outcome is a front of itself
 started_front : (network : Hash) (image : StartImage) (p : Place) (judged : Result ClosingState ImageFault)
-    (o : Outcome) → IsJudged network image judged → IsStarted judged p o → IsOutputFrontOf network (Ok (image, p)) o.text
+    (o : Outcome) → IsJudged network image judged → IsStarted judged p o
+    → IsOutputFrontOf network (Ok (image, p)) o.text
 started_front network image p (Ok s) o is h = inr (s, is, inr (o, h, whole_front o.text))
 started_front network image p (Err (fault.BadImage rule)) o is h = inl (ap (λ (x : Outcome). x.text) h)
 started_front network image p (Err fault.NotBuilt) o is h = inl (ap (λ (x : Outcome). x.text) h)

@@ -1,6 +1,8 @@
 -- What a turn comes to, from what its parts answer.
-use Rattle.std.proofs.Common.{◌≡◌, ℕ, ◌+◌, ◌-◌, ◌*◌, ◌^◌, ◌<◌, ◌≤◌, List, [], ◌∷◌, ◌++◌, length, take, drop, Option, Some, None}
-use Rattle.std.proofs.Common.{IfSome, Result, Ok, Err, refl, sym, ap, subst, ◌∙◌, append_assoc, append-nil, arith, inl, inr, ◌⊎◌}
+use Rattle.std.proofs.Common.{◌≡◌, ℕ, ◌+◌, ◌-◌, ◌*◌, ◌^◌, ◌<◌, ◌≤◌, List, [], ◌∷◌, ◌++◌, length, take, drop, Option}
+use Rattle.std.proofs.Common.{Some, None}
+use Rattle.std.proofs.Common.{IfSome, Result, Ok, Err, refl, sym, ap, subst, ◌∙◌, append_assoc, append-nil, arith}
+use Rattle.std.proofs.Common.{inl, inr, ◌⊎◌}
 use Rattle.std.specs.Prelude.{◌≢◌, IsNone}
 use Rattle.std.specs.Io.KnownBytes.{Consumes, IsAtEnd}
 use Rattle.std.proofs.KnownBytes.{Appends-trans, Consumes-trans}
@@ -27,13 +29,15 @@ use Rattle.run_outcome.specs.declared.status.Status.{Status}
 use Rattle.run_outcome.specs.declared.status.Status.TheVariants as status
 use Rattle.run_outcome.specs.Statuses.{IsCutShort}
 use Rattle.run_outcome.specs.Lines.{end_line, refused_line}
-use Rattle.run_outcome.specs.Outcome.{Outcome, silent, behind, framed, max_record_len, lines_of, IsStopped, IsEnd, IsRun}
+use Rattle.run_outcome.specs.Outcome.{Outcome, silent, behind, framed, max_record_len, lines_of, IsStopped, IsEnd}
+use Rattle.run_outcome.specs.Outcome.{IsRun}
 use Rattle.run_outcome.specs.Outcome.{frames, AreClosed, IsRunFront}
 use Rattle.run_outcome.specs.Run.{Answered}
 use Rattle.replay.specs.Following.{WroteOn, Refuses, Closes, Passes, EndsAt, Turned}
 use Rattle.replay.specs.Following.{Wrote, Stops, AnsweredFrom, Followed, FollowedFrom, Standing, Goes, WholeLines}
 use Rattle.xdr_core.proofs.FormatLaws.{faults_placed, mark_laws}
-use Rattle.replay.proofs.Marking.{read_mark, framed_is_read, framed_above, framed_len, fault_behind, empty_is_short, front_of}
+use Rattle.replay.proofs.Marking.{read_mark, framed_is_read, framed_above, framed_len, fault_behind, empty_is_short}
+use Rattle.replay.proofs.Marking.{front_of}
 use Rattle.ledger_types.specs.declared.header.LedgerHeader.{LedgerHeader}
 use Rattle.replay.proofs.Fronts.{front_more}
 use Rattle.replay.proofs.Runs.{next_seq, prepended, ended_run, no_records, one_more, empty_front, later_front}
@@ -438,7 +442,8 @@ pub turned_at : (s : ClosingState) (at : ℕ) (ahead mid : List ℕ) (end : ℕ)
     → record_end mid ≡ Ok end → Passes s mid end next out r → (IsNone r → new ≡ drop end mid)
     → input.faults_before ≤ input.faults_now → out.faults_before ≤ out.faults_now
     → s.header.ledger_seq ≤ 2147483647
-    → Turned (record { state = s; at = at; ahead = ahead }) (record { state = next; at = at + end; ahead = new }) input out r
+    → Turned (record { state = s; at = at; ahead = ahead }) (record { state = next; at = at + end; ahead = new })
+    input out r
 turned_at s at ahead mid end next new input out None fits grown measured p rest input_later out_later low =
     let f = front_of mid end fits measured in
     let cut : ahead ++ grown.given ≡ framed p.bytes ++ new =
@@ -477,7 +482,8 @@ pub turned_off : (s : ClosingState) (at : ℕ) (ahead mid : List ℕ) (input out
 turned_off s at ahead mid input out (piece.Xdr wrong) end fits h e = elim (none_or_some mid) [
   | inl none ↦ all_done s at ahead mid input out end wrong h.0 h.1 h.2 none (e.0 none)
   | inr some ↦ let bad = e.1 some in
-      subst (Followed s at ahead input out) (sym bad.0) (bad_mark s at ahead mid input out wrong h.0 fits h.1 h.2 some bad.1)
+      subst (Followed s at ahead input out) (sym bad.0)
+      (bad_mark s at ahead mid input out wrong h.0 fits h.1 h.2 some bad.1)
 ]
 turned_off s at ahead mid input out piece.Failed end fits h e =
     subst (Followed s at ahead input out) (sym e.0) (read_failed s at ahead mid input out h.0 h.1 h.2 e.1)

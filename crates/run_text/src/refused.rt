@@ -65,7 +65,8 @@ fn push_hashes(
     second: &Hash,
 ) -> Result<(), AllocError>
     ensures { OnOk result (text.new.items ≡ text.old.items
-        ++ spec.spaced (name.now ++ spec.spaced (spec.hash_text first.now) ++ spec.spaced (spec.hash_text second.now))) }
+        ++ spec.spaced (name.now ++ spec.spaced (spec.hash_text first.now)
+        ++ spec.spaced (spec.hash_text second.now))) }
 {
     push_word(text, name)?;
     push_hash_word(alloc, text, first)?;

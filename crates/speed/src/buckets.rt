@@ -22,7 +22,8 @@ fn merged_length<L: Ledger>(older: Arc<Bucket>, newer: Arc<Bucket>, blank: Blank
     }
 }
 
-/// Reads two files of buckets, and answers how long both are together, or how long their merge is where it is asked for.
+/// Reads two files of buckets, and answers how long both are together, or how long their merge is where it is asked
+/// for.
 pub fn pass_buckets(older: Vec<u8>, newer: Vec<u8>, merges: bool) -> Option<usize> {
     let older = Bucket::read(older).ok()?;
     let newer = Bucket::read(newer).ok()?;

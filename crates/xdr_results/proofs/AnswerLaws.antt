@@ -32,7 +32,9 @@ use Rattle.op_types.specs.declared.balance_results.CreateClaimableBalanceResult.
 use Rattle.op_types.specs.declared.balance_results.CreateClaimableBalanceResult.TheVariants as create_claimable_balance
 use Rattle.op_types.specs.declared.balance_results.ClaimClaimableBalanceResult.{ClaimClaimableBalanceResult}
 use Rattle.op_types.specs.declared.balance_results.ClaimClaimableBalanceResult.TheVariants as claim_claimable_balance
-use Rattle.op_types.specs.declared.sponsor_results.BeginSponsoringFutureReservesResult.{BeginSponsoringFutureReservesResult}
+use Rattle.op_types.specs.declared.sponsor_results.BeginSponsoringFutureReservesResult.{
+  BeginSponsoringFutureReservesResult,
+}
 use Rattle.op_types.specs.declared.sponsor_results.BeginSponsoringFutureReservesResult.TheVariants as begin_sponsoring
 use Rattle.op_types.specs.declared.sponsor_results.EndSponsoringFutureReservesResult.{EndSponsoringFutureReservesResult}
 use Rattle.op_types.specs.declared.sponsor_results.EndSponsoringFutureReservesResult.TheVariants as end_sponsoring

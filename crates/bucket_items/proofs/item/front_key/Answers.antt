@@ -8,7 +8,8 @@ pub split_at-requires : goal.split_at-requires
 split_at-requires c =
     let text = c.args.text.now in
     let fits = λ (i : ℕ). Fits-lt-pow {w = w8} {n = get_or text i 0} (c.type_inv.text i) in
-    let e = key_ends text (key_seen c.in-Ok.field-0) _ c.read_key_ref.new.cursor fits c.new-ahead.ensures c.in-Ok.ensures in
+    let e = key_ends text (key_seen c.in-Ok.field-0) _ c.read_key_ref.new.cursor fits c.new-ahead.ensures
+    c.in-Ok.ensures in
     subst (λ (n : ℕ). n ≤ length text) (sym c.at.ensures) e
 
 pub returns-in-Ok : goal.returns-in-Ok

@@ -4,4 +4,5 @@ use Rattle.bucket_items.proofs.key_text.order.Goals as goal
 
 pub returns-then-stand_by_bytes : goal.returns-then-stand_by_bytes
 returns-then-stand_by_bytes c = λ k m h g.
-    c.cmp.ensures ∙ bytes_are_ordered c.args.a.now c.args.b.now k m (c.stand_by_bytes.ensures k m h g c.if-stand_by_bytes.true) h g
+    c.cmp.ensures ∙ bytes_are_ordered c.args.a.now c.args.b.now k m
+    (c.stand_by_bytes.ensures k m h g c.if-stand_by_bytes.true) h g

@@ -14,6 +14,7 @@ pub returns : goal.returns
 unfolding file_total
 returns c =
     let pairs = c.args.pairs.now in
-    let whole : take c.loop-pair.pair-index pairs ≡ pairs = take_all c.loop-pair.pair-index pairs c.loop-pair-test.false in
+    let whole : take c.loop-pair.pair-index pairs ≡ pairs =
+    take_all c.loop-pair.pair-index pairs c.loop-pair-test.false in
     c.loop-pair.invariant.so_far ∙ ap (sum_by size_of) whole
     ∙ sym (fold-map (λ n pair. n + pair_size pair) pair_of 0 pairs)

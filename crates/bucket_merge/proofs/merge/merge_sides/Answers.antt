@@ -18,7 +18,8 @@ take_first_key-requires g c =
       f.new,
       f.has_old,
       f.has_new,
-      left_over f.old f.new c.are_empty.result (c.are_empty.ensures f.old f.new f.has_old f.has_new) c.loop-older-test.true,
+      left_over f.old f.new c.are_empty.result (c.are_empty.ensures f.old f.new f.has_old f.has_new)
+          c.loop-older-test.true,
     )
 
 pub loop-older-preserved : goal.loop-older-preserved

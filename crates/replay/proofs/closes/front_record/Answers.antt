@@ -5,7 +5,9 @@ use Rattle.replay.proofs.Marking.{front_of, bytes_of}
 use Rattle.replay.proofs.closes.front_record.Goals as goal
 
 pub split_at-requires : goal.split_at-requires
-split_at-requires c = let f = front_of c.args.ahead.now c.args.end (bytes_of c.args.ahead.now c.type_inv.ahead) c.requires in omega (arith, f.within)
+split_at-requires c =
+    let f = front_of c.args.ahead.now c.args.end (bytes_of c.args.ahead.now c.type_inv.ahead) c.requires in
+    omega (arith, f.within)
 
 pub split_at-requires-2 : goal.split_at-requires-2
 split_at-requires-2 c =

@@ -9,7 +9,8 @@ use Rattle.replay.proofs.closes.turn.Goals as goal
 pub returns-in-Ok : goal.returns-in-Ok
 returns-in-Ok g c =
     let p = c.pass_record-stopped in
-    turned_at c.args.ledger.now c.args.at.now c.args.ahead.now.items c.read_piece.new.ahead.items c.in-Ok.end p.new.ledger
+    turned_at c.args.ledger.now c.args.at.now c.args.ahead.now.items c.read_piece.new.ahead.items c.in-Ok.end
+    p.new.ledger
     p.new.ahead.items (seen g.I.Source.left g.I.Source.faults c.args.input.now c.read_piece.new.source)
     (seen g.O.Sink.taken g.O.Sink.faults c.args.out.now p.new.out) p.result p.ensures.fits c.in-Ok.ensures.piece.0
     c.in-Ok.ensures.piece.1 p.ensures.passes p.ensures.rest c.in-Ok.ensures.later p.ensures.later

@@ -9,7 +9,8 @@ returns-in-Some g c =
     ran_command (words_of c.args.words.now) c.in-Some.network.now
     (seen g.I.Source.left g.I.Source.faults c.args.input.now c.catch_up_told.new.input)
     (seen g.O.Sink.taken g.O.Sink.faults c.args.out.now c.catch_up_told.new.out)
-    (seen g.E.Sink.taken g.E.Sink.faults c.args.err.now c.catch_up_told.new.err) c.catch_up_told.result c.in-Some.ensures
+    (seen g.E.Sink.taken g.E.Sink.faults c.args.err.now c.catch_up_told.new.err) c.catch_up_told.result
+    c.in-Some.ensures
     c.catch_up_told.ensures
 
 pub returns-in-None : goal.returns-in-None

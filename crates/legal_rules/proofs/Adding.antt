@@ -1,5 +1,5 @@
 -- A line, an offer or data that is added.
-use Rattle.std.proofs.Common.{◌≡◌, refl, sym, ap, subst, ◌∙◌, ℕ, ◌+◌, ◌≤◌, false, Option, Some, None, Ok, arith}
+use Rattle.std.proofs.Common.{◌≡◌, ◌≢◌, refl, sym, ap, subst, ◌∙◌, ℕ, ◌+◌, ◌≤◌, false, Option, Some, None, Ok, arith}
 use Rattle.std.proofs.lemmas.Int.{ints}
 use borrow.Author.Tests.{ltb-false}
 use Rattle.std.specs.Prelude.{ℤ, pos, neg_ℤ, ◌+ℤ◌, ◌≤ℤ◌}
@@ -21,6 +21,7 @@ use Rattle.sponsor_rules.specs.Paying.{map_after_charging, with_subentry}
 use Rattle.sponsor_rules.specs.Payers.{open_sponsor, payer_of, payer_by, is_full, is_over, subentry_tests_at}
 use Rattle.sponsor_laws.proofs.Bounds.{done_by, have_passed, HavePassed}
 use Rattle.entry_sums.specs.Sums.{total}
+use Rattle.entry_sums.proofs.Lookups.{put_elsewhere}
 use Rattle.legal_rules.specs.Books.{Kind, Subentries, View}
 use Rattle.legal_rules.specs.Supply.{held}
 use Rattle.legal_rules.specs.OfferIds.{offer_with}
@@ -162,3 +163,17 @@ module _ (v : View) (id_pool next : ℕ) (owed : Owed) (sum : ℤ) (ctx : Ctx) (
       let after = put now (sponsored_entry t entry) in
       subst IsLegalNow (done_by (subentry_tests_at ctx m owner n) after new is)
       (placed t refl (counted (have_passed ctx m owner n after new is)))
+
+  same_key : (o : Option AccountId) → key_of (sponsored_entry o entry) ≡ key_of entry
+  same_key None = refl
+  same_key (Some x) = refl
+
+  -- what stands under a key that is of no account, nor of what is added, stands as it did
+  pub stands_still : (new : EntryMap) → map_after_adding_subentry ctx entry owner n m ≡ Ok new → (k : LedgerKey)
+      → ((x : AccountId) → k ≢ key.Account x) → k ≢ key_of entry → get new k ≡ get m k
+  stands_still new is k no_account apart =
+      let after = put now (sponsored_entry t entry) in
+      ap (λ x. get x k) (sym (done_by (subentry_tests_at ctx m owner n) after new is))
+      ∙ put_elsewhere now (sponsored_entry t entry) k (λ same. apart (same ∙ same_key t))
+      ∙ (counted (have_passed ctx m owner n after new is)).others k (beside_none k) (λ x is. no_account x)
+      (no_account owner)

@@ -26,7 +26,10 @@ use Rattle.legal_rules.specs.Supply.{held}
 use Rattle.legal_rules.specs.OfferIds.{offer_with}
 use Rattle.legal_rules.specs.WholeStates.{own_data, own_promise, two_sales}
 use Rattle.legal_rules.specs.WholeStates.{whole_list, whole_header, whole_entries, RulesBind, entry_by, owner}
-use Rattle.legal_rules.specs.WholeStates.{sponsor, stranger, dollars, note, promise, pool, sale, owner_account, state_of}
+use Rattle.legal_rules.specs.WholeStates.{sponsor, stranger, dollars, note, promise, pool, sale, owner_account}
+use Rattle.legal_rules.specs.WholeStates.{state_of, crowded_owner, owner_signed_by, lost_signer, lost_promise}
+use Rattle.legal_rules.specs.WholeStates.{lost_pool}
+use Rattle.legal_rules.specs.WholeStates.{lost_dollars, lost_sale}
 use Rattle.legal_rules.specs.WholeStates.{sponsor_account, account_ext, line_ext, pool_id}
 use Rattle.legal_rules.proofs.Evaluated.{book_in, lumens_in, get_in, total_in, value, stands_in, view_in}
 
@@ -54,67 +57,117 @@ data_of_no_account : IsLegal whole_header (state_of data_of_no_account_list) →
 data_of_no_account = unbooked whole_header data_of_no_account_list Subentries (key.Account stranger) refl
 
 abbrev a_line_that_sells_less_than_its_offer_list : List LedgerEntry
-a_line_that_sells_less_than_its_offer_list = entry_by None (body.TrustLine (record dollars { ext = line_ext (pos 9) (pos 1) })) ∷ whole_list
+a_line_that_sells_less_than_its_offer_list =
+    entry_by None (body.TrustLine (record dollars { ext = line_ext (pos 9) (pos 1) })) ∷ whole_list
 
 a_line_that_sells_less_than_its_offer : IsLegal whole_header (state_of a_line_that_sells_less_than_its_offer_list) → ⊥
 unfolding bound_of
-a_line_that_sells_less_than_its_offer = unbooked whole_header a_line_that_sells_less_than_its_offer_list Selling (key_of (entry_by None (body.TrustLine dollars))) refl
+a_line_that_sells_less_than_its_offer =
+    unbooked whole_header a_line_that_sells_less_than_its_offer_list Selling
+    (key_of (entry_by None (body.TrustLine dollars))) refl
 
 abbrev an_account_that_buys_less_than_its_offer_list : List LedgerEntry
-an_account_that_buys_less_than_its_offer_list = entry_by (Some sponsor) (body.Account (record owner_account { ext = account_ext (pos 0) (pos 0) 6 0 (Some sponsor ∷ []) })) ∷ whole_list
+an_account_that_buys_less_than_its_offer_list =
+    entry_by (Some sponsor)
+    (body.Account (record owner_account { ext = account_ext (pos 0) (pos 0) 6 0 (Some sponsor ∷ []) })) ∷ whole_list
 
-an_account_that_buys_less_than_its_offer : IsLegal whole_header (state_of an_account_that_buys_less_than_its_offer_list) → ⊥
+an_account_that_buys_less_than_its_offer : IsLegal whole_header
+    (state_of an_account_that_buys_less_than_its_offer_list) → ⊥
 unfolding bound_of
-an_account_that_buys_less_than_its_offer = unbooked whole_header an_account_that_buys_less_than_its_offer_list Buying (key.Account owner) refl
+an_account_that_buys_less_than_its_offer =
+    unbooked whole_header an_account_that_buys_less_than_its_offer_list Buying (key.Account owner) refl
 
 abbrev an_account_that_sells_without_offer_list : List LedgerEntry
-an_account_that_sells_without_offer_list = entry_by (Some sponsor) (body.Account (record owner_account { ext = account_ext (pos 20) (pos 1) 6 0 (Some sponsor ∷ []) })) ∷ whole_list
+an_account_that_sells_without_offer_list =
+    entry_by (Some sponsor)
+    (body.Account (record owner_account { ext = account_ext (pos 20) (pos 1) 6 0 (Some sponsor ∷ []) })) ∷ whole_list
 
 an_account_that_sells_without_offer : IsLegal whole_header (state_of an_account_that_sells_without_offer_list) → ⊥
 unfolding bound_of
-an_account_that_sells_without_offer = unbooked whole_header an_account_that_sells_without_offer_list Selling (key.Account owner) refl
+an_account_that_sells_without_offer =
+    unbooked whole_header an_account_that_sells_without_offer_list Selling (key.Account owner) refl
 
 abbrev a_subentry_too_few_list : List LedgerEntry
-a_subentry_too_few_list = entry_by (Some sponsor) (body.Account (record owner_account { num_sub_entries = 5 })) ∷ whole_list
+a_subentry_too_few_list = entry_by (Some sponsor) (body.Account (record owner_account { num_sub_entries = 5 }))
+    ∷ whole_list
 
 a_subentry_too_few : IsLegal whole_header (state_of a_subentry_too_few_list) → ⊥
 a_subentry_too_few = unbooked whole_header a_subentry_too_few_list Subentries (key.Account owner) refl
 
 abbrev a_sponsored_reserve_too_few_list : List LedgerEntry
-a_sponsored_reserve_too_few_list = entry_by (Some sponsor) (body.Account (record owner_account { ext = account_ext (pos 20) (pos 0) 5 0 (Some sponsor ∷ []) })) ∷ whole_list
+a_sponsored_reserve_too_few_list =
+    entry_by (Some sponsor)
+    (body.Account (record owner_account { ext = account_ext (pos 20) (pos 0) 5 0 (Some sponsor ∷ []) })) ∷ whole_list
 
 a_sponsored_reserve_too_few : IsLegal whole_header (state_of a_sponsored_reserve_too_few_list) → ⊥
 a_sponsored_reserve_too_few = unbooked whole_header a_sponsored_reserve_too_few_list Sponsored (key.Account owner) refl
 
 abbrev an_owner_that_sponsors_nothing_list : List LedgerEntry
-an_owner_that_sponsors_nothing_list = entry_by (Some sponsor) (body.Account (record owner_account { ext = account_ext (pos 20) (pos 0) 6 1 (Some sponsor ∷ []) })) ∷ whole_list
+an_owner_that_sponsors_nothing_list =
+    entry_by (Some sponsor)
+    (body.Account (record owner_account { ext = account_ext (pos 20) (pos 0) 6 1 (Some sponsor ∷ []) })) ∷ whole_list
 
 an_owner_that_sponsors_nothing : IsLegal whole_header (state_of an_owner_that_sponsors_nothing_list) → ⊥
-an_owner_that_sponsors_nothing = unbooked whole_header an_owner_that_sponsors_nothing_list Sponsoring (key.Account owner) refl
+an_owner_that_sponsors_nothing =
+    unbooked whole_header an_owner_that_sponsors_nothing_list Sponsoring (key.Account owner) refl
 
 abbrev a_sponsoring_reserve_too_few_list : List LedgerEntry
-a_sponsoring_reserve_too_few_list = entry_by None (body.Account (record sponsor_account { ext = account_ext (pos 0) (pos 0) 0 7 [] })) ∷ whole_list
+a_sponsoring_reserve_too_few_list =
+    entry_by None (body.Account (record sponsor_account { ext = account_ext (pos 0) (pos 0) 0 7 [] })) ∷ whole_list
 
 a_sponsoring_reserve_too_few : IsLegal whole_header (state_of a_sponsoring_reserve_too_few_list) → ⊥
-a_sponsoring_reserve_too_few = unbooked whole_header a_sponsoring_reserve_too_few_list Sponsoring (key.Account sponsor) refl
+a_sponsoring_reserve_too_few =
+    unbooked whole_header a_sponsoring_reserve_too_few_list Sponsoring (key.Account sponsor) refl
 
 abbrev an_unused_line_of_shares_list : List LedgerEntry
-an_unused_line_of_shares_list = entry_by None (body.TrustLine (record dollars { ext = line_ext (pos 10) (pos 0) })) ∷ whole_list
+an_unused_line_of_shares_list = entry_by None (body.TrustLine (record dollars { ext = line_ext (pos 10) (pos 0) }))
+    ∷ whole_list
 
 an_unused_line_of_shares : IsLegal whole_header (state_of an_unused_line_of_shares_list) → ⊥
-an_unused_line_of_shares = unbooked whole_header an_unused_line_of_shares_list Uses (key_of (entry_by None (body.TrustLine dollars))) (rw (same_itself (key.LiquidityPool pool_id)) refl)
+an_unused_line_of_shares =
+    unbooked whole_header an_unused_line_of_shares_list Uses (key_of (entry_by None (body.TrustLine dollars)))
+    (rw (same_itself (key.LiquidityPool pool_id)) refl)
 
 abbrev shares_that_nobody_has_list : List LedgerEntry
-shares_that_nobody_has_list = entry_by None (body.LiquidityPool (record pool { total_pool_shares = pos 49 })) ∷ whole_list
+shares_that_nobody_has_list = entry_by None (body.LiquidityPool (record pool { total_pool_shares = pos 49 }))
+    ∷ whole_list
 
 shares_that_nobody_has : IsLegal whole_header (state_of shares_that_nobody_has_list) → ⊥
-shares_that_nobody_has = unbooked whole_header shares_that_nobody_has_list Shares (key.LiquidityPool pool_id) (rw (same_itself (key.LiquidityPool pool_id)) refl)
+shares_that_nobody_has =
+    unbooked whole_header shares_that_nobody_has_list Shares (key.LiquidityPool pool_id)
+    (rw (same_itself (key.LiquidityPool pool_id)) refl)
 
 abbrev two_lines_where_one_stands_list : List LedgerEntry
-two_lines_where_one_stands_list = entry_by None (body.LiquidityPool (record pool { pool_shares_trust_line_count = pos 2 })) ∷ whole_list
+two_lines_where_one_stands_list =
+    entry_by None (body.LiquidityPool (record pool { pool_shares_trust_line_count = pos 2 })) ∷ whole_list
 
 two_lines_where_one_stands : IsLegal whole_header (state_of two_lines_where_one_stands_list) → ⊥
-two_lines_where_one_stands = unbooked whole_header two_lines_where_one_stands_list ShareLines (key.LiquidityPool pool_id) (rw (same_itself (key.LiquidityPool pool_id)) refl)
+two_lines_where_one_stands =
+    unbooked whole_header two_lines_where_one_stands_list ShareLines (key.LiquidityPool pool_id)
+    (rw (same_itself (key.LiquidityPool pool_id)) refl)
+
+a_signer_whose_sponsor_is_no_account : IsLegal whole_header (state_of lost_signer) → ⊥
+a_signer_whose_sponsor_is_no_account = unbooked whole_header lost_signer Sponsoring (key.Account stranger) refl
+
+a_claimable_balance_whose_sponsor_is_no_account : IsLegal whole_header (state_of lost_promise) → ⊥
+a_claimable_balance_whose_sponsor_is_no_account =
+    unbooked whole_header lost_promise Sponsoring (key.Account stranger) refl
+
+shares_of_no_pool : IsLegal whole_header (state_of lost_pool) → ⊥
+shares_of_no_pool =
+    unbooked whole_header lost_pool Shares (key.LiquidityPool pool_id)
+    (rw (same_itself (key.LiquidityPool pool_id)) refl)
+
+shares_without_a_line_that_they_need : IsLegal whole_header (state_of lost_dollars) → ⊥
+shares_without_a_line_that_they_need =
+    unbooked whole_header lost_dollars Uses (key_of (entry_by None (body.TrustLine dollars)))
+    (rw (same_itself (key.LiquidityPool pool_id)) refl)
+
+an_offer_without_its_line : IsLegal whole_header (state_of lost_sale) → ⊥
+an_offer_without_its_line legal =
+    legal.standing (key.Offer owner (pos 1)) (entry_by None (body.Offer sale))
+    (get_in lost_sale (key.Offer owner (pos 1))) 1 (key.Account owner) (omega arith)
+    (get_in lost_sale (key_of (entry_by None (body.TrustLine dollars))))
 
 a_lumen_too_few : IsLegal (record whole_header { total_coins = pos 1374 }) whole_entries → ⊥
 a_lumen_too_few = lost_lumens (record whole_header { total_coins = pos 1374 }) whole_list refl
@@ -160,6 +213,21 @@ unpaid legal = (legal.entries (key_of (entry_by None (body.ClaimableBalance prom
     (entry_by None (body.ClaimableBalance promise))
     (get_in own_promise (key_of (entry_by None (body.ClaimableBalance promise))))).paid refl
 
+many_subentries : 1001 ≤ 1000 → ⊥
+many_subentries le = omega arith
+
+more_than_1000_subentries : IsLegal whole_header (state_of (crowded_owner ∷ whole_list)) → ⊥
+more_than_1000_subentries legal =
+    many_subentries (legal.few (key_of crowded_owner) crowded_owner (first_there crowded_owner whole_list))
+
+many_signers : 21 ≤ 20 → ⊥
+many_signers le = omega arith
+
+more_than_20_signers : IsLegal whole_header (state_of (owner_signed_by 21 ∷ whole_list)) → ⊥
+more_than_20_signers legal =
+    many_signers (legal.entries (key_of (owner_signed_by 21)) (owner_signed_by 21)
+    (first_there (owner_signed_by 21) whole_list)).body.signers.few
+
 abbrev open_line : LedgerEntry
 open_line = entry_by None (body.TrustLine (record dollars { flags = 4 }))
 
@@ -193,15 +261,23 @@ rules_bind = record {
       (entry_by None (body.Offer sale)) (get_in whole_list (key.Offer owner (pos 1)))).body.id_high;
   a_line_of_an_offer_without_authorisation = unauthorised;
   data_that_its_owner_sponsors = data_paid;
+  more_than_20_signers = more_than_20_signers;
   a_claimable_balance_without_sponsor = unpaid;
-  a_pool_with_a_sponsor = λ legal. absurd (let none = (legal.entries _ (entry_by (Some sponsor) (body.LiquidityPool pool))
+  a_pool_with_a_sponsor =
+      λ legal. absurd (let none = (legal.entries _ (entry_by (Some sponsor) (body.LiquidityPool pool))
       (first_there (entry_by (Some sponsor) (body.LiquidityPool pool)) whole_list)).paid in cc);
   two_offers_of_one_id = two_offers_of_one_id;
   data_of_no_account = data_of_no_account;
+  a_signer_whose_sponsor_is_no_account = a_signer_whose_sponsor_is_no_account;
+  a_claimable_balance_whose_sponsor_is_no_account = a_claimable_balance_whose_sponsor_is_no_account;
+  shares_of_no_pool = shares_of_no_pool;
+  shares_without_a_line_that_they_need = shares_without_a_line_that_they_need;
+  an_offer_without_its_line = an_offer_without_its_line;
   a_line_that_sells_less_than_its_offer = a_line_that_sells_less_than_its_offer;
   an_account_that_buys_less_than_its_offer = an_account_that_buys_less_than_its_offer;
   an_account_that_sells_without_offer = an_account_that_sells_without_offer;
   a_subentry_too_few = a_subentry_too_few;
+  more_than_1000_subentries = more_than_1000_subentries;
   a_sponsored_reserve_too_few = a_sponsored_reserve_too_few;
   an_owner_that_sponsors_nothing = an_owner_that_sponsors_nothing;
   a_sponsoring_reserve_too_few = a_sponsoring_reserve_too_few;

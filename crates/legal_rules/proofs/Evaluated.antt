@@ -17,7 +17,8 @@ use Rattle.legal_rules.specs.Trades.{holder, sells, buys}
 use Rattle.legal_rules.specs.Owing.{weight, IsEntryLegal}
 use Rattle.legal_rules.specs.OfferIds.{offer_with}
 use Rattle.legal_rules.specs.Headers.{IsHeaderInRange}
-use Rattle.legal_rules.specs.Books.{Subentries, Sponsoring, Sponsored, Selling, Buying, Shares, ShareLines, Uses, stated}
+use Rattle.legal_rules.specs.Books.{Subentries, Sponsoring, Sponsored, Selling, Buying, Shares, ShareLines, Uses}
+use Rattle.legal_rules.specs.Books.{stated}
 use Rattle.ledger_types.specs.declared.asset.PoolParams.{PoolParams}
 use Rattle.ledger_types.specs.declared.asset.TrustLineAsset.{TrustLineAsset}
 use Rattle.ledger_types.specs.declared.asset.TrustLineAsset.TheVariants as line
@@ -44,6 +45,7 @@ use Rattle.legal_rules.specs.PoolShares.{Pools}
 use Rattle.legal_rules.specs.Supply.{held}
 use Rattle.legal_rules.specs.Legal.{params_of, pools_in, IsLegal}
 use Rattle.legal_rules.specs.WholeStates.{state_of}
+use Rattle.legal_rules.proofs.Numbers.{both_none}
 use Rattle.legal_rules.proofs.Legality.{all_booked, legal_of}
 
 -- what stands under a key
@@ -140,9 +142,6 @@ none_kept k (Some id ∷ ids) all =
 none_for : (k : LedgerKey) (ids : List (Option AccountId)) → All (IsOther k) (flat_map account_keys ids)
     → count_by (is_for k) ids ≡ 0
 none_for k ids all = sym (length-filter (is_for k) ids) ∙ ap length (none_kept k ids all)
-
-both_none : (a b : ℤ) → a ≡ pos 0 → b ≡ pos 0 → (a +ℤ b) ≡ pos 0
-both_none a b none also = omega (arith, ints)
 
 less_none : (a b : ℤ) → a ≡ pos 0 → b ≡ pos 0 → (a -ℤ b) ≡ pos 0
 less_none a b none also = omega (arith, ints)

@@ -87,7 +87,9 @@ pub signers_few : SignersFew
 signers_few h m id a legal stands =
     let found = account_entry m id a stands in
     let there = body_there m id a found.0 found.1 in
-    let named = same_id_at m id a legal.keyed stands in (
+    let named = same_id_at m id a legal.keyed stands in
+    let known = bounded h m id a legal stands in (
+      known.range.signers.few,
       natural_le (length a.signers) a.num_sub_entries (stated_at Subentries (get m (key.Account id)))
           (counted_stated (view m) h.id_pool nothing_owed (h.total_coins -ℤ h.fee_pool) m (owing_nothing h m legal)
           Subentries (key.Account id) (key.Account id) (with_body found.0 a) (pos (length a.signers))
@@ -95,7 +97,7 @@ signers_few h m id a legal stands =
           there (all_of (is_key (key.Account a.account_id) (key.Account id)) (length a.signers)
           (ap (λ i. is_key (key.Account i) (key.Account id)) named ∙ same_itself (key.Account id))))
           (account_states m id a Subentries stands),
-      (bounded h m id a legal stands).few,
+      known.few,
     )
 
 -- ---- sponsoring nothing

@@ -61,7 +61,8 @@ pub balance_added_so : BalanceAdded
 balance_added_so v id_pool owed sum ctx owner b entry old new legal is fresh range stands done =
     let charged : charge_of entry.body ≡ charge.Payer (length b.claimants) = ap charge_of is in
     subst (λ (x : LedgerEntryBody). IsLegalOwing v id_pool owed (sum +ℤ held_in v.asset x) new) is
-    (balance_added v id_pool owed sum ctx entry (payer_of ctx owner) (length b.claimants) old new legal charged fresh.free
+    (balance_added v id_pool owed sum ctx entry (payer_of ctx owner) (length b.claimants) old new legal charged
+    fresh.free
     range stands (sym (ap (λ c. map_after_adding_by ctx owner entry c (account_in entry.body) old) charged) ∙ done))
 
 pub account_added_so : AccountAdded
@@ -114,7 +115,7 @@ data_settled v e d kind k = nothing_less (is_key (key_of_body (body.Data d)) k)
 plus_zero : (x : ℤ) → (x +ℤ pos 0) ≡ x
 plus_zero x = omega (arith, ints)
 
-plus_none : (x : ℤ) → x ≤ℤ pos 1 → (x +ℤ pos 0) ≤ℤ pos 1
+pub plus_none : (x : ℤ) → x ≤ℤ pos 1 → (x +ℤ pos 0) ≤ℤ pos 1
 plus_none x le = omega (arith, ints)
 
 pub adding_data_keeps : AddingDataKeeps
@@ -140,7 +141,7 @@ adding_data_keeps h ctx seq d old new legal range free stands ready done =
 none_taken : (x : ℤ) → x ≡ pos 0 → (pos 0 +ℤ neg_ℤ x) ≡ pos 0
 none_taken x none = omega (arith, ints)
 
-minus_zero : (x : ℤ) → (x +ℤ neg_ℤ (pos 0)) ≡ x
+pub minus_zero : (x : ℤ) → (x +ℤ neg_ℤ (pos 0)) ≡ x
 minus_zero x = omega (arith, ints)
 
 module _ (h : LedgerHeader) (m : EntryMap) (legal : IsLegal h m) (id : AccountId) (name : List ℕ) where

@@ -39,3 +39,4 @@ pub mod Whole
 pub mod Breaking
 pub mod Rounded
 pub mod SharesKept
+pub mod ShareLinesKept

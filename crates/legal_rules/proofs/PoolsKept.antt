@@ -29,6 +29,7 @@ use Rattle.legal_rules.specs.Bounds.{IsFilledOrEmpty}
 use Rattle.legal_rules.specs.PoolLaws.{new_pool, IsNewPool, NewPoolsKeep, RemovedPoolsKeep}
 use Rattle.legal_rules.specs.Legal.{params_of, view, pools_in}
 use Rattle.legal_rules.specs.Owing.{weight, nothing_owed, IsEntryLegal, IsLegalOwing}
+use Rattle.legal_rules.proofs.Numbers.{both_none}
 use Rattle.legal_rules.proofs.Changed.{pool_entry, with_pool_body}
 use Rattle.legal_rules.proofs.Legality.{owing_nothing, legal_of}
 use Rattle.legal_rules.proofs.Merging.{nothing_counts}
@@ -57,9 +58,6 @@ states_none false n none = refl
 no_asset : (t : Bool) (n : ℤ) → n ≡ pos 0 → (if t then n else pos 0) ≡ pos 0
 no_asset true n none = none
 no_asset false n none = refl
-
-both_none : (a b : ℤ) → a ≡ pos 0 → b ≡ pos 0 → (a +ℤ b) ≡ pos 0
-both_none a b none nothing = omega (arith, ints)
 
 -- ---- lines don't use a pool that none is of
 

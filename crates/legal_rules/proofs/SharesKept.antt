@@ -1,7 +1,7 @@
 -- Lines of pool shares that are added and removed.
 use Rattle.std.proofs.Common.{◌≡◌, refl, ap, ◌∙◌, ℕ, Bool, true, false, Option, Some, None, arith}
 use Rattle.std.proofs.lemmas.Int.{ints}
-use Rattle.std.specs.Prelude.{ℤ, pos, neg_ℤ, ◌+ℤ◌, ◌-ℤ◌, ◌≤ℤ◌, if◌then◌else◌}
+use Rattle.std.specs.Prelude.{ℤ, pos, neg_ℤ, ◌+ℤ◌, ◌-ℤ◌, if◌then◌else◌}
 use Rattle.ledger_types.specs.declared.ids.AccountId.{AccountId}
 use Rattle.ledger_types.specs.declared.ids.Hash.{Hash}
 use Rattle.ledger_types.specs.declared.asset.PoolParams.{PoolParams}
@@ -17,7 +17,7 @@ use Rattle.legal_rules.specs.OfferIds.{offer_with}
 use Rattle.legal_rules.specs.Owing.{weighed, plus, less, beside_reserves, IsEntryLegal}
 use Rattle.legal_rules.specs.ShareLaws.{share_line, share_books, ShareLineAdded, ShareLineRemoved}
 use Rattle.legal_rules.proofs.Steps.{legal_as}
-use Rattle.legal_rules.proofs.Kept.{subentry_added_so, subentry_removed_so}
+use Rattle.legal_rules.proofs.Kept.{subentry_added_so, subentry_removed_so, plus_none}
 
 less_zero : (x : ℤ) (t : Bool) → (x -ℤ (if t then pos 0 else pos 0)) ≡ x
 less_zero x true = omega (arith, ints)
@@ -25,9 +25,6 @@ less_zero x false = omega (arith, ints)
 
 plus_zero : (x : ℤ) → (x +ℤ pos 0) ≡ x
 plus_zero x = omega (arith, ints)
-
-still_one : (n : ℤ) → n ≤ℤ pos 1 → (n +ℤ pos 0) ≤ℤ pos 1
-still_one n le = omega (arith, ints)
 
 counts : (v : View) (seq : ℕ) (ext : Option LedgerEntryExtensionV1) (id : AccountId) (pool : Hash) (params : PoolParams)
     (balance limit : ℤ) → v.pools pool ≡ Some params → (kind : Kind) (k : LedgerKey)
@@ -54,7 +51,7 @@ share_line_added v id_pool next owed sum ctx seq id pool params balance limit ol
     (record {
       free = free;
       unsponsored = refl;
-      id_free = λ n. still_one (total (offer_with n) old) (legal.offers n);
+      id_free = λ n. plus_none (total (offer_with n) old) (legal.offers n);
     }) wide range stands ready done)
     (λ kind k. ap (λ n. owed kind k +ℤ n) (counts v seq None id pool params balance limit known kind k))
     (plus_zero sum)

@@ -130,7 +130,9 @@ module _ (id : AccountId) (signers : List Signer) (sponsors : List (Option Accou
       let items = was.items in
       let more = length-insert signers n s le in
       let also = length-insert sponsors n sponsor (omega arith) in
+      let room = fresh.room in
       record {
+        few = omega arith;
         rising = rising_inserted signers s was.rising fresh.new;
         weights = all_inserted (λ (x : Signer). (1 ≤ x.weight) × (x.weight ≤ 255)) signers n s was.weights fresh.weight;
         others = all_inserted (λ (x : Signer). x.key ≢ signer.Ed25519 id.0) signers n s was.others fresh.other;
@@ -145,7 +147,9 @@ module _ (id : AccountId) (signers : List Signer) (sponsors : List (Option Accou
       let items = was.items in
       let fewer = length-remove signers n within in
       let also = length-remove sponsors n (omega arith) in
+      let few = was.few in
       record {
+        few = omega arith;
         rising = all_pairs_remove IsBelow signers n within was.rising;
         weights = all_removed (λ (x : Signer). (1 ≤ x.weight) × (x.weight ≤ 255)) signers n was.weights;
         others = all_removed (λ (x : Signer). x.key ≢ signer.Ed25519 id.0) signers n was.others;
@@ -156,6 +160,7 @@ module _ (id : AccountId) (signers : List Signer) (sponsors : List (Option Accou
   pub signers_moved : (n : ℕ) (sponsor : Option AccountId) → sponsor ≢ Some id
       → AreSignersInRange id signers (slice_set sponsors n sponsor)
   signers_moved n sponsor apart = record {
+    few = was.few;
     rising = was.rising;
     weights = was.weights;
     others = was.others;

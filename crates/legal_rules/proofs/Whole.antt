@@ -28,7 +28,8 @@ use Rattle.legal_rules.specs.OfferIds.{offer_with}
 use Rattle.legal_rules.specs.Headers.{IsHeaderInRange}
 use Rattle.legal_rules.specs.Owing.{IsEntryLegal, weight}
 use Rattle.legal_rules.specs.WholeStates.{whole_list, whole_header, WholeStateIsLegal, pool_id, entry_by}
-use Rattle.legal_rules.specs.WholeStates.{issuer_account, owner_account, sponsor_account, sponsor, dollars, shares, sale}
+use Rattle.legal_rules.specs.WholeStates.{issuer_account, owner_account, sponsor_account, sponsor, dollars, shares}
+use Rattle.legal_rules.specs.WholeStates.{sale}
 use Rattle.legal_rules.specs.WholeStates.{note, promise, pool, issuer, owner, stranger}
 use Rattle.legal_rules.specs.EntryKeys.{is_key}
 use Rattle.legal_rules.proofs.Evaluated.{legal_in, needs_in, view_in, value, AreEven}
@@ -114,7 +115,21 @@ needs_of_pool = refl
 
 needs : All (λ e. needs_in whole_list e ≡ true) whole_list
 needs =
-    All-cons (λ e. needs_in whole_list e ≡ true) the_sale (the_issuer ∷ the_owner ∷ the_sponsor ∷ the_dollars ∷ the_shares ∷ the_note ∷ the_promise ∷ the_pool ∷ []) (needs_of_sale) (All-cons (λ e. needs_in whole_list e ≡ true) the_issuer (the_owner ∷ the_sponsor ∷ the_dollars ∷ the_shares ∷ the_note ∷ the_promise ∷ the_pool ∷ []) (needs_of_issuer) (All-cons (λ e. needs_in whole_list e ≡ true) the_owner (the_sponsor ∷ the_dollars ∷ the_shares ∷ the_note ∷ the_promise ∷ the_pool ∷ []) (needs_of_owner) (All-cons (λ e. needs_in whole_list e ≡ true) the_sponsor (the_dollars ∷ the_shares ∷ the_note ∷ the_promise ∷ the_pool ∷ []) (needs_of_sponsor) (All-cons (λ e. needs_in whole_list e ≡ true) the_dollars (the_shares ∷ the_note ∷ the_promise ∷ the_pool ∷ []) (needs_of_dollars) (All-cons (λ e. needs_in whole_list e ≡ true) the_shares (the_note ∷ the_promise ∷ the_pool ∷ []) (needs_of_shares) (All-cons (λ e. needs_in whole_list e ≡ true) the_note (the_promise ∷ the_pool ∷ []) (needs_of_note) (All-cons (λ e. needs_in whole_list e ≡ true) the_promise (the_pool ∷ []) (needs_of_promise) (All-cons (λ e. needs_in whole_list e ≡ true) the_pool ([]) (needs_of_pool) (All-nil (λ e. needs_in whole_list e ≡ true))))))))))
+    All-cons (λ e. needs_in whole_list e ≡ true) the_sale
+    (the_issuer ∷ the_owner ∷ the_sponsor ∷ the_dollars ∷ the_shares ∷ the_note ∷ the_promise ∷ the_pool ∷ [])
+    (needs_of_sale) (All-cons (λ e. needs_in whole_list e ≡ true) the_issuer
+    (the_owner ∷ the_sponsor ∷ the_dollars ∷ the_shares ∷ the_note ∷ the_promise ∷ the_pool ∷ []) (needs_of_issuer)
+    (All-cons (λ e. needs_in whole_list e ≡ true) the_owner
+    (the_sponsor ∷ the_dollars ∷ the_shares ∷ the_note ∷ the_promise ∷ the_pool ∷ []) (needs_of_owner)
+    (All-cons (λ e. needs_in whole_list e ≡ true) the_sponsor
+    (the_dollars ∷ the_shares ∷ the_note ∷ the_promise ∷ the_pool ∷ []) (needs_of_sponsor)
+    (All-cons (λ e. needs_in whole_list e ≡ true) the_dollars (the_shares ∷ the_note ∷ the_promise ∷ the_pool ∷ [])
+    (needs_of_dollars) (All-cons (λ e. needs_in whole_list e ≡ true) the_shares
+    (the_note ∷ the_promise ∷ the_pool ∷ []) (needs_of_shares)
+    (All-cons (λ e. needs_in whole_list e ≡ true) the_note (the_promise ∷ the_pool ∷ []) (needs_of_note)
+    (All-cons (λ e. needs_in whole_list e ≡ true) the_promise (the_pool ∷ []) (needs_of_promise)
+    (All-cons (λ e. needs_in whole_list e ≡ true) the_pool ([]) (needs_of_pool)
+    (All-nil (λ e. needs_in whole_list e ≡ true))))))))))
 
 -- what is counted for an entry that stands, less what it states
 abbrev open_at : Kind → LedgerEntry → ℤ
@@ -221,7 +236,20 @@ even_pool Uses = rw same_pool refl
 
 even : (kind : Kind) → AreEven whole_list asset.Native kind
 even kind =
-    All-cons (λ e. open_at kind e ≡ pos 0) the_sale (the_issuer ∷ the_owner ∷ the_sponsor ∷ the_dollars ∷ the_shares ∷ the_note ∷ the_promise ∷ the_pool ∷ []) (even_sale kind) (All-cons (λ e. open_at kind e ≡ pos 0) the_issuer (the_owner ∷ the_sponsor ∷ the_dollars ∷ the_shares ∷ the_note ∷ the_promise ∷ the_pool ∷ []) (even_issuer kind) (All-cons (λ e. open_at kind e ≡ pos 0) the_owner (the_sponsor ∷ the_dollars ∷ the_shares ∷ the_note ∷ the_promise ∷ the_pool ∷ []) (even_owner kind) (All-cons (λ e. open_at kind e ≡ pos 0) the_sponsor (the_dollars ∷ the_shares ∷ the_note ∷ the_promise ∷ the_pool ∷ []) (even_sponsor kind) (All-cons (λ e. open_at kind e ≡ pos 0) the_dollars (the_shares ∷ the_note ∷ the_promise ∷ the_pool ∷ []) (even_dollars kind) (All-cons (λ e. open_at kind e ≡ pos 0) the_shares (the_note ∷ the_promise ∷ the_pool ∷ []) (even_shares kind) (All-cons (λ e. open_at kind e ≡ pos 0) the_note (the_promise ∷ the_pool ∷ []) (even_note kind) (All-cons (λ e. open_at kind e ≡ pos 0) the_promise (the_pool ∷ []) (even_promise kind) (All-cons (λ e. open_at kind e ≡ pos 0) the_pool ([]) (even_pool kind) (All-nil (λ e. open_at kind e ≡ pos 0))))))))))
+    All-cons (λ e. open_at kind e ≡ pos 0) the_sale
+    (the_issuer ∷ the_owner ∷ the_sponsor ∷ the_dollars ∷ the_shares ∷ the_note ∷ the_promise ∷ the_pool ∷ [])
+    (even_sale kind) (All-cons (λ e. open_at kind e ≡ pos 0) the_issuer
+    (the_owner ∷ the_sponsor ∷ the_dollars ∷ the_shares ∷ the_note ∷ the_promise ∷ the_pool ∷ []) (even_issuer kind)
+    (All-cons (λ e. open_at kind e ≡ pos 0) the_owner
+    (the_sponsor ∷ the_dollars ∷ the_shares ∷ the_note ∷ the_promise ∷ the_pool ∷ []) (even_owner kind)
+    (All-cons (λ e. open_at kind e ≡ pos 0) the_sponsor
+    (the_dollars ∷ the_shares ∷ the_note ∷ the_promise ∷ the_pool ∷ []) (even_sponsor kind)
+    (All-cons (λ e. open_at kind e ≡ pos 0) the_dollars (the_shares ∷ the_note ∷ the_promise ∷ the_pool ∷ [])
+    (even_dollars kind) (All-cons (λ e. open_at kind e ≡ pos 0) the_shares (the_note ∷ the_promise ∷ the_pool ∷ [])
+    (even_shares kind) (All-cons (λ e. open_at kind e ≡ pos 0) the_note (the_promise ∷ the_pool ∷ [])
+    (even_note kind) (All-cons (λ e. open_at kind e ≡ pos 0) the_promise (the_pool ∷ []) (even_promise kind)
+    (All-cons (λ e. open_at kind e ≡ pos 0) the_pool ([]) (even_pool kind)
+    (All-nil (λ e. open_at kind e ≡ pos 0))))))))))
 
 first_byte : Option AccountId → ℕ
 first_byte None = 0
@@ -284,12 +312,18 @@ unfolding is_valid_text
 legal_issuer = record {
   range = record {
     body = record {
-      range = record { balance = omega (arith, ints); buying = omega (arith, ints); selling = omega (arith, ints); fits = omega (arith, ints) };
+      range = record {
+        balance = omega (arith, ints);
+        buying = omega (arith, ints);
+        selling = omega (arith, ints);
+        fits = omega (arith, ints);
+      };
       seq_num = omega (arith, ints);
       greatest_seq_num = omega (arith, ints);
       flags = record { known = omega arith; clawback = λ set. refl };
       home_domain = refl;
       signers = record {
+        few = omega arith;
         rising = λ i j d below within. absurd (omega arith);
         weights = λ k d within. absurd (omega arith);
         others = λ k d within. absurd (omega arith);
@@ -310,15 +344,23 @@ unfolding is_valid_text
 legal_owner = record {
   range = record {
     body = record {
-      range = record { balance = omega (arith, ints); buying = omega (arith, ints); selling = omega (arith, ints); fits = omega (arith, ints) };
+      range = record {
+        balance = omega (arith, ints);
+        buying = omega (arith, ints);
+        selling = omega (arith, ints);
+        fits = omega (arith, ints);
+      };
       seq_num = omega (arith, ints);
       greatest_seq_num = omega (arith, ints);
       flags = record { known = omega arith; clawback = λ set. absurd (cc) };
       home_domain = refl;
       signers = record {
+        few = omega arith;
         rising = λ i j d below within. absurd (omega arith);
-        weights = All-cons (λ s. (1 ≤ s.weight) × (s.weight ≤ 255)) the_signer [] (omega arith, omega arith) (All-nil (λ s. (1 ≤ s.weight) × (s.weight ≤ 255)));
-        others = All-cons (λ s. s.key ≢ signer.Ed25519 owner.0) the_signer [] (λ same. absurd (cc)) (All-nil (λ s. s.key ≢ signer.Ed25519 owner.0));
+        weights = All-cons (λ s. (1 ≤ s.weight) × (s.weight ≤ 255)) the_signer [] (omega arith, omega arith)
+            (All-nil (λ s. (1 ≤ s.weight) × (s.weight ≤ 255)));
+        others = All-cons (λ s. s.key ≢ signer.Ed25519 owner.0) the_signer [] (λ same. absurd (cc))
+            (All-nil (λ s. s.key ≢ signer.Ed25519 owner.0));
         items = refl;
         paid_by_others = All-cons (λ s. s ≢ Some owner) (Some sponsor) [] not_owner (All-nil (λ s. s ≢ Some owner));
       };
@@ -336,12 +378,18 @@ unfolding is_valid_text
 legal_sponsor = record {
   range = record {
     body = record {
-      range = record { balance = omega (arith, ints); buying = omega (arith, ints); selling = omega (arith, ints); fits = omega (arith, ints) };
+      range = record {
+        balance = omega (arith, ints);
+        buying = omega (arith, ints);
+        selling = omega (arith, ints);
+        fits = omega (arith, ints);
+      };
       seq_num = omega (arith, ints);
       greatest_seq_num = omega (arith, ints);
       flags = record { known = omega arith; clawback = λ set. absurd (cc) };
       home_domain = refl;
       signers = record {
+        few = omega arith;
         rising = λ i j d below within. absurd (omega arith);
         weights = λ k d within. absurd (omega arith);
         others = λ k d within. absurd (omega arith);
@@ -362,7 +410,13 @@ unfolding is_valid_code
 legal_dollars = record {
   range = record {
     body = record {
-      range = record { balance = omega (arith, ints); buying = omega (arith, ints); selling = omega (arith, ints); covered = omega (arith, ints); fits = omega (arith, ints) };
+      range = record {
+        balance = omega (arith, ints);
+        buying = omega (arith, ints);
+        selling = omega (arith, ints);
+        covered = omega (arith, ints);
+        fits = omega (arith, ints);
+      };
       limit = omega (arith, ints);
       greatest = omega (arith, ints);
       held = (refl, not_issuer);
@@ -381,7 +435,13 @@ legal_shares : IsEntryLegal 1 the_shares
 legal_shares = record {
   range = record {
     body = record {
-      range = record { balance = omega (arith, ints); buying = omega (arith, ints); selling = omega (arith, ints); covered = omega (arith, ints); fits = omega (arith, ints) };
+      range = record {
+        balance = omega (arith, ints);
+        buying = omega (arith, ints);
+        selling = omega (arith, ints);
+        covered = omega (arith, ints);
+        fits = omega (arith, ints);
+      };
       limit = omega (arith, ints);
       greatest = omega (arith, ints);
       held = tt;
@@ -414,7 +474,15 @@ legal_promise = record {
       amount = omega (arith, ints);
       asset = refl;
       flags = omega arith;
-      claimants = record { some = omega arith; few = omega arith; apart = two_apart; predicates = All-cons (λ c. is_valid_stored_predicate c.predicate ≡ true) first_claimant (second_claimant ∷ []) refl (All-cons (λ c. is_valid_stored_predicate c.predicate ≡ true) second_claimant [] refl (All-nil (λ c. is_valid_stored_predicate c.predicate ≡ true))) };
+      claimants = record {
+        some = omega arith;
+        few = omega arith;
+        apart = two_apart;
+        predicates = All-cons (λ c. is_valid_stored_predicate c.predicate ≡ true) first_claimant
+            (second_claimant ∷ []) refl
+            (All-cons (λ c. is_valid_stored_predicate c.predicate ≡ true) second_claimant [] refl
+            (All-nil (λ c. is_valid_stored_predicate c.predicate ≡ true)));
+      };
     };
     paid = λ none. absurd (cc);
   };
@@ -447,7 +515,19 @@ legal_pool = record {
 
 legal_entries : All (λ e. IsEntryLegal 1 e) whole_list
 legal_entries =
-    All-cons (λ e. IsEntryLegal 1 e) the_sale (the_issuer ∷ the_owner ∷ the_sponsor ∷ the_dollars ∷ the_shares ∷ the_note ∷ the_promise ∷ the_pool ∷ []) (legal_sale) (All-cons (λ e. IsEntryLegal 1 e) the_issuer (the_owner ∷ the_sponsor ∷ the_dollars ∷ the_shares ∷ the_note ∷ the_promise ∷ the_pool ∷ []) (legal_issuer) (All-cons (λ e. IsEntryLegal 1 e) the_owner (the_sponsor ∷ the_dollars ∷ the_shares ∷ the_note ∷ the_promise ∷ the_pool ∷ []) (legal_owner) (All-cons (λ e. IsEntryLegal 1 e) the_sponsor (the_dollars ∷ the_shares ∷ the_note ∷ the_promise ∷ the_pool ∷ []) (legal_sponsor) (All-cons (λ e. IsEntryLegal 1 e) the_dollars (the_shares ∷ the_note ∷ the_promise ∷ the_pool ∷ []) (legal_dollars) (All-cons (λ e. IsEntryLegal 1 e) the_shares (the_note ∷ the_promise ∷ the_pool ∷ []) (legal_shares) (All-cons (λ e. IsEntryLegal 1 e) the_note (the_promise ∷ the_pool ∷ []) (legal_note) (All-cons (λ e. IsEntryLegal 1 e) the_promise (the_pool ∷ []) (legal_promise) (All-cons (λ e. IsEntryLegal 1 e) the_pool ([]) (legal_pool) (All-nil (λ e. IsEntryLegal 1 e))))))))))
+    All-cons (λ e. IsEntryLegal 1 e) the_sale
+    (the_issuer ∷ the_owner ∷ the_sponsor ∷ the_dollars ∷ the_shares ∷ the_note ∷ the_promise ∷ the_pool ∷ [])
+    (legal_sale) (All-cons (λ e. IsEntryLegal 1 e) the_issuer
+    (the_owner ∷ the_sponsor ∷ the_dollars ∷ the_shares ∷ the_note ∷ the_promise ∷ the_pool ∷ []) (legal_issuer)
+    (All-cons (λ e. IsEntryLegal 1 e) the_owner
+    (the_sponsor ∷ the_dollars ∷ the_shares ∷ the_note ∷ the_promise ∷ the_pool ∷ []) (legal_owner)
+    (All-cons (λ e. IsEntryLegal 1 e) the_sponsor
+    (the_dollars ∷ the_shares ∷ the_note ∷ the_promise ∷ the_pool ∷ []) (legal_sponsor)
+    (All-cons (λ e. IsEntryLegal 1 e) the_dollars (the_shares ∷ the_note ∷ the_promise ∷ the_pool ∷ [])
+    (legal_dollars) (All-cons (λ e. IsEntryLegal 1 e) the_shares (the_note ∷ the_promise ∷ the_pool ∷ [])
+    (legal_shares) (All-cons (λ e. IsEntryLegal 1 e) the_note (the_promise ∷ the_pool ∷ []) (legal_note)
+    (All-cons (λ e. IsEntryLegal 1 e) the_promise (the_pool ∷ []) (legal_promise)
+    (All-cons (λ e. IsEntryLegal 1 e) the_pool ([]) (legal_pool) (All-nil (λ e. IsEntryLegal 1 e))))))))))
 
 pub whole_state_is_legal : WholeStateIsLegal
 whole_state_is_legal = legal_in whole_header whole_list header legal_entries needs offers even refl

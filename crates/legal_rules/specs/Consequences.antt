@@ -33,10 +33,11 @@ abbrev pub MinBalancesLow : Type 0
 MinBalancesLow = (h : LedgerHeader) (m : EntryMap) (id : AccountId) (a : AccountEntry) (base_reserve : ℕ) → IsLegal h m
     → account_at m id ≡ Some a → pos 0 ≤ℤ min_balance a base_reserve
 
--- each signer is a subentry, and there are at most 1000 of these
+-- there are at most 20 signers; each is a subentry, and there are at most 1000 of these
 abbrev pub SignersFew : Type 0
 SignersFew = (h : LedgerHeader) (m : EntryMap) (id : AccountId) (a : AccountEntry) → IsLegal h m
-    → account_at m id ≡ Some a → (length a.signers ≤ a.num_sub_entries) × (a.num_sub_entries ≤ 1000)
+    → account_at m id ≡ Some a
+    → (length a.signers ≤ 20) × (length a.signers ≤ a.num_sub_entries) × (a.num_sub_entries ≤ 1000)
 
 -- an account that pays no reserve as a sponsor is nobody's sponsor
 abbrev pub IdleSponsorsNothing : Type 0

@@ -1,5 +1,5 @@
--- What an offer binds: the wheat that it would give and the sheep that it would take in, by the exchange table, with its
--- amount to be sold and no other bound (CAP-0003; OfferExchange in stellar-core).
+-- What an offer binds: the wheat that it would give and the sheep that it would take in, by the exchange table, with
+-- its amount to be sold and no other bound (CAP-0003; OfferExchange in stellar-core).
 use Rattle.std.specs.Prelude.{ℕ, ◌+◌, ◌-◌, ◌*◌, ◌/◌, min, nat_lt, nat_abs, if◌then◌else◌}
 use Rattle.ledger_types.specs.declared.offer.OfferEntry.{OfferEntry}
 

@@ -15,7 +15,9 @@ use Rattle.ledger_types.specs.declared.offer.OfferEntry.{OfferEntry}
 use Rattle.ledger_types.specs.declared.data_entry.DataEntry.{DataEntry}
 use Rattle.ledger_types.specs.declared.claimable_balance.Claimant.{Claimant}
 use Rattle.ledger_types.specs.declared.claimable_balance.ClaimableBalanceEntry.{ClaimableBalanceEntry}
-use Rattle.ledger_types.specs.declared.claimable_balance.ClaimableBalanceEntryExtensionV1.{ClaimableBalanceEntryExtensionV1}
+use Rattle.ledger_types.specs.declared.claimable_balance.ClaimableBalanceEntryExtensionV1.{
+  ClaimableBalanceEntryExtensionV1,
+}
 use Rattle.ledger_types.specs.declared.liquidity_pool.LiquidityPoolEntry.{LiquidityPoolEntry}
 use Rattle.ledger_types.specs.declared.entry.LedgerEntry.{LedgerEntry}
 use Rattle.ledger_types.specs.declared.entry.LedgerEntryBody.{LedgerEntryBody}
@@ -43,10 +45,12 @@ pub record AreAccountFlags (flags : ℕ) : Type 0 where
   pub known : flags ≤ 15
   pub clawback : has_flag flags 8 ≡ true → has_flag flags 2 ≡ true
 
--- The signers of an account, and who is recorded as paying for each. A key of another kind with the bytes of the
--- account's own key is not its own key.
+-- The signers of an account, of which there are at most 20 (MAX_SIGNERS), and who is recorded as paying for each. A key
+-- of another kind with the bytes of the account's own key is not its own key.
 pub record AreSignersInRange (id : AccountId) (signers : List Signer)
     (sponsors : List (Option AccountId)) : Type 0 where
+  -- the bound of the type, which changes have to keep
+  pub few : length signers ≤ 20
   pub rising : AllPairs (λ x y. signer_key_cmp x.key y.key ≡ Less) signers
   pub weights : All (λ s. (1 ≤ s.weight) × (s.weight ≤ 255)) signers
   pub others : All (λ s. s.key ≢ signer.Ed25519 id.0) signers

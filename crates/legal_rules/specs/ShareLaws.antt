@@ -1,17 +1,25 @@
 -- That lines of pool shares which are added and removed leave open what they count for their pools and for the lines
--- that they need (CAP-0038).
-use Rattle.std.specs.Prelude.{◌≡◌, ℕ, ◌≤◌, ℤ, pos, ◌+ℤ◌, Option, Some, None, Ok}
+-- that they need, and that a state is legal again once these are counted (CAP-0038).
+use Rattle.std.specs.Prelude.{◌≡◌, ◌≢◌, ℕ, ◌≤◌, ℤ, pos, neg_ℤ, ◌+ℤ◌, All, Option, Some, None, Ok}
 use Rattle.std.specs.FinMap.{get}
 use Rattle.ledger_types.specs.declared.ids.AccountId.{AccountId}
 use Rattle.ledger_types.specs.declared.ids.Hash.{Hash}
+use Rattle.ledger_types.specs.declared.asset.Asset.{Asset}
 use Rattle.ledger_types.specs.declared.asset.PoolParams.{PoolParams}
 use Rattle.ledger_types.specs.declared.asset.TrustLineAsset.TheVariants as line
+use Rattle.ledger_types.specs.declared.trust_line.TrustLineEntry.{TrustLineEntry}
+use Rattle.ledger_types.specs.declared.liquidity_pool.LiquidityPoolEntry.{LiquidityPoolEntry}
+use Rattle.ledger_types.specs.declared.header.LedgerHeader.{LedgerHeader}
 use Rattle.ledger_types.specs.declared.entry.LedgerEntry.{LedgerEntry}
 use Rattle.ledger_types.specs.declared.entry.LedgerEntryExtensionV1.{LedgerEntryExtensionV1}
 use Rattle.ledger_types.specs.declared.entry.LedgerEntryBody.TheVariants as body
+use Rattle.ledger_types.specs.declared.key.LedgerKey.{LedgerKey}
 use Rattle.ledger_types.specs.declared.key.LedgerKey.TheVariants as key
 use Rattle.entry_map.specs.EntryMap.{EntryMap}
 use Rattle.entry_slots.specs.Accounts.{HasAccount}
+use Rattle.entry_slots.specs.Lines.{line_at, with_line}
+use Rattle.entry_slots.specs.LineExtensions.{use_count, with_use_count}
+use Rattle.entry_slots.specs.Pools.{pool_at, with_pool}
 use Rattle.sponsor_rules.specs.declared.context.Ctx.{Ctx}
 use Rattle.sponsor_rules.specs.Adding.{map_after_adding}
 use Rattle.sponsor_rules.specs.Removing.{map_after_removing}
@@ -20,6 +28,8 @@ use Rattle.legal_rules.specs.PoolShares.{needed_line}
 use Rattle.legal_rules.specs.Books.{Shares, ShareLines, Uses, View}
 use Rattle.legal_rules.specs.Sponsorships.{IsSponsorReady}
 use Rattle.legal_rules.specs.EntryLaws.{AreReservesSettled}
+use Rattle.legal_rules.specs.Needs.{share_keys}
+use Rattle.legal_rules.specs.Legal.{IsLegal}
 use Rattle.legal_rules.specs.Owing.{Owed, plus, less, IsEntryLegal, IsLegalOwing}
 
 -- so many shares of a pool in the line of an account
@@ -37,14 +47,16 @@ share_line seq ext id pool balance limit = record {
   ext = ext;
 }
 
--- what such a line counts beside its reserve: its shares and itself for the pool, and one use for each of the lines that
--- its account needs for the pool's assets
+-- what such a line counts beside its reserve: its shares and itself for the pool, and one use for each of the lines
+-- that its account needs for the pool's assets
 abbrev pub share_books : AccountId → Hash → PoolParams → (balance : ℤ) → Owed
 share_books id pool params balance Shares k = for_key k (Some (key.LiquidityPool pool)) balance
 share_books id pool params balance ShareLines k = for_key k (Some (key.LiquidityPool pool)) (pos 1)
 share_books id pool params balance Uses k = for_key k (needed_line id params.asset_a) (pos 1) +ℤ
     for_key k (needed_line id params.asset_b) (pos 1)
 share_books id pool params balance kind k = pos 0
+
+-- ---- within a transaction
 
 abbrev pub ShareLineAdded : Type 0
 ShareLineAdded =
@@ -63,3 +75,54 @@ ShareLineRemoved =
     → get m (key.TrustLine id (line.PoolShare pool)) ≡ Some (share_line seq ext id pool balance limit)
     → IsLegalOwing v id_pool (plus owed (less (share_books id pool params balance))) sum
     (map_after_removing (key.TrustLine id (line.PoolShare pool)) m)
+
+-- ---- whole changes
+
+-- a line that is used n times more
+abbrev pub with_uses : ℤ → TrustLineEntry → TrustLineEntry
+with_uses n line = with_use_count (use_count line +ℤ n) line
+
+-- the map, in which the line under a key, where a line's key is named, is used n times more
+abbrev pub map_with_uses_at : ℤ → Option LedgerKey → EntryMap → EntryMap
+map_with_uses_at n (Some (key.TrustLine id asset)) m = with_line m id asset (with_uses n)
+map_with_uses_at n other m = m
+
+-- the map, in which the line that an account needs for an asset, if it needs one, is used n times more
+abbrev pub map_with_uses : ℤ → AccountId → Asset → EntryMap → EntryMap
+map_with_uses n id asset m = map_with_uses_at n (needed_line id asset) m
+
+-- a pool with n lines more
+abbrev pub with_lines : ℤ → LiquidityPoolEntry → LiquidityPoolEntry
+with_lines n pool = record pool { pool_shares_trust_line_count = pool.pool_shares_trust_line_count +ℤ n }
+
+-- the map, in which a pool has n lines more
+abbrev pub map_with_lines : ℤ → Hash → EntryMap → EntryMap
+map_with_lines n pool m = with_pool m pool (with_lines n)
+
+-- the map, in which n lines more of an account in a pool with these parameters are counted: by the pool, and by the
+-- lines that the account needs for the pool's assets
+abbrev pub map_with_share_lines : ℤ → AccountId → Hash → PoolParams → EntryMap → EntryMap
+map_with_share_lines n id pool params m =
+    map_with_lines n pool (map_with_uses n id params.asset_b (map_with_uses n id params.asset_a m))
+
+-- the lines that an account needs for shares of a pool with these parameters stand
+abbrev pub HasNeededLines : EntryMap → AccountId → PoolParams → Type 0
+HasNeededLines m id params = All (λ k. get m k ≢ None) (share_keys id (Some params))
+
+-- An empty line of pool shares is added, and its pool and the lines that its account needs count it.
+abbrev pub AddingShareLinesKeep : Type 0
+AddingShareLinesKeep =
+    (h : LedgerHeader) (ctx : Ctx) (seq : ℕ) (id : AccountId) (pool : Hash) (p : LiquidityPoolEntry) (limit : ℤ)
+    (old added : EntryMap) → IsLegal h old → pool_at old pool ≡ Some p → HasNeededLines old id p.params
+    → get old (key.TrustLine id (line.PoolShare pool)) ≡ None
+    → IsEntryLegal h.id_pool (share_line seq None id pool (pos 0) limit) → HasAccount old id → IsSponsorReady ctx id old
+    → map_after_adding ctx id (share_line seq None id pool (pos 0) limit) old ≡ Ok added
+    → IsLegal h (map_with_share_lines (pos 1) id pool p.params added)
+
+-- An empty line of pool shares is removed, and its pool and the lines that its account needed count it no more.
+abbrev pub RemovingShareLinesKeep : Type 0
+RemovingShareLinesKeep =
+    (h : LedgerHeader) (id : AccountId) (pool : Hash) (t : TrustLineEntry) (p : LiquidityPoolEntry) (m : EntryMap)
+    → IsLegal h m → line_at m id (line.PoolShare pool) ≡ Some t → t.balance ≡ pos 0 → pool_at m pool ≡ Some p
+    → IsLegal h (map_with_share_lines (neg_ℤ (pos 1)) id pool p.params
+    (map_after_removing (key.TrustLine id (line.PoolShare pool)) m))

@@ -1,5 +1,5 @@
 -- That signers which are added, removed and moved keep a state legal.
-use Rattle.std.specs.Prelude.{◌≡◌, ◌≢◌, ℤ, ◌≤◌, All, List, Option, Ok}
+use Rattle.std.specs.Prelude.{◌≡◌, ◌≢◌, ℤ, ◌≤◌, All, List, Option, Ok, ◌<◌, length}
 use Rattle.ledger_types.specs.declared.ids.AccountId.{AccountId}
 use Rattle.ledger_types.specs.declared.header.LedgerHeader.{LedgerHeader}
 use Rattle.ledger_types.specs.declared.signer.Signer.{Signer}
@@ -18,8 +18,9 @@ use Rattle.legal_rules.specs.Sponsorships.{IsSponsorReady}
 use Rattle.legal_rules.specs.Legal.{IsLegal}
 use Rattle.legal_rules.specs.Owing.{Owed, IsLegalOwing}
 
--- a signer that an account may get: of another key than its own, and of none that it has
+-- a signer that an account may get, which has fewer than 20: of another key than its own, and of none that it has
 pub record IsNewSigner (id : AccountId) (signers : List Signer) (s : Signer) : Type 0 where
+  pub room : length signers < 20
   pub weight : (1 ≤ s.weight) × (s.weight ≤ 255)
   pub other : s.key ≢ signer.Ed25519 id.0
   pub new : All (λ x. x.key ≢ s.key) signers

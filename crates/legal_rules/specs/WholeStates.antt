@@ -57,7 +57,8 @@ pool_id = pool_id_of asset.Native usd
 
 abbrev pub entry_by : Option AccountId → LedgerEntryBody → LedgerEntry
 entry_by None b = record { last_modified_ledger_seq = 7; body = b; ext = None }
-entry_by (Some id) b = record { last_modified_ledger_seq = 7; body = b; ext = Some (record { sponsoring_id = Some id }) }
+entry_by (Some id) b =
+    record { last_modified_ledger_seq = 7; body = b; ext = Some (record { sponsoring_id = Some id }) }
 
 abbrev pub bare_account : AccountId → ℤ → AccountEntry
 bare_account id balance = record {
@@ -241,12 +242,54 @@ own_promise = entry_by None (body.ClaimableBalance promise) ∷ sponsor_of_so_ma
 -- an offer of the issuer with the id of the other one, with the counts of the issuer
 abbrev pub two_sales : List LedgerEntry
 two_sales =
-    entry_by None (body.Offer (record sale { seller_id = issuer; amount = pos 7; price = record { n = pos 3; d = pos 2 } }))
+    entry_by None (body.Offer
+    (record sale { seller_id = issuer; amount = pos 7; price = record { n = pos 3; d = pos 2 } }))
     ∷ entry_by None (body.Account (record issuer_account {
       num_sub_entries = 1;
       ext = Some (record { liabilities = record { buying = pos 10; selling = pos 0 }; ext = None });
     }))
     ∷ whole_list
+
+-- an account with more subentries than any has
+abbrev pub crowded_owner : LedgerEntry
+crowded_owner = entry_by (Some sponsor) (body.Account (record owner_account { num_sub_entries = 1001 }))
+
+-- an account with so many signers
+abbrev pub owner_signed_by : ℕ → LedgerEntry
+owner_signed_by n = entry_by (Some sponsor) (body.Account (record owner_account {
+  signers = replicate n (record { key = signer.PreAuthTx (record { 0 = replicate 32 5 }); weight = 1 });
+}))
+
+-- a signer whose sponsor is no account, with the count of who did pay
+abbrev pub lost_signer : List LedgerEntry
+lost_signer =
+    entry_by (Some sponsor) (body.Account (record owner_account {
+      ext = account_ext (pos 20) (pos 0) 6 0 (Some stranger ∷ []);
+    }))
+    ∷ sponsor_of_so_many 7 ∷ whole_list
+
+-- a claimable balance whose sponsor is no account, with the count of who did pay
+abbrev pub lost_promise : List LedgerEntry
+lost_promise = entry_by (Some stranger) (body.ClaimableBalance promise) ∷ sponsor_of_so_many 6 ∷ whole_list
+
+-- a line of shares of a pool that isn't there
+abbrev pub lost_pool : List LedgerEntry
+lost_pool =
+    entry_by None (body.Account owner_account) ∷ entry_by None (body.Account sponsor_account)
+    ∷ entry_by None (body.TrustLine (record dollars { ext = line_ext (pos 0) (pos 0) }))
+    ∷ entry_by None (body.TrustLine shares) ∷ []
+
+-- a line of shares without the line of dollars that it needs
+abbrev pub lost_dollars : List LedgerEntry
+lost_dollars =
+    entry_by None (body.Account owner_account) ∷ entry_by None (body.Account sponsor_account)
+    ∷ entry_by None (body.TrustLine shares) ∷ entry_by None (body.LiquidityPool pool) ∷ []
+
+-- an offer without the line of what it sells
+abbrev pub lost_sale : List LedgerEntry
+lost_sale =
+    entry_by None (body.Offer sale) ∷ entry_by None (body.Account owner_account)
+    ∷ entry_by None (body.Account sponsor_account) ∷ []
 
 -- each of these states breaks a rule
 pub record RulesBind : Type 0 where
@@ -258,6 +301,7 @@ pub record RulesBind : Type 0 where
   pub an_offer_above_the_pool_of_ids : IsLegal (record whole_header { id_pool = 0 }) whole_entries → ⊥
   pub a_line_of_an_offer_without_authorisation : IsLegal whole_header (with_dollars (record dollars { flags = 4 })) → ⊥
   pub data_that_its_owner_sponsors : IsLegal whole_header (state_of own_data) → ⊥
+  pub more_than_20_signers : IsLegal whole_header (put whole_entries (owner_signed_by 21)) → ⊥
   pub a_claimable_balance_without_sponsor : IsLegal whole_header (state_of own_promise) → ⊥
   pub a_pool_with_a_sponsor :
       IsLegal whole_header (put whole_entries (entry_by (Some sponsor) (body.LiquidityPool pool))) → ⊥
@@ -265,6 +309,11 @@ pub record RulesBind : Type 0 where
   pub two_offers_of_one_id : IsLegal whole_header (state_of two_sales) → ⊥
   pub data_of_no_account : IsLegal whole_header
       (put whole_entries (entry_by None (body.Data (record note { account_id = stranger })))) → ⊥
+  pub a_signer_whose_sponsor_is_no_account : IsLegal whole_header (state_of lost_signer) → ⊥
+  pub a_claimable_balance_whose_sponsor_is_no_account : IsLegal whole_header (state_of lost_promise) → ⊥
+  pub shares_of_no_pool : IsLegal whole_header (state_of lost_pool) → ⊥
+  pub shares_without_a_line_that_they_need : IsLegal whole_header (state_of lost_dollars) → ⊥
+  pub an_offer_without_its_line : IsLegal whole_header (state_of lost_sale) → ⊥
   -- liabilities
   pub a_line_that_sells_less_than_its_offer :
       IsLegal whole_header (with_dollars (record dollars { ext = line_ext (pos 9) (pos 1) })) → ⊥
@@ -274,6 +323,7 @@ pub record RulesBind : Type 0 where
       (with_owner (record owner_account { ext = account_ext (pos 20) (pos 1) 6 0 (Some sponsor ∷ []) })) → ⊥
   -- subentries
   pub a_subentry_too_few : IsLegal whole_header (with_owner (record owner_account { num_sub_entries = 5 })) → ⊥
+  pub more_than_1000_subentries : IsLegal whole_header (put whole_entries crowded_owner) → ⊥
   -- sponsorship
   pub a_sponsored_reserve_too_few : IsLegal whole_header
       (with_owner (record owner_account { ext = account_ext (pos 20) (pos 0) 5 0 (Some sponsor ∷ []) })) → ⊥

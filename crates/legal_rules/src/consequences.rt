@@ -1,7 +1,8 @@
 //! What a legal state gives of its accounts.
 
 ghost use Rattle.legal_rules.specs.Consequences.{AccountsInRange, AccountsReady, MinBalancesLow, SignersFew};
-ghost use Rattle.legal_rules.specs.Consequences.{IdleSponsorsNothing, SponsorsReady, LegalOwesNothing, LegalIsOwingNothing};
+ghost use Rattle.legal_rules.specs.Consequences.{IdleSponsorsNothing, SponsorsReady, LegalOwesNothing};
+ghost use Rattle.legal_rules.specs.Consequences.{LegalIsOwingNothing};
 
 /// Balance and liabilities of an account are in their ranges.
 pub fn accounts_in_range()
@@ -18,7 +19,7 @@ pub fn min_balances_low()
     ensures { MinBalancesLow }
 {}
 
-/// An account has at most as many signers as subentries, and at most 1000 of these.
+/// An account has at most 20 signers, at most as many as subentries, and at most 1000 of these.
 pub fn signers_few()
     ensures { SignersFew }
 {}

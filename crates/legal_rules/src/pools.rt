@@ -2,6 +2,7 @@
 
 ghost use Rattle.legal_rules.specs.PoolLaws.{NewPoolsKeep, RemovedPoolsKeep};
 ghost use Rattle.legal_rules.specs.ShareLaws.{ShareLineAdded, ShareLineRemoved};
+ghost use Rattle.legal_rules.specs.ShareLaws.{AddingShareLinesKeep, RemovingShareLinesKeep};
 
 /// A pool that is put where none stood, and that nobody has shares of, keeps the state legal.
 pub fn new_pools_keep()
@@ -22,4 +23,16 @@ pub fn share_line_added()
 /// A line of pool shares that is removed takes the same with it.
 pub fn share_line_removed()
     ensures { ShareLineRemoved }
+{}
+
+/// An empty line of pool shares that is added keeps the state legal, once its pool and the lines that its account needs
+/// count it.
+pub fn adding_share_lines_keep()
+    ensures { AddingShareLinesKeep }
+{}
+
+/// An empty line of pool shares that is removed leaves the state legal, once its pool and the lines that its account
+/// needed count it no more.
+pub fn removing_share_lines_keep()
+    ensures { RemovingShareLinesKeep }
 {}

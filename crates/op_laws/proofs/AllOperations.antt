@@ -9,6 +9,14 @@ use Rattle.op_account.specs.AccountMerge.{account_merge}
 use Rattle.op_account.specs.BumpSequence.{bump_sequence}
 use Rattle.op_account.specs.CreateAccount.{create_account}
 use Rattle.op_account.specs.Operations.{account_operation}
+use Rattle.op_claim.specs.ClaimClaimableBalance.{claim_claimable_balance}
+use Rattle.op_claim.specs.Clawback.{clawback}
+use Rattle.op_claim.specs.ClawbackClaimableBalance.{clawback_claimable_balance}
+use Rattle.op_claim.specs.CreateClaimableBalance.{create_claimable_balance}
+use Rattle.op_claim.specs.Operations.{claim_operation}
+use Rattle.op_flags.specs.AllowTrust.{allow_trust}
+use Rattle.op_flags.specs.Operations.{flags_operation}
+use Rattle.op_flags.specs.SetTrustLineFlags.{set_trust_line_flags}
 use Rattle.op_options.specs.ManageData.{manage_data}
 use Rattle.op_options.specs.Operations.{options_operation}
 use Rattle.op_options.specs.SetOptions.{set_options}
@@ -18,12 +26,18 @@ use Rattle.op_sponsor.specs.BeginSponsoringFutureReserves.{begin_sponsoring}
 use Rattle.op_sponsor.specs.EndSponsoringFutureReserves.{end_sponsoring}
 use Rattle.op_sponsor.specs.Operations.{sponsor_operation}
 use Rattle.op_sponsor.specs.RevokeSponsorship.{revoke_sponsorship}
+use Rattle.op_trust.specs.ChangeTrust.{change_trust}
+use Rattle.op_trust.specs.Operations.{trust_operation}
 use Rattle.op_form.specs.Done.{Done, Attempt, done_of}
 use Rattle.op_laws.specs.AnyOperation.{any_operation}
 use Rattle.op_laws.specs.Laws.{IsLawful, AllLawful}
 use Rattle.op_laws.specs.Underway.{IsUnderway}
 use Rattle.op_laws.proofs.BumpSequence.{bump_sequence_is_lawful}
+use Rattle.op_laws.proofs.Claims.{claim_claimable_balance_is_lawful, clawback_claimable_balance_is_lawful}
+use Rattle.op_laws.proofs.Claims.{create_claimable_balance_is_lawful}
+use Rattle.op_laws.proofs.Clawbacks.{clawback_is_lawful}
 use Rattle.op_laws.proofs.Lawful.{lawful_still}
+use Rattle.op_laws.proofs.LineFlags.{allow_trust_is_lawful, set_trust_line_flags_is_lawful}
 use Rattle.op_laws.proofs.ManageData.{manage_data_is_lawful}
 use Rattle.op_laws.proofs.Merging.{account_merge_is_lawful}
 use Rattle.op_laws.proofs.NewAccounts.{create_account_is_lawful}
@@ -32,6 +46,7 @@ use Rattle.op_laws.proofs.Revoking.{revoke_sponsorship_is_lawful}
 use Rattle.op_laws.proofs.SetOptions.{set_options_is_lawful}
 use Rattle.op_laws.proofs.Sponsorships.{begin_sponsoring_is_lawful, end_sponsoring_is_lawful}
 use Rattle.op_laws.proofs.Standing.{leaves_itself}
+use Rattle.op_laws.proofs.TrustLines.{change_trust_is_lawful}
 
 -- An operation that fails leaves all as it was.
 pub failed_is_lawful : (ctx : Ctx) (m : EntryMap) → IsUnderway ctx m → (result : OperationResult)
@@ -45,7 +60,8 @@ attempted ctx m under (Ok done) lawful = lawful done refl
 attempted ctx m under (Err result) lawful = failed_is_lawful ctx m under result
 
 pub all_are_lawful : AllLawful
-unfolding any_operation account_operation options_operation payment_operation sponsor_operation
+unfolding any_operation account_operation options_operation payment_operation trust_operation flags_operation
+    claim_operation sponsor_operation
 all_are_lawful ctx (body.CreateAccount op) m fit under stands = attempted ctx m under (create_account ctx op m)
     (λ done is. create_account_is_lawful ctx op m done under stands is)
 all_are_lawful ctx (body.AccountMerge op) m fit under stands = attempted ctx m under (account_merge ctx op m)
@@ -59,6 +75,23 @@ all_are_lawful ctx (body.ManageData op) m fit under stands = attempted ctx m und
     (λ done is. manage_data_is_lawful ctx op m done under stands is)
 all_are_lawful ctx (body.Payment op) m fit under stands = attempted ctx m under (payment ctx op m)
     (λ done is. payment_is_lawful ctx op m done under stands is)
+all_are_lawful ctx (body.ChangeTrust op) m fit under stands = attempted ctx m under (change_trust ctx op m)
+    (λ done is. change_trust_is_lawful ctx op m done fit under stands is)
+all_are_lawful ctx (body.AllowTrust op) m fit under stands = attempted ctx m under (allow_trust ctx op m)
+    (λ done is. allow_trust_is_lawful ctx op m done under stands is)
+all_are_lawful ctx (body.SetTrustLineFlags op) m fit under stands =
+    attempted ctx m under (set_trust_line_flags ctx op m)
+    (λ done is. set_trust_line_flags_is_lawful ctx op m done under stands is)
+all_are_lawful ctx (body.CreateClaimableBalance op) m fit under stands = attempted ctx m under
+    (create_claimable_balance ctx op m)
+    (λ done is. create_claimable_balance_is_lawful ctx op m done fit under stands is)
+all_are_lawful ctx (body.ClaimClaimableBalance op) m fit under stands = attempted ctx m under
+    (claim_claimable_balance ctx op m) (λ done is. claim_claimable_balance_is_lawful ctx op m done under stands is)
+all_are_lawful ctx (body.Clawback op) m fit under stands = attempted ctx m under (clawback ctx op m)
+    (λ done is. clawback_is_lawful ctx op m done under stands is)
+all_are_lawful ctx (body.ClawbackClaimableBalance op) m fit under stands = attempted ctx m under
+    (clawback_claimable_balance ctx op m)
+    (λ done is. clawback_claimable_balance_is_lawful ctx op m done under stands is)
 all_are_lawful ctx (body.BeginSponsoringFutureReserves op) m fit under stands = attempted ctx m under
     (begin_sponsoring ctx op m) (λ done is. begin_sponsoring_is_lawful ctx op m done under stands is)
 all_are_lawful ctx body.EndSponsoringFutureReserves m fit under stands = attempted ctx m under (end_sponsoring ctx m)

@@ -119,7 +119,8 @@ module _ (id_pool base : ℕ) (m : EntryMap) (legal : AreEntriesLegal id_pool m)
       let its = line_legal (view m) id_pool nothing_owed _ m id (line_asset_of held) t legal stands in
       let new = with_line m id (line_asset_of held) (with_less n) in
       record {
-        shifts = shifts_as id_pool (λ x. of_asset x held ((t.balance -ℤ n) -ℤ t.balance)) (λ x. of_asset x held (neg_ℤ n))
+        shifts = shifts_as id_pool (λ x. of_asset x held ((t.balance -ℤ n) -ℤ t.balance))
+            (λ x. of_asset x held (neg_ℤ n))
             m new (λ x. ap (λ k. of_asset x held k) (less_is t.balance n))
             (line_shifted id_pool m id held issued (with_less n) t stands
             (record { id = refl; asset = refl; liabilities = refl; uses = refl })

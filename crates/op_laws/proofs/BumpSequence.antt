@@ -49,13 +49,11 @@ same_next base n a true = record {
   id = refl;
   balance = no_more a.balance;
   covered = inr (omega (arith, ints));
-  few = inr (omega arith);
 }
 same_next base n a false = record {
   id = refl;
   balance = no_more a.balance;
   covered = inr (omega (arith, ints));
-  few = inr (omega arith);
 }
 
 same_sum : (t : ℤ → ℤ) (sum x y : ℤ) → x ≡ y → (sum +ℤ (t x -ℤ t y)) ≡ sum

@@ -60,7 +60,8 @@ use Rattle.op_claim.specs.Predicates.{fixed_claimant}
 use Rattle.op_laws.specs.Laws.{IsLawful, AreLawful, AreLawfulWhere, AreClaimantsFew}
 use Rattle.op_laws.specs.Moves.{gained, issued, is_issuer}
 use Rattle.op_laws.specs.Underway.{AreEntriesLegal, IsUnderway}
-use Rattle.op_laws.proofs.Amounts.{IsMoved, lumens_more, unless_issuer, shifts_as, shifts_both, amount_taken, amount_given}
+use Rattle.op_laws.proofs.Amounts.{IsMoved, lumens_more, unless_issuer, shifts_as, shifts_both, amount_taken}
+use Rattle.op_laws.proofs.Amounts.{amount_given}
 use Rattle.op_laws.proofs.Amounts.{ok_of}
 use Rattle.op_laws.proofs.Charges.{charging_kept, releasing_kept, erased_kept, payer_had, put_beside}
 use Rattle.op_laws.proofs.IssuedMoves.{same_issuer, issued_so, issued_by_move}
@@ -396,5 +397,6 @@ create_claimable_balance_is_lawful ctx op m done few under stands is =
     let there = is_some (balance_at m (creating.new_id ctx)) in
     let second = went_on ((there, NotSupported) ∷ []) _ done went.1 in
     let free = first_passed there NotSupported [] second.0 in
-    given_added ctx op m done few under stands (at_least_one op.amount first.0) (not_true (is_valid_asset op.asset) first.1)
+    given_added ctx op m done few under stands (at_least_one op.amount first.0)
+    (not_true (is_valid_asset op.asset) first.1)
     last.1 (no_balance m (creating.new_id ctx) under.settled.legal.keyed free.0) second.1

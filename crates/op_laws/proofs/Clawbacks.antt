@@ -94,10 +94,12 @@ clawback_is_lawful ctx op m done under stands is =
       moves = spec.clawback_move ctx op ∷ [];
     } in
     let same : made ≡ done = cc in
-    let moved = line_given ctx.id_pool ctx.base_reserve m under.settled.legal from held issued_asset t line.1 op.amount low
+    let moved = line_given ctx.id_pool ctx.base_reserve m under.settled.legal from held issued_asset t line.1
+    op.amount low
     (not_less (line_available t) op.amount enough.0) in
     subst (IsLawful ctx m) same (lawful_with ctx m under none_more (spec.answer claw.Success) new
     (spec.clawback_move ctx op ∷ [])
-    (shifts_as ctx.id_pool (λ x. of_asset x held (neg_ℤ op.amount)) (λ x. issued x (spec.clawback_move ctx op ∷ [])) m new
+    (shifts_as ctx.id_pool (λ x. of_asset x held (neg_ℤ op.amount)) (λ x. issued x (spec.clawback_move ctx op ∷ [])) m
+    new
     (λ x. redeemed_move x held from src op.amount issuer (other_issuer held src from issuer fourth.1)) moved.shifts)
     moved.left (no_lumens from src held op.amount issued_asset))

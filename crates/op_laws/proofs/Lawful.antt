@@ -25,7 +25,6 @@ use Rattle.op_laws.specs.Laws.{IsCovered, IsLawful}
 use Rattle.op_laws.specs.Moves.{gained, issued, lumens_at}
 use Rattle.op_laws.specs.Underway.{AreEntriesLegal, IsUnderway, AreDrawn, KeepsTerms}
 use Rattle.op_laws.proofs.Lumens.{no_moves, nothing_issued}
-use Rattle.op_laws.proofs.Payments.{few_left}
 use Rattle.op_laws.proofs.Settled.{entries_legal, owing_of}
 use Rattle.op_laws.proofs.Standing.{IsAfter, IsCoveredBy, Leaves, none_more}
 
@@ -83,7 +82,6 @@ module _ (ctx : Ctx) (m : EntryMap) (under : IsUnderway ctx m) (more : AccountId
         legal = record {
           settled = record {
             legal = subst (λ n. AreEntriesLegal n done.entries) (sym pool) legal;
-            signers = few_left ctx.base_reserve more m done.entries each under.settled.signers;
           };
           sponsorships = sound;
           seq = subst (λ n. n < 2147483647) (sym terms.seq) under.seq;

@@ -69,7 +69,8 @@ no_shares (asset.Alphanum4 code issuer) n kind k = refl
 no_shares (asset.Alphanum12 code issuer) n Shares k = refl
 no_shares (asset.Alphanum12 code issuer) n kind k = refl
 
-of_its_asset : (x held : Asset) → is_native held ≡ false → (n : ℤ) → of_line x (line_asset_of held) n ≡ of_asset x held n
+of_its_asset : (x held : Asset) → is_native held ≡ false → (n : ℤ)
+    → of_line x (line_asset_of held) n ≡ of_asset x held n
 of_its_asset x asset.Native issued n = absurd (cc)
 of_its_asset x (asset.Alphanum4 code issuer) issued n = refl
 of_its_asset x (asset.Alphanum12 code issuer) issued n = refl
@@ -79,7 +80,8 @@ difference : (b : Bool) (new old : ℤ) → ((if b then new else pos 0) -ℤ (if
 difference true new old = refl
 difference false new old = refl
 
-difference_of : (x held : Asset) → is_native held ≡ false → (a : TrustLineAsset) → a ≡ line_asset_of held → (new old : ℤ)
+difference_of : (x held : Asset) → is_native held ≡ false → (a : TrustLineAsset) → a ≡ line_asset_of held
+    → (new old : ℤ)
     → (of_line x a new -ℤ of_line x a old) ≡ of_asset x held (new -ℤ old)
 difference_of x held issued a is new old =
     (λ i. of_line x (is i) new -ℤ of_line x (is i) old)
@@ -97,7 +99,8 @@ module _ (id_pool : ℕ) (m : EntryMap) (id : AccountId) (held : Asset) (issued 
         → ShiftsLegal id_pool (λ x. of_asset x held ((f t).balance -ℤ t.balance)) m new
     line_shifted keeps range bound v sum legal =
         let its = (line_legal v id_pool nothing_owed sum m id (line_asset_of held) t legal stands).asset in
-        legal_as v (IsEntryLegal id_pool) _ nothing_owed _ (sum +ℤ of_asset v.asset held ((f t).balance -ℤ t.balance)) new
+        legal_as v (IsEntryLegal id_pool) _ nothing_owed _ (sum +ℤ of_asset v.asset held ((f t).balance -ℤ t.balance))
+        new
         (line_changed v id_pool nothing_owed sum m id (line_asset_of held) f t legal stands keeps range bound)
         (λ kind k. ap (λ (a : TrustLineAsset). pos 0 +ℤ in_shares a ((f t).balance -ℤ t.balance) kind k) its
         ∙ no_shares held ((f t).balance -ℤ t.balance) kind k)

@@ -339,7 +339,6 @@ module _ (ctx : Ctx) (op : AccountMergeOp) (m : EntryMap) (done : Done) (under :
               (record {
                 lumens = all_given (lumens_at m id) a.balance (for_one dest a.balance id) was no_destination;
                 covered = λ b is. absurd (cc);
-                few = λ b is. absurd (cc);
               })
           | false ↦ λ differ.
               let other = apart_accounts src id differ in

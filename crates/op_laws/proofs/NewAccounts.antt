@@ -1,6 +1,6 @@
 -- CREATE_ACCOUNT is lawful.
-use Rattle.std.proofs.Common.{◌≡◌, ◌≢◌, refl, sym, ap, subst, ◌∙◌, ℕ, ◌+◌, ◌*◌, ◌^◌, ◌<◌, ◌≤◌, true, false, ◌||◌}
-use Rattle.std.proofs.Common.{is_some, List, [], ◌∷◌, length, Option, Some, None, Ok, inl, arith}
+use Rattle.std.proofs.Common.{◌≡◌, ◌≢◌, refl, sym, ap, subst, ◌∙◌, ℕ, ◌+◌, ◌*◌, ◌^◌, ◌<◌, true, false, ◌||◌}
+use Rattle.std.proofs.Common.{is_some, [], ◌∷◌, Option, Some, None, Ok, inl, arith}
 use Rattle.std.proofs.lemmas.Int.{ints}
 use Rattle.std.specs.Prelude.{ℤ, pos, neg_ℤ, int_lt, ◌+ℤ◌, ◌-ℤ◌, ◌*ℤ◌, ◌≤ℤ◌, if◌then◌else◌}
 use Rattle.std.specs.FinMap.{get}
@@ -9,7 +9,6 @@ use Rattle.ledger_types.specs.declared.ids.AccountId.{AccountId}
 use Rattle.ledger_types.specs.declared.asset.Asset.TheVariants as asset
 use Rattle.ledger_types.specs.declared.account.AccountEntry.{AccountEntry}
 use Rattle.ledger_types.specs.declared.price.Liabilities.{Liabilities}
-use Rattle.ledger_types.specs.declared.signer.Signer.{Signer}
 use Rattle.valid_values.specs.Texts.{is_valid_text}
 use Rattle.entry_sums.specs.Sums.{total}
 use Rattle.legal_rules.specs.Ranges.{has_flag}
@@ -88,17 +87,15 @@ nobody_at m id none = ap account_of none
 plus_balance : (n : ℤ) → n ≡ (pos 0 +ℤ n)
 plus_balance n = omega (arith, ints)
 
-new_after : (base : ℕ) (a : AccountEntry) → pos 0 ≤ℤ available a base → length a.signers ≤ 20
-    → IsAfter base a.balance None (Some a)
-new_after base a covered few = record {
+new_after : (base : ℕ) (a : AccountEntry) → pos 0 ≤ℤ available a base → IsAfter base a.balance None (Some a)
+new_after base a covered = record {
   lumens = plus_balance a.balance;
   covered = λ b is. let same : a ≡ b = cc in inl (subst (λ x. pos 0 ≤ℤ available x base) same covered);
-  few = λ b is. let same : a ≡ b = cc in inl (subst (λ (x : AccountEntry). length x.signers ≤ 20) same few);
 }
 
 module _ (base : ℕ) (m : EntryMap) (keyed : IsKeyed m) (e : LedgerEntry) (a : AccountEntry)
-    (is : e.body ≡ body.Account a) (none : account_at m a.account_id ≡ None) (covered : pos 0 ≤ℤ available a base)
-    (few : length a.signers ≤ 20) where
+    (is : e.body ≡ body.Account a) (none : account_at m a.account_id ≡ None)
+    (covered : pos 0 ≤ℤ available a base) where
   abbrev now : EntryMap
   now = put m e
 
@@ -122,7 +119,7 @@ module _ (base : ℕ) (m : EntryMap) (keyed : IsKeyed m) (e : LedgerEntry) (a : 
           | true ↦ λ tied. subst (λ x. IsAfter base a.balance (account_at m x) (account_at now x))
               (same_account a.account_id id tied)
               (subst (λ o. IsAfter base a.balance o (account_at now a.account_id)) (sym none)
-              (subst (λ o. IsAfter base a.balance None o) (sym here) (new_after base a covered few)))
+              (subst (λ o. IsAfter base a.balance None o) (sym here) (new_after base a covered)))
           | false ↦ λ apart. subst (λ o. IsAfter base (pos 0) (account_at m id) o)
               (sym (beside id (apart_accounts a.account_id id apart))) (is_itself_after base (account_at m id))
         ] refl;
@@ -202,9 +199,9 @@ module _ (ctx : Ctx) (op : CreateAccountOp) (m : EntryMap) (keyed : IsKeyed m) (
       let two = first_passed (is_lt (int_cmp op.starting_balance (pos (2 * ctx.base_reserve)))) LowReserve [] test.0 in
       let covered = own_covered ctx op (not_less op.starting_balance (pos (2 * ctx.base_reserve)) two.0) in
       subst (IsAdded ctx op m) test.1 (record {
-        leaves = new_account_left ctx.base_reserve m keyed entry (its ctx op) refl none covered (omega arith);
+        leaves = new_account_left ctx.base_reserve m keyed entry (its ctx op) refl none covered;
         others = λ id b apart there. charged_at ctx.base_reserve 2 None m keyed id b
-            (sym (beside ctx.base_reserve m keyed entry (its ctx op) refl none covered (omega arith) id apart) ∙ there);
+            (sym (beside ctx.base_reserve m keyed entry (its ctx op) refl none covered id apart) ∙ there);
       })
 
   added_sponsored : (x : AccountId) → HasAccount m x → (new : EntryMap)
@@ -221,15 +218,14 @@ module _ (ctx : Ctx) (op : CreateAccountOp) (m : EntryMap) (keyed : IsKeyed m) (
       let still = nobody_at now op.destination (absent_after m x (with_more count.Sponsoring 2) stands.0 keyed stands.1
       (pays_more 2 stands.0).means.id (key.Account op.destination) (absent_at m op.destination keyed none)) in
       let gone : account_at now b.account_id ≡ None = ap (account_at now) h.means.id ∙ still in
-      let few : length b.signers ≤ 20 = subst (λ (xs : List Signer). length xs ≤ 20) (sym h.signers) (omega arith) in
       subst (IsAdded ctx op m) test.1 (record {
         leaves = leaves_as ctx.base_reserve _ (for_one op.destination op.starting_balance) m (put now e)
             (leaves_both ctx.base_reserve none_more (for_one b.account_id b.balance) m now (put now e) first
-            (new_account_left ctx.base_reserve now first.keyed e b refl gone covered few))
+            (new_account_left ctx.base_reserve now first.keyed e b refl gone covered))
             (λ id. plus_for_one (for_one b.account_id b.balance id)
             ∙ (λ i. for_one (h.means.id i) (h.means.balance i) id));
         others = λ id c apart there. charged_at ctx.base_reserve 2 (Some x) m keyed id c
-            (sym (beside ctx.base_reserve now first.keyed e b refl gone covered few id
+            (sym (beside ctx.base_reserve now first.keyed e b refl gone covered id
             (λ same. apart (sym h.means.id ∙ same))) ∙ there);
       })
 
@@ -272,6 +268,7 @@ new_legal ctx op id_pool early low high = record {
       flags = record { known = omega arith; clawback = no_flag };
       home_domain = no_text;
       signers = record {
+        few = omega arith;
         rising = λ i j d lt within. absurd (omega arith);
         weights = λ k d lt. absurd (omega arith);
         others = λ k d lt. absurd (omega arith);
@@ -358,7 +355,8 @@ module _ (ctx : Ctx) (op : CreateAccountOp) (m : EntryMap) (done : Done) (under 
       is
       in
       let added = first.0 in
-      let second = went_after_some (map_after_lumens_debit ctx src amount added) (answer create.Underfunded) _ done first.2 in
+      let second = went_after_some (map_after_lumens_debit ctx src amount added)
+      (answer create.Underfunded) _ done first.2 in
       let new = second.0 in
       let also = second.2 in
       let h = given ctx src amount added new second.1 in

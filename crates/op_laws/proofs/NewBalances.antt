@@ -71,7 +71,8 @@ module _ (t levels : ℕ) (below : (p : ClaimPredicate) → is_valid_below true 
   both_kept : (parts : List ClaimPredicate) → IsKept (ClaimPredicate-F.And parts)
   both_kept [] h = absurd (cc)
   both_kept (a ∷ []) h = absurd (cc)
-  both_kept (a ∷ b ∷ []) h = and_of (is_valid_below true levels a) (is_valid_below true levels b) _ _ (below a) (below b) h
+  both_kept (a ∷ b ∷ []) h =
+      and_of (is_valid_below true levels a) (is_valid_below true levels b) _ _ (below a) (below b) h
   both_kept (a ∷ b ∷ c ∷ ps) h = absurd (cc)
 
   either_kept : (parts : List ClaimPredicate) → IsKept (ClaimPredicate-F.Or parts)

@@ -71,7 +71,6 @@ taken_left base id amount m new h low keyed =
       id = refl;
       balance = refl;
       covered = inr (no_less a.balance amount (min_balance a base) (account_liabilities a).selling low);
-      few = inr (omega arith);
     }))
 
 -- ---- giving
@@ -90,7 +89,8 @@ given_of ctx id amount m new (Some a) stands is =
     (with_account m id (with_less_lumens amount)) new is in
     record { account = a; stands = stands; enough = not_less (available a ctx.base_reserve) amount test.0; is = test.1 }
 
-pub given : (ctx : Ctx) (id : AccountId) (amount : ℤ) (m new : EntryMap) → map_after_lumens_debit ctx id amount m ≡ Some new
+pub given : (ctx : Ctx) (id : AccountId) (amount : ℤ) (m new : EntryMap)
+    → map_after_lumens_debit ctx id amount m ≡ Some new
     → IsGiven ctx.base_reserve id amount m new
 given ctx id amount m new is = given_of ctx id amount m new (account_at m id) refl is
 
@@ -115,7 +115,6 @@ given_left base id amount m new h keyed =
       id = refl;
       balance = refl;
       covered = inl (still_covered a.balance amount (min_balance a base) (account_liabilities a).selling h.enough);
-      few = inr (omega arith);
     }))
 
 -- ---- both

@@ -22,7 +22,8 @@ use Rattle.op_form.specs.Assets.{is_native, is_issued_by}
 use Rattle.op_form.specs.Done.{Done, Move}
 use Rattle.op_form.specs.Done.{OfAccount}
 use Rattle.op_form.specs.Steps.{unless_refused}
-use Rattle.op_payment.specs.Payment.{answer, credit_result, debit_result, destination_tests, is_to_itself, paid, payment}
+use Rattle.op_payment.specs.Payment.{answer, credit_result, debit_result, destination_tests, is_to_itself, paid}
+use Rattle.op_payment.specs.Payment.{payment}
 use Rattle.op_payment.specs.Payment.{payment_move, payment_tests, taken_and_given}
 use Rattle.op_laws.specs.Laws.{IsLawful, AreLawful}
 use Rattle.op_laws.specs.Moves.{gained, issued}
@@ -117,7 +118,8 @@ module _ (ctx : Ctx) (op : PaymentOp) (m : EntryMap) (done : Done) (under : IsUn
       let first = went_after_step (map_after_credit to op.asset op.amount m) credit_result _ done is in
       let second = went_after_step (map_after_debit ctx from op.asset op.amount first.0) debit_result _ done first.2 in
       let one = amount_taken ctx ctx.id_pool m under.settled.legal to op.amount low first.0 op.asset first.1 in
-      let now_legal = shifted_after ctx m under none_more (λ x. unless_issuer x op.asset to op.amount) first.0 one.shifts
+      let now_legal = shifted_after ctx m under none_more (λ x. unless_issuer x op.asset to op.amount) first.0
+      one.shifts
       in
       let two = amount_given ctx ctx.id_pool first.0 now_legal from op.amount low second.0 op.asset second.1 in
       made second.0 second.2 (lawful_with ctx m under _ (answer pay.Success) second.0 (payment_move ctx op ∷ [])

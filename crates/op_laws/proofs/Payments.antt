@@ -1,5 +1,5 @@
 -- Lumens that are paid, and sequence numbers: what they leave settled.
-use Rattle.std.proofs.Common.{◌≡◌, ◌≢◌, inl, inr, refl, sym, ap, subst, ◌∙◌, ℕ, ◌≤◌, true, false, length, Some, arith}
+use Rattle.std.proofs.Common.{◌≡◌, ◌≢◌, refl, sym, ◌∙◌, ℕ, Some, arith}
 use Rattle.std.proofs.lemmas.Int.{ints}
 use Rattle.std.specs.Prelude.{ℤ, pos, ◌+ℤ◌, ◌-ℤ◌, ◌≤ℤ◌}
 use Rattle.ledger_types.specs.declared.ids.AccountId.{AccountId}
@@ -7,11 +7,9 @@ use Rattle.ledger_types.specs.declared.asset.Asset.{Asset}
 use Rattle.ledger_types.specs.declared.asset.Asset.TheVariants as asset
 use Rattle.ledger_types.specs.declared.account.AccountEntry.{AccountEntry}
 use Rattle.entry_map.specs.EntryMap.{EntryMap}
-use Rattle.entry_slots.specs.Accounts.{account_at, with_account}
+use Rattle.entry_slots.specs.Accounts.{account_at}
 use Rattle.entry_sums.specs.Sums.{total}
 use Rattle.reserve_rules.specs.Reserve.{greatest_i64}
-use Rattle.sponsor_rules.specs.Payers.{is_same_account}
-use Rattle.sponsor_rules.proofs.Ids.{same_account, apart_accounts}
 use Rattle.legal_rules.specs.Books.{View}
 use Rattle.legal_rules.specs.Supply.{held, lumens_of}
 use Rattle.legal_rules.specs.Legal.{view}
@@ -23,43 +21,10 @@ use Rattle.legal_rules.specs.ChangeLaws.{KeepsBooks}
 use Rattle.legal_rules.proofs.Changed.{account_changed}
 use Rattle.legal_rules.proofs.Legality.{view_of}
 use Rattle.legal_rules.proofs.Paid.{debit_legal}
-use Rattle.legal_rules.proofs.Places.{account_after, account_elsewhere}
 use Rattle.legal_rules.proofs.Steps.{legal_as}
-use Rattle.op_laws.specs.Underway.{AreSignersFew}
 use Rattle.op_laws.specs.Steps.{FeesSettle, SeqNumsSettle}
 use Rattle.op_laws.proofs.Issued.{none_moved}
 use Rattle.op_laws.proofs.Settled.{entries_legal, owing_of}
-use Rattle.op_laws.proofs.Standing.{IsKeyed, IsAfter}
-
--- ---- few signers
-
--- an account that is changed has few signers
-pub few_changed : (m : EntryMap) (id : AccountId) (f : AccountEntry → AccountEntry) (a : AccountEntry) → IsKeyed m
-    → account_at m id ≡ Some a → (f a).account_id ≡ a.account_id → length (f a).signers ≤ 20 → AreSignersFew m
-    → AreSignersFew (with_account m id f)
-few_changed m id f a keyed stands named le few = record {
-  few = λ other b there. elim (is_same_account other id) as (λ t. is_same_account other id ≡ t
-      → length b.signers ≤ 20) [
-        | true ↦ λ is.
-            let at = ap (account_at (with_account m id f)) (sym (same_account other id is)) in
-            let here = account_after m id f a keyed stands named in
-            let same : f a ≡ b = cc in
-            subst (λ (x : AccountEntry). length x.signers ≤ 20) same le
-        | false ↦ λ is. few.few other b (sym (account_elsewhere m id f a keyed stands named other
-            (apart_accounts other id is)) ∙ there)
-      ] refl;
-}
-
--- what a change leaves has few signers
-pub few_left : (base : ℕ) (more : AccountId → ℤ) (old new : EntryMap)
-    → ((id : AccountId) → IsAfter base (more id) (account_at old id) (account_at new id)) → AreSignersFew old
-    → AreSignersFew new
-few_left base more old new each few = record {
-  few = λ id a stands. elim ((each id).few a stands) [
-    | inl low ↦ low
-    | inr was ↦ let before = few.few id was.0 was.1 in let le = was.2 in omega arith
-  ];
-}
 
 -- ---- fees
 
@@ -69,8 +34,6 @@ fees_settle id_pool m id a fee settled stands low le =
     (owing_of x id_pool m settled.legal) stands low le in (
       record {
         legal = entries_legal (view m) id_pool _ _ (legal asset.Native);
-        signers = few_changed m id _ a settled.legal.keyed stands refl (settled.signers.few id a stands)
-            settled.signers;
       },
       λ x. (legal x).supply,
     )
@@ -132,8 +95,6 @@ seq_nums_settle id_pool m id a n settled stands more is =
     record {
       settled = record {
         legal = entries_legal (view m) id_pool _ _ (legal asset.Native);
-        signers = few_changed m id (numbered n) a settled.legal.keyed stands refl (settled.signers.few id a stands)
-            settled.signers;
       };
       supply = λ x. (legal x).supply ∙ sym (none_moved x (total (held x) m));
     }

@@ -1,5 +1,5 @@
 -- What an account can spend after counts of it change: what adding, moving and removing do to available balances.
-use Rattle.std.proofs.Common.{◌≡◌, ◌⊎◌, inl, inr, refl, sym, ap, subst, ◌∙◌, ℕ, ◌+◌, ◌-◌, ◌*◌, ◌≤◌, false, length}
+use Rattle.std.proofs.Common.{◌≡◌, inl, inr, refl, sym, ap, subst, ◌∙◌, ℕ, ◌+◌, ◌-◌, ◌*◌, ◌≤◌, false}
 use Rattle.std.proofs.Common.{Option, Some, None, arith}
 use Rattle.std.proofs.lemmas.Int.{ints}
 use Rattle.std.specs.Prelude.{ℤ, pos, neg_ℤ, ◌+ℤ◌, ◌-ℤ◌, ◌*ℤ◌, ◌≤ℤ◌}
@@ -286,7 +286,6 @@ next_still base a b h = record {
   id = h.means.id;
   balance = h.means.balance ∙ no_more a.balance;
   covered = inr (available_still base a b h);
-  few = inr (subst (λ xs. length xs ≤ length a.signers) (sym h.signers) (omega arith));
 }
 
 pub next_covers : (base k : ℕ) (a b : AccountEntry) → IsCharged (pos k) a b → pos (k * base) ≤ℤ available a base
@@ -295,14 +294,12 @@ next_covers base k a b h enough = record {
   id = h.means.id;
   balance = h.means.balance ∙ no_more a.balance;
   covered = inl (available_covers base k a b h enough);
-  few = inr (subst (λ xs. length xs ≤ length a.signers) (sym h.signers) (omega arith));
 }
 
 -- an account with other signers, that counts what it counted
 pub next_edited : (base : ℕ) (more : ℤ) (a b c : AccountEntry) → IsNext base more a b → KeepsMeans b c
-    → ((which : Count) → count_in which c ≡ count_in which b)
-    → (length c.signers ≤ 20) ⊎ (length c.signers ≤ length a.signers) → IsNext base more a c
-next_edited base more a b c next means same few =
+    → ((which : Count) → count_in which c ≡ count_in which b) → IsNext base more a c
+next_edited base more a b c next means same =
     let le = available_by base b c means (fewer b.num_sub_entries (num_sponsoring b) (num_sponsored b)
     c.num_sub_entries (num_sponsoring c) (num_sponsored c) (same count.SubEntries) (same count.Sponsoring)
     (same count.Sponsored)) in
@@ -313,7 +310,6 @@ next_edited base more a b c next means same few =
         | inl low ↦ inl (omega (arith, ints))
         | inr as_much ↦ inr (omega (arith, ints))
       ];
-      few = few;
     }
   where
     fewer : (s p d s' p' d' : ℕ) → s' ≡ s → p' ≡ p → d' ≡ d

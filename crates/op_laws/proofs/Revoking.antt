@@ -91,7 +91,7 @@ module _ (ctx : Ctx) (m new : EntryMap) (keyed : IsKeyed m) where
       let b = with_other_payer 1 s t a in
       let change = λ (xs : List (Option AccountId)). slice_set xs place t in
       next_edited ctx.base_reserve (pos 0) a b (with_moved_signer place s t a) next
-      (with_sponsors_means change b b.signers) (λ which. counts_edited change which b b.signers) next.few
+      (with_sponsors_means change b b.signers) (λ which. counts_edited change which b b.signers)
 
   signer_so : (id : AccountId) (place : ℕ) (s t : Option AccountId) → first_fault (move_tests_at ctx m id t 1) ≡ None
       → with_account (map_after_exchange 1 s t m) id (with_moved_signer place s t) ≡ new → IsLeft new

@@ -1,16 +1,15 @@
 -- SET_OPTIONS is lawful.
-use Rattle.std.proofs.Common.{◌≡◌, ◌≢◌, inl, inr, refl, sym, ap, subst, ◌∙◌, ℕ, ◌<◌, ◌≤◌, Bool, true, false}
+use Rattle.std.proofs.Common.{◌≡◌, ◌≢◌, inr, refl, sym, ap, subst, ◌∙◌, ℕ, ◌<◌, ◌≤◌, Bool, true, false}
 use Rattle.std.proofs.Common.{cond, not, ◌&&◌, ◌||◌, nat_eq, nat_lt, nat_le, bit_and, List, [], ◌∷◌, length, get_or}
 use Rattle.std.proofs.Common.{All}
 use Rattle.std.proofs.Common.{insert, Option, Some, None, Result, Ok, arith}
 use Rattle.std.proofs.lemmas.Int.{ints}
-use Rattle.std.proofs.lemmas.List.Edits.{length-insert}
 use Rattle.std.proofs.lemmas.List.Quantifiers.{position-Some}
-use Rattle.std.proofs.lemmas.List.Sums.{prefix_len-le-length, fails_before_first}
+use Rattle.std.proofs.lemmas.List.Sums.{fails_before_first}
 use borrow.Author.Tests.{ltb-false}
 use Rattle.std.specs.Prelude.{ℤ, pos, unwrap_or, ◌+ℤ◌, if◌then◌else◌}
 use Rattle.std.specs.List.{position_or_len}
-use Rattle.std.specs.Ordering.{is_lt, is_eq, ordering_reverse}
+use Rattle.std.specs.Ordering.{is_eq, ordering_reverse}
 use Rattle.std.specs.declared.cmp.Ordering.{Ordering}
 use Rattle.std.specs.declared.cmp.Ordering.TheVariants.{Less, Equal, Greater}
 use Rattle.std.proofs.lemmas.Slice.Eq.{bytes_eq-Decides}
@@ -195,7 +194,7 @@ module _ (ctx : Ctx) (m : EntryMap) (under : IsUnderway ctx m) (a : AccountEntry
       account_elsewhere m x (with_more count.Sponsoring 1) payer.0 keyed payer.1 (pays_more 1 payer.0).means.id src
       (λ same. ready.other x is (sym same))
 
-  module _ (s : Signer) (few : length a.signers < 20) where
+  module _ (s : Signer) where
     abbrev t : Option AccountId
     t = open_sponsor ctx src
 
@@ -215,15 +214,9 @@ module _ (ctx : Ctx) (m : EntryMap) (under : IsUnderway ctx m) (a : AccountEntry
         let b = with_subentry 1 t c in
         let place = place_for s.key b.signers in
         let change = λ (xs : List (Option AccountId)). insert xs place t in
-        let was = sym (still_there t refl) ∙ there in
-        let same : a ≡ c = cc in
-        let as_many : length b.signers ≡ length a.signers = ap length (subentry_charged 1 t c).signers
-        ∙ ap (λ (x : AccountEntry). length x.signers) (sym same) in
-        let le : place ≤ length b.signers = prefix_len-le-length (λ x. is_lt (signer_key_cmp x.key s.key)) b.signers in
-        let longer = length-insert b.signers place s le in
         next_edited base (pos 0) c b (with_counted_signer s t c) next
         (with_sponsors_means change b (insert b.signers place s))
-        (λ which. counts_edited change which b (insert b.signers place s)) (inl (omega arith))
+        (λ which. counts_edited change which b (insert b.signers place s))
 
     added_signed : (signed : EntryMap) → IsNewSigner src a.signers s → map_after_adding_signer ctx src s m ≡ Ok signed
         → IsSigned signed
@@ -289,7 +282,8 @@ module _ (ctx : Ctx) (m : EntryMap) (under : IsUnderway ctx m) (a : AccountEntry
       first.1 in
       let few = first_passed (nat_le 20 (length a.signers)) (answer set.TooManySigners) [] first.0 in
       let same = same_ok {F = OperationResult} second.0 signed second.2 in
-      subst IsSigned same (added_signed s (fewer_than (length a.signers) few.0) second.0 (record {
+      subst IsSigned same (added_signed s second.0 (record {
+        room = fewer_than (length a.signers) few.0;
         weight = weight;
         other = not_own src s.key own;
         new = no_place s.key a.signers found;
@@ -371,7 +365,6 @@ options_next op base a = record {
   id = refl;
   balance = no_more a.balance;
   covered = inr (omega (arith, ints));
-  few = inr (omega arith);
 }
 
 -- ---- the operation

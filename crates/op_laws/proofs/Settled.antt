@@ -39,7 +39,7 @@ use Rattle.legal_rules.proofs.Liable.{line_entry}
 use Rattle.legal_rules.proofs.Numbers.{taken_off}
 use Rattle.op_laws.specs.Underway.{AreEntriesLegal}
 use Rattle.op_laws.specs.Steps.{LegalSettles, SettledLegal, SettledAccounts, SettledReady, SettledInRange, SettledHeld}
-use Rattle.op_laws.specs.Steps.{SettledAmounts}
+use Rattle.op_laws.specs.Steps.{SettledFew, SettledAmounts}
 
 -- ---- other views
 
@@ -77,7 +77,7 @@ owing_of x id_pool m legal = viewed_by (view m) (view_of x m) id_pool (total (he
 -- ---- legal states
 
 pub legal_settles : LegalSettles
-legal_settles h m legal few = record { legal = owing_nothing_of asset.Native h m legal; signers = few }
+legal_settles h m legal = record { legal = owing_nothing_of asset.Native h m legal }
 
 pub settled_legal : SettledLegal
 settled_legal h m header settled sum =
@@ -100,6 +100,11 @@ line_in_range id_pool m id held t legal stands =
 ready_of : (stated_sponsored stated_subs : ℤ) (sponsored subs : ℕ) → stated_sponsored ≡ pos sponsored
     → stated_subs ≡ pos subs → stated_sponsored ≤ℤ (stated_subs +ℤ pos 2) → subs ≤ 1000 → sponsored ≤ 4294967293
 ready_of stated_sponsored stated_subs sponsored subs is also le few = omega (arith, ints)
+
+pub settled_few : SettledFew
+settled_few id_pool m settled = record {
+  few = λ id a stands. (settled_accounts id_pool m id a settled stands).signers.few;
+}
 
 pub settled_ready : SettledReady
 settled_ready id_pool m settled = record {

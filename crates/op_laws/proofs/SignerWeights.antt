@@ -59,6 +59,7 @@ module _ (id : AccountId) (xs : List Signer) (sponsors : List (Option AccountId)
 
   pub signers_weighed : (1 ≤ s.weight) × (s.weight ≤ 255) → AreSignersInRange id ys sponsors
   signers_weighed weight = record {
+    few = let long = length-set xs place s in let few = was.few in omega arith;
     rising = λ i j d lt in_ys.
         let long = length-set xs place s in
         (λ t. signer_key_cmp (key_at i d t) (key_at j d t)) ∙ was.rising i j d lt (omega arith);
@@ -118,7 +119,6 @@ module _ (place : ℕ) (s : Signer) (weight : (1 ≤ s.weight) × (s.weight ≤ 
     id = refl;
     balance = no_more a.balance;
     covered = inr (omega (arith, ints));
-    few = inr (subst (λ n. n ≤ length a.signers) (sym as_long) (omega arith));
   }
 
   module _ (m : EntryMap) (id : AccountId) (stands : account_at m id ≡ Some a) where

@@ -1,8 +1,6 @@
 -- Signers that are removed: what they leave of accounts, and settled.
-use Rattle.std.proofs.Common.{◌≡◌, ◌⊎◌, inl, inr, refl, sym, subst, ◌∙◌, ℕ, ◌≤◌, List, length, Option, Some}
+use Rattle.std.proofs.Common.{◌≡◌, refl, sym, subst, ◌∙◌, ℕ, ◌≤◌, List, Option, Some}
 use Rattle.std.proofs.Common.{None}
-use Rattle.std.proofs.Common.{arith}
-use Rattle.std.proofs.lemmas.Grind.{common_steps}
 use Rattle.std.specs.Prelude.{ℤ, pos}
 use Rattle.std.specs.List.{remove}
 use Rattle.ledger_types.specs.declared.ids.AccountId.{AccountId}
@@ -30,18 +28,10 @@ use Rattle.legal_rules.proofs.PaidFor.{nothing_settled}
 use Rattle.legal_rules.proofs.SignersKept.{counts_subentry, signer_removed}
 use Rattle.op_laws.specs.Steps.{PreauthsSettle}
 use Rattle.op_laws.proofs.Charges.{discharged_kept}
-use Rattle.op_laws.proofs.Payments.{few_left}
 use Rattle.op_laws.proofs.Reserves.{no_subentry_means, next_edited}
 use Rattle.op_laws.proofs.Issued.{none_moved}
 use Rattle.op_laws.proofs.Settled.{entries_legal, owing_of}
 use Rattle.op_laws.proofs.Standing.{IsNext, Leaves, none_more, leaves_itself}
-
-no_longer : {X : Type 0} (xs : List X) (n : ℕ) → length (remove xs n) ≤ length xs
-no_longer xs n = grind (arith, common_steps)
-
-fewer : (n b a : ℕ) → n ≤ b → (b ≤ 20) ⊎ (b ≤ a) → (n ≤ 20) ⊎ (n ≤ a)
-fewer n b a le (inl low) = inl (omega arith)
-fewer n b a le (inr few) = inr (omega arith)
 
 -- the next account without a signer
 unsigned_next : (base place : ℕ) (s : Option AccountId) (a : AccountEntry)
@@ -52,7 +42,6 @@ unsigned_next base place s a next =
     let change = λ (xs : List (Option AccountId)). remove xs place in
     next_edited base (pos 0) a b (without_signer place b) next (with_sponsors_means change b (remove b.signers place))
     (λ which. counts_edited change which b (remove b.signers place))
-    (fewer (length (remove b.signers place)) (length b.signers) (length a.signers) (no_longer b.signers place) next.few)
 
 -- an account keeps its means without a signer
 pub without_means : (place : ℕ) (s : Option AccountId) (a : AccountEntry)
@@ -95,8 +84,6 @@ preauths_settle id_pool m id hash settled =
     record {
       settled = record {
         legal = entries_legal (view m) id_pool sum new (legal asset.Native);
-        signers = few_left 0 none_more m new
-            (signer_kept (view m) id_pool sum m settled.legal 0 id (PreAuthTx hash)).each settled.signers;
       };
       supply = λ x. (legal x).supply ∙ sym (none_moved x (total (held x) m));
     }

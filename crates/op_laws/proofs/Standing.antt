@@ -1,6 +1,6 @@
 -- What a change leaves of the accounts of a map: who stands, with which lumens, with what is available, and with how
 -- many signers.
-use Rattle.std.proofs.Common.{◌≡◌, ◌⊎◌, inl, inr, refl, sym, ap, subst, ◌∙◌, ℕ, ◌≤◌, Bool, true, false, length}
+use Rattle.std.proofs.Common.{◌≡◌, ◌⊎◌, inl, inr, refl, sym, ap, subst, ◌∙◌, ℕ, Bool, true, false}
 use Rattle.std.proofs.Common.{Option, Some, None, arith}
 use Rattle.std.proofs.lemmas.Int.{ints}
 use Rattle.std.specs.Prelude.{ℤ, pos, ◌+ℤ◌, ◌≤ℤ◌, if◌then◌else◌}
@@ -38,16 +38,10 @@ IsCoveredBy base old a =
     (pos 0 ≤ℤ available a base)
     ⊎ ((was : AccountEntry) × (old ≡ Some was) × (available was base ≤ℤ available a base))
 
--- at most 20 signers, or as many as there were
-abbrev pub HasFewBy : Option AccountEntry → AccountEntry → Type 0
-HasFewBy old a =
-    (length a.signers ≤ 20) ⊎ ((was : AccountEntry) × (old ≡ Some was) × (length a.signers ≤ length was.signers))
-
 -- what stands under an account's id after a change by which it has so much more
 pub record IsAfter (base : ℕ) (more : ℤ) (old new : Option AccountEntry) : Type 0 where
   pub lumens : lumens_in new ≡ (lumens_in old +ℤ more)
   pub covered : (a : AccountEntry) → new ≡ Some a → IsCoveredBy base old a
-  pub few : (a : AccountEntry) → new ≡ Some a → HasFewBy old a
 
 nothing_more : (x : ℤ) → x ≡ (x +ℤ pos 0)
 nothing_more x = omega (arith, ints)
@@ -56,7 +50,6 @@ pub is_itself_after : (base : ℕ) (o : Option AccountEntry) → IsAfter base (p
 is_itself_after base o = record {
   lumens = nothing_more (lumens_in o);
   covered = λ a is. inr (a, is, omega (arith, ints));
-  few = λ a is. inr (a, is, omega arith);
 }
 
 in_a_row : (x y z d e : ℤ) → y ≡ (x +ℤ d) → z ≡ (y +ℤ e) → z ≡ (x +ℤ (d +ℤ e))
@@ -73,19 +66,10 @@ module _ (base : ℕ) (d e : ℤ) (old now new : Option AccountEntry) (first : I
   covered_by b (inl low) = inl low
   covered_by b (inr was) = covered_on was.0 b was.2 (first.covered was.0 was.1)
 
-  few_on : (a b : AccountEntry) → length b.signers ≤ length a.signers → HasFewBy old a → HasFewBy old b
-  few_on a b le (inl low) = inl (omega arith)
-  few_on a b le (inr was) = let also = was.2 in inr (was.0, was.1, omega arith)
-
-  few_by : (b : AccountEntry) → HasFewBy now b → HasFewBy old b
-  few_by b (inl low) = inl low
-  few_by b (inr was) = few_on was.0 b was.2 (first.few was.0 was.1)
-
   after_both : IsAfter base (d +ℤ e) old new
   after_both = record {
     lumens = in_a_row (lumens_in old) (lumens_in now) (lumens_in new) d e first.lumens second.lumens;
     covered = λ b is. covered_by b (second.covered b is);
-    few = λ b is. few_by b (second.few b is);
   }
 
 -- ---- all accounts
@@ -150,7 +134,6 @@ pub record IsNext (base : ℕ) (more : ℤ) (was a : AccountEntry) : Type 0 wher
   pub id : a.account_id ≡ was.account_id
   pub balance : a.balance ≡ (was.balance +ℤ more)
   pub covered : (pos 0 ≤ℤ available a base) ⊎ (available was base ≤ℤ available a base)
-  pub few : (length a.signers ≤ 20) ⊎ (length a.signers ≤ length was.signers)
 
 next_after : (base : ℕ) (more : ℤ) (was a : AccountEntry) → IsNext base more was a
     → IsAfter base more (Some was) (Some a)
@@ -159,12 +142,6 @@ next_after base more was a next = record {
   covered = λ b is.
       let same : a ≡ b = cc in
       subst (IsCoveredBy base (Some was)) same (elim next.covered [
-        | inl low ↦ inl low
-        | inr le ↦ inr (was, refl, le)
-      ]);
-  few = λ b is.
-      let same : a ≡ b = cc in
-      subst (HasFewBy (Some was)) same (elim next.few [
         | inl low ↦ inl low
         | inr le ↦ inr (was, refl, le)
       ]);

@@ -8,9 +8,12 @@ use Rattle.entry_map.specs.EntryMap.{EntryMap}
 use Rattle.sponsor_rules.specs.declared.context.Ctx.{Ctx}
 use Rattle.op_form.specs.Done.{Done, done_of}
 use Rattle.op_account.specs.Operations.{account_operation}
+use Rattle.op_claim.specs.Operations.{claim_operation}
+use Rattle.op_flags.specs.Operations.{flags_operation}
 use Rattle.op_options.specs.Operations.{options_operation}
 use Rattle.op_payment.specs.Operations.{payment_operation}
 use Rattle.op_sponsor.specs.Operations.{sponsor_operation}
+use Rattle.op_trust.specs.Operations.{trust_operation}
 
 -- Operations of the other types are not supported yet.
 unfoldable pub any_operation : Ctx → OperationBody → EntryMap → Done
@@ -21,6 +24,13 @@ any_operation ctx (body.BumpSequence op) m = account_operation ctx (body.BumpSeq
 any_operation ctx (body.SetOptions op) m = options_operation ctx (body.SetOptions op) m
 any_operation ctx (body.ManageData op) m = options_operation ctx (body.ManageData op) m
 any_operation ctx (body.Payment op) m = payment_operation ctx (body.Payment op) m
+any_operation ctx (body.ChangeTrust op) m = trust_operation ctx (body.ChangeTrust op) m
+any_operation ctx (body.AllowTrust op) m = flags_operation ctx (body.AllowTrust op) m
+any_operation ctx (body.SetTrustLineFlags op) m = flags_operation ctx (body.SetTrustLineFlags op) m
+any_operation ctx (body.CreateClaimableBalance op) m = claim_operation ctx (body.CreateClaimableBalance op) m
+any_operation ctx (body.ClaimClaimableBalance op) m = claim_operation ctx (body.ClaimClaimableBalance op) m
+any_operation ctx (body.Clawback op) m = claim_operation ctx (body.Clawback op) m
+any_operation ctx (body.ClawbackClaimableBalance op) m = claim_operation ctx (body.ClawbackClaimableBalance op) m
 any_operation ctx (body.BeginSponsoringFutureReserves op) m =
     sponsor_operation ctx (body.BeginSponsoringFutureReserves op) m
 any_operation ctx body.EndSponsoringFutureReserves m = sponsor_operation ctx body.EndSponsoringFutureReserves m

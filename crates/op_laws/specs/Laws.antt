@@ -66,9 +66,11 @@ IsLimitFit op = op.limit ≤ℤ greatest_i64
 abbrev pub AreClaimantsFew : CreateClaimableBalanceOp → Type 0
 AreClaimantsFew op = length op.claimants ≤ 10
 
--- what no test of an operation says of its numbers, and their types do
+-- what no test of an operation says of its numbers and lists, and their types do
 abbrev pub IsFit : OperationBody → Type 0
 IsFit (body.BumpSequence op) = IsBumpFit op
+IsFit (body.ChangeTrust op) = IsLimitFit op
+IsFit (body.CreateClaimableBalance op) = AreClaimantsFew op
 IsFit other = Unit {0}
 
 -- any operation, whether it succeeds or fails

@@ -1,5 +1,5 @@
 -- That fees, sequence numbers and signers that are used up leave settled entries.
-use Rattle.std.specs.Prelude.{◌≡◌, ◌≢◌, ℕ, ℤ, pos, neg_ℤ, ◌+ℤ◌, ◌≤ℤ◌, [], Some}
+use Rattle.std.specs.Prelude.{◌≡◌, ◌≢◌, ℕ, ◌≤◌, ℤ, pos, neg_ℤ, ◌+ℤ◌, ◌≤ℤ◌, [], length, Some}
 use Rattle.ledger_types.specs.declared.ids.AccountId.{AccountId}
 use Rattle.ledger_types.specs.declared.ids.Hash.{Hash}
 use Rattle.ledger_types.specs.declared.asset.Asset.{Asset}
@@ -18,11 +18,11 @@ use Rattle.legal_rules.specs.Supply.{held, lumens_of}
 use Rattle.legal_rules.specs.Ranges.{IsAccountInRange}
 use Rattle.op_form.specs.Premises.{AccountsAreReady, BalancesAreInRange, AreAmountsLow}
 use Rattle.op_laws.specs.Laws.{AllLawful}
-use Rattle.op_laws.specs.Underway.{AreSignersFew, IsSettled, LeavesSettled}
+use Rattle.op_laws.specs.Underway.{IsSettled, LeavesSettled}
 
--- a legal state whose accounts have few signers is settled
+-- a legal state is settled
 abbrev pub LegalSettles : Type 0
-LegalSettles = (h : LedgerHeader) (m : EntryMap) → IsLegal h m → AreSignersFew m → IsSettled h.id_pool m
+LegalSettles = (h : LedgerHeader) (m : EntryMap) → IsLegal h m → IsSettled h.id_pool m
 
 -- what settled entries need for a legal state: a header in its ranges, whose total of lumens is theirs and the fee pool
 abbrev pub SettledLegal : Type 0
@@ -60,6 +60,13 @@ SettledReady = (id_pool : ℕ) (m : EntryMap) → IsSettled id_pool m → Accoun
 abbrev pub SettledInRange : Type 0
 SettledInRange = (id_pool : ℕ) (m : EntryMap) → IsSettled id_pool m → BalancesAreInRange m
 
+-- each account has at most 20 signers (MAX_SIGNERS in Stellar-ledger-entries.x)
+pub record AreSignersFew (m : EntryMap) : Type 0 where
+  pub few : (id : AccountId) (account : AccountEntry) → account_at m id ≡ Some account → length account.signers ≤ 20
+
+abbrev pub SettledFew : Type 0
+SettledFew = (id_pool : ℕ) (m : EntryMap) → IsSettled id_pool m → AreSignersFew m
+
 -- no claimable balance has less than nothing
 abbrev pub SettledAmounts : Type 0
 SettledAmounts = (id_pool : ℕ) (m : EntryMap) → IsSettled id_pool m → AreAmountsLow m
@@ -75,6 +82,7 @@ pub record TransactionLaws : Type 0 where
   pub seq_nums : SeqNumsSettle
   pub preauths : PreauthsSettle
   pub accounts : SettledAccounts
+  pub few : SettledFew
   pub ready : SettledReady
   pub in_range : SettledInRange
   pub amounts : SettledAmounts

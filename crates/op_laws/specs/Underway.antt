@@ -1,11 +1,8 @@
 -- What holds before and behind each operation of a transaction.
-use Rattle.std.specs.Prelude.{◌≡◌, ℕ, ◌+◌, ◌<◌, ◌≤◌, ◌+ℤ◌, List, length, Some}
-use Rattle.ledger_types.specs.declared.ids.AccountId.{AccountId}
-use Rattle.ledger_types.specs.declared.account.AccountEntry.{AccountEntry}
+use Rattle.std.specs.Prelude.{◌≡◌, ℕ, ◌+◌, ◌<◌, ◌≤◌, ◌+ℤ◌, List}
 use Rattle.ledger_types.specs.declared.asset.Asset.{Asset}
 use Rattle.ledger_types.specs.declared.asset.Asset.TheVariants as asset
 use Rattle.entry_map.specs.EntryMap.{EntryMap}
-use Rattle.entry_slots.specs.Accounts.{account_at}
 use Rattle.entry_sums.specs.Sums.{total}
 use Rattle.sponsor_rules.specs.declared.context.Ctx.{Ctx}
 use Rattle.legal_rules.specs.Legal.{view}
@@ -19,14 +16,9 @@ use Rattle.op_laws.specs.Moves.{issued}
 abbrev pub AreEntriesLegal : (id_pool : ℕ) → EntryMap → Type 0
 AreEntriesLegal id_pool m = IsLegalOwing (view m) id_pool nothing_owed (total (held asset.Native) m) m
 
--- an account has at most 20 signers (MAX_SIGNERS in Stellar-ledger-entries.x)
-pub record AreSignersFew (m : EntryMap) : Type 0 where
-  pub few : (id : AccountId) (account : AccountEntry) → account_at m id ≡ Some account → length account.signers ≤ 20
-
 -- what holds of the entries between two transactions, when so many ids are drawn
 pub record IsSettled (id_pool : ℕ) (m : EntryMap) : Type 0 where
   pub legal : AreEntriesLegal id_pool m
-  pub signers : AreSignersFew m
 
 -- what a part of a transaction leaves: settled entries, whose supply of each asset these moves changed
 pub record LeavesSettled (id_pool : ℕ) (old new : EntryMap) (moves : List Move) : Type 0 where

@@ -1,5 +1,5 @@
-//! Laws of operations, over their definitions: each leaves a legal state, moves what its moves say, makes no amount, and
-//! leaves each account what it needs.
+//! Laws of operations, over their definitions: each leaves a legal state, moves what its moves say, makes no amount,
+//! and leaves each account what it needs.
 #![tactic(auto)]
 
 pub mod operations;

@@ -42,6 +42,11 @@ pub fn settled_in_range()
     ensures { spec.SettledInRange }
 {}
 
+/// Each account of settled entries has at most 20 signers.
+pub fn settled_few()
+    ensures { spec.SettledFew }
+{}
+
 /// No claimable balance of settled entries has less than nothing.
 pub fn settled_amounts()
     ensures { spec.SettledAmounts }
@@ -61,6 +66,7 @@ pub fn transaction_laws()
     seq_nums_settle();
     preauths_settle();
     settled_accounts();
+    settled_few();
     settled_ready();
     settled_in_range();
     settled_amounts();

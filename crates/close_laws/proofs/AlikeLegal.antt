@@ -103,7 +103,4 @@ settled_alike id_pool m n alike settled = record {
         ∙ settled.legal.books kind k;
     supply = sym (total_alike (held asset.Native) m n alike (λ e. refl));
   };
-  signers = record {
-    few = λ id account there. settled.signers.few id account (accounts_alike m n id alike ∙ there);
-  };
 }

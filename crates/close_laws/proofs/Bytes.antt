@@ -9,28 +9,35 @@ use Rattle.ledger_types.specs.declared.ids.AccountId.{AccountId}
 use Rattle.ledger_types.specs.declared.signer.Signer.{Signer}
 use Rattle.ledger_types.specs.declared.account.AccountEntry.{AccountEntry}
 use Rattle.ledger_types.specs.declared.account.AccountEntryExtensionV2.{AccountEntryExtensionV2}
+use Rattle.ledger_types.specs.declared.asset.TrustLineAsset.{TrustLineAsset}
+use Rattle.ledger_types.specs.declared.trust_line.TrustLineEntry.{TrustLineEntry}
 use Rattle.ledger_types.specs.declared.data_entry.DataEntry.{DataEntry}
+use Rattle.ledger_types.specs.declared.claimable_balance.Claimant.{Claimant}
+use Rattle.ledger_types.specs.declared.claimable_balance.ClaimableBalanceEntry.{ClaimableBalanceEntry}
 use Rattle.ledger_types.specs.declared.entry.LedgerEntry.{LedgerEntry}
 use Rattle.ledger_types.specs.declared.entry.LedgerEntryBody.{LedgerEntryBody}
 use Rattle.ledger_types.specs.declared.entry.LedgerEntryBody.TheVariants as body
 use Rattle.ledger_types.specs.declared.entry.LedgerEntryExtensionV1.{LedgerEntryExtensionV1}
 use Rattle.ledger_types.specs.declared.key.LedgerKey.{LedgerKey}
 use Rattle.ledger_types.specs.declared.key.LedgerKey.TheVariants as key
-use Rattle.xdr_core.specs.Leaves.{fixed, var}
+use Rattle.xdr_core.specs.Leaves.{i64, fixed, var}
 use Rattle.xdr_core.specs.Combinators.{option}
 use Rattle.xdr_core.specs.Xdr.{optional}
+use Rattle.xdr_entries.specs.Basic as basic
 use Rattle.xdr_entries.specs.Basic.{account_id, signer_key}
+use Rattle.xdr_entries.specs.Entries.{claimant}
 use Rattle.entry_map.specs.EntryMap.{EntryMap, put, erase}
 use Rattle.entry_sums.specs.Sums.{EachEntry}
 use Rattle.entry_sums.proofs.Lookups.{put_each, erase_each}
 use Rattle.entry_slots.specs.Accounts.{with_account, with_account_of, with_account_in}
+use Rattle.entry_slots.specs.Lines.{with_line, with_line_of, with_line_in}
 use Rattle.entry_slots.specs.DataEntries.{with_data, with_data_of, with_data_in}
 use Rattle.entry_slots.specs.AccountExtensions.{second_in}
 use Rattle.entry_slots.specs.EntrySponsor.{sponsor_of, with_sponsor, with_sponsor_in, sponsor_in}
 use Rattle.sponsor_rules.specs.declared.context.Ctx.{Ctx}
 use Rattle.sponsor_rules.specs.declared.context.Sponsorship.{Sponsorship}
-use Rattle.sponsor_rules.specs.Payers.{is_same_account, open_sponsor}
-use Rattle.close_rules.specs.State.{IsSpelled}
+use Rattle.sponsor_rules.specs.Payers.{is_same_account, open_sponsor, payer_by, payer_of}
+use Rattle.close_rules.specs.State.{IsSpelled, IsBuiltLine}
 
 -- ---- ids
 
@@ -79,10 +86,27 @@ pub record AreDataBytes (entry : DataEntry) : Type 0 where
   pub name : IsSpelled (var 64) entry.data_name
   pub value : IsSpelled (var 64) entry.data_value
 
--- of accounts and data, the entries of which all operations can be applied so far
+-- a line that isn't one of pool shares
+pub record AreLineBytes (held : TrustLineEntry) : Type 0 where
+  pub id : IsId held.account_id
+  pub asset : IsSpelled basic.trust_line_asset held.asset
+  pub built : IsBuiltLine held.asset
+
+abbrev pub IsClaimant : Claimant → Type 0
+IsClaimant one = IsSpelled claimant one
+
+pub record AreBalanceBytes (balance : ClaimableBalanceEntry) : Type 0 where
+  pub id : IsSpelled basic.claimable_balance_id balance.balance_id
+  pub claimants : All IsClaimant balance.claimants
+  pub asset : IsSpelled basic.asset balance.asset
+  pub amount : IsSpelled i64 balance.amount
+
+-- of the entries of which all operations can be applied so far
 abbrev pub AreBodyBytes : LedgerEntryBody → Type 0
 AreBodyBytes (body.Account account) = AreAccountBytes account
+AreBodyBytes (body.TrustLine held) = AreLineBytes held
 AreBodyBytes (body.Data entry) = AreDataBytes entry
+AreBodyBytes (body.ClaimableBalance balance) = AreBalanceBytes balance
 AreBodyBytes other = ⊥
 
 pub record AreEntryBytes (e : LedgerEntry) : Type 0 where
@@ -123,6 +147,29 @@ pub with_account_bytes : (m : EntryMap) (id : AccountId) (change : AccountEntry 
 unfolding with_account
 with_account_bytes m id change keep each =
     account_found m (key.Account id) change (get m (key.Account id)) refl keep each
+
+-- a change that keeps the bytes of a line
+abbrev pub KeepsLines : (TrustLineEntry → TrustLineEntry) → Type 0
+KeepsLines change = (held : TrustLineEntry) → AreLineBytes held → AreLineBytes (change held)
+
+line_changed : (m : EntryMap) (change : TrustLineEntry → TrustLineEntry) (e : LedgerEntry) (of : LedgerEntryBody)
+    → KeepsLines change → AreBytes m → AreBodyBytes of → IsIdIf (sponsor_of e) → AreBytes (with_line_in m e change of)
+line_changed m change e (body.TrustLine held) keep each bytes sponsor =
+    put_bytes m (record e { body = body.TrustLine (change held) }) each
+    (record { body = keep held bytes; sponsor = sponsor })
+line_changed m change e other keep each bytes sponsor = each
+
+line_found : (m : EntryMap) (k : LedgerKey) (change : TrustLineEntry → TrustLineEntry) (found : Option LedgerEntry)
+    → get m k ≡ found → KeepsLines change → AreBytes m → AreBytes (with_line_of m change found)
+line_found m k change None there keep each = each
+line_found m k change (Some e) there keep each =
+    line_changed m change e e.body keep each (each k e there).body (each k e there).sponsor
+
+pub with_line_bytes : (m : EntryMap) (id : AccountId) (held : TrustLineAsset)
+    (change : TrustLineEntry → TrustLineEntry) → KeepsLines change → AreBytes m → AreBytes (with_line m id held change)
+unfolding with_line
+with_line_bytes m id held change keep each =
+    line_found m (key.TrustLine id held) change (get m (key.TrustLine id held)) refl keep each
 
 data_changed : (m : EntryMap) (change : DataEntry → DataEntry) (e : LedgerEntry) (of : LedgerEntryBody)
     → ((entry : DataEntry) → AreDataBytes entry → AreDataBytes (change entry)) → AreBytes m → AreBodyBytes of
@@ -182,3 +229,10 @@ pub open_sponsor_id : (ctx : Ctx) (id : AccountId) → AreSponsors ctx → IsIdI
 unfolding open_sponsor
 open_sponsor_id ctx id sponsors =
     opened_by (λ opened. is_same_account opened.sponsored id) ctx.sponsorships sponsors.all
+
+payer_id : (owner : AccountId) (found : Option AccountId) → IsId owner → IsIdIf found → IsId (payer_by owner found)
+payer_id owner None id named = id
+payer_id owner (Some sponsor) id named = id_of_some sponsor named
+
+pub payer_of_id : (ctx : Ctx) (owner : AccountId) → IsId owner → AreSponsors ctx → IsId (payer_of ctx owner)
+payer_of_id ctx owner id sponsors = payer_id owner (open_sponsor ctx owner) id (open_sponsor_id ctx owner sponsors)

@@ -2,27 +2,22 @@
 use Rattle.std.proofs.Common.{◌≡◌, refl, subst, Option, Some, None, Result, Ok, ℤ, Bool, true, false}
 use Rattle.std.proofs.Common.{if◌then◌else◌}
 use Rattle.std.specs.Option.{ok_or}
-use Rattle.std.specs.FinMap.{get}
 use Rattle.ledger_types.specs.declared.ids.AccountId.{AccountId}
 use Rattle.ledger_types.specs.declared.account.AccountEntry.{AccountEntry}
 use Rattle.ledger_types.specs.declared.asset.Asset.{Asset}
 use Rattle.ledger_types.specs.declared.asset.Asset.TheVariants as asset
 use Rattle.ledger_types.specs.declared.asset.TrustLineAsset.{TrustLineAsset}
 use Rattle.ledger_types.specs.declared.trust_line.TrustLineEntry.{TrustLineEntry}
-use Rattle.ledger_types.specs.declared.entry.LedgerEntry.{LedgerEntry}
-use Rattle.ledger_types.specs.declared.entry.LedgerEntryBody.{LedgerEntryBody}
-use Rattle.ledger_types.specs.declared.entry.LedgerEntryBody.TheVariants as entry
-use Rattle.ledger_types.specs.declared.key.LedgerKey.{LedgerKey}
-use Rattle.ledger_types.specs.declared.key.LedgerKey.TheVariants as key
 use Rattle.entry_map.specs.EntryMap.{EntryMap}
 use Rattle.entry_slots.specs.Accounts.{account_at, with_account}
-use Rattle.entry_slots.specs.Lines.{line_at, with_line, with_line_of, with_line_in}
+use Rattle.entry_slots.specs.Lines.{line_at, with_line}
 use Rattle.entry_slots.specs.Tests.{first_fault}
 use Rattle.sponsor_rules.specs.declared.context.Ctx.{Ctx}
 use Rattle.op_form.specs.Amounts as amounts
 use Rattle.op_form.specs.Assets.{is_issued_by, line_asset_of}
 use Rattle.op_form.specs.Lumens as lumens
-use Rattle.close_laws.proofs.Bytes.{AreAccountBytes, AreBodyBytes, AreBytes, KeepsAccounts, with_account_bytes}
+use Rattle.close_laws.proofs.Bytes.{AreAccountBytes, AreBytes, KeepsAccounts, KeepsLines}
+use Rattle.close_laws.proofs.Bytes.{with_account_bytes, with_line_bytes}
 use Rattle.close_laws.proofs.BytesMaps.{AreBytesIf, unless_bytes}
 
 -- ---- lumens
@@ -76,22 +71,12 @@ credit_bytes id amount m made each is = credit_of id amount m made (account_at m
 
 -- ---- lines
 
--- no line stands, so none is changed
-line_changed : (m : EntryMap) (change : TrustLineEntry → TrustLineEntry) (e : LedgerEntry) (of : LedgerEntryBody)
-    → AreBodyBytes of → AreBytes m → AreBytes (with_line_in m e change of)
-line_changed m change e (entry.TrustLine line) bytes each = absurd bytes
-line_changed m change e other bytes each = each
+-- a change of the balance alone
+more_held : (amount : ℤ) → KeepsLines (amounts.with_more amount)
+more_held amount held bytes = record { id = bytes.id; asset = bytes.asset; built = bytes.built }
 
-line_found : (m : EntryMap) (k : LedgerKey) (change : TrustLineEntry → TrustLineEntry) (found : Option LedgerEntry)
-    → get m k ≡ found → AreBytes m → AreBytes (with_line_of m change found)
-line_found m k change None there each = each
-line_found m k change (Some e) there each = line_changed m change e e.body (each k e there).body each
-
-with_line_bytes : (m : EntryMap) (id : AccountId) (held : TrustLineAsset) (change : TrustLineEntry → TrustLineEntry)
-    → AreBytes m → AreBytes (with_line m id held change)
-unfolding with_line
-with_line_bytes m id held change each =
-    line_found m (key.TrustLine id held) change (get m (key.TrustLine id held)) refl each
+pub less_held : (amount : ℤ) → KeepsLines (amounts.with_less amount)
+less_held amount held bytes = record { id = bytes.id; asset = bytes.asset; built = bytes.built }
 
 either_bytes : {F : Type 0} (b : Bool) (made other : Result EntryMap F) → AreBytesIf made → AreBytesIf other
     → AreBytesIf (if b then made else other)
@@ -108,14 +93,14 @@ line_credit : (id : AccountId) (held : TrustLineAsset) (amount : ℤ) (m : Entry
 line_credit id held amount m None each = tt
 line_credit id held amount m (Some line) each =
     unless_bytes (first_fault (amounts.line_credit_tests amount line)) (with_line m id held (amounts.with_more amount))
-    (with_line_bytes m id held (amounts.with_more amount) each)
+    (with_line_bytes m id held (amounts.with_more amount) (more_held amount) each)
 
 line_debit : (id : AccountId) (held : TrustLineAsset) (amount : ℤ) (m : EntryMap) (found : Option TrustLineEntry)
     → AreBytes m → AreBytesIf (amounts.map_after_line_debit_of id held amount m found)
 line_debit id held amount m None each = tt
 line_debit id held amount m (Some line) each =
     unless_bytes (first_fault (amounts.line_debit_tests amount line)) (with_line m id held (amounts.with_less amount))
-    (with_line_bytes m id held (amounts.with_less amount) each)
+    (with_line_bytes m id held (amounts.with_less amount) (less_held amount) each)
 
 issued_credit : (id : AccountId) (held : Asset) (amount : ℤ) (m : EntryMap) → AreBytes m
     → AreBytesIf (amounts.map_after_issued_credit id held amount m)
@@ -133,7 +118,8 @@ pub taken_bytes : (id : AccountId) (held : Asset) (amount : ℤ) (m : EntryMap) 
     → AreBytesIf (amounts.map_after_credit id held amount m)
 taken_bytes id asset.Native amount m each =
     made_bytes (lumens.map_after_lumens_credit id amount m) _ (λ made is. credit_bytes id amount m made each is)
-taken_bytes id (asset.Alphanum4 code issuer) amount m each = issued_credit id (asset.Alphanum4 code issuer) amount m each
+taken_bytes id (asset.Alphanum4 code issuer) amount m each =
+    issued_credit id (asset.Alphanum4 code issuer) amount m each
 taken_bytes id (asset.Alphanum12 code issuer) amount m each =
     issued_credit id (asset.Alphanum12 code issuer) amount m each
 

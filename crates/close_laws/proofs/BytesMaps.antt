@@ -30,7 +30,7 @@ use Rattle.sponsor_rules.specs.Moving as moving
 use Rattle.sponsor_rules.specs.SignerPlace.{found_signer, place_for}
 use Rattle.sponsor_rules.specs.Signers as signing
 use Rattle.close_rules.specs.State.{IsSpelled}
-use Rattle.close_laws.proofs.Bytes.{IsIdIf, no_id, AreAccountBytes, AreEntryBytes, AreBytes}
+use Rattle.close_laws.proofs.Bytes.{IsId, IsIdIf, no_id, some_id, AreAccountBytes, AreEntryBytes, AreBytes}
 use Rattle.close_laws.proofs.Bytes.{put_bytes, erase_bytes, with_account_bytes, with_sponsor_bytes}
 use Rattle.close_laws.proofs.Bytes.{AreSponsors, open_sponsor_id}
 use Rattle.close_laws.proofs.BytesPaid.{count_bytes, subentry_bytes, without_subentry_bytes, other_payer_bytes}
@@ -79,6 +79,13 @@ adding_subentry_bytes ctx e owner k m bytes sponsors each =
     (with_account_bytes (map_after_charging k sponsor m) owner (with_subentry k sponsor) (subentry_bytes k sponsor)
     (charging_bytes k sponsor m each))
     (sponsored_bytes sponsor e bytes (open_sponsor_id ctx owner sponsors)))
+
+-- a claimable balance is added
+pub adding_balance_bytes : (ctx : Ctx) (e : LedgerEntry) (payer : AccountId) (k : ℕ) (m : EntryMap) → AreEntryBytes e
+    → IsId payer → AreBytes m → AreBytesIf (adding.map_after_adding_balance ctx e payer k m)
+adding_balance_bytes ctx e payer k m bytes id each =
+    unless_bytes _ _ (put_bytes (map_after_charging k (Some payer) m) (with_sponsor (Some payer) e)
+    (charging_bytes k (Some payer) m each) (with_sponsor_bytes (Some payer) e bytes (some_id payer id)))
 
 -- ---- removing
 

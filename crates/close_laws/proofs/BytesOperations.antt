@@ -1,6 +1,6 @@
 -- Each operation leaves the bytes of entries.
 use Rattle.std.proofs.Common.{◌≡◌, ℕ, zero, suc, ◌<◌, refl, List, [], ◌∷◌, Option, Some}
-use Rattle.std.proofs.Common.{None, Result, Ok, Err, IfOk, ℤ, take, drop, Bool, true, false, if◌then◌else◌, ◌||◌, arith}
+use Rattle.std.proofs.Common.{None, Ok, ℤ, take, drop, Bool, true, false, if◌then◌else◌, ◌||◌, arith}
 use Rattle.std.proofs.lemmas.Bool.Decides.{nat_tests}
 use Rattle.std.proofs.lemmas.List.Elements.{All-nil, All-cons, All-append, All-set, All-take, All-drop}
 use Rattle.std.specs.Prelude.{pos, not, is_some, bit_and, int_lt, nat_eq, nat_lt, unwrap_or, slice_index}
@@ -24,7 +24,6 @@ use Rattle.op_types.specs.declared.sponsor_ops.RevokeSponsorshipOp.{RevokeSponso
 use Rattle.op_types.specs.declared.sponsor_ops.RevokeSponsorshipOp.TheVariants as revoked
 use Rattle.op_types.specs.declared.operation.OperationBody.{OperationBody}
 use Rattle.op_types.specs.declared.operation.OperationBody.TheVariants as body
-use Rattle.op_types.specs.declared.operation_result.OperationResult.{OperationResult}
 use Rattle.op_types.specs.declared.operation_result.OperationResult.TheVariants.{NoAccount}
 use Rattle.op_types.specs.declared.account_results.AccountMergeResult.TheVariants as merge
 use Rattle.op_types.specs.declared.account_results.BumpSequenceResult.TheVariants as bump
@@ -42,19 +41,17 @@ use Rattle.xdr_tx.specs.Operations.{operation_body, create_account_op, set_optio
 use Rattle.entry_map.specs.EntryMap.{EntryMap}
 use Rattle.entry_slots.specs.Accounts.{account_at}
 use Rattle.entry_slots.specs.DataEntries.{data_at}
-use Rattle.entry_slots.specs.Tests.{Tests, first_fault}
+use Rattle.entry_slots.specs.Tests.{first_fault}
 use Rattle.sponsor_rules.specs.declared.context.Ctx.{Ctx}
-use Rattle.sponsor_rules.specs.declared.fault.AddFault.{AddFault}
 use Rattle.sponsor_rules.specs.declared.signer_place.FoundSigner.{FoundSigner}
 use Rattle.sponsor_rules.specs.Payers.{open_sponsor}
 use Rattle.sponsor_rules.specs.SignerPlace.{found_signer}
 use Rattle.sponsor_rules.specs.Signers.{map_after_adding_signer, map_after_removing_signer, map_after_moving_signer}
 use Rattle.sponsor_rules.specs.Adding.{map_after_adding}
 use Rattle.sponsor_rules.specs.Moving.{map_after_moving}
-use Rattle.op_form.specs.Done.{Done, Attempt, done_of}
 use Rattle.op_form.specs.Amounts.{map_after_credit, map_after_debit}
 use Rattle.op_form.specs.Lumens as lumens
-use Rattle.op_form.specs.Steps.{unless_result, unless_refused, after, after_some, after_charge, after_step}
+use Rattle.op_form.specs.Steps.{unless_refused}
 use Rattle.op_account.specs.AccountMerge as merging
 use Rattle.op_account.specs.BumpSequence as bumping
 use Rattle.op_account.specs.CreateAccount as creating
@@ -66,6 +63,16 @@ use Rattle.op_options.specs.SetOptions as options
 use Rattle.op_options.specs.Operations.{options_operation}
 use Rattle.op_payment.specs.Payment as paying
 use Rattle.op_payment.specs.Operations.{payment_operation}
+use Rattle.op_trust.specs.ChangeTrust as trusting
+use Rattle.op_trust.specs.Operations.{trust_operation}
+use Rattle.op_flags.specs.AllowTrust as allowing
+use Rattle.op_flags.specs.SetTrustLineFlags as flagging
+use Rattle.op_flags.specs.Operations.{flags_operation}
+use Rattle.op_claim.specs.CreateClaimableBalance as balances
+use Rattle.op_claim.specs.ClaimClaimableBalance as claiming
+use Rattle.op_claim.specs.Clawback as clawing
+use Rattle.op_claim.specs.ClawbackClaimableBalance as taking
+use Rattle.op_claim.specs.Operations.{claim_operation}
 use Rattle.op_sponsor.specs.BeginSponsoringFutureReserves as beginning
 use Rattle.op_sponsor.specs.EndSponsoringFutureReserves as ending
 use Rattle.op_sponsor.specs.RevokeSponsorship as revoking
@@ -73,70 +80,15 @@ use Rattle.op_sponsor.specs.Operations.{sponsor_operation}
 use Rattle.op_laws.specs.AnyOperation.{any_operation}
 use Rattle.close_rules.specs.State.{IsSpelled}
 use Rattle.close_laws.proofs.Bytes.{IsId, IsIdIf, no_id, AreAccountBytes, AreBytes}
-use Rattle.close_laws.proofs.Bytes.{KeepsAccounts, with_account_bytes, with_data_bytes, IsKey, IsOpener, AreSponsors}
+use Rattle.close_laws.proofs.Bytes.{KeepsAccounts, with_account_bytes, with_data_bytes, IsKey, IsOpener}
 use Rattle.close_laws.proofs.Bytes.{open_sponsor_id}
+use Rattle.close_laws.proofs.BytesSteps.{AreWorkBytes, Work, Gives, Leaves, tested, behind, behind_some}
+use Rattle.close_laws.proofs.BytesSteps.{behind_charge, behind_change, behind_step, either_leaves, done_leaves}
+use Rattle.close_laws.proofs.BytesTrust.{trust_changed, trust_allowed, flags_set}
+use Rattle.close_laws.proofs.BytesClaims.{balance_created, balance_claimed, clawed_back, balance_clawed_back}
 use Rattle.close_laws.proofs.BytesAmounts.{numbers, debit_bytes, credit_bytes, taken_bytes, given_bytes}
-use Rattle.close_laws.proofs.BytesMaps.{AreBytesIf, adding_account_bytes, adding_subentry_bytes, removing_bytes}
+use Rattle.close_laws.proofs.BytesMaps.{adding_account_bytes, adding_subentry_bytes, removing_bytes}
 use Rattle.close_laws.proofs.BytesMaps.{moving_bytes, adding_signer_bytes, removing_signer_bytes, moving_signer_bytes}
-
--- ---- steps
-
--- what an operation leaves
-pub record AreWorkBytes (ctx : Ctx) (m : EntryMap) : Type 0 where
-  pub entries : AreBytes m
-  pub sponsors : AreSponsors ctx
-
-abbrev Work : Done → Type 0
-Work done = AreWorkBytes done.ctx done.entries
-
--- what holds of what a step gives, if it gives something
-record Gives {A : Type 0} (P : A → Type 0) (made : Result A OperationResult) : Type 0 where
-  gives : IfOk made P
-
-abbrev Leaves : Attempt → Type 0
-Leaves attempt = Gives Work attempt
-
--- behind tests that find nothing
-tested_by : {A : Type 0} (P : A → Type 0) (found : Option OperationResult) (next : Result A OperationResult)
-    → (found ≡ None → Gives P next) → Gives P (unless_result found next)
-tested_by P None next holds = holds refl
-tested_by P (Some result) next holds = record { gives = tt }
-
-tested : {A : Type 0} (P : A → Type 0) (tests : Tests OperationResult) (next : Result A OperationResult)
-    → (first_fault tests ≡ None → Gives P next) → Gives P (unless_refused tests next)
-tested P tests next holds = tested_by P (first_fault tests) next holds
-
-behind : {A : Type 0} (P : A → Type 0) (tests : Tests OperationResult) (next : Result A OperationResult)
-    → Gives P next → Gives P (unless_refused tests next)
-behind P tests next holds = tested P tests next (λ none. holds)
-
-behind_some : {A B : Type 0} (P : B → Type 0) (found : Option A) (result : OperationResult)
-    (next : A → Result B OperationResult) → ((a : A) → found ≡ Some a → Gives P (next a))
-    → Gives P (after_some found result next)
-behind_some P None result next holds = record { gives = tt }
-behind_some P (Some a) result next holds = holds a refl
-
-behind_charge : {B : Type 0} (P : B → Type 0) (made : Result EntryMap AddFault) (low : OperationResult)
-    (next : EntryMap → Result B OperationResult) → AreBytesIf made → ((m : EntryMap) → AreBytes m → Gives P (next m))
-    → Gives P (after_charge made low next)
-behind_charge P (Err fault) low next made holds = record { gives = tt }
-behind_charge P (Ok m) low next made holds = holds m made
-
-behind_change : {B F : Type 0} (P : B → Type 0) (made : Result EntryMap F) (answers : F → OperationResult)
-    (next : EntryMap → Result B OperationResult) → AreBytesIf made → ((m : EntryMap) → AreBytes m → Gives P (next m))
-    → Gives P (after_step made answers next)
-behind_change P (Err fault) answers next made holds = record { gives = tt }
-behind_change P (Ok m) answers next made holds = holds m made
-
-behind_step : {A B : Type 0} (Q : A → Type 0) (P : B → Type 0) (made : Result A OperationResult)
-    (next : A → Result B OperationResult) → Gives Q made → ((a : A) → Q a → Gives P (next a))
-    → Gives P (after made next)
-behind_step Q P (Err result) next made holds = record { gives = tt }
-behind_step Q P (Ok a) next made holds = holds a made.gives
-
-either_leaves : (b : Bool) (x y : Attempt) → Leaves x → Leaves y → Leaves (if b then x else y)
-either_leaves true x y here there = here
-either_leaves false x y here there = there
 
 -- ---- accounts
 
@@ -502,14 +454,10 @@ sponsorship_revoked ctx (revoked.Signer id k) m work = signer_revoked ctx id k m
 
 -- ---- any operation
 
-done_leaves : (ctx : Ctx) (m : EntryMap) (attempt : Attempt) → AreWorkBytes ctx m → Leaves attempt
-    → AreWorkBytes (done_of ctx m attempt).ctx (done_of ctx m attempt).entries
-done_leaves ctx m (Ok done) work leaves = leaves.gives
-done_leaves ctx m (Err result) work leaves = work
-
 pub any_bytes : (ctx : Ctx) (of : OperationBody) (m : EntryMap) → IsId ctx.op_source → IsSpelled operation_body of
     → AreWorkBytes ctx m → AreWorkBytes (any_operation ctx of m).ctx (any_operation ctx of m).entries
-unfolding any_operation account_operation options_operation payment_operation sponsor_operation
+unfolding any_operation account_operation options_operation payment_operation trust_operation flags_operation
+    claim_operation sponsor_operation
 any_bytes ctx (body.CreateAccount op) m id spelled work =
     done_leaves ctx m (creating.create_account ctx op m) work (created ctx op m (destination_id op spelled) work)
 any_bytes ctx (body.AccountMerge op) m id spelled work =
@@ -522,6 +470,20 @@ any_bytes ctx (body.ManageData op) m id spelled work = done_leaves ctx m (managi
     (data_managed ctx op m id spelled work)
 any_bytes ctx (body.Payment op) m id spelled work =
     done_leaves ctx m (paying.payment ctx op m) work (payment_paid ctx op m work)
+any_bytes ctx (body.ChangeTrust op) m id spelled work =
+    done_leaves ctx m (trusting.change_trust ctx op m) work (trust_changed ctx op m id spelled work)
+any_bytes ctx (body.AllowTrust op) m id spelled work =
+    done_leaves ctx m (allowing.allow_trust ctx op m) work (trust_allowed ctx op m work)
+any_bytes ctx (body.SetTrustLineFlags op) m id spelled work =
+    done_leaves ctx m (flagging.set_trust_line_flags ctx op m) work (flags_set ctx op m work)
+any_bytes ctx (body.CreateClaimableBalance op) m id spelled work =
+    done_leaves ctx m (balances.create_claimable_balance ctx op m) work (balance_created ctx op m id spelled work)
+any_bytes ctx (body.ClaimClaimableBalance op) m id spelled work =
+    done_leaves ctx m (claiming.claim_claimable_balance ctx op m) work (balance_claimed ctx op m work)
+any_bytes ctx (body.Clawback op) m id spelled work =
+    done_leaves ctx m (clawing.clawback ctx op m) work (clawed_back ctx op m work)
+any_bytes ctx (body.ClawbackClaimableBalance op) m id spelled work =
+    done_leaves ctx m (taking.clawback_claimable_balance ctx op m) work (balance_clawed_back ctx op m work)
 any_bytes ctx (body.BeginSponsoringFutureReserves op) m id spelled work =
     done_leaves ctx m (beginning.begin_sponsoring ctx op m) work (begun ctx op m id work)
 any_bytes ctx body.EndSponsoringFutureReserves m id spelled work =

@@ -50,7 +50,8 @@ use Rattle.close_laws.proofs.Spelled.{each_spelled}
 use Rattle.close_laws.proofs.SpelledSets.{envelopes_spelled, operations_spelled, v1_spelled, body_spelled}
 use Rattle.close_laws.proofs.Bytes.{IsId, AreBytes, with_account_bytes, IsOpener, AreSponsors}
 use Rattle.close_laws.proofs.BytesMaps.{removing_signer_bytes}
-use Rattle.close_laws.proofs.BytesOperations.{AreWorkBytes, any_bytes}
+use Rattle.close_laws.proofs.BytesSteps.{AreWorkBytes}
+use Rattle.close_laws.proofs.BytesOperations.{any_bytes}
 
 -- ---- sources
 

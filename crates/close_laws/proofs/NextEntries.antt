@@ -9,7 +9,11 @@ use Rattle.ledger_types.specs.declared.signer.Signer.{Signer}
 use Rattle.ledger_types.specs.declared.account.AccountEntry.{AccountEntry}
 use Rattle.ledger_types.specs.declared.account.AccountEntryExtensionV1.{AccountEntryExtensionV1}
 use Rattle.ledger_types.specs.declared.account.AccountEntryExtensionV2.{AccountEntryExtensionV2}
+use Rattle.ledger_types.specs.declared.asset.TrustLineAsset.{TrustLineAsset}
+use Rattle.ledger_types.specs.declared.asset.TrustLineAsset.TheVariants as line
+use Rattle.ledger_types.specs.declared.trust_line.TrustLineEntry.{TrustLineEntry}
 use Rattle.ledger_types.specs.declared.data_entry.DataEntry.{DataEntry}
+use Rattle.ledger_types.specs.declared.claimable_balance.ClaimableBalanceEntry.{ClaimableBalanceEntry}
 use Rattle.ledger_types.specs.declared.entry.LedgerEntry.{LedgerEntry}
 use Rattle.ledger_types.specs.declared.entry.LedgerEntryBody.{LedgerEntryBody}
 use Rattle.ledger_types.specs.declared.entry.LedgerEntryBody.TheVariants as body
@@ -22,7 +26,7 @@ use Rattle.xdr_core.specs.Xdr.{list_of, optional, extension_of}
 use Rattle.xdr_header.specs.declared.record.CloseRecord.{CloseRecord}
 use Rattle.xdr_entries.specs.Basic.{account_id, signer}
 use Rattle.xdr_entries.specs.Entries.{account_extension_v2, account_extension_v1, account_head, account_tail}
-use Rattle.xdr_entries.specs.Entries.{account_entry}
+use Rattle.xdr_entries.specs.Entries.{account_entry, trust_line_entry, claimant, claimable_balance_entry}
 use Rattle.xdr_entries.specs.Entries.{data_entry, ledger_entry_body, ledger_entry_extension_v1, ledger_entry}
 use Rattle.entry_map.specs.EntryMap.{EntryMap}
 use Rattle.entry_map.specs.Batch.{parts_of}
@@ -30,32 +34,35 @@ use Rattle.entry_changes.specs.Next.{IsNextAt}
 use Rattle.entry_slots.specs.Accounts.{account_at, account_of, account_in}
 use Rattle.entry_slots.specs.AccountExtensions.{account_liabilities, num_sponsoring, num_sponsored, second_in}
 use Rattle.entry_slots.specs.AccountExtensions.{sponsorship_in}
+use Rattle.entry_slots.specs.LineExtensions.{use_count}
 use Rattle.entry_slots.specs.EntrySponsor.{sponsor_in}
 use Rattle.entry_sums.specs.Sums.{total}
 use Rattle.entry_sums.proofs.Summing.{total_none}
 use Rattle.reserve_rules.specs.Reserve.{greatest_i64}
 use Rattle.sponsor_rules.specs.Payers.{IsReadyAccount}
-use Rattle.legal_rules.specs.Books.{Selling, counted, stated, stated_at}
+use Rattle.legal_rules.specs.Books.{Selling, Uses, counted, stated, stated_at}
 use Rattle.legal_rules.specs.Bounds.{AreSubentriesFew, DoReservesFit}
+use Rattle.legal_rules.specs.PoolShares.{uses, uses_by}
 use Rattle.legal_rules.specs.Trades.{sells}
 use Rattle.legal_rules.specs.Legal.{view, IsLegal}
-use Rattle.legal_rules.specs.Ranges.{IsAccountInRange, IsBodyInRange}
+use Rattle.legal_rules.specs.Ranges.{IsAccountInRange, AreLineFlags, IsTrustLineInRange, IsBalanceInRange}
+use Rattle.legal_rules.specs.Ranges.{IsBodyInRange}
 use Rattle.op_laws.specs.Steps.{SettledLegal, SettledReady}
 use Rattle.entry_changes.specs.Spellable.{AreSpellable}
 use Rattle.header_chain.specs.SkipList.{finished}
 use Rattle.tx_apply.specs.Laws.{SetsConserve}
-use Rattle.close_rules.specs.State.{ClosingState, IsSpelled, IsBuiltBody, AreBuilt}
+use Rattle.close_rules.specs.State.{ClosingState, IsSpelled, IsBuiltLine, IsBuiltBody, AreBuilt}
 use Rattle.close_rules.specs.Close.{closing_in, applied_in, upgraded_header}
 use Rattle.close_laws.specs.Legal.{IsClosable, AreClosed, EntriesStaySpellable}
 use Rattle.close_laws.proofs.Unmarked.{AreMapsAlike, next_alike, stood}
 use Rattle.close_laws.proofs.Spelled.{each_spelled}
-use Rattle.close_laws.proofs.SpelledEntries.{signers_spelled}
 use Rattle.close_laws.proofs.SpelledSets.{set_spelled}
 use Rattle.close_laws.proofs.Unrefused.{seq_below}
 use Rattle.close_laws.proofs.NextLegal.{next_settled, next_is_legal}
 use Rattle.close_laws.proofs.Bytes.{IsIdIf, no_id, IsKey, sponsors_in, AreAccountBytes, AreDataBytes, AreBodyBytes}
-use Rattle.close_laws.proofs.Bytes.{AreEntryBytes, AreBytes}
+use Rattle.close_laws.proofs.Bytes.{AreLineBytes, AreBalanceBytes, AreEntryBytes, AreBytes}
 use Rattle.close_laws.proofs.BytesSets.{set_bytes}
+use Rattle.close_laws.proofs.ShortBalances.{AreLineNumbers, AreBalanceNumbers}
 use Rattle.close_laws.proofs.ShortEntries.{AreAccountNumbers, AreBodyNumbers, entry_spellable}
 
 -- ---- the bytes of entries that can be written
@@ -92,6 +99,11 @@ ext_sponsors None spelled = All-nil IsIdIf
 ext_sponsors (Some ext) spelled =
     second_sponsors ext.ext (v1_second ext (record { within = spelled.within; sized = spelled.sized }))
 
+signers_spelled : (account : AccountEntry) → IsSpelled account_entry account
+    → IsSpelled (list_of 20 signer) account.signers
+unfolding account_entry account_tail
+signers_spelled account spelled = record { within = spelled.within.1.1.1.0; sized = spelled.sized.1.1.1.0 }
+
 account_bytes : (account : AccountEntry) → IsSpelled account_entry account → AreAccountBytes account
 unfolding account_entry account_head account_tail
 account_bytes account spelled = record {
@@ -111,15 +123,36 @@ data_bytes entry spelled = record {
   value = record { within = spelled.within.1.1.0; sized = spelled.sized.1.1.0 };
 }
 
+line_bytes : (held : TrustLineEntry) → IsSpelled trust_line_entry held → IsBuiltLine held.asset → AreLineBytes held
+unfolding trust_line_entry
+line_bytes held spelled built = record {
+  id = record { within = spelled.within.0; sized = spelled.sized.0 };
+  asset = record { within = spelled.within.1.0; sized = spelled.sized.1.0 };
+  built = built;
+}
+
+balance_bytes : (balance : ClaimableBalanceEntry) → IsSpelled claimable_balance_entry balance
+    → AreBalanceBytes balance
+unfolding claimable_balance_entry
+balance_bytes balance spelled = record {
+  id = record { within = spelled.within.0; sized = spelled.sized.0 };
+  claimants = each_spelled 10 claimant balance.claimants
+      (record { within = spelled.within.1.0; sized = spelled.sized.1.0 });
+  asset = record { within = spelled.within.1.1.0; sized = spelled.sized.1.1.0 };
+  amount = record { within = spelled.within.1.1.1.0; sized = spelled.sized.1.1.1.0 };
+}
+
 body_bytes : (of : LedgerEntryBody) → IsSpelled ledger_entry_body of → IsBuiltBody of → AreBodyBytes of
 unfolding ledger_entry_body
 body_bytes (body.Account account) spelled built =
     account_bytes account (record { within = spelled.within; sized = spelled.sized })
 body_bytes (body.Data entry) spelled built =
     data_bytes entry (record { within = spelled.within; sized = spelled.sized })
-body_bytes (body.TrustLine line) spelled built = absurd built
+body_bytes (body.TrustLine held) spelled built =
+    line_bytes held (record { within = spelled.within; sized = spelled.sized }) built
+body_bytes (body.ClaimableBalance balance) spelled built =
+    balance_bytes balance (record { within = spelled.within; sized = spelled.sized })
 body_bytes (body.Offer offer) spelled built = absurd built
-body_bytes (body.ClaimableBalance balance) spelled built = absurd built
 body_bytes (body.LiquidityPool pool) spelled built = absurd built
 
 sponsor_id : (ext : LedgerEntryExtensionV1) → IsSpelled ledger_entry_extension_v1 ext → IsIdIf ext.sponsoring_id
@@ -204,12 +237,34 @@ nothing_sold m k each = total_none (counted (view m) Selling k) m (λ q e there.
     by_body : (of : LedgerEntryBody) → AreBodyBytes of → sells k of ≡ pos 0
     by_body (body.Account account) bytes = refl
     by_body (body.Data entry) bytes = refl
-    by_body (body.TrustLine line) bytes = absurd bytes
+    by_body (body.TrustLine held) bytes = refl
+    by_body (body.ClaimableBalance balance) bytes = refl
     by_body (body.Offer offer) bytes = absurd bytes
-    by_body (body.ClaimableBalance balance) bytes = absurd bytes
     by_body (body.LiquidityPool pool) bytes = absurd bytes
 
     by : (e : LedgerEntry) → AreBodyBytes e.body → counted (view m) Selling k e ≡ pos 0
+    by e bytes = by_body e.body bytes
+
+-- no pool uses a line where none has a line of its shares
+nothing_used : (m : EntryMap) (k : LedgerKey) → AreBytes m → total (counted (view m) Uses k) m ≡ pos 0
+nothing_used m k each = total_none (counted (view m) Uses k) m (λ q e there. by e (each q e there).body)
+  where
+    by_line : (held : TrustLineEntry) (of : TrustLineAsset) → held.asset ≡ of → IsBuiltLine of
+        → uses (view m).pools k (body.TrustLine held) ≡ pos 0
+    by_line held line.Native is built = ap (uses_by (view m).pools k held.account_id) is
+    by_line held (line.Alphanum4 code issuer) is built = ap (uses_by (view m).pools k held.account_id) is
+    by_line held (line.Alphanum12 code issuer) is built = ap (uses_by (view m).pools k held.account_id) is
+    by_line held (line.PoolShare pool) is built = absurd built
+
+    by_body : (of : LedgerEntryBody) → AreBodyBytes of → uses (view m).pools k of ≡ pos 0
+    by_body (body.Account account) bytes = refl
+    by_body (body.Data entry) bytes = refl
+    by_body (body.TrustLine held) bytes = by_line held held.asset refl bytes.built
+    by_body (body.ClaimableBalance balance) bytes = refl
+    by_body (body.Offer offer) bytes = absurd bytes
+    by_body (body.LiquidityPool pool) bytes = absurd bytes
+
+    by : (e : LedgerEntry) → AreBodyBytes e.body → counted (view m) Uses k e ≡ pos 0
     by e bytes = by_body e.body bytes
 
 nothing_at_most : (n : ℤ) → n ≡ pos 0 → n ≤ℤ greatest_i64
@@ -229,15 +284,15 @@ few_recorded signers (Some ext) same few = omega (arith, same, few)
 
 account_numbers : (account : AccountEntry) → IsAccountInRange account → account.num_sub_entries ≤ 1000
     → account.num_sub_entries + num_sponsoring account ≤ 4294967295 → IsReadyAccount account
-    → length account.signers ≤ 20 → (account_liabilities account).selling ≡ pos 0 → AreAccountNumbers account
-account_numbers account range few fits ready signers sold = record {
+    → (account_liabilities account).selling ≡ pos 0 → AreAccountNumbers account
+account_numbers account range few fits ready sold = record {
   balance_low = range.range.balance;
   balance_high = at_most_whole account.balance (account_liabilities account).buying range.range.buying range.range.fits;
   seq_low = range.seq_num;
   seq_high = range.greatest_seq_num;
   subentries = few;
   flags = range.flags.known;
-  signers = signers;
+  signers = range.signers.few;
   weights = All-weaker (λ one. (1 ≤ one.weight) × (one.weight ≤ 255)) (λ one. one.weight ≤ 255) (λ one both. both.1)
       account.signers range.signers.weights;
   ext = record {
@@ -248,7 +303,7 @@ account_numbers account range few fits ready signers sold = record {
     selling_high = nothing_at_most (account_liabilities account).selling sold;
     sponsored = below_sponsored (num_sponsored account) ready.sponsored;
     sponsoring = below_sponsoring account.num_sub_entries (num_sponsoring account) fits;
-    few = few_recorded account.signers (second_in account.ext) range.signers.items signers;
+    few = few_recorded account.signers (second_in account.ext) range.signers.items range.signers.few;
   };
 }
   where
@@ -257,6 +312,51 @@ account_numbers account range few fits ready signers sold = record {
 
     below_sponsoring : (k n : ℕ) → k + n ≤ 4294967295 → n < 4294967296
     below_sponsoring k n le = omega arith
+
+-- ---- the numbers of lines and claimable balances
+
+flags_few : (of : TrustLineAsset) (flags : ℕ) → AreLineFlags of flags → flags ≤ 7
+flags_few line.Native flags both = both.0
+flags_few (line.Alphanum4 code issuer) flags both = both.0
+flags_few (line.Alphanum12 code issuer) flags both = both.0
+flags_few (line.PoolShare pool) flags none = omega (arith, none)
+
+line_numbers : (held : TrustLineEntry) → IsTrustLineInRange held → use_count held ≡ pos 0 → AreLineNumbers held
+line_numbers held range unused = record {
+  balance_low = range.range.balance;
+  balance_high = below_limit held.balance _ held.limit range.range.buying range.range.fits range.greatest;
+  limit_low = at_least_one held.limit range.limit;
+  limit_high = range.greatest;
+  flags = flags_few held.asset held.flags range.flags;
+  buying_low = range.range.buying;
+  buying_high = buying_below held.balance _ held.limit range.range.balance range.range.fits range.greatest;
+  selling_low = range.range.selling;
+  selling_high = selling_below _ held.balance held.limit _ range.range.covered range.range.buying range.range.fits
+      range.greatest;
+  unused = unused;
+}
+  where
+    below_limit : (balance buying limit : ℤ) → pos 0 ≤ℤ buying → (balance +ℤ buying) ≤ℤ limit → limit ≤ℤ greatest_i64
+        → balance ≤ℤ greatest_i64
+    below_limit balance buying limit low fits most = omega (arith, ints)
+
+    at_least_one : (limit : ℤ) → pos 1 ≤ℤ limit → pos 0 ≤ℤ limit
+    at_least_one limit low = omega (arith, ints)
+
+    buying_below : (balance buying limit : ℤ) → pos 0 ≤ℤ balance → (balance +ℤ buying) ≤ℤ limit → limit ≤ℤ greatest_i64
+        → buying ≤ℤ greatest_i64
+    buying_below balance buying limit low fits most = omega (arith, ints)
+
+    selling_below : (selling balance limit buying : ℤ) → selling ≤ℤ balance → pos 0 ≤ℤ buying
+        → (balance +ℤ buying) ≤ℤ limit → limit ≤ℤ greatest_i64 → selling ≤ℤ greatest_i64
+    selling_below selling balance limit buying covered low fits most = omega (arith, ints)
+
+balance_numbers : (balance : ClaimableBalanceEntry) → IsBalanceInRange balance → AreBalanceNumbers balance
+balance_numbers balance range = record {
+  few = range.claimants.few;
+  predicates = range.claimants.predicates;
+  flags = range.flags;
+}
 
 -- ---- all entries
 
@@ -287,6 +387,16 @@ module _ (legal : SettledLegal) (conserve : SetsConserve) (ready : SettledReady)
   sold : (k : LedgerKey) (e : LedgerEntry) → get after k ≡ Some e → stated_at Selling (Some e) ≡ pos 0
   sold k e there = ap (stated_at Selling) (sym there) ∙ next_legal.selling k ∙ nothing_sold after k next_bytes
 
+  used : (k : LedgerKey) (e : LedgerEntry) → get after k ≡ Some e → stated_at Uses (Some e) ≡ pos 0
+  used k e there = ap (stated_at Uses) (sym there) ∙ next_legal.uses k ∙ nothing_used after k next_bytes
+
+  abbrev id_pool : ℕ
+  id_pool = (finished (upgraded_header s closing) (record { 0 = [] })).id_pool
+
+  range : (k : LedgerKey) (e : LedgerEntry) (of : LedgerEntryBody) → get after k ≡ Some e → e.body ≡ of
+      → IsBodyInRange id_pool of
+  range k e of there is = subst (IsBodyInRange id_pool) is (next_legal.entries k e there).body
+
   stands : (k : LedgerKey) (e : LedgerEntry) (account : AccountEntry) → get after k ≡ Some e
       → e.body ≡ body.Account account → account_at after account.account_id ≡ Some account
   unfolding account_at
@@ -299,12 +409,14 @@ module _ (legal : SettledLegal) (conserve : SetsConserve) (ready : SettledReady)
   numbers_of k e (body.Account account) there is =
       let settled = next_settled conserve s closing can after closed in
       let at = stands k e account there is in
-      let id_pool = (finished (upgraded_header s closing) (record { 0 = [] })).id_pool in
-      account_numbers account (subst (IsBodyInRange id_pool) is (next_legal.entries k e there).body)
+      account_numbers account (range k e (body.Account account) there is)
       (subst AreSubentriesFew is (next_legal.few k e there)) (subst DoReservesFit is (next_legal.fits k e there))
       ((ready (applied_in s closing).id_pool after settled).ready account.account_id account at)
-      (settled.signers.few account.account_id account at)
       (sym (ap (stated Selling) is) ∙ sold k e there)
+  numbers_of k e (body.TrustLine held) there is =
+      line_numbers held (range k e (body.TrustLine held) there is) (sym (ap (stated Uses) is) ∙ used k e there)
+  numbers_of k e (body.ClaimableBalance balance) there is =
+      balance_numbers balance (range k e (body.ClaimableBalance balance) there is)
   numbers_of k e other there is = tt
 
   pub next_spellable : AreSpellable after
@@ -317,9 +429,9 @@ module _ (legal : SettledLegal) (conserve : SetsConserve) (ready : SettledReady)
       by : (of : LedgerEntryBody) → AreBodyBytes of → IsBuiltBody of
       by (body.Account account) bytes = tt
       by (body.Data entry) bytes = tt
-      by (body.TrustLine line) bytes = absurd bytes
+      by (body.TrustLine held) bytes = bytes.built
+      by (body.ClaimableBalance balance) bytes = tt
       by (body.Offer offer) bytes = absurd bytes
-      by (body.ClaimableBalance balance) bytes = absurd bytes
       by (body.LiquidityPool pool) bytes = absurd bytes
 
 pub entries_stay_spellable : SettledLegal → SetsConserve → SettledReady → EntriesStaySpellable

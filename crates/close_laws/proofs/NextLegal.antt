@@ -16,7 +16,6 @@ use Rattle.close_rules.specs.Close.{closing_in, applied_in, filled_header, upgra
 use Rattle.close_laws.specs.Legal.{IsClosable, AreClosed, NextIsLegal}
 use Rattle.close_laws.proofs.Unmarked.{next_alike, total_alike}
 use Rattle.close_laws.proofs.AlikeLegal.{settled_alike}
-use Rattle.close_laws.proofs.SpelledEntries.{signers_few}
 use Rattle.close_laws.proofs.SpelledSets.{set_spelled, set_fit}
 use Rattle.close_laws.proofs.Unrefused.{seq_below}
 use Rattle.close_laws.proofs.NextHeader.{IsUpgradedFrom, next_range}
@@ -25,7 +24,6 @@ pub can_close : (s : ClosingState) (closing : CloseRecord) → IsClosable s clos
     → CanClose (closing_in s closing) closing.tx_set s.entries
 can_close s closing can = record {
   legal = can.state.legal;
-  signers = signers_few s.entries can.state.entries;
   seq = seq_below s closing can.unrefused can.state.legal.header.seq_high;
   fit = set_fit closing.tx_set (set_spelled closing can.spelled);
 }

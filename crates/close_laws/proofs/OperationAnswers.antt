@@ -1,5 +1,5 @@
 -- What operations answer keeps the bounds on lengths.
-use Rattle.std.proofs.Common.{◌≡◌, ℕ, refl, List, [], ◌∷◌, Option, Some, None, Result, Ok, Err, Bool, true, false}
+use Rattle.std.proofs.Common.{ℕ, refl, List, [], ◌∷◌, Option, Some, None, Ok, Bool, true, false}
 use Rattle.std.proofs.Common.{if◌then◌else◌, pos}
 use Rattle.std.specs.Prelude.{int_lt, nat_eq, not, is_some}
 use Rattle.std.specs.FinMap.{get}
@@ -21,7 +21,6 @@ use Rattle.op_types.specs.declared.sponsor_ops.RevokeSponsorshipOp.{RevokeSponso
 use Rattle.op_types.specs.declared.sponsor_ops.RevokeSponsorshipOp.TheVariants as revoked
 use Rattle.op_types.specs.declared.operation.OperationBody.{OperationBody}
 use Rattle.op_types.specs.declared.operation.OperationBody.TheVariants as body
-use Rattle.op_types.specs.declared.operation_result.OperationResult.{OperationResult}
 use Rattle.op_types.specs.declared.operation_result.OperationResult.TheVariants as operation
 use Rattle.op_types.specs.declared.account_results.AccountMergeResult.{AccountMergeResult}
 use Rattle.op_types.specs.declared.account_results.AccountMergeResult.TheVariants as merge
@@ -35,7 +34,9 @@ use Rattle.op_types.specs.declared.payment_results.CreateAccountResult.{CreateAc
 use Rattle.op_types.specs.declared.payment_results.CreateAccountResult.TheVariants as create
 use Rattle.op_types.specs.declared.payment_results.PaymentResult.{PaymentResult}
 use Rattle.op_types.specs.declared.payment_results.PaymentResult.TheVariants as pay
-use Rattle.op_types.specs.declared.sponsor_results.BeginSponsoringFutureReservesResult.{BeginSponsoringFutureReservesResult}
+use Rattle.op_types.specs.declared.sponsor_results.BeginSponsoringFutureReservesResult.{
+  BeginSponsoringFutureReservesResult,
+}
 use Rattle.op_types.specs.declared.sponsor_results.BeginSponsoringFutureReservesResult.TheVariants as begin
 use Rattle.op_types.specs.declared.sponsor_results.EndSponsoringFutureReservesResult.{EndSponsoringFutureReservesResult}
 use Rattle.op_types.specs.declared.sponsor_results.EndSponsoringFutureReservesResult.TheVariants as end
@@ -50,25 +51,20 @@ use Rattle.xdr_results.specs.Results.{operation_result_tr, operation_result}
 use Rattle.entry_map.specs.EntryMap.{EntryMap}
 use Rattle.entry_slots.specs.Accounts.{account_at}
 use Rattle.entry_slots.specs.DataEntries.{data_at}
-use Rattle.entry_slots.specs.Tests.{Tests, first_fault}
 use Rattle.sponsor_rules.specs.declared.context.Ctx.{Ctx}
-use Rattle.sponsor_rules.specs.declared.fault.AddFault.{AddFault}
-use Rattle.sponsor_rules.specs.declared.fault.AddFault.TheVariants as fault
 use Rattle.sponsor_rules.specs.declared.signer_place.FoundSigner.{FoundSigner}
 use Rattle.sponsor_rules.specs.Adding.{map_after_adding}
 use Rattle.sponsor_rules.specs.Moving.{map_after_moving}
 use Rattle.sponsor_rules.specs.Payers.{open_sponsor}
 use Rattle.sponsor_rules.specs.SignerPlace.{found_signer}
 use Rattle.sponsor_rules.specs.Signers.{map_after_adding_signer, map_after_moving_signer, map_after_removing_signer}
-use Rattle.op_form.specs.Done.{Done, Attempt, done_of}
-use Rattle.op_form.specs.Faults.{fault_result}
 use Rattle.op_form.specs.declared.amounts.CreditFault.{CreditFault}
 use Rattle.op_form.specs.declared.amounts.CreditFault.TheVariants as credit
 use Rattle.op_form.specs.declared.amounts.DebitFault.{DebitFault}
 use Rattle.op_form.specs.declared.amounts.DebitFault.TheVariants as debit
 use Rattle.op_form.specs.Amounts.{map_after_credit, map_after_debit}
 use Rattle.op_form.specs.Lumens as lumens
-use Rattle.op_form.specs.Steps.{unless_result, unless_refused, after, after_some, after_charge, after_step}
+use Rattle.op_form.specs.Steps.{unless_refused}
 use Rattle.op_account.specs.AccountMerge as merging
 use Rattle.op_account.specs.BumpSequence as bumping
 use Rattle.op_account.specs.CreateAccount as creating
@@ -80,29 +76,29 @@ use Rattle.op_options.specs.SetOptions as options
 use Rattle.op_options.specs.Operations.{options_operation}
 use Rattle.op_payment.specs.Payment as paying
 use Rattle.op_payment.specs.Operations.{payment_operation}
+use Rattle.op_trust.specs.ChangeTrust as trusting
+use Rattle.op_trust.specs.Operations.{trust_operation}
+use Rattle.op_flags.specs.AllowTrust as allowing
+use Rattle.op_flags.specs.SetTrustLineFlags as flagging
+use Rattle.op_flags.specs.Operations.{flags_operation}
+use Rattle.op_claim.specs.CreateClaimableBalance as balances
+use Rattle.op_claim.specs.ClaimClaimableBalance as claiming
+use Rattle.op_claim.specs.Clawback as clawing
+use Rattle.op_claim.specs.ClawbackClaimableBalance as taking
+use Rattle.op_claim.specs.Operations.{claim_operation}
 use Rattle.op_sponsor.specs.BeginSponsoringFutureReserves as beginning
 use Rattle.op_sponsor.specs.EndSponsoringFutureReserves as ending
 use Rattle.op_sponsor.specs.RevokeSponsorship as revoking
 use Rattle.op_sponsor.specs.Operations.{sponsor_operation}
 use Rattle.op_laws.specs.AnyOperation.{any_operation}
+use Rattle.close_laws.proofs.AnswerSteps.{IsAnswer, no_account, not_supported, Answers, Any, IsDone, first_answers}
+use Rattle.close_laws.proofs.AnswerSteps.{some_answers, charge_answers, change_answers, step_answers, either_answers}
+use Rattle.close_laws.proofs.AnswerSteps.{done_answers}
+use Rattle.close_laws.proofs.TrustAnswers.{trust_answers, allow_answers, flag_answers}
+use Rattle.close_laws.proofs.ClaimAnswers.{create_balance_answers, claim_answers, clawback_answers}
+use Rattle.close_laws.proofs.ClaimAnswers.{clawback_balance_answers}
 
--- ---- results
-
--- a result that can be written
-pub record IsAnswer (result : OperationResult) : Type 0 where
-  pub within : operation_result.within result
-
-pub no_account : IsAnswer operation.NoAccount
-unfolding operation_result
-no_account = record { within = tt }
-
-pub bad_auth : IsAnswer operation.BadAuth
-unfolding operation_result
-bad_auth = record { within = tt }
-
-not_supported : IsAnswer operation.NotSupported
-unfolding operation_result
-not_supported = record { within = tt }
+-- ---- codes
 
 created : (code : CreateAccountResult) → IsAnswer (creating.answer code)
 unfolding operation_result operation_result_tr create_account_result
@@ -141,75 +137,6 @@ revoked_with : (code : RevokeSponsorshipResult) → IsAnswer (revoking.answer co
 unfolding operation_result operation_result_tr revoke_sponsorship_result
 revoked_with code = record { within = tt }
 
-charged : (found : AddFault) (low : OperationResult) → IsAnswer low → IsAnswer (fault_result found low)
-unfolding operation_result
-charged fault.TooManySubentries low answers = record { within = tt }
-charged fault.TooManySponsoring low answers = record { within = tt }
-charged fault.LowReserve low answers = answers
-charged fault.NoMemory low answers = answers
-
--- ---- steps
-
--- what holds of what a step gives, or of the result that it ends with
-abbrev Ends : {A : Type 0} → (A → Type 0) → Result A OperationResult → Type 0
-Ends P (Ok a) = P a
-Ends P (Err result) = IsAnswer result
-
-record Answers {A : Type 0} (P : A → Type 0) (made : Result A OperationResult) : Type 0 where
-  ends : Ends P made
-
-abbrev Any : {A : Type 0} → A → Type 0
-Any a = Unit {0}
-
--- what answers, and draws no ids
-abbrev pub IsDone : (ids : ℕ) → Done → Type 0
-IsDone ids done = IsAnswer done.result × (done.ctx.id_pool ≡ ids)
-
--- each test finds a result that can be written
-abbrev AllAnswer : Tests OperationResult → Type 0
-AllAnswer [] = Unit {0}
-AllAnswer (test ∷ others) = IsAnswer test.1 × AllAnswer others
-
-first_answers : {A : Type 0} (P : A → Type 0) (tests : Tests OperationResult) (next : Result A OperationResult)
-    → AllAnswer tests → Answers P next → Answers P (unless_refused tests next)
-first_answers P [] next all answers = answers
-first_answers P (test ∷ others) next all answers =
-    either test.0 all.0 (first_answers P others next all.1 answers)
-  where
-    either : (b : Bool) → IsAnswer test.1 → Answers P (unless_refused others next)
-        → Answers P (unless_result (if b then Some test.1 else first_fault others) next)
-    either true here rest = record { ends = here }
-    either false here rest = rest
-
-some_answers : {A B : Type 0} (P : B → Type 0) (found : Option A) (result : OperationResult)
-    (next : A → Result B OperationResult) → IsAnswer result → ((a : A) → Answers P (next a))
-    → Answers P (after_some found result next)
-some_answers P None result next here answers = record { ends = here }
-some_answers P (Some a) result next here answers = answers a
-
-charge_answers : {B : Type 0} (P : B → Type 0) (made : Result EntryMap AddFault) (low : OperationResult)
-    (next : EntryMap → Result B OperationResult) → IsAnswer low → ((m : EntryMap) → Answers P (next m))
-    → Answers P (after_charge made low next)
-charge_answers P (Err found) low next here answers = record { ends = charged found low here }
-charge_answers P (Ok m) low next here answers = answers m
-
-change_answers : {B F : Type 0} (P : B → Type 0) (made : Result EntryMap F) (answers : F → OperationResult)
-    (next : EntryMap → Result B OperationResult) → ((fault : F) → IsAnswer (answers fault))
-    → ((m : EntryMap) → Answers P (next m)) → Answers P (after_step made answers next)
-change_answers P (Err fault) answers next each rest = record { ends = each fault }
-change_answers P (Ok m) answers next each rest = rest m
-
-step_answers : {A B : Type 0} (P : B → Type 0) (made : Result A OperationResult)
-    (next : A → Result B OperationResult) → Answers Any made → ((a : A) → Answers P (next a))
-    → Answers P (after made next)
-step_answers P (Err result) next made answers = record { ends = made.ends }
-step_answers P (Ok a) next made answers = answers a
-
-either_answers : (ids : ℕ) (b : Bool) (x y : Attempt) → Answers (IsDone ids) x → Answers (IsDone ids) y
-    → Answers (IsDone ids) (if b then x else y)
-either_answers ids true x y here there = here
-either_answers ids false x y here there = there
-
 -- ---- operations
 
 create_answers : (ctx : Ctx) (op : CreateAccountOp) (m : EntryMap)
@@ -219,7 +146,8 @@ create_answers ctx op m =
     (created create.Malformed, (created create.AlreadyExist, tt))
     (charge_answers (IsDone ctx.id_pool) (map_after_adding ctx op.destination (creating.new_entry ctx op) m)
     (creating.answer create.LowReserve) _ (created create.LowReserve)
-    (λ added. some_answers (IsDone ctx.id_pool) (lumens.map_after_lumens_debit ctx ctx.op_source op.starting_balance added)
+    (λ added. some_answers (IsDone ctx.id_pool)
+    (lumens.map_after_lumens_debit ctx ctx.op_source op.starting_balance added)
     (creating.answer create.Underfunded) _ (created create.Underfunded)
     (λ given. record { ends = (created create.Success, refl) })))
 
@@ -380,13 +308,9 @@ revoke_answers : (ctx : Ctx) (op : RevokeSponsorshipOp) (m : EntryMap)
 revoke_answers ctx (revoked.LedgerEntry k) m = entry_answers ctx k m
 revoke_answers ctx (revoked.Signer id k) m = signing_answers ctx id k m
 
-done_answers : (ctx : Ctx) (m : EntryMap) (attempt : Attempt) → Answers (IsDone ctx.id_pool) attempt
-    → IsDone ctx.id_pool (done_of ctx m attempt)
-done_answers ctx m (Ok done) answers = answers.ends
-done_answers ctx m (Err result) answers = (answers.ends, refl)
-
 pub any_answers : (ctx : Ctx) (of : OperationBody) (m : EntryMap) → IsDone ctx.id_pool (any_operation ctx of m)
-unfolding any_operation account_operation options_operation payment_operation sponsor_operation
+unfolding any_operation account_operation options_operation payment_operation trust_operation flags_operation
+    claim_operation sponsor_operation
 any_answers ctx (body.CreateAccount op) m =
     done_answers ctx m (creating.create_account ctx op m) (create_answers ctx op m)
 any_answers ctx (body.AccountMerge op) m = done_answers ctx m (merging.account_merge ctx op m) (merge_answers ctx op m)
@@ -394,6 +318,18 @@ any_answers ctx (body.BumpSequence op) m = done_answers ctx m (bumping.bump_sequ
 any_answers ctx (body.SetOptions op) m = done_answers ctx m (options.set_options ctx op m) (options_answers ctx op m)
 any_answers ctx (body.ManageData op) m = done_answers ctx m (managing.manage_data ctx op m) (data_answers ctx op m)
 any_answers ctx (body.Payment op) m = done_answers ctx m (paying.payment ctx op m) (pay_answers ctx op m)
+any_answers ctx (body.ChangeTrust op) m =
+    done_answers ctx m (trusting.change_trust ctx op m) (trust_answers ctx op m)
+any_answers ctx (body.AllowTrust op) m = done_answers ctx m (allowing.allow_trust ctx op m) (allow_answers ctx op m)
+any_answers ctx (body.SetTrustLineFlags op) m =
+    done_answers ctx m (flagging.set_trust_line_flags ctx op m) (flag_answers ctx op m)
+any_answers ctx (body.CreateClaimableBalance op) m =
+    done_answers ctx m (balances.create_claimable_balance ctx op m) (create_balance_answers ctx op m)
+any_answers ctx (body.ClaimClaimableBalance op) m =
+    done_answers ctx m (claiming.claim_claimable_balance ctx op m) (claim_answers ctx op m)
+any_answers ctx (body.Clawback op) m = done_answers ctx m (clawing.clawback ctx op m) (clawback_answers ctx op m)
+any_answers ctx (body.ClawbackClaimableBalance op) m =
+    done_answers ctx m (taking.clawback_claimable_balance ctx op m) (clawback_balance_answers ctx op m)
 any_answers ctx (body.BeginSponsoringFutureReserves op) m =
     done_answers ctx m (beginning.begin_sponsoring ctx op m) (begin_answers ctx op m)
 any_answers ctx body.EndSponsoringFutureReserves m =

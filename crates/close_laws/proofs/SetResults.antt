@@ -63,7 +63,8 @@ use Rattle.close_laws.specs.Results.{ResultsAreSpelled}
 use Rattle.close_laws.proofs.Spelled.{few_spelled}
 use Rattle.close_laws.proofs.SpelledSets.{set_spelled, envelopes_spelled, envelopes_few, all_operations_spelled}
 use Rattle.close_laws.proofs.Digests.{hash_len}
-use Rattle.close_laws.proofs.OperationAnswers.{IsAnswer, no_account, bad_auth, any_answers}
+use Rattle.close_laws.proofs.AnswerSteps.{IsAnswer, no_account, bad_auth}
+use Rattle.close_laws.proofs.OperationAnswers.{any_answers}
 
 -- ---- results of operations
 

@@ -10,7 +10,7 @@ use Rattle.std.specs.List.{flat_map, AllByRecursion}
 use Rattle.byteorder.specs.Endian.{big_bytes}
 use Rattle.byteorder.specs.Numbers.{length-bytes_high_first}
 use Rattle.xdr_core.specs.Leaves.{u32, i32, i64, flag, flag_code, count, fixed, var, padded, padding_len}
-use Rattle.xdr_core.specs.Combinators.{◌⨾◌, Fields, struct_of, closed, marked, constant, option, list}
+use Rattle.xdr_core.specs.Combinators.{◌⨾◌, Fields, struct_of, whole, closed, marked, constant, option, list}
 use Rattle.xdr_core.specs.Combinators.{extension}
 use Rattle.xdr_core.specs.Xdr.{Xdr, tag, optional, list_of, extension_of}
 use Rattle.close_rules.specs.State.{IsSpelled}
@@ -32,6 +32,10 @@ short_u32 n lt = record { within = tt; sized = omega arith; short = bytes_len 4 
 pub short_i64 : (n : ℤ) → FitsSigned w64 n → IsShort i64 8 n
 unfolding i64
 short_i64 n fits = record { within = tt; sized = fits; short = bytes_len 8 (cast_unsigned w64 n) }
+
+pub short_i32 : (n : ℤ) → FitsSigned w32 n → IsShort i32 4 n
+unfolding i32
+short_i32 n fits = record { within = tt; sized = fits; short = bytes_len 4 (cast_unsigned w32 n) }
 
 word_len : (mark : ℤ) → length (i32.spell mark) ≤ 4
 unfolding i32
@@ -94,6 +98,9 @@ short_both {f = f} {g = g} {m = m} {n = n} {a = a} {b = b} first then = record {
 pub short_struct : {A V : Type 0} (fields : Fields A V) {f : Xdr A} {n : ℕ} {v : V} → IsShort f n (fields.from v)
     → IsShort (struct_of fields f) n v
 short_struct fields short = record { within = short.within; sized = short.sized; short = short.short }
+
+pub short_whole : {V : Type 0} {f : Xdr V} {n : ℕ} {v : V} → IsShort f n v → IsShort (whole f) n v
+short_whole short = record { within = short.within; sized = short.sized; short = short.short }
 
 -- ---- constants
 

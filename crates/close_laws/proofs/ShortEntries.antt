@@ -1,15 +1,9 @@
--- Entries of accounts and data are short enough for a bucket's file.
-use Rattle.std.proofs.Common.{ℕ, ◌<◌, ◌≤◌, subst, List, length, All}
+-- Entries are short enough for a bucket's file.
+use Rattle.std.proofs.Common.{ℕ, ◌<◌, ◌≤◌, List, ◌++◌, length, All}
 use Rattle.std.proofs.Common.{Option, Some, None, ℤ, pos, arith}
-use Rattle.std.proofs.lemmas.Int.{ints}
-use Rattle.std.specs.Prelude.{◌≤ℤ◌, FitsSigned}
-use Rattle.std.specs.Int.{w64}
+use Rattle.std.specs.Prelude.{◌≤ℤ◌}
 use Rattle.ledger_types.specs.declared.ids.AccountId.{AccountId}
-use Rattle.ledger_types.specs.declared.ids.Hash.{Hash}
 use Rattle.ledger_types.specs.declared.signer.Signer.{Signer}
-use Rattle.ledger_types.specs.declared.signer.SignerKey.{SignerKey}
-use Rattle.ledger_types.specs.declared.signer.SignerKey.TheVariants as signing
-use Rattle.ledger_types.specs.declared.price.Liabilities.{Liabilities}
 use Rattle.ledger_types.specs.declared.account.AccountEntry.{AccountEntry}
 use Rattle.ledger_types.specs.declared.account.AccountEntryExtensionV1.{AccountEntryExtensionV1}
 use Rattle.ledger_types.specs.declared.account.AccountEntryExtensionV2.{AccountEntryExtensionV2}
@@ -18,10 +12,9 @@ use Rattle.ledger_types.specs.declared.entry.LedgerEntry.{LedgerEntry}
 use Rattle.ledger_types.specs.declared.entry.LedgerEntryBody.{LedgerEntryBody}
 use Rattle.ledger_types.specs.declared.entry.LedgerEntryBody.TheVariants as body
 use Rattle.ledger_types.specs.declared.entry.LedgerEntryExtensionV1.{LedgerEntryExtensionV1}
-use Rattle.xdr_core.specs.Combinators.{constant}
+use Rattle.xdr_core.specs.Leaves.{i32}
 use Rattle.xdr_core.specs.Xdr.{optional, extension_of}
-use Rattle.xdr_entries.specs.Basic.{hash, hash_fields, account_id, account_id_fields, signer_key, signer, signer_fields}
-use Rattle.xdr_entries.specs.Basic.{liabilities, liabilities_fields}
+use Rattle.xdr_entries.specs.Basic.{account_id, signer_key, signer}
 use Rattle.xdr_entries.specs.Entries.{account_extension_v2, account_extension_v1, account_head, account_tail}
 use Rattle.xdr_entries.specs.Entries.{account_entry}
 use Rattle.xdr_entries.specs.Entries.{account_v2_fields, account_v1_fields, account_fields, data_fields}
@@ -33,46 +26,12 @@ use Rattle.entry_slots.specs.EntrySponsor.{sponsor_in}
 use Rattle.reserve_rules.specs.Reserve.{greatest_i64}
 use Rattle.entry_changes.specs.Spellable.{IsEntrySpellable}
 use Rattle.close_rules.specs.State.{IsSpelled}
-use Rattle.close_laws.proofs.Bytes.{IsId, IsIdIf, id_of_some, sponsors_in, AreAccountBytes, AreDataBytes, AreBodyBytes}
+use Rattle.close_laws.proofs.Bytes.{IsIdIf, sponsors_in, AreAccountBytes, AreDataBytes, AreBodyBytes}
 use Rattle.close_laws.proofs.Bytes.{AreEntryBytes}
 use Rattle.close_laws.proofs.Short as short
 use Rattle.close_laws.proofs.Short.{IsShort}
-
--- ---- ids and signers
-
-id_short : (id : AccountId) → IsId id → IsShort account_id 39 id
-unfolding account_id constant
-id_short id spelled =
-    short.short_struct account_id_fields (short.short_marked (pos 0) (short.short_fixed 32 id.0
-    (record { within = spelled.within.1; sized = spelled.sized.1 })))
-
-id_if_short : (found : Option AccountId) → IsIdIf found → IsShort (optional account_id) 43 found
-id_if_short found named =
-    short.short_option account_id 39 found (λ id is. id_short id (id_of_some id (subst IsIdIf is named)))
-
-hash_short : (digest : Hash) → IsSpelled hash digest → IsShort hash 35 digest
-unfolding hash
-hash_short digest spelled =
-    short.short_struct hash_fields (short.short_fixed 32 digest.0
-    (record { within = spelled.within; sized = spelled.sized }))
-
-key_short : (key : SignerKey) → IsSpelled signer_key key → IsShort signer_key 39 key
-unfolding signer_key
-key_short (signing.Ed25519 key) spelled =
-    let rest = short.short_fixed 32 key (record { within = spelled.within; sized = spelled.sized }) in
-    record { within = rest.within; sized = rest.sized; short = short.marked_len (pos 0) _ 35 rest.short }
-key_short (signing.PreAuthTx digest) spelled =
-    let rest = hash_short digest (record { within = spelled.within; sized = spelled.sized }) in
-    record { within = rest.within; sized = rest.sized; short = short.marked_len (pos 1) _ 35 rest.short }
-key_short (signing.HashX digest) spelled =
-    let rest = hash_short digest (record { within = spelled.within; sized = spelled.sized }) in
-    record { within = rest.within; sized = rest.sized; short = short.marked_len (pos 2) _ 35 rest.short }
-
-signer_short : (one : Signer) → IsSpelled signer_key one.key → one.weight ≤ 255 → IsShort signer 43 one
-unfolding signer
-signer_short one spelled le =
-    short.short_struct signer_fields (short.short_both (key_short one.key spelled)
-    (short.short_u32 one.weight (omega arith)))
+use Rattle.close_laws.proofs.ShortIds.{id_short, id_if_short, signer_short, fits_i64, liabilities_short}
+use Rattle.close_laws.proofs.ShortBalances.{AreLineNumbers, AreBalanceNumbers, line_short, balance_short}
 
 -- ---- what accounts say beside their bytes
 
@@ -85,17 +44,6 @@ pub record AreNumbers (ext : Option AccountEntryExtensionV1) : Type 0 where
   pub sponsored : sponsored_in (second_in ext) < 4294967296
   pub sponsoring : sponsoring_in (second_in ext) < 4294967296
   pub few : length (sponsors_in (second_in ext)) ≤ 20
-
-fits_i64 : (n : ℤ) → pos 0 ≤ℤ n → n ≤ℤ greatest_i64 → FitsSigned w64 n
-fits_i64 n low high = grind (arith, ints)
-
-liabilities_short : (owed : Liabilities) → pos 0 ≤ℤ owed.buying → owed.buying ≤ℤ greatest_i64 → pos 0 ≤ℤ owed.selling
-    → owed.selling ≤ℤ greatest_i64 → IsShort liabilities 16 owed
-unfolding liabilities
-liabilities_short owed low high least most =
-    short.short_struct liabilities_fields (short.short_both (short.short_i64 owed.buying
-    (fits_i64 owed.buying low high))
-    (short.short_i64 owed.selling (fits_i64 owed.selling least most)))
 
 ids_short : (ids : List (Option AccountId)) → All IsIdIf ids → All (IsShort (optional account_id) 43) ids
 ids_short ids all = λ k d within. id_if_short _ (all k d within)
@@ -198,23 +146,30 @@ data_short entry bytes =
 
 abbrev pub AreBodyNumbers : LedgerEntryBody → Type 0
 AreBodyNumbers (body.Account account) = AreAccountNumbers account
+AreBodyNumbers (body.TrustLine held) = AreLineNumbers held
+AreBodyNumbers (body.ClaimableBalance balance) = AreBalanceNumbers balance
 AreBodyNumbers other = Unit {0}
 
-body_short : (of : LedgerEntryBody) → AreBodyBytes of → AreBodyNumbers of → IsShort ledger_entry_body 1920 of
+-- an arm of at most 2351 bytes, the most that a claimable balance has
+body_arm : (mark : ℤ) (bytes : List ℕ) (n : ℕ) → n ≤ 2351 → length bytes ≤ n
+    → length (i32.spell mark ++ bytes) ≤ 2355
+body_arm mark bytes n le few = short.marked_len mark bytes 2351 (short.longer n 2351 le few)
+
+body_short : (of : LedgerEntryBody) → AreBodyBytes of → AreBodyNumbers of → IsShort ledger_entry_body 2355 of
 unfolding ledger_entry_body
 body_short (body.Account account) bytes numbers =
     let rest = account_short account bytes numbers in
-    record { within = rest.within; sized = rest.sized; short = short.marked_len (pos 0) _ 1916 rest.short }
+    record { within = rest.within; sized = rest.sized; short = body_arm (pos 0) _ 1916 (omega arith) rest.short }
+body_short (body.TrustLine held) bytes numbers =
+    let rest = line_short held bytes numbers in
+    record { within = rest.within; sized = rest.sized; short = body_arm (pos 1) _ 149 (omega arith) rest.short }
 body_short (body.Data entry) bytes numbers =
     let rest = data_short entry bytes in
-    record {
-      within = rest.within;
-      sized = rest.sized;
-      short = short.marked_len (pos 3) _ 1916 (short.longer 185 1916 (omega arith) rest.short);
-    }
-body_short (body.TrustLine line) bytes numbers = absurd bytes
+    record { within = rest.within; sized = rest.sized; short = body_arm (pos 3) _ 185 (omega arith) rest.short }
+body_short (body.ClaimableBalance balance) bytes numbers =
+    let rest = balance_short balance bytes numbers in
+    record { within = rest.within; sized = rest.sized; short = body_arm (pos 4) _ 2351 (omega arith) rest.short }
 body_short (body.Offer offer) bytes numbers = absurd bytes
-body_short (body.ClaimableBalance balance) bytes numbers = absurd bytes
 body_short (body.LiquidityPool pool) bytes numbers = absurd bytes
 
 sponsor_short : (ext : LedgerEntryExtensionV1) → IsIdIf ext.sponsoring_id → IsShort ledger_entry_extension_v1 47 ext
@@ -229,7 +184,7 @@ extension_short (Some ext) named =
     short.some_extension (pos 1) ledger_entry_extension_v1 47 ext (sponsor_short ext named)
 
 entry_short : (e : LedgerEntry) → e.last_modified_ledger_seq < 4294967296 → AreEntryBytes e → AreBodyNumbers e.body
-    → IsShort ledger_entry 1975 e
+    → IsShort ledger_entry 2410 e
 unfolding ledger_entry
 entry_short e seq bytes numbers =
     short.short_struct entry_fields (short.short_both (short.short_u32 e.last_modified_ledger_seq seq)
@@ -243,5 +198,5 @@ entry_spellable e seq bytes numbers =
     record {
       within = found.within;
       sized = found.sized;
-      short = short.longer 1975 2147483643 (omega arith) found.short;
+      short = short.longer 2410 2147483643 (omega arith) found.short;
     }

@@ -15,7 +15,9 @@ use Rattle.op_types.specs.declared.transaction.TransactionEnvelope.TheVariants a
 use Rattle.op_types.specs.declared.transaction.TransactionSet.{TransactionSet}
 use Rattle.xdr_core.specs.Leaves.{i64}
 use Rattle.xdr_core.specs.Xdr.{list_of}
-use Rattle.xdr_tx.specs.Operations.{operation, operation_body, bump_sequence_op}
+use Rattle.xdr_entries.specs.Entries.{claimant}
+use Rattle.xdr_tx.specs.Operations.{operation, operation_body, bump_sequence_op, change_trust_op}
+use Rattle.xdr_tx.specs.Operations.{create_claimable_balance_op}
 use Rattle.xdr_tx.specs.Transactions.{behind_source, transaction, transaction_v0, transaction_v1_envelope}
 use Rattle.xdr_tx.specs.Transactions.{transaction_v0_envelope, fee_bump_transaction, fee_bump_envelope}
 use Rattle.xdr_tx.specs.Transactions.{transaction_envelope, transaction_set}
@@ -77,7 +79,7 @@ pub body_spelled : (of : Operation) → IsSpelled operation of → IsSpelled ope
 unfolding operation
 body_spelled of spelled = record { within = spelled.within.1; sized = spelled.sized.1 }
 
--- ---- the numbers of operations
+-- ---- the numbers and the lists of operations
 
 int_fits : (n : ℤ) → FitsSigned w64 n → n ≤ℤ greatest_i64
 int_fits n fits = grind (arith, ints, fits)
@@ -87,8 +89,11 @@ unfolding i64
 sized_i64 n sized = sized
 
 body_fit : (of : OperationBody) → IsSpelled operation_body of → IsFit of
-unfolding operation_body bump_sequence_op
+unfolding operation_body bump_sequence_op change_trust_op create_claimable_balance_op
 body_fit (body.BumpSequence op) spelled = int_fits op.bump_to (sized_i64 op.bump_to spelled.sized)
+body_fit (body.ChangeTrust op) spelled = int_fits op.limit (sized_i64 op.limit spelled.sized.1)
+body_fit (body.CreateClaimableBalance op) spelled =
+    few_spelled 10 claimant op.claimants (record { within = spelled.within.1.1; sized = spelled.sized.1.1 })
 body_fit other spelled = tt
 
 operations_fit : (operations : List Operation) → All (IsSpelled operation) operations → AreFit operations

@@ -28,7 +28,7 @@ abbrev pub NextIsLegal : Type 0
 NextIsLegal = (s : ClosingState) (closing : CloseRecord) (after : EntryMap) (list_hash : Hash) → IsClosable s closing
     → AreClosed s closing after → IsLegal (finished (upgraded_header s closing) list_hash) after
 
--- every entry can stand in a bucket's file, and is an account or data
+-- every entry can stand in a bucket's file, and is of a kind that is built
 abbrev pub EntriesStaySpellable : Type 0
 EntriesStaySpellable = (s : ClosingState) (closing : CloseRecord) (after : EntryMap) → IsClosable s closing
     → AreClosed s closing after → AreSpellable after × AreBuilt after

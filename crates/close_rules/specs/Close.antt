@@ -89,7 +89,8 @@ pub record ClosesWith (s : ClosingState) (bytes : List ℕ) (closed : Closed) (t
 
 -- a record that is refused for what it is
 abbrev pub IsRefused : ClosingState → List ℕ → CloseFault → Type 0
-IsRefused s bytes wrong = (closing : CloseRecord) × (record_in bytes ≡ Ok closing) × (record_fault s closing ≡ Some wrong)
+IsRefused s bytes wrong =
+    (closing : CloseRecord) × (record_in bytes ≡ Ok closing) × (record_fault s closing ≡ Some wrong)
 
 -- Bytes that are no record are told first, then what a record is refused for, and last levels that are too long.
 abbrev pub IsClose : ClosingState → List ℕ → Result Closed CloseFault → Type 0

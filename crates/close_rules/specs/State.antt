@@ -2,6 +2,8 @@
 use Rattle.std.specs.Prelude.{◌≡◌, ℕ, ◌≤◌, List, length}
 use Rattle.ledger_types.specs.declared.ids.Hash.{Hash}
 use Rattle.ledger_types.specs.declared.header.LedgerHeader.{LedgerHeader}
+use Rattle.ledger_types.specs.declared.asset.TrustLineAsset.{TrustLineAsset}
+use Rattle.ledger_types.specs.declared.asset.TrustLineAsset.TheVariants as line
 use Rattle.ledger_types.specs.declared.entry.LedgerEntry.{LedgerEntry}
 use Rattle.ledger_types.specs.declared.entry.LedgerEntryBody.{LedgerEntryBody}
 use Rattle.ledger_types.specs.declared.entry.LedgerEntryBody.TheVariants as body
@@ -35,10 +37,17 @@ pub record IsSpelled {V : Type 0} (f : Format XdrFault V) (v : V) : Type 0 where
 abbrev pub max_file_total : ℕ
 max_file_total = 536870912
 
--- accounts and data: entries of which all operations can be applied so far
+-- a line that isn't one of pool shares
+abbrev pub IsBuiltLine : TrustLineAsset → Type 0
+IsBuiltLine (line.PoolShare pool) = ⊥
+IsBuiltLine other = Unit {0}
+
+-- all but offers, pools and lines of pool shares: entries of which all operations can be applied so far
 abbrev pub IsBuiltBody : LedgerEntryBody → Type 0
 IsBuiltBody (body.Account account) = Unit {0}
+IsBuiltBody (body.TrustLine held) = IsBuiltLine held.asset
 IsBuiltBody (body.Data entry) = Unit {0}
+IsBuiltBody (body.ClaimableBalance balance) = Unit {0}
 IsBuiltBody other = ⊥
 
 abbrev pub AreBuilt : EntryMap → Type 0

@@ -7,7 +7,6 @@ use Rattle.std.specs.Prelude.{ℤ, pos, IsTrue}
 use Rattle.std.specs.List.{slice_get}
 use Rattle.std.specs.FinMap.{get, values}
 use Rattle.ledger_types.specs.declared.ids.AccountId.{AccountId}
-use Rattle.ledger_types.specs.declared.data_entry.DataEntry.{DataEntry}
 use Rattle.ledger_types.specs.declared.entry.LedgerEntry.{LedgerEntry}
 use Rattle.ledger_types.specs.declared.entry.LedgerEntryBody.{LedgerEntryBody}
 use Rattle.ledger_types.specs.declared.entry.LedgerEntryBody.TheVariants as body
@@ -19,7 +18,6 @@ use Rattle.entry_sums.specs.Sums.{total, EachEntry}
 use Rattle.entry_sums.proofs.Summing.{total_none}
 use Rattle.legal_rules.specs.Legal.{view, pools_in, IsBooked}
 use Rattle.legal_rules.specs.Books.{counted, stated, stated_at}
-use Rattle.close_rules.specs.State.{IsBuiltBody}
 use Rattle.close_rules.specs.EntryRules.{AreOwned}
 use Rattle.image_rules.specs.declared.books.AccountBook.{AccountBook}
 use Rattle.image_rules.specs.declared.books.AccountBook.TheVariants as book
@@ -100,38 +98,45 @@ module _ (which : AccountBook) (m : EntryMap) where
 
 -- ---- what an answer on one entry says
 
-data_states : (which : AccountBook) (entry : DataEntry) → stated (kind_of which) (body.Data entry) ≡ pos 0
-data_states book.Subentries entry = refl
-data_states book.Sponsoring entry = refl
-data_states book.Sponsored entry = refl
+-- what isn't an account states nothing
+states_none : (which : AccountBook) (b : LedgerEntryBody) → ((id : AccountId) → key.Account id ≢ key_of_body b)
+    → stated (kind_of which) b ≡ pos 0
+states_none which (body.Account a) other = absurd (other a.account_id refl)
+states_none book.Subentries b other = refl
+states_none book.Sponsoring b other = refl
+states_none book.Sponsored b other = refl
 
 module _ (which : AccountBook) (m : EntryMap) (counts : CountMap) (e : LedgerEntry) (answer : Bool)
     (all : AreCounts (kind_of which) m counts) where
-  right_in : (b : LedgerEntryBody) → e.body ≡ b → IsBuiltBody b → Agrees counts (kind_of which) b answer
-      → IsTrue answer → IsRight which m e
-  right_in (body.Account a) is built agrees said =
+  right_other : (b : LedgerEntryBody) → e.body ≡ b → ((id : AccountId) → key.Account id ≢ key_of_body b)
+      → IsRight which m e
+  right_other b is other = right_by which m e b is (states_none which b other) other
+
+  right_in : (b : LedgerEntryBody) → e.body ≡ b → Agrees counts (kind_of which) b answer → IsTrue answer
+      → IsRight which m e
+  right_in (body.Account a) is agrees said =
       ap (stated (kind_of which)) is
       ∙ (agrees (total (counted (view m) (kind_of which) (key.Account a.account_id)) m)
       (all (key.Account a.account_id))).0 said
       ∙ ap (λ b. total (counted (view m) (kind_of which) (key_of_body b)) m) (sym is)
-  right_in (body.Data entry) is built agrees said =
-      right_by which m e (body.Data entry) is (data_states which entry) (λ id same. cc)
-  right_in other is built agrees said = absurd built
+  right_in (body.TrustLine line) is agrees said = right_other (body.TrustLine line) is (λ id same. cc)
+  right_in (body.Offer offer) is agrees said = right_other (body.Offer offer) is (λ id same. cc)
+  right_in (body.Data entry) is agrees said = right_other (body.Data entry) is (λ id same. cc)
+  right_in (body.ClaimableBalance balance) is agrees said =
+      right_other (body.ClaimableBalance balance) is (λ id same. cc)
+  right_in (body.LiquidityPool pool) is agrees said = right_other (body.LiquidityPool pool) is (λ id same. cc)
 
-  pub right_of_answer : IsBuiltBody e.body → Agrees counts (kind_of which) e.body answer → IsTrue answer
-      → IsRight which m e
-  right_of_answer built agrees said = right_in e.body refl built agrees said
+  pub right_of_answer : Agrees counts (kind_of which) e.body answer → IsTrue answer → IsRight which m e
+  right_of_answer agrees said = right_in e.body refl agrees said
 
-  answer_in : (b : LedgerEntryBody) → e.body ≡ b → IsBuiltBody b → Agrees counts (kind_of which) b answer
-      → IsRight which m e → IsTrue answer
-  answer_in (body.Account a) is built agrees right =
+  answer_in : (b : LedgerEntryBody) → e.body ≡ b → Agrees counts (kind_of which) b answer → IsRight which m e
+      → IsTrue answer
+  answer_in (body.Account a) is agrees right =
       (agrees (total (counted (view m) (kind_of which) (key.Account a.account_id)) m)
       (all (key.Account a.account_id))).1
       (sym (ap (stated (kind_of which)) is) ∙ right
       ∙ ap (λ b. total (counted (view m) (kind_of which) (key_of_body b)) m) is)
-  answer_in (body.Data entry) is built agrees right = agrees
-  answer_in other is built agrees right = absurd built
+  answer_in other is agrees right = agrees
 
-  pub answer_of_right : IsBuiltBody e.body → Agrees counts (kind_of which) e.body answer → IsRight which m e
-      → IsTrue answer
-  answer_of_right built agrees right = answer_in e.body refl built agrees right
+  pub answer_of_right : Agrees counts (kind_of which) e.body answer → IsRight which m e → IsTrue answer
+  answer_of_right agrees right = answer_in e.body refl agrees right

@@ -4,4 +4,5 @@ mod Naming
 mod Booked
 mod Bounded
 mod Rising
+mod Apart
 mod Judged

@@ -3,7 +3,7 @@ use Rattle.std.specs.Prelude.{◌≡◌, pos}
 use Rattle.ledger_types.specs.declared.entry.LedgerEntry.{LedgerEntry}
 use Rattle.ledger_types.specs.declared.entry.LedgerEntryBody.{LedgerEntryBody}
 use Rattle.legal_rules.specs.Bounds.{AreSubentriesFew, DoReservesFit}
-use Rattle.legal_rules.specs.Books.{Selling, Buying, stated}
+use Rattle.legal_rules.specs.Books.{Selling, Buying, Uses, stated}
 use Rattle.legal_rules.specs.Ranges.{IsEntryInRange}
 use Rattle.close_rules.specs.State.{IsBuiltBody}
 use Rattle.image_rules.specs.declared.entry_tests.EntryTest.{EntryTest}
@@ -13,6 +13,10 @@ use Rattle.image_rules.specs.declared.entry_tests.EntryTest.TheVariants as test
 pub record IsUnbound (b : LedgerEntryBody) : Type 0 where
   pub selling : stated Selling b ≡ pos 0
   pub buying : stated Buying b ≡ pos 0
+
+-- no uses by pools are stated
+abbrev pub IsUnused : LedgerEntryBody → Type 0
+IsUnused b = stated Uses b ≡ pos 0
 
 -- ranges are asked of what is built alone
 abbrev pub MayTake : EntryTest → LedgerEntryBody → Type 0
@@ -25,3 +29,4 @@ Passes (test.InRange id_pool) e = IsEntryInRange id_pool e
 Passes test.Unbound e = IsUnbound e.body
 Passes test.Few e = AreSubentriesFew e.body
 Passes test.Fitting e = DoReservesFit e.body
+Passes test.Unused e = IsUnused e.body

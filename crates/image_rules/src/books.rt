@@ -6,7 +6,6 @@ ghost use Rattle.sponsor_laws.specs.Sums.{is_there};
 ghost use Rattle.legal_rules.specs.Reserves.{for_each, signer_sponsors_in, sponsored_in_entry};
 ghost use Rattle.legal_rules.specs.Books.{View as AView, Sponsoring, Sponsored, counted, stated};
 ghost use Rattle.legal_rules.specs.Legal.{IsBooked};
-ghost use Rattle.close_rules.specs.State.{AreBuilt};
 ghost use Rattle.close_rules.specs.EntryRules.{AreOwned};
 ghost use Rattle.image_rules.specs.Counts.{Adds};
 ghost use Rattle.image_rules.specs.AccountBooks.{kind_of, AreCounts, Agrees};
@@ -135,7 +134,6 @@ fn agrees(tally: &Tally, book: AccountBook, entry: &LedgerEntry) -> bool
 
 /// Whether each account states what is counted for it.
 fn do_all_agree(tally: &Tally, book: AccountBook, entries: &EntryTable) -> bool
-    requires built { AreBuilt entries.now }
     requires owned { AreOwned entries.now }
     requires counted { AreCounts (kind_of book) entries.now tally.now }
     ensures { IsTrue result ↔ IsBooked (kind_of book) entries.now }
@@ -150,8 +148,7 @@ fn do_all_agree(tally: &Tally, book: AccountBook, entries: &EntryTable) -> bool
 
 /// Whether each account states in a book what all entries count for it.
 pub fn is_booked(alloc: Global, book: AccountBook, entries: &EntryTable) -> Result<bool, AllocError>
-    requires built { AreBuilt entries.now }
-    requires owned { AreOwned entries.now }
+    requires { AreOwned entries.now }
     ensures { IfOk result (λ kept. IsTrue kept ↔ IsBooked (kind_of book) entries.now) }
 {
     let tally = tally_of(alloc, book, entries)?;

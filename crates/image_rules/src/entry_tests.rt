@@ -2,20 +2,21 @@
 
 ghost use Rattle.std.specs.Prelude.{◌↔◌, IsTrue};
 ghost use Rattle.entry_sums.specs.Sums.{EachEntry};
-ghost use Rattle.close_rules.specs.State.{IsBuiltBody, AreBuilt};
+ghost use Rattle.close_rules.specs.State.{IsBuiltLine, IsBuiltBody, AreBuilt};
 ghost use Rattle.image_rules.specs.EntryTests.{MayTake, Passes};
 
 use crate::liabilities::is_unbound;
+use crate::pools::is_unused;
 use crate::ranges::is_entry_in_range;
 use crate::sponsorship::do_reserves_fit;
 use crate::subentries::are_subentries_few;
 use entry_table::EntryTable;
-use ledger_types::{LedgerEntry, LedgerEntryBody};
+use ledger_types::{LedgerEntry, LedgerEntryBody, TrustLineAsset};
 
 /// What may be asked of an entry.
 #[derive(Clone, Copy)]
 pub enum EntryTest {
-    /// It is an account or data.
+    /// It isn't an offer, a pool or a line of pool shares.
     Built,
     /// It is in its ranges, where no offer has an id above this one.
     InRange { id_pool: u64 },
@@ -25,15 +26,29 @@ pub enum EntryTest {
     Few,
     /// An account's subentries and the reserves that it pays as a sponsor fit 32 bits together.
     Fitting,
+    /// It states no uses by pools.
+    Unused,
 }
 
-/// Whether an entry is an account or data.
+/// Whether a line isn't one of pool shares.
+fn is_built_line(asset: &TrustLineAsset) -> bool
+    ensures { IsTrue result ↔ IsBuiltLine asset.now }
+{
+    match asset {
+        TrustLineAsset::PoolShare(_) => false,
+        _ => true,
+    }
+}
+
+/// Whether an entry isn't an offer, a pool or a line of pool shares.
 fn is_built(body: &LedgerEntryBody) -> bool
     ensures { IsTrue result ↔ IsBuiltBody body.now }
 {
     match body {
         LedgerEntryBody::Account(_) => true,
+        LedgerEntryBody::TrustLine(line) => is_built_line(&line.asset),
         LedgerEntryBody::Data(_) => true,
+        LedgerEntryBody::ClaimableBalance(_) => true,
         _ => false,
     }
 }
@@ -49,6 +64,7 @@ fn passes(test: EntryTest, entry: &LedgerEntry) -> bool
         EntryTest::Unbound => is_unbound(&entry.body),
         EntryTest::Few => are_subentries_few(&entry.body),
         EntryTest::Fitting => do_reserves_fit(&entry.body),
+        EntryTest::Unused => is_unused(&entry.body),
     }
 }
 
@@ -65,7 +81,7 @@ pub fn do_all_pass(test: EntryTest, entries: &EntryTable) -> bool
     true
 }
 
-/// Whether the entries are accounts and data alone.
+/// Whether no entry is an offer, a pool or a line of pool shares.
 pub fn are_built(entries: &EntryTable) -> bool
     ensures { IsTrue result ↔ AreBuilt entries.now }
 {

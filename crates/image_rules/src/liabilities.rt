@@ -22,7 +22,7 @@ pub fn is_unbound(body: &LedgerEntryBody) -> bool
     liabilities.selling == 0 && liabilities.buying == 0
 }
 
-/// Whether liabilities are those of all offers. Among accounts and data there is no offer, so they are 0.
+/// Whether liabilities are those of all offers. There is no offer, so they are 0.
 pub fn are_liable(entries: &EntryTable) -> bool
     requires { AreBuilt entries.now }
     ensures { IsTrue result ↔ AreLiable entries.now }

@@ -1,17 +1,20 @@
-//! The rules of a start image that are of its entries, judged in their order. So far entries are accounts and data: for
-//! each other kind there is an arm to be added.
+//! The rules of a start image that are of its entries, judged in their order. So far entries are all but offers, pools
+//! and lines of pool shares.
 #![tactic(auto)]
 
 mod books;
+mod claimables;
 mod counts;
 mod entry_tests;
 mod fields;
 mod liabilities;
+mod lines;
 mod lumens;
 mod owners;
 mod parts;
 mod pools;
 mod ranges;
+mod room;
 mod signers;
 mod sponsorship;
 mod subentries;

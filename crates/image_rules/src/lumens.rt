@@ -1,25 +1,37 @@
 //! Rule 13: lumens are the header's total.
 
 ghost use Rattle.std.specs.Prelude.{◌≡◌, ◌↔◌, pos, negsuc, ◌+ℤ◌, ◌≤ℤ◌, IsTrue};
-ghost use Rattle.ledger_types.specs.declared.asset.Asset.TheVariants as asset;
+ghost use Rattle.ledger_types.specs.declared.asset.Asset.TheVariants.{Native};
 ghost use Rattle.entry_sums.specs.Sums.{total};
-ghost use Rattle.legal_rules.specs.Supply.{held, held_in};
+ghost use Rattle.legal_rules.specs.Supply.{held, held_in, of_asset};
 ghost use Rattle.close_rules.specs.State.{IsBuiltBody, AreBuilt};
 ghost use Rattle.close_rules.specs.EntryRules.{AreLumensCounted};
 
 use entry_table::EntryTable;
-use ledger_types::{LedgerEntryBody, LedgerHeader};
+use ledger_types::{Asset, LedgerEntryBody, LedgerHeader};
 
-/// The lumens that an account holds. Data hold none.
+/// The lumens in an amount of an asset, both in units of 10^-7.
+fn lumens_among(asset: &Asset, amount: i64) -> i64
+    ensures { of_asset Native asset.now amount ≡ result }
+{
+    match asset {
+        Asset::Native => amount,
+        _ => 0,
+    }
+}
+
+/// The lumens that an account or a claimable balance holds. Lines and data hold none.
 fn lumens_in(body: &LedgerEntryBody) -> i64
     requires { IsBuiltBody body.now }
-    ensures value { held_in asset.Native body.now ≡ result }
+    ensures value { held_in Native body.now ≡ result }
     ensures low { negsuc 9223372036854775807 ≤ℤ result }
     ensures high { result ≤ℤ pos 9223372036854775807 }
 {
     match body {
         LedgerEntryBody::Account(account) => account.balance,
+        LedgerEntryBody::TrustLine(_) => 0,
         LedgerEntryBody::Data(_) => 0,
+        LedgerEntryBody::ClaimableBalance(balance) => lumens_among(&balance.asset, balance.amount),
         _ => unreachable!(),
     }
 }
@@ -27,7 +39,7 @@ fn lumens_in(body: &LedgerEntryBody) -> i64
 /// The lumens that all entries hold. The sum of all balances may pass 64 bits.
 fn lumens_of(entries: &EntryTable) -> i128
     requires { AreBuilt entries.now }
-    ensures { result ≡ total (held asset.Native) entries.now }
+    ensures { result ≡ total (held Native) entries.now }
 {
     let mut sum = 0i128;
     for place in 0..entries.len() {

@@ -83,7 +83,7 @@ fn is_owned(entries: &EntryTable, entry: &LedgerEntry) -> Result<bool, AllocErro
     Ok(are_all(owner, sponsor, payers))
 }
 
-/// Whether what each entry needs stands. Among accounts and data there is no offer whose id another could have.
+/// Whether what each entry needs stands. There is no offer whose id another could have, and no line that needs a pool.
 pub fn are_owned(entries: &EntryTable) -> Result<bool, AllocError>
     requires { AreBuilt entries.now }
     ensures { IfOk result (λ kept. IsTrue kept ↔ AreOwned entries.now) }

@@ -1,13 +1,16 @@
 //! Rule 7: each entry is in its ranges.
 
-ghost use Rattle.std.specs.Prelude.{◌↔◌, ◌+ℤ◌, ◌≤ℤ◌, IsTrue};
-ghost use Rattle.reserve_rules.specs.Reserve.{greatest_i64, IsInRange};
+ghost use Rattle.std.specs.Prelude.{◌≢◌, ◌↔◌, None, IsTrue};
+ghost use Rattle.reserve_rules.specs.Reserve.{IsInRange};
 ghost use Rattle.legal_rules.specs.Ranges as spec;
 ghost use Rattle.close_rules.specs.State.{IsBuiltBody, AreBuilt};
 ghost use Rattle.close_rules.specs.EntryRules.{AreInRange};
 
+use crate::claimables::is_claimable_in_range;
 use crate::entry_tests::{EntryTest, do_all_pass};
+use crate::lines::is_line_in_range;
 use crate::parts::owner_of;
+use crate::room::fits_within;
 use crate::signers::are_signers_in_range;
 use entry_slots::{account_liabilities, sponsor_in};
 use entry_table::EntryTable;
@@ -16,14 +19,7 @@ use ledger_types::{
 };
 use valid_values::is_valid_text;
 
-/// Whether what is to be bought fits beside a balance.
-fn fits_beside(balance: i64, buying: i64) -> bool
-    ensures { IsTrue result ↔ ((balance +ℤ buying) ≤ℤ greatest_i64) }
-{
-    i128::from(balance) + i128::from(buying) <= i128::from(i64::MAX)
-}
-
-/// Whether balance and liabilities are in their ranges.
+/// Whether an account's balance and liabilities are in their ranges.
 fn is_balance_in_range(account: &AccountEntry) -> bool
     ensures { IsTrue result ↔ IsInRange account.now }
 {
@@ -31,7 +27,7 @@ fn is_balance_in_range(account: &AccountEntry) -> bool
     0 <= account.balance
         && 0 <= liabilities.buying
         && 0 <= liabilities.selling
-        && fits_beside(account.balance, liabilities.buying)
+        && fits_within(account.balance, liabilities.buying, i64::MAX)
 }
 
 /// Whether there is no flag but the four of accounts, and 8 beside 2 alone.
@@ -67,17 +63,29 @@ fn is_body_in_range(id_pool: u64, body: &LedgerEntryBody) -> bool
 {
     match body {
         LedgerEntryBody::Account(account) => is_account_in_range(account),
+        LedgerEntryBody::TrustLine(line) => is_line_in_range(line),
         LedgerEntryBody::Data(entry) => is_data_in_range(entry),
+        LedgerEntryBody::ClaimableBalance(balance) => is_claimable_in_range(balance),
         _ => unreachable!(),
     }
 }
 
-/// Whether nobody sponsors what is his own.
+/// Whether a sponsor, if there is one, isn't the owner.
+fn is_sponsor_other(owner: Option<AccountId>, sponsor: Option<AccountId>) -> bool
+    ensures { IsTrue result ↔ (sponsor ≢ None → sponsor ≢ owner) }
+{
+    sponsor.is_none() || sponsor != owner
+}
+
+/// Whether a claimable balance has a sponsor, a pool has none, and nobody sponsors what is his own.
 fn is_paid_rightly(body: &LedgerEntryBody, sponsor: Option<AccountId>) -> bool
-    requires { IsBuiltBody body.now }
     ensures { IsTrue result ↔ spec.IsPaidRightly body.now sponsor }
 {
-    sponsor.is_none() || sponsor != owner_of(body)
+    match body {
+        LedgerEntryBody::ClaimableBalance(_) => sponsor.is_some(),
+        LedgerEntryBody::LiquidityPool(_) => sponsor.is_none(),
+        _ => is_sponsor_other(owner_of(body), sponsor),
+    }
 }
 
 /// Whether an entry is in its ranges.
@@ -90,7 +98,7 @@ pub fn is_entry_in_range(id_pool: u64, entry: &LedgerEntry) -> bool
     body && paid
 }
 
-/// Whether each entry is in its ranges. Among accounts and data there is no offer whose lines could lack authorisation.
+/// Whether each entry is in its ranges. There is no offer whose lines could lack authorisation.
 pub fn are_in_range(header: &LedgerHeader, entries: &EntryTable) -> bool
     requires { AreBuilt entries.now }
     ensures { IsTrue result ↔ AreInRange header.now entries.now }

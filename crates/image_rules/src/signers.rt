@@ -86,14 +86,15 @@ fn are_payers_others(account: &AccountEntry) -> bool
     }
 }
 
-/// Whether the signers of an account are in their ranges.
+/// Whether the signers of an account are in their ranges. None that were read are more than 20 (MAX_SIGNERS).
 pub fn are_signers_in_range(account: &AccountEntry) -> bool
     ensures { IsTrue result ↔
         AreSignersInRange account.now.account_id account.now.signers
         (sponsorship_of account.now).signer_sponsoring_ids }
 {
+    let few = account.signers.len() <= 20;
     let rise = do_rise(account.signers.as_slice());
     let each = is_each_in_range(&account.account_id, account.signers.as_slice());
     let payers = are_payers_others(account);
-    rise && each && payers
+    few && rise && each && payers
 }

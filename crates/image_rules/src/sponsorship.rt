@@ -2,7 +2,6 @@
 
 ghost use Rattle.std.specs.Prelude.{◌↔◌, IsTrue, IfOk};
 ghost use Rattle.legal_rules.specs.Bounds.{DoReservesFit};
-ghost use Rattle.close_rules.specs.State.{AreBuilt};
 ghost use Rattle.close_rules.specs.EntryRules.{AreOwned, AreSponsorsCounted};
 
 use crate::books::{AccountBook, is_booked};
@@ -26,8 +25,7 @@ pub fn do_reserves_fit(body: &LedgerEntryBody) -> bool
 
 /// Whether each account states how many reserves it pays and how many of its own others pay.
 pub fn are_sponsors_counted(alloc: Global, entries: &EntryTable) -> Result<bool, AllocError>
-    requires built { AreBuilt entries.now }
-    requires owned { AreOwned entries.now }
+    requires { AreOwned entries.now }
     ensures { IfOk result (λ kept. IsTrue kept ↔ AreSponsorsCounted entries.now) }
 {
     let fits = do_all_pass(EntryTest::Fitting, entries);

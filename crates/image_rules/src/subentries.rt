@@ -2,7 +2,6 @@
 
 ghost use Rattle.std.specs.Prelude.{◌↔◌, IsTrue, IfOk};
 ghost use Rattle.legal_rules.specs.Bounds.{AreSubentriesFew};
-ghost use Rattle.close_rules.specs.State.{AreBuilt};
 ghost use Rattle.close_rules.specs.EntryRules.{AreOwned, AreSubentriesCounted};
 
 use crate::books::{AccountBook, is_booked};
@@ -23,8 +22,7 @@ pub fn are_subentries_few(body: &LedgerEntryBody) -> bool
 
 /// Whether each account states how many subentries it has, and has few.
 pub fn are_subentries_counted(alloc: Global, entries: &EntryTable) -> Result<bool, AllocError>
-    requires built { AreBuilt entries.now }
-    requires owned { AreOwned entries.now }
+    requires { AreOwned entries.now }
     ensures { IfOk result (λ kept. IsTrue kept ↔ AreSubentriesCounted entries.now) }
 {
     let few = do_all_pass(EntryTest::Few, entries);

@@ -52,7 +52,8 @@ fn first_of_books(
     Ok(first_of_sums(header, entries))
 }
 
-/// The first rule of the entries behind a ledger that is broken, if one is. They are accounts and data alone.
+/// The first rule of the entries behind a ledger that is broken, if one is. None of them is an offer, a pool or a line
+/// of pool shares.
 pub fn first_broken(
     header: &LedgerHeader,
     entries: &EntryTable,

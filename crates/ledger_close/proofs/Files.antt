@@ -160,7 +160,8 @@ two_at files i a b below at_a at_b levels are =
     ∙ sym at_a in
     let odd : suc (double i) ≡ 2 * i + 1 = omega (arith, doubles i) in
     let second : get_or all (suc (double i)) b ≡ b =
-    ap (λ (n : ℕ). get_or all n b) odd ∙ ap (λ (f : List (List ℕ)). get_or f (2 * i + 1) b) (sym are.are) ∙ sym at_b in (
+    ap (λ (n : ℕ). get_or all n b) odd ∙ ap (λ (f : List (List ℕ)). get_or f (2 * i + 1) b) (sym are.are)
+    ∙ sym at_b in (
       h.pair,
       subst (λ (x : List ℕ). IsFileOf x h.pair.curr) first h.curr,
       subst (λ (x : List ℕ). IsFileOf x h.pair.snap) second h.snap,

@@ -12,7 +12,8 @@ use Rattle.xdr_header.specs.Records.{close_record}
 use Rattle.xdr_header.specs.Header.{stellar_value}
 use Rattle.xdr_core.specs.Combinators.{list}
 use Rattle.xdr_core.specs.declared.fault.XdrKind.{XdrKind}
-use Rattle.header_chain.specs.Upgrades.{upgraded_if, all_upgraded, upgrade_in, first_place, is_bad_at, is_out_of_profile}
+use Rattle.header_chain.specs.Upgrades.{upgraded_if, all_upgraded, upgrade_in, first_place, is_bad_at}
+use Rattle.header_chain.specs.Upgrades.{is_out_of_profile}
 use Rattle.entry_slots.specs.Tests.{Tests, first_fault}
 use Rattle.tx_apply.specs.Built.{unbuilt_place}
 use Rattle.tx_apply.specs.Set.{missing_place}
@@ -109,7 +110,8 @@ unfolding record_fault
 of_record s closing f is =
     either (term_fault s closing) (option_or (upgrade_fault s closing) (set_fault s closing)) f
     (terms_of_record s closing f)
-    (either (upgrade_fault s closing) (set_fault s closing) f (upgrades_of_record s closing f) (set_of_record s closing f))
+    (either (upgrade_fault s closing) (set_fault s closing) f (upgrades_of_record s closing f)
+    (set_of_record s closing f))
     is
 
 -- ---- the parts

@@ -10,7 +10,6 @@ use Rattle.entry_map.specs.EntryMap.{EntryMap, IsKeyed}
 use Rattle.entry_map.specs.Batch.{IsBatch}
 use Rattle.entry_map.specs.Undo.{Undo, started}
 use Rattle.entry_sums.specs.Sums.{EachEntry}
-use Rattle.op_laws.specs.Underway.{AreSignersFew}
 use Rattle.tx_apply.specs.declared.set.SetDone.{SetDone}
 use Rattle.tx_apply.specs.declared.fault.SetFault.{SetFault}
 use Rattle.tx_apply.specs.declared.fault.SetFault.TheVariants as set
@@ -28,10 +27,6 @@ keyed_by m each k = at (get m k) refl
     at : (found : Option LedgerEntry) → get m k ≡ found → IfSome found (λ e. key_of e ≡ k)
     at None is = tt
     at (Some e) is = each k e is
-
--- over the entries of a state, of which nothing was changed yet
-pub signers_begun : (old : Undo) (m : EntryMap) → old ≡ started m → AreSignersFew m → AreSignersFew old.current
-signers_begun old m begun few = subst (λ (u : Undo). AreSignersFew u.current) (sym begun) few
 
 pub refused_set : (s : ClosingState) (closing : CloseRecord) (old new : Undo) (f : SetFault) → old ≡ started s.entries
     → IsAnswer (closing_in s closing) closing.tx_set old new (Err f)
@@ -52,7 +47,8 @@ applied_set s closing old new done begun answer =
     ap (λ (u : Undo). missing_place u.current closing.tx_set) (sym begun) ∙ answer.0.payable in
     rw (answer.0.built, payable) refl
 
-pub applied_done : (s : ClosingState) (closing : CloseRecord) (old new : Undo) (done : SetDone) → old ≡ started s.entries
+pub applied_done : (s : ClosingState) (closing : CloseRecord) (old new : Undo) (done : SetDone)
+    → old ≡ started s.entries
     → IsAnswer (closing_in s closing) closing.tx_set old new (Ok done) → IsDone s closing done
 applied_done s closing old new done begun answer = record {
   results = answer.1.results
@@ -74,5 +70,6 @@ pub applied_batch : (s : ClosingState) (closing : CloseRecord) (old new : Undo) 
     → IsBatch new.base new.current batch → IsBatch s.entries (applied_in s closing).entries batch
 applied_batch s closing old new done batch begun answer told =
     let behind = subst (λ (u : Undo). IsBatch u.base u.current batch) answer.1.entries told in
-    subst (λ (u : Undo). IsBatch u.base (set_applied (closing_in s closing) closing.tx_set u.current).entries batch) begun
+    subst (λ (u : Undo). IsBatch u.base (set_applied (closing_in s closing) closing.tx_set u.current).entries batch)
+    begun
     behind

@@ -99,9 +99,9 @@ impl Ledger {
         self.finish_close(next, closing, worked, steps)
     }
 
-    /// Prepares the close of a record, which are these bytes, at most 16777216: its results, and the state behind it; or
-    /// the first fault of the record. The ledger stays as it is. Where levels are merged, the steps rise by at most the
-    /// items of the files that are; else they stay.
+    /// Prepares the close of a record, which are these bytes, at most 16777216: its results, and the state behind it;
+    /// or the first fault of the record. The ledger stays as it is. Where levels are merged, the steps rise by at
+    /// most the items of the files that are; else they stay.
     pub fn prepare<L: Count>(
         &self,
         bytes: &[u8],

@@ -73,7 +73,8 @@ unfoldable pub fault_text : CloseFault → List ℕ
 fault_text (fault.BadXdr at kind) = codes "BadXdr" ++ spaced (decimal at) ++ spaced (kind_name kind)
 fault_text fault.SeqEnd = codes "SeqEnd"
 fault_text (fault.WrongSeq want given) = codes "WrongSeq" ++ spaced (decimal want) ++ spaced (decimal given)
-fault_text (fault.WrongPrevious have given) = codes "WrongPrevious" ++ spaced (hash_text have) ++ spaced (hash_text given)
+fault_text (fault.WrongPrevious have given) =
+    codes "WrongPrevious" ++ spaced (hash_text have) ++ spaced (hash_text given)
 fault_text (fault.WrongSetHash have given) = codes "WrongSetHash" ++ spaced (hash_text have) ++ spaced (hash_text given)
 fault_text (fault.StaleTime last given) = codes "StaleTime" ++ spaced (decimal last) ++ spaced (decimal given)
 fault_text (fault.BadUpgrade index) = codes "BadUpgrade" ++ spaced (decimal index)

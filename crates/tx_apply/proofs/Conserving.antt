@@ -108,7 +108,7 @@ module _ (laws : TransactionLaws) (settles : LegalSettles) (closing : Closing) (
   fees_sound : AreTaken closing.header.id_pool m (fees_taken_of closing set m)
   fees_sound = all_taken laws closing.header.id_pool (set_base_fee closing.header set.txs) (envelopes_in_order set)
       m
-      (settles closing.header m can.legal can.signers)
+      (settles closing.header m can.legal)
 
   sound : AreSound (operation_total (envelopes_in_order set)) closing.header.id_pool
       (fees_taken_of closing set m).entries (set_applied closing set m)

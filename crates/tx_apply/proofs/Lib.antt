@@ -10,3 +10,4 @@ pub mod Conserving
 pub mod Missing
 pub mod Fitting
 pub mod Unbuilt
+pub mod Within

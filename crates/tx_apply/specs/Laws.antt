@@ -12,7 +12,7 @@ use Rattle.legal_rules.specs.Legal.{IsLegal}
 use Rattle.legal_rules.specs.Supply.{held}
 use Rattle.op_laws.specs.Laws.{IsFit, IsLawful}
 use Rattle.op_laws.specs.Moves.{issued}
-use Rattle.op_laws.specs.Underway.{AreSignersFew, IsSettled, LeavesSettled, AreDrawn}
+use Rattle.op_laws.specs.Underway.{IsSettled, LeavesSettled, AreDrawn}
 use Rattle.tx_apply.specs.Built.{operations_of}
 use Rattle.tx_apply.specs.Fees.{fee_of, map_after_fee}
 use Rattle.tx_apply.specs.Running.{Step}
@@ -30,7 +30,6 @@ AreAllFit envelopes = All (λ whole. AreFit (operations_of whole)) envelopes
 -- a legal state and a set, between which and the ledger after the header's nothing stands but the rules
 pub record CanClose (closing : Closing) (set : TransactionSet) (m : EntryMap) : Type 0 where
   pub legal : IsLegal closing.header m
-  pub signers : AreSignersFew m
   pub seq : closing.header.ledger_seq < 2147483647
   pub fit : AreAllFit set.txs
 

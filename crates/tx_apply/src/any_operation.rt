@@ -23,6 +23,7 @@ pub(crate) fn apply_operation<B: Base>(
     requires source { HasAccount entries.old.current ctx.old.op_source }
     requires ready { premises.AccountsAreReady entries.old.current }
     requires in_range { premises.BalancesAreInRange entries.old.current }
+    requires amounts { premises.AreAmountsLow entries.old.current }
     ensures { IfOk result (λ answer. Does answer ctx.new entries.old entries.new
         (spec.any_operation ctx.old operation.now.body entries.old.current)) }
 {
@@ -35,6 +36,14 @@ pub(crate) fn apply_operation<B: Base>(
             op_options::apply(operation, ctx, entries)
         }
         OperationBody::Payment(_) => op_payment::apply(operation, ctx, entries),
+        OperationBody::ChangeTrust(_) => op_trust::apply(operation, ctx, entries),
+        OperationBody::AllowTrust(_) | OperationBody::SetTrustLineFlags(_) => {
+            op_flags::apply(operation, ctx, entries)
+        }
+        OperationBody::CreateClaimableBalance(_)
+        | OperationBody::ClaimClaimableBalance(_)
+        | OperationBody::Clawback(_)
+        | OperationBody::ClawbackClaimableBalance(_) => op_claim::apply(operation, ctx, entries),
         OperationBody::BeginSponsoringFutureReserves(_)
         | OperationBody::EndSponsoringFutureReserves
         | OperationBody::RevokeSponsorship(_) => op_sponsor::apply(operation, ctx, entries),

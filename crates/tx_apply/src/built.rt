@@ -4,14 +4,14 @@ ghost use Rattle.std.specs.Prelude.{◌≡◌, not};
 ghost use Rattle.std.specs.List.{list_any};
 ghost use Rattle.tx_apply.specs.Built as spec;
 
-use ledger_types::Asset;
+use ledger_types::ChangeTrustAsset;
 use op_types::{Operation, OperationBody, TransactionEnvelope};
 
-fn is_lumens(asset: &Asset) -> bool
-    ensures { result ≡ spec.is_lumens asset.now }
+fn is_pool_share(line: &ChangeTrustAsset) -> bool
+    ensures { result ≡ spec.is_pool_share line.now }
 {
-    match asset {
-        Asset::Native => true,
+    match line {
+        ChangeTrustAsset::PoolShare(_) => true,
         _ => false,
     }
 }
@@ -20,16 +20,23 @@ fn is_built(body: &OperationBody) -> bool
     ensures { result ≡ spec.is_built body.now }
 {
     match body {
-        OperationBody::Payment(op) => is_lumens(&op.asset),
+        OperationBody::ChangeTrust(op) => !is_pool_share(&op.line),
         OperationBody::CreateAccount(_)
+        | OperationBody::Payment(_)
         | OperationBody::SetOptions(_)
+        | OperationBody::AllowTrust(_)
         | OperationBody::AccountMerge(_)
         | OperationBody::Inflation
         | OperationBody::ManageData(_)
         | OperationBody::BumpSequence(_)
+        | OperationBody::CreateClaimableBalance(_)
+        | OperationBody::ClaimClaimableBalance(_)
         | OperationBody::BeginSponsoringFutureReserves(_)
         | OperationBody::EndSponsoringFutureReserves
-        | OperationBody::RevokeSponsorship(_) => true,
+        | OperationBody::RevokeSponsorship(_)
+        | OperationBody::Clawback(_)
+        | OperationBody::ClawbackClaimableBalance(_)
+        | OperationBody::SetTrustLineFlags(_) => true,
         _ => false,
     }
 }

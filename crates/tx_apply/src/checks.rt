@@ -4,8 +4,8 @@ ghost use Rattle.std.specs.Prelude.{◌≡◌, None, Some, IfOk, OnOk};
 ghost use Rattle.entry_map.specs.Undo.{with_current};
 ghost use Rattle.entry_slots.specs.Accounts.{account_at};
 ghost use Rattle.entry_slots.specs.Tests.{first_fault};
-ghost use Rattle.op_laws.specs.Steps.{TransactionLaws};
-ghost use Rattle.op_laws.specs.Underway.{AreSignersFew, IsSettled};
+ghost use Rattle.op_laws.specs.Steps.{AreSignersFew, TransactionLaws};
+ghost use Rattle.op_laws.specs.Underway.{IsSettled};
 ghost use Rattle.tx_apply.specs.Signing.{auths_of};
 ghost use Rattle.tx_apply.specs.Checks as spec;
 
@@ -226,8 +226,8 @@ fn judge_behind_seq_num<B: Base>(
     late_fault(pays, ctx, checker, tx, entries)
 }
 
-/// Why the operations of a transaction are not run, if they are not. Its sequence number is used up where it is the next
-/// one of its source. `pays` says whether the transaction's own fee and balance are looked at.
+/// Why the operations of a transaction are not run, if they are not. Its sequence number is used up where it is the
+/// next one of its source. `pays` says whether the transaction's own fee and balance are looked at.
 pub(crate) fn judge<B: Base>(
     pays: bool,
     base_fee: u32,

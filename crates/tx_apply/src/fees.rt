@@ -1,6 +1,7 @@
 //! The fees of the transactions of a set.
 
-ghost use Rattle.std.specs.Prelude.{◌≡◌, ◌<◌, ◌≤ℤ◌, ◌-ℤ◌, ◌+ℤ◌, pos, unsigned_abs, ◌++◌, [], ◌∷◌, length, All, IfOk, OnOk};
+ghost use Rattle.std.specs.Prelude.{◌≡◌, ◌<◌, ◌≤ℤ◌, ◌-ℤ◌, ◌+ℤ◌, pos, unsigned_abs, ◌++◌, [], ◌∷◌, length, All, IfOk};
+ghost use Rattle.std.specs.Prelude.{OnOk};
 ghost use Rattle.ledger_types.specs.declared.asset.Asset.TheVariants as asset;
 ghost use Rattle.entry_map.specs.Undo.{with_current};
 ghost use Rattle.entry_sums.specs.Sums.{total};

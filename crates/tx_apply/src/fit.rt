@@ -1,22 +1,41 @@
-//! What the types of operations' numbers say.
+//! What the types of operations' numbers say, and how many items their lists have.
 
-ghost use Rattle.op_laws.specs.Laws.{IsFit};
+ghost use Rattle.std.specs.Prelude.{◌≤◌, length, All};
+ghost use Rattle.xdr_tx.specs.Operations.{operation, operation_body};
+ghost use Rattle.xdr_tx.specs.Transactions.{transaction_envelope};
+ghost use Rattle.op_laws.specs.Laws.{IsFit, AreClaimantsFew};
 ghost use Rattle.tx_apply.specs.Laws.{AreFit, AreAllFit};
 
 use crate::built::operations_of;
-use op_types::{Operation, OperationBody, TransactionEnvelope};
+use op_types::{CreateClaimableBalanceOp, Operation, OperationBody, TransactionEnvelope};
 
-/// The number of BUMP_SEQUENCE is one of 64 bits, as its type says. It does nothing.
+/// There are at most 10 claimants in an operation that has a spelling. It does nothing.
+fn claimants_fit(_op: &CreateClaimableBalanceOp)
+    requires { length _op.now.claimants ≤ 10 }
+    ensures { AreClaimantsFew _op.now }
+{}
+
+/// The numbers of an operation are those of its type, and its lists have as many items as it can be written with. It
+/// does nothing.
 fn number_fits(body: &OperationBody)
+    requires { operation_body.within body.now }
     ensures { IsFit body.now }
 {
-    if let OperationBody::BumpSequence(op) = body {
-        let _bump_to = op.bump_to;
+    match body {
+        OperationBody::BumpSequence(op) => {
+            let _bump_to = op.bump_to;
+        }
+        OperationBody::ChangeTrust(op) => {
+            let _limit = op.limit;
+        }
+        OperationBody::CreateClaimableBalance(op) => claimants_fit(op),
+        _ => {}
     }
 }
 
-/// The numbers of operations are those of their types. It does nothing.
+/// The same of operations. It does nothing.
 fn numbers_fit(operations: &[Operation])
+    requires { All operation.within operations.now }
     ensures { AreFit operations.now }
 {
     for operation in operations {
@@ -24,8 +43,9 @@ fn numbers_fit(operations: &[Operation])
     }
 }
 
-/// The numbers of all operations are those of their types. It does nothing.
+/// The same of all operations. It does nothing.
 pub(crate) fn all_numbers_fit(envelopes: &[TransactionEnvelope])
+    requires { All transaction_envelope.within envelopes.now }
     ensures { AreAllFit envelopes.now }
 {
     for envelope in envelopes {

@@ -8,7 +8,7 @@ ghost use Rattle.fee_rules.specs.Turns.{apply_order_of};
 ghost use Rattle.legal_rules.specs.Supply.{held};
 ghost use Rattle.xdr_tx.specs.Transactions as xdr;
 ghost use Rattle.legal_rules.specs.Legal.{IsLegal};
-ghost use Rattle.op_laws.specs.Underway.{AreSignersFew, IsSettled};
+ghost use Rattle.op_laws.specs.Underway.{IsSettled};
 ghost use Rattle.op_laws.specs.Steps.{TransactionLaws};
 ghost use Rattle.tx_apply.specs.Laws as laws;
 ghost use Rattle.tx_apply.specs.Places.{envelopes_at};
@@ -153,10 +153,10 @@ pub fn apply_set<B: Base>(
     set: &TransactionSet,
 ) -> Result<SetDone, SetFault>
     requires legal { IsLegal header.now entries.old.current }
-    requires signers { AreSignersFew entries.old.current }
     requires seq { header.now.ledger_seq < 2147483647 }
     requires within { xdr.transaction_set.within set.now }
-    ensures answer { spec.IsAnswer (spec.closing_of network.now header.now close_time) set.now entries.old entries.new result }
+    ensures answer { spec.IsAnswer (spec.closing_of network.now header.now close_time) set.now entries.old entries.new
+        result }
     ensures conserved { OnOk result (
         laws.IsConserved (spec.closing_of network.now header.now close_time) set.now entries.old.current) }
     ensures lawful { OnOk result (

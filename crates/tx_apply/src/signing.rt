@@ -2,7 +2,7 @@
 
 ghost use Rattle.std.specs.Prelude.{◌≡◌, ◌++◌, IfOk, OnOk};
 ghost use Rattle.std.specs.List.{list_all};
-ghost use Rattle.op_laws.specs.Underway.{AreSignersFew};
+ghost use Rattle.op_laws.specs.Steps.{AreSignersFew};
 ghost use Rattle.tx_apply.specs.Signing as spec;
 
 use entry_map::{Base, Entries};
@@ -63,7 +63,8 @@ pub(crate) fn check_operations<B: Base>(
         (spec.auths_of checker.old.hash source.now entries.now.current checker.old.signatures operations.now).passes) }
     ensures used { OnOk result (checker.new ≡ record checker.old {
       signatures =
-          (spec.auths_of checker.old.hash source.now entries.now.current checker.old.signatures operations.now).signatures;
+          (spec.auths_of checker.old.hash source.now entries.now.current checker.old.signatures
+          operations.now).signatures;
     }) }
 {
     match operations {

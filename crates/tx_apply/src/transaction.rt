@@ -81,7 +81,8 @@ pub(crate) fn apply_transaction<B: Base>(
     requires hash { checker.old.hash ≡ hash.now }
     ensures outcome { IfOk result (λ outcome. outcome ≡ (spec.transaction_applied pays base_fee ctx.old hash.now
         checker.old.signatures tx.now entries.old.current).outcome) }
-    ensures entries { OnOk result (entries.new ≡ with_current entries.old (spec.transaction_applied pays base_fee ctx.old
+    ensures entries { OnOk result
+        (entries.new ≡ with_current entries.old (spec.transaction_applied pays base_fee ctx.old
         hash.now checker.old.signatures tx.now entries.old.current).entries) }
     ensures id_pool { OnOk result (ctx.new.id_pool ≡ (spec.transaction_applied pays base_fee ctx.old hash.now
         checker.old.signatures tx.now entries.old.current).id_pool) }

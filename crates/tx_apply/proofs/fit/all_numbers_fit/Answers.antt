@@ -1,8 +1,11 @@
-use Rattle.std.proofs.Common.{rules}
+use Rattle.std.proofs.Common.{rules, sym, subst, All}
 use Rattle.op_types.specs.declared.transaction.TransactionEnvelope.{TransactionEnvelope}
+use Rattle.xdr_tx.specs.Operations.{operation}
+use Rattle.xdr_tx.specs.Transactions.{transaction_envelope}
 use Rattle.tx_apply.specs.Built.{operations_of}
 use Rattle.tx_apply.specs.Laws.{AreFit}
 use Rattle.tx_apply.proofs.Fitting.{holds_more, holds_all}
+use Rattle.tx_apply.proofs.Within.{operations_within}
 use Rattle.tx_apply.proofs.fit.all_numbers_fit.Goals as goal
 
 pub loop-envelope-preserved : goal.loop-envelope-preserved
@@ -16,3 +19,10 @@ returns c =
     holds_all (λ (whole : TransactionEnvelope). AreFit (operations_of whole)) c.args.envelopes.now
     c.loop-envelope.envelope-index (search rules)
     c.loop-envelope.invariant
+
+pub numbers_fit-requires : goal.numbers_fit-requires
+numbers_fit-requires c =
+    subst (λ xs. All operation.within xs) (sym c.operations_of.ensures)
+    (operations_within c.envelope-item.result
+    (subst transaction_envelope.within (sym c.envelope-item.is)
+    (c.requires c.loop-envelope.envelope-index c.envelope-item.result c.loop-envelope-test.true)))

@@ -1,5 +1,6 @@
-use Rattle.std.proofs.Common.{length, sym, ap, ◌∙◌, rules}
-use Rattle.fee_rules.proofs.Spelled.{envelopes_few}
+use Rattle.std.proofs.Common.{All, length, sym, ap, subst, ◌∙◌, rules}
+use Rattle.xdr_tx.specs.Transactions.{transaction_envelope}
+use Rattle.fee_rules.proofs.Spelled.{envelopes_few, envelopes_within}
 use Rattle.tx_apply.specs.Set.{closing_of}
 use Rattle.tx_apply.proofs.Unbuilt.{unbuilt_within}
 use Rattle.tx_apply.proofs.Conserving.{set_conserved, set_lawful}
@@ -13,6 +14,11 @@ overflow_cast-result g c =
     let few = envelopes_few c.args.set.now c.requires.within in
     let same = ap length c.as_slice-envelopes.ensures in
     search (rules, within, few, same)
+
+pub all_numbers_fit-requires : goal.all_numbers_fit-requires
+all_numbers_fit-requires g c =
+    subst (λ xs. All (λ envelope. transaction_envelope.within envelope) xs) (sym c.as_slice-envelopes.ensures)
+    (envelopes_within c.args.set.now c.requires.within)
 
 pub missing_among-requires : goal.missing_among-requires
 missing_among-requires g c =
@@ -28,10 +34,10 @@ pub returns-clause-conserved : goal.returns-clause-conserved
 returns-clause-conserved g c =
     set_conserved c.transaction_laws.ensures c.legal_settles.ensures
     (closing_of c.args.network.now c.args.header.now c.args.close_time) c.args.set.now c.args.entries.now.current
-    (record { legal = c.requires.legal; signers = c.requires.signers; seq = c.requires.seq; fit = search rules })
+    (record { legal = c.requires.legal; seq = c.requires.seq; fit = search rules })
 
 pub returns-clause-lawful : goal.returns-clause-lawful
 returns-clause-lawful g c =
     set_lawful c.transaction_laws.ensures c.legal_settles.ensures
     (closing_of c.args.network.now c.args.header.now c.args.close_time) c.args.set.now c.args.entries.now.current
-    (record { legal = c.requires.legal; signers = c.requires.signers; seq = c.requires.seq; fit = search rules })
+    (record { legal = c.requires.legal; seq = c.requires.seq; fit = search rules })

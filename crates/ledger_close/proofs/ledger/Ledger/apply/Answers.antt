@@ -3,18 +3,13 @@ use Rattle.close_rules.specs.State.{ClosingState}
 use Rattle.close_rules.specs.Refusals.{set_fault}
 use Rattle.close_rules.specs.Close.{applied_in}
 use Rattle.close_laws.proofs.SpelledSets.{set_spelled}
-use Rattle.close_laws.proofs.SpelledEntries.{signers_few}
 use Rattle.close_rules.specs.Images.{state_of}
 use Rattle.ledger_close.specs.Answers.{FaultIs}
 use Rattle.ledger_close.specs.declared.apply.Worked.{Worked}
 use Rattle.ledger_close.specs.Worked.{Leaves}
-use Rattle.ledger_close.proofs.Works.{signers_begun, refused_set, applied_set, applied_done, applied_keyed, applied_batch}
+use Rattle.ledger_close.proofs.Works.{refused_set, applied_set, applied_done, applied_keyed}
+use Rattle.ledger_close.proofs.Works.{applied_batch}
 use Rattle.ledger_close.proofs.ledger.Ledger.apply.Goals as goal
-
-pub apply_set-requires-clause-signers : goal.apply_set-requires-clause-signers
-apply_set-requires-clause-signers c =
-    signers_begun c.in_ok-entries.entries c.self.inside.entries c.in_ok-entries.ensures
-    (signers_few c.self.inside.entries c.self.invariant.state.entries)
 
 pub apply_set-requires-clause-within : goal.apply_set-requires-clause-within
 apply_set-requires-clause-within c = (set_spelled c.args.closing.now c.requires.spelled).within

@@ -94,7 +94,8 @@ head-requires-clause-results g c =
 pub ledger_hash-requires : goal.ledger_hash-requires
 ledger_hash-requires g c =
     let state = subst IsClosingState c.self.view_is c.self.invariant.state in
-    header_spelled c.next_header_is_spelled.ensures c.args.self.now c.args.closing c.in_ok-step.step c.in_ok-header.header
+    header_spelled c.next_header_is_spelled.ensures c.args.self.now c.args.closing c.in_ok-step.step
+    c.in_ok-header.header
     (record { state = state; spelled = c.requires.spelled; unrefused = c.requires.unrefused })
     (c.in_ok-header.ensures c.args.closing refl c.requires.next c.requires.worked.done)
 
@@ -133,7 +134,8 @@ returns-clause-finished g c =
     IsClosed s closing (closed_with worked.done.results.results s.network h worked.entries step.pairs))
     (sym header_is) made in (
       subst (λ (n : Hash).
-          IsClosed s closing (closed_with worked.done.results.results n c.in_ok-header.header worked.entries step.pairs))
+          IsClosed s closing (closed_with worked.done.results.results n c.in_ok-header.header worked.entries
+          step.pairs))
           (sym (ap (λ (x : ClosingState). x.network) c.self.view_is)) headed,
       omega (arith, c.file_total-bytes.ensures, c.if-bytes-gt-MAX_FILE_TOTAL.false),
     )

@@ -20,7 +20,8 @@ take_step-requires-clause-next c =
     let l = c.self.inside in
     let p = c.prepared.inside in
     let s = state_of l.network l.header l.levels.pairs l.entries in
-    let closed : Closed = record { results = p.results.results; state = state_of p.network p.header p.step.pairs p.entries } in
+    let closed : Closed =
+    record { results = p.results.results; state = state_of p.network p.header p.step.pairs p.entries } in
     let by = kept_close s c.args.self.now closed c.args.prepared c.self.view_is c.prepared.view_is c.requires in
     c.prepared.invariant.number ∙ installed_number s closed c.self.invariant.state by
     ∙ ap (λ (n : ℕ). n + 1) (sym c.self.invariant.number)
@@ -30,7 +31,8 @@ take_step-requires-clause-planned c =
     let l = c.self.inside in
     let p = c.prepared.inside in
     let s = state_of l.network l.header l.levels.pairs l.entries in
-    let closed : Closed = record { results = p.results.results; state = state_of p.network p.header p.step.pairs p.entries } in
+    let closed : Closed =
+    record { results = p.results.results; state = state_of p.network p.header p.step.pairs p.entries } in
     let by = kept_close s c.args.self.now closed c.args.prepared c.self.view_is c.prepared.view_is c.requires in
     let step = installed_step s closed by in (
       step.0,
@@ -43,7 +45,8 @@ invariant_of-self c =
     let l = c.self.inside in
     let p = c.prepared.inside in
     let s = state_of l.network l.header l.levels.pairs l.entries in
-    let closed : Closed = record { results = p.results.results; state = state_of p.network p.header p.step.pairs p.entries } in
+    let closed : Closed =
+    record { results = p.results.results; state = state_of p.network p.header p.step.pairs p.entries } in
     let by = kept_close s c.args.self.now closed c.args.prepared c.self.view_is c.prepared.view_is c.requires in
     subst (λ (x : LevelsAt). IsKept p.network p.digest p.header p.entries x) (sym c.take_step.ensures) record {
       state = installed_state c.taken_is_closable.ensures c.next_is_closing.ensures s closed c.self.invariant.state by;

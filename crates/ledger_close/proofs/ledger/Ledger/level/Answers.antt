@@ -6,5 +6,11 @@ use Rattle.ledger_close.proofs.ledger.Ledger.level.Goals as goal
 pub fresh_bucket-requires : goal.fresh_bucket-requires
 fresh_bucket-requires g c =
     let state = subst IsClosingState c.self.view_is c.self.invariant.state in
-    let after = c.requires.spellable in
-    (c.args.self.now.entries, after.0, after.1, keyed_by c.args.self.now.entries state.legal.keyed, state.entries, after.2)
+    let after = c.requires.spellable in (
+      c.args.self.now.entries,
+      after.0,
+      after.1,
+      keyed_by c.args.self.now.entries state.legal.keyed,
+      state.entries,
+      after.2,
+    )

@@ -1,0 +1,172 @@
+-- Operations on trust lines and their flags leave the bytes of entries.
+use Rattle.std.proofs.Common.{◌≡◌, subst, ◌∷◌, [], ℕ, Option, Some, None, ℤ, pos, not, ◌&&◌}
+use Rattle.std.specs.Prelude.{is_some}
+use Rattle.std.specs.Ordering.{int_eq}
+use Rattle.ledger_types.specs.declared.ids.AccountId.{AccountId}
+use Rattle.ledger_types.specs.declared.account.AccountEntry.{AccountEntry}
+use Rattle.ledger_types.specs.declared.asset.Asset.{Asset}
+use Rattle.ledger_types.specs.declared.asset.Asset.TheVariants as asset
+use Rattle.ledger_types.specs.declared.asset.ChangeTrustAsset.{ChangeTrustAsset}
+use Rattle.ledger_types.specs.declared.asset.ChangeTrustAsset.TheVariants as asked
+use Rattle.ledger_types.specs.declared.trust_line.TrustLineEntry.{TrustLineEntry}
+use Rattle.ledger_types.specs.declared.key.LedgerKey.TheVariants as key
+use Rattle.op_types.specs.declared.trust_ops.AllowTrustOp.{AllowTrustOp}
+use Rattle.op_types.specs.declared.trust_ops.ChangeTrustOp.{ChangeTrustOp}
+use Rattle.op_types.specs.declared.trust_ops.SetTrustLineFlagsOp.{SetTrustLineFlagsOp}
+use Rattle.op_types.specs.declared.operation.OperationBody.TheVariants as body
+use Rattle.op_types.specs.declared.operation_result.OperationResult.{OperationResult}
+use Rattle.op_types.specs.declared.operation_result.OperationResult.TheVariants.{NoAccount, NotSupported}
+use Rattle.op_types.specs.declared.trust_results.AllowTrustResult.TheVariants as allow
+use Rattle.op_types.specs.declared.trust_results.ChangeTrustResult.TheVariants as trust
+use Rattle.op_types.specs.declared.trust_results.SetTrustLineFlagsResult.TheVariants as set
+use Rattle.xdr_entries.specs.Basic.{change_trust_asset, trust_line_asset}
+use Rattle.xdr_tx.specs.Operations.{operation_body, change_trust_op}
+use Rattle.entry_map.specs.EntryMap.{EntryMap}
+use Rattle.entry_slots.specs.Accounts.{account_at}
+use Rattle.entry_slots.specs.LineExtensions.{use_count}
+use Rattle.sponsor_rules.specs.declared.context.Ctx.{Ctx}
+use Rattle.sponsor_rules.specs.Adding.{map_after_adding}
+use Rattle.sponsor_rules.specs.Charge.{line_multiplicity}
+use Rattle.op_form.specs.Assets.{issuer_at, line_asset_of, line_of_asset}
+use Rattle.op_flags.specs.AllowTrust as allowing
+use Rattle.op_flags.specs.LineFlags as flagged
+use Rattle.op_flags.specs.SetTrustLineFlags as setting
+use Rattle.op_trust.specs.ChangeTrust as trusting
+use Rattle.close_rules.specs.State.{IsSpelled, IsBuiltLine}
+use Rattle.close_laws.proofs.Bytes.{IsId, no_id, AreEntryBytes, KeepsLines, with_line_bytes}
+use Rattle.close_laws.proofs.BytesMaps.{adding_subentry_bytes, removing_bytes}
+use Rattle.close_laws.proofs.BytesSteps.{AreWorkBytes, Work, Leaves, behind, behind_some, behind_charge}
+use Rattle.close_laws.proofs.BytesSteps.{either_leaves}
+
+-- ---- what is asked for
+
+-- the asset of a line that can be written
+pub record IsLineAsset (held : Asset) : Type 0 where
+  pub spelled : IsSpelled trust_line_asset (line_asset_of held)
+
+asset_spelled : (line : ChangeTrustAsset) (held : Asset) → trusting.asset_asked line ≡ Some held
+    → IsSpelled change_trust_asset line → IsLineAsset held
+unfolding change_trust_asset trust_line_asset
+asset_spelled asked.Native held is spelled = by held is
+  where
+    by : (held : Asset) → Some asset.Native ≡ Some held → IsLineAsset held
+    by asset.Native same = record { spelled = record { within = tt; sized = tt } }
+    by (asset.Alphanum4 code issuer) same = absurd (cc)
+    by (asset.Alphanum12 code issuer) same = absurd (cc)
+asset_spelled (asked.Alphanum4 code issuer) held is spelled =
+    let same : asset.Alphanum4 code issuer ≡ held = cc in
+    subst IsLineAsset same
+    (record { spelled = record { within = spelled.within; sized = spelled.sized } })
+asset_spelled (asked.Alphanum12 code issuer) held is spelled =
+    let same : asset.Alphanum12 code issuer ≡ held = cc in
+    subst IsLineAsset same
+    (record { spelled = record { within = spelled.within; sized = spelled.sized } })
+asset_spelled (asked.PoolShare params) held is spelled = absurd (cc)
+
+line_spelled : (op : ChangeTrustOp) → IsSpelled operation_body (body.ChangeTrust op)
+    → IsSpelled change_trust_asset op.line
+unfolding operation_body change_trust_op
+line_spelled op spelled = record { within = spelled.within.0; sized = spelled.sized.0 }
+
+built_line : (held : Asset) → IsBuiltLine (line_asset_of held)
+built_line asset.Native = tt
+built_line (asset.Alphanum4 code issuer) = tt
+built_line (asset.Alphanum12 code issuer) = tt
+
+-- ---- lines
+
+other_limit : (limit : ℤ) → KeepsLines (trusting.with_limit limit)
+other_limit limit held bytes = record { id = bytes.id; asset = bytes.asset; built = bytes.built }
+
+new_line_bytes : (ctx : Ctx) (held : Asset) (limit : ℤ) (issuer : AccountEntry) → IsId ctx.op_source
+    → IsLineAsset held → AreEntryBytes (trusting.new_line ctx held limit issuer)
+new_line_bytes ctx held limit issuer id asked = record {
+  body = record { id = id; asset = asked.spelled; built = built_line held };
+  sponsor = no_id;
+}
+
+line_added : (ctx : Ctx) (held : Asset) (limit : ℤ) (issuer : AccountEntry) (m : EntryMap) → IsId ctx.op_source
+    → IsLineAsset held → AreWorkBytes ctx m → Leaves (trusting.added ctx held limit issuer m)
+line_added ctx held limit issuer m id asked work =
+    behind_charge Work (map_after_adding ctx ctx.op_source (trusting.new_line ctx held limit issuer) m)
+    (trusting.answer trust.LowReserve) _
+    (adding_subentry_bytes ctx (trusting.new_line ctx held limit issuer) ctx.op_source
+    (line_multiplicity (line_asset_of held)) m (new_line_bytes ctx held limit issuer id asked) work.sponsors
+    work.entries)
+    (λ added each. record { gives = record { entries = each; sponsors = work.sponsors } })
+
+line_limited : (ctx : Ctx) (held : Asset) (limit : ℤ) (m : EntryMap) → AreWorkBytes ctx m
+    → Leaves (trusting.limited ctx held limit m)
+line_limited ctx held limit m work =
+    behind Work ((not (is_some (issuer_at m held)), trusting.answer trust.NoIssuer) ∷ []) _ (record {
+      gives = record {
+        entries = with_line_bytes m ctx.op_source (line_asset_of held) (trusting.with_limit limit) (other_limit limit)
+            work.entries;
+        sponsors = work.sponsors;
+      };
+    })
+
+line_removed : (ctx : Ctx) (held : Asset) (line : TrustLineEntry) (m : EntryMap) → AreWorkBytes ctx m
+    → Leaves (trusting.removed ctx held line m)
+line_removed ctx held line m work =
+    behind Work ((not (int_eq (use_count line) (pos 0)), trusting.answer trust.CannotDelete) ∷ []) _ (record {
+      gives = record {
+        entries = removing_bytes (key.TrustLine ctx.op_source (line_asset_of held)) m work.entries;
+        sponsors = work.sponsors;
+      };
+    })
+
+line_changed : (ctx : Ctx) (held : Asset) (limit : ℤ) (m : EntryMap) (found : Option TrustLineEntry)
+    → IsId ctx.op_source → IsLineAsset held → AreWorkBytes ctx m → Leaves (trusting.changed ctx held limit m found)
+line_changed ctx held limit m (Some line) id asked work =
+    behind Work (trusting.limit_tests limit line) _
+    (either_leaves (int_eq limit (pos 0)) (trusting.removed ctx held line m) (trusting.limited ctx held limit m)
+    (line_removed ctx held line m work) (line_limited ctx held limit m work))
+line_changed ctx held limit m None id asked work =
+    behind Work ((int_eq limit (pos 0), trusting.answer trust.InvalidLimit) ∷ []) _
+    (behind_some Work (issuer_at m held) (trusting.answer trust.NoIssuer) _
+    (λ issuer there. line_added ctx held limit issuer m id asked work))
+
+pub trust_changed : (ctx : Ctx) (op : ChangeTrustOp) (m : EntryMap) → IsId ctx.op_source
+    → IsSpelled operation_body (body.ChangeTrust op) → AreWorkBytes ctx m → Leaves (trusting.change_trust ctx op m)
+trust_changed ctx op m id spelled work =
+    behind_some Work (trusting.asset_asked op.line) NotSupported _
+    (λ held is. behind Work (trusting.asked_tests ctx held op.limit) _
+    (line_changed ctx held op.limit m (line_of_asset m ctx.op_source held) id
+    (asset_spelled op.line held is (line_spelled op spelled)) work))
+
+-- ---- flags
+
+other_flags : (flags : ℕ) → KeepsLines (flagged.with_flags flags)
+other_flags flags held bytes = record { id = bytes.id; asset = bytes.asset; built = bytes.built }
+
+line_flagged : (ctx : Ctx) (trustor : AccountId) (held : Asset) (flags : ℕ) (succeeded : OperationResult)
+    (line : TrustLineEntry) (m : EntryMap) → AreWorkBytes ctx m
+    → Leaves (flagged.flagged ctx trustor held flags succeeded line m)
+line_flagged ctx trustor held flags succeeded line m work =
+    behind Work ((flagged.is_revoked line flags && flagged.is_in_use line, NotSupported) ∷ []) _ (record {
+      gives = record {
+        entries = with_line_bytes m trustor (line_asset_of held) (flagged.with_flags flags) (other_flags flags)
+            work.entries;
+        sponsors = work.sponsors;
+      };
+    })
+
+pub trust_allowed : (ctx : Ctx) (op : AllowTrustOp) (m : EntryMap) → AreWorkBytes ctx m
+    → Leaves (allowing.allow_trust ctx op m)
+trust_allowed ctx op m work =
+    behind Work (allowing.allow_tests ctx op) _
+    (behind_some Work (line_of_asset m op.trustor (allowing.asset_allowed ctx op)) (allowing.answer allow.NoTrustLine) _
+    (λ line there. behind_some Work (account_at m ctx.op_source) NoAccount _
+    (λ source stands. behind Work (allowing.revoke_tests op source line) _
+    (line_flagged ctx op.trustor (allowing.asset_allowed ctx op) (allowing.allowed_flags op line)
+    (allowing.answer allow.Success) line m work))))
+
+pub flags_set : (ctx : Ctx) (op : SetTrustLineFlagsOp) (m : EntryMap) → AreWorkBytes ctx m
+    → Leaves (setting.set_trust_line_flags ctx op m)
+flags_set ctx op m work =
+    behind Work (setting.set_tests ctx op) _
+    (behind_some Work (line_of_asset m op.trustor op.asset) (setting.answer set.NoTrustLine) _
+    (λ line there. behind_some Work (account_at m ctx.op_source) NoAccount _
+    (λ source stands. behind Work (setting.flag_tests source line (setting.new_flags op line)) _
+    (line_flagged ctx op.trustor op.asset (setting.new_flags op line) (setting.answer set.Success) line m work))))

@@ -1,0 +1,123 @@
+-- What operations on trust lines and their flags answer keeps the bounds on lengths.
+use Rattle.std.proofs.Common.{refl, [], ◌∷◌, ℕ, Option, Some, None, ℤ, pos, not, ◌&&◌}
+use Rattle.std.specs.Prelude.{is_some}
+use Rattle.std.specs.Ordering.{int_eq}
+use Rattle.ledger_types.specs.declared.ids.AccountId.{AccountId}
+use Rattle.ledger_types.specs.declared.account.AccountEntry.{AccountEntry}
+use Rattle.ledger_types.specs.declared.asset.Asset.{Asset}
+use Rattle.ledger_types.specs.declared.trust_line.TrustLineEntry.{TrustLineEntry}
+use Rattle.op_types.specs.declared.trust_ops.AllowTrustOp.{AllowTrustOp}
+use Rattle.op_types.specs.declared.trust_ops.ChangeTrustOp.{ChangeTrustOp}
+use Rattle.op_types.specs.declared.trust_ops.SetTrustLineFlagsOp.{SetTrustLineFlagsOp}
+use Rattle.op_types.specs.declared.operation_result.OperationResult.{OperationResult}
+use Rattle.op_types.specs.declared.operation_result.OperationResult.TheVariants as operation
+use Rattle.op_types.specs.declared.trust_results.AllowTrustResult.{AllowTrustResult}
+use Rattle.op_types.specs.declared.trust_results.AllowTrustResult.TheVariants as allow
+use Rattle.op_types.specs.declared.trust_results.ChangeTrustResult.{ChangeTrustResult}
+use Rattle.op_types.specs.declared.trust_results.ChangeTrustResult.TheVariants as trust
+use Rattle.op_types.specs.declared.trust_results.SetTrustLineFlagsResult.{SetTrustLineFlagsResult}
+use Rattle.op_types.specs.declared.trust_results.SetTrustLineFlagsResult.TheVariants as set
+use Rattle.xdr_results.specs.Answers.{change_trust_result, allow_trust_result, set_trust_line_flags_result}
+use Rattle.xdr_results.specs.Results.{operation_result_tr, operation_result}
+use Rattle.entry_map.specs.EntryMap.{EntryMap}
+use Rattle.entry_slots.specs.Accounts.{account_at}
+use Rattle.entry_slots.specs.LineExtensions.{use_count}
+use Rattle.sponsor_rules.specs.declared.context.Ctx.{Ctx}
+use Rattle.sponsor_rules.specs.Adding.{map_after_adding}
+use Rattle.op_form.specs.Assets.{issuer_at, line_of_asset}
+use Rattle.op_flags.specs.AllowTrust as allowing
+use Rattle.op_flags.specs.LineFlags as flagged
+use Rattle.op_flags.specs.SetTrustLineFlags as setting
+use Rattle.op_trust.specs.ChangeTrust as trusting
+use Rattle.close_laws.proofs.AnswerSteps.{IsAnswer, no_account, not_supported, Answers, IsDone, first_answers}
+use Rattle.close_laws.proofs.AnswerSteps.{some_answers, charge_answers, either_answers}
+
+-- ---- codes
+
+trusted : (code : ChangeTrustResult) → IsAnswer (trusting.answer code)
+unfolding operation_result operation_result_tr change_trust_result
+trusted code = record { within = tt }
+
+allowed : (code : AllowTrustResult) → IsAnswer (allowing.answer code)
+unfolding operation_result operation_result_tr allow_trust_result
+allowed code = record { within = tt }
+
+set_with : (code : SetTrustLineFlagsResult) → IsAnswer (setting.answer code)
+unfolding operation_result operation_result_tr set_trust_line_flags_result
+set_with code = record { within = tt }
+
+-- ---- lines
+
+removed_answers : (ctx : Ctx) (held : Asset) (line : TrustLineEntry) (m : EntryMap)
+    → Answers (IsDone ctx.id_pool) (trusting.removed ctx held line m)
+removed_answers ctx held line m =
+    first_answers (IsDone ctx.id_pool)
+    ((not (int_eq (use_count line) (pos 0)), trusting.answer trust.CannotDelete) ∷ [])
+    _ (trusted trust.CannotDelete, tt) (record { ends = (trusted trust.Success, refl) })
+
+limited_answers : (ctx : Ctx) (held : Asset) (limit : ℤ) (m : EntryMap)
+    → Answers (IsDone ctx.id_pool) (trusting.limited ctx held limit m)
+limited_answers ctx held limit m =
+    first_answers (IsDone ctx.id_pool) ((not (is_some (issuer_at m held)), trusting.answer trust.NoIssuer) ∷ [])
+    _ (trusted trust.NoIssuer, tt) (record { ends = (trusted trust.Success, refl) })
+
+added_answers : (ctx : Ctx) (held : Asset) (limit : ℤ) (issuer : AccountEntry) (m : EntryMap)
+    → Answers (IsDone ctx.id_pool) (trusting.added ctx held limit issuer m)
+added_answers ctx held limit issuer m =
+    charge_answers (IsDone ctx.id_pool) (map_after_adding ctx ctx.op_source (trusting.new_line ctx held limit issuer) m)
+    (trusting.answer trust.LowReserve) _ (trusted trust.LowReserve)
+    (λ added. record { ends = (trusted trust.Success, refl) })
+
+changed_answers : (ctx : Ctx) (held : Asset) (limit : ℤ) (m : EntryMap) (found : Option TrustLineEntry)
+    → Answers (IsDone ctx.id_pool) (trusting.changed ctx held limit m found)
+changed_answers ctx held limit m (Some line) =
+    first_answers (IsDone ctx.id_pool) (trusting.limit_tests limit line) _ (trusted trust.InvalidLimit, tt)
+    (either_answers ctx.id_pool (int_eq limit (pos 0)) (trusting.removed ctx held line m)
+    (trusting.limited ctx held limit m) (removed_answers ctx held line m) (limited_answers ctx held limit m))
+changed_answers ctx held limit m None =
+    first_answers (IsDone ctx.id_pool) ((int_eq limit (pos 0), trusting.answer trust.InvalidLimit) ∷ []) _
+    (trusted trust.InvalidLimit, tt)
+    (some_answers (IsDone ctx.id_pool) (issuer_at m held) (trusting.answer trust.NoIssuer) _ (trusted trust.NoIssuer)
+    (λ issuer. added_answers ctx held limit issuer m))
+
+pub trust_answers : (ctx : Ctx) (op : ChangeTrustOp) (m : EntryMap)
+    → Answers (IsDone ctx.id_pool) (trusting.change_trust ctx op m)
+trust_answers ctx op m =
+    some_answers (IsDone ctx.id_pool) (trusting.asset_asked op.line) operation.NotSupported _ not_supported
+    (λ held. first_answers (IsDone ctx.id_pool) (trusting.asked_tests ctx held op.limit) _
+    (trusted trust.Malformed, tt)
+    (changed_answers ctx held op.limit m (line_of_asset m ctx.op_source held)))
+
+-- ---- flags
+
+flagged_answers : (ctx : Ctx) (trustor : AccountId) (held : Asset) (flags : ℕ) (succeeded : OperationResult)
+    (line : TrustLineEntry) (m : EntryMap) → IsAnswer succeeded
+    → Answers (IsDone ctx.id_pool) (flagged.flagged ctx trustor held flags succeeded line m)
+flagged_answers ctx trustor held flags succeeded line m answers =
+    first_answers (IsDone ctx.id_pool)
+    ((flagged.is_revoked line flags && flagged.is_in_use line, operation.NotSupported) ∷ []) _ (not_supported, tt)
+    (record { ends = (answers, refl) })
+
+pub allow_answers : (ctx : Ctx) (op : AllowTrustOp) (m : EntryMap)
+    → Answers (IsDone ctx.id_pool) (allowing.allow_trust ctx op m)
+allow_answers ctx op m =
+    first_answers (IsDone ctx.id_pool) (allowing.allow_tests ctx op) _ (allowed allow.Malformed, tt)
+    (some_answers (IsDone ctx.id_pool) (line_of_asset m op.trustor (allowing.asset_allowed ctx op))
+    (allowing.answer allow.NoTrustLine) _ (allowed allow.NoTrustLine)
+    (λ line. some_answers (IsDone ctx.id_pool) (account_at m ctx.op_source) operation.NoAccount _ no_account
+    (λ source. first_answers (IsDone ctx.id_pool) (allowing.revoke_tests op source line) _
+    (allowed allow.CantRevoke, tt)
+    (flagged_answers ctx op.trustor (allowing.asset_allowed ctx op) (allowing.allowed_flags op line)
+    (allowing.answer allow.Success) line m (allowed allow.Success)))))
+
+pub flag_answers : (ctx : Ctx) (op : SetTrustLineFlagsOp) (m : EntryMap)
+    → Answers (IsDone ctx.id_pool) (setting.set_trust_line_flags ctx op m)
+flag_answers ctx op m =
+    first_answers (IsDone ctx.id_pool) (setting.set_tests ctx op) _ (set_with set.Malformed, tt)
+    (some_answers (IsDone ctx.id_pool) (line_of_asset m op.trustor op.asset) (setting.answer set.NoTrustLine) _
+    (set_with set.NoTrustLine)
+    (λ line. some_answers (IsDone ctx.id_pool) (account_at m ctx.op_source) operation.NoAccount _ no_account
+    (λ source. first_answers (IsDone ctx.id_pool) (setting.flag_tests source line (setting.new_flags op line)) _
+    (set_with set.CantRevoke, (set_with set.InvalidState, tt))
+    (flagged_answers ctx op.trustor op.asset (setting.new_flags op line) (setting.answer set.Success) line m
+    (set_with set.Success)))))

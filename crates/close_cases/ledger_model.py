@@ -1,323 +1,18 @@
-"""A ledger of protocol 18 with accounts and data: what `catchup` prints for an input, worked out here.
+"""A ledger of protocol 18 with accounts, trust lines, data and claimable balances: what `catchup` prints for an input, worked out here.
 
 It shares nothing with the program. It follows the protocol's XDR (RFC 4506; the .x files of stellar-core), CAP-0015 for fee bumps,
-CAP-0020 for buckets, CAP-0033 for sponsorship, and stellar-core for the rest. `make_cases.py` makes cases with it, `bench/` inputs.
-Python 3.9 or later and its standard library.
+CAP-0018 for authorisation, CAP-0020 for buckets, CAP-0023 for claimable balances, CAP-0033 for sponsorship, CAP-0035 for clawback, and
+stellar-core for the rest. Values and reserves stand in `entry_model.py`, the operations of assets in `asset_model.py`.
+`make_cases.py` makes cases with it, `bench/` inputs. Python 3.9 or later and its standard library.
 """
 
-import os
-import sys
-
-sys.path.insert(0, os.path.join(os.path.dirname(os.path.dirname(os.path.abspath(__file__))), "tx_cases"))
-from make_cases import GREATEST, i32, i64, many, sha, u32, u64  # noqa: E402
-
-# ---- XDR, both ways
-
-
-class Wrong(Exception):
-    """A text that doesn't spell a value: the place and the kind of its first fault."""
-
-    def __init__(self, at, kind):
-        super().__init__(at, kind)
-        self.at, self.kind = at, kind
-
-
-class Text:
-    """A text that is read from its front."""
-
-    def __init__(self, data):
-        self.data, self.at = data, 0
-
-    def take(self, count):
-        if len(self.data) - self.at < count:
-            raise Wrong(len(self.data), "Short")
-        self.at += count
-        return self.data[self.at - count:self.at]
-
-
-class Number:
-    def __init__(self, size, signed=False):
-        self.size, self.signed = size, signed
-
-    def read(self, text):
-        return int.from_bytes(text.take(self.size), "big", signed=self.signed)
-
-    def write(self, value):
-        return value.to_bytes(self.size, "big", signed=self.signed)
-
-
-class Nothing:
-    def read(self, text):
-        return None
-
-    def write(self, value):
-        return b""
-
-
-class Fixed:
-    def __init__(self, size):
-        self.size = size
-
-    def read(self, text):
-        return text.take(self.size)
-
-    def write(self, value):
-        return value
-
-
-class Opaque:
-    def __init__(self, most):
-        self.most = most
-
-    def read(self, text):
-        at = text.at
-        count = U32.read(text)
-        if count > self.most:
-            raise Wrong(at, "TooLong")
-        fill = -count % 4
-        whole = text.take(count + fill)
-        for place in range(count, count + fill):
-            if whole[place]:
-                raise Wrong(text.at - len(whole) + place, "Padding")
-        return whole[:count]
-
-    def write(self, value):
-        return u32(len(value)) + value + bytes(-len(value) % 4)
-
-
-class Struct:
-    def __init__(self, **fields):
-        self.fields = fields
-
-    def read(self, text):
-        return {name: kind.read(text) for name, kind in self.fields.items()}
-
-    def write(self, value):
-        return b"".join(kind.write(value[name]) for name, kind in self.fields.items())
-
-
-class Union:
-    """A union: its value is the number of its arm, and what the arm holds."""
-
-    def __init__(self, arms):
-        self.arms = arms
-
-    def read(self, text):
-        at = text.at
-        arm = I32.read(text)
-        if arm not in self.arms:
-            raise Wrong(at, "BadEnum")
-        return arm, self.arms[arm].read(text)
-
-    def write(self, value):
-        return i32(value[0]) + self.arms[value[0]].write(value[1])
-
-
-class Maybe:
-    def __init__(self, kind):
-        self.kind = kind
-
-    def read(self, text):
-        at = text.at
-        flag = U32.read(text)
-        if flag > 1:
-            raise Wrong(at, "BadFlag")
-        return self.kind.read(text) if flag else None
-
-    def write(self, value):
-        return u32(0) if value is None else u32(1) + self.kind.write(value)
-
-
-class Rows:
-    def __init__(self, kind, most=2**32 - 1):
-        self.kind, self.most = kind, most
-
-    def read(self, text):
-        at = text.at
-        count = U32.read(text)
-        if count > self.most:
-            raise Wrong(at, "TooLong")
-        return [self.kind.read(text) for _ in range(count)]
-
-    def write(self, value):
-        return many([self.kind.write(item) for item in value])
-
-
-class Predicate:
-    """A predicate of at most so many levels."""
-
-    def __init__(self, levels=32):
-        self.levels = levels
-
-    def read(self, text):
-        if self.levels == 0:
-            raise Wrong(text.at, "TooDeep")
-        below = Predicate(self.levels - 1)
-        two = Rows(below, 2)
-        return Union({0: NOTHING, 1: two, 2: two, 3: Maybe(below), 4: I64, 5: I64}).read(text)
-
-
-class Spelled:
-    """A value with its own spelling."""
-
-    def __init__(self, kind):
-        self.kind = kind
-
-    def read(self, text):
-        at = text.at
-        value = self.kind.read(text)
-        return value, text.data[at:text.at]
-
-
-U32, I32, U64, I64, NOTHING, HASH = Number(4), Number(4, True), Number(8), Number(8, True), Nothing(), Fixed(32)
-EXT_0 = Union({0: NOTHING})
-ACCOUNT_ID = Union({0: HASH})
-MUXED = Union({0: HASH, 256: Struct(id=U64, key=HASH)})
-SIGNER_KEY = Union({0: HASH, 1: HASH, 2: HASH})
-SIGNER = Struct(key=SIGNER_KEY, weight=U32)
-CODED = {1: Struct(code=Fixed(4), issuer=ACCOUNT_ID), 2: Struct(code=Fixed(12), issuer=ACCOUNT_ID)}
-ASSET = Union({0: NOTHING, **CODED})
-LINE_ASSET = Union({0: NOTHING, **CODED, 3: HASH})
-POOL_PARAMS = Union({0: Struct(a=ASSET, b=ASSET, fee=I32)})
-TRUST_ASSET = Union({0: NOTHING, **CODED, 3: POOL_PARAMS})
-PRICE = Struct(n=I32, d=I32)
-LIABILITIES = Struct(buying=I64, selling=I64)
-BALANCE_ID = Union({0: HASH})
-CLAIMANT = Union({0: Struct(destination=ACCOUNT_ID, predicate=Predicate())})
-
-SECOND = Struct(sponsored=U32, sponsoring=U32, sponsors=Rows(Maybe(ACCOUNT_ID), 20), ext=EXT_0)
-ACCOUNT = Struct(
-    id=ACCOUNT_ID, balance=I64, seq=I64, subs=U32, inflation=Maybe(ACCOUNT_ID), flags=U32, domain=Opaque(32), thresholds=Fixed(4),
-    signers=Rows(SIGNER, 20), ext=Union({0: NOTHING, 1: Struct(liabilities=LIABILITIES, ext=Union({0: NOTHING, 2: SECOND}))}),
+import asset_model as assets
+from entry_model import (  # noqa: F401  (some names are for the scripts that use this ledger)
+    DEAD, ENTRY, GREATEST, HEADER, INIT, ITEM, LIVE, META, RECORD, U32, U64, UPGRADE, Frame, Layer, Refused, Text, Wrong, account_key,
+    add_signer, add_subentry, available, count, i32, i64, is_text, key_of, liabilities, many, marked, move, muxed_key, place_of,
+    rank_of_key, read_whole, refuse, remove_signer, remove_subentry, second, sha, sponsor_of, sponsor_of_signer, test_payer, u32, u64,
+    with_second, with_sponsor,
 )
-LINE = Struct(
-    id=ACCOUNT_ID, asset=LINE_ASSET, balance=I64, limit=I64, flags=U32,
-    ext=Union({0: NOTHING, 1: Struct(liabilities=LIABILITIES, ext=Union({0: NOTHING, 2: Struct(uses=I32, ext=EXT_0)}))}),
-)
-OFFER = Struct(seller=ACCOUNT_ID, offer=I64, selling=ASSET, buying=ASSET, amount=I64, price=PRICE, flags=U32, ext=EXT_0)
-DATA = Struct(id=ACCOUNT_ID, name=Opaque(64), value=Opaque(64), ext=EXT_0)
-CLAIMABLE = Struct(
-    balance=BALANCE_ID, claimants=Rows(CLAIMANT, 10), asset=ASSET, amount=I64,
-    ext=Union({0: NOTHING, 1: Struct(ext=EXT_0, flags=U32)}),
-)
-POOL = Struct(pool=HASH, body=Union({0: Struct(a=ASSET, b=ASSET, fee=I32, rest=Fixed(32))}))
-ENTRY = Struct(
-    modified=U32, body=Union({0: ACCOUNT, 1: LINE, 2: OFFER, 3: DATA, 4: CLAIMABLE, 5: POOL}),
-    ext=Union({0: NOTHING, 1: Struct(sponsor=Maybe(ACCOUNT_ID), ext=EXT_0)}),
-)
-KEY = Union({
-    0: Struct(id=ACCOUNT_ID), 1: Struct(id=ACCOUNT_ID, asset=LINE_ASSET), 2: Struct(seller=ACCOUNT_ID, offer=I64),
-    3: Struct(id=ACCOUNT_ID, name=Opaque(64)), 4: Struct(balance=BALANCE_ID), 5: Struct(pool=HASH),
-})
-META, LIVE, DEAD, INIT = -1, 0, 1, 2
-ITEM = Union({META: Struct(version=U32, ext=EXT_0), LIVE: ENTRY, DEAD: KEY, INIT: ENTRY})
-
-PATH = Struct(
-    asset=ASSET, amount=I64, destination=MUXED, to_asset=ASSET, to_amount=I64, path=Rows(ASSET, 5),
-)
-OPERATION = Struct(source=Maybe(MUXED), body=Union({
-    0: Struct(destination=ACCOUNT_ID, balance=I64),
-    1: Struct(destination=MUXED, asset=ASSET, amount=I64),
-    2: PATH,
-    3: Struct(selling=ASSET, buying=ASSET, amount=I64, price=PRICE, offer=I64),
-    4: Struct(selling=ASSET, buying=ASSET, amount=I64, price=PRICE),
-    5: Struct(
-        inflation=Maybe(ACCOUNT_ID), clear=Maybe(U32), set=Maybe(U32), master=Maybe(U32), low=Maybe(U32), medium=Maybe(U32),
-        high=Maybe(U32), domain=Maybe(Opaque(32)), signer=Maybe(SIGNER),
-    ),
-    6: Struct(line=TRUST_ASSET, limit=I64),
-    7: Struct(trustor=ACCOUNT_ID, asset=Union({1: Fixed(4), 2: Fixed(12)}), authorize=U32),
-    8: MUXED,
-    9: NOTHING,
-    10: Struct(name=Opaque(64), value=Maybe(Opaque(64))),
-    11: I64,
-    12: Struct(selling=ASSET, buying=ASSET, amount=I64, price=PRICE, offer=I64),
-    13: PATH,
-    14: Struct(asset=ASSET, amount=I64, claimants=Rows(CLAIMANT, 10)),
-    15: BALANCE_ID,
-    16: ACCOUNT_ID,
-    17: NOTHING,
-    18: Union({0: KEY, 1: Struct(id=ACCOUNT_ID, key=SIGNER_KEY)}),
-    19: Struct(asset=ASSET, source=MUXED, amount=I64),
-    20: BALANCE_ID,
-    21: Struct(trustor=ACCOUNT_ID, asset=ASSET, clear=U32, set=U32),
-    22: Struct(pool=HASH, a=I64, b=I64, least=PRICE, most=PRICE),
-    23: Struct(pool=HASH, amount=I64, a=I64, b=I64),
-}))
-MEMO = Union({0: NOTHING, 1: Opaque(28), 2: U64, 3: HASH, 4: HASH})
-TAIL = dict(
-    fee=U32, seq=I64, bounds=Maybe(Struct(least=U64, most=U64)), memo=MEMO, operations=Rows(OPERATION, 100), ext=EXT_0,
-)
-SIGNATURES = Rows(Struct(hint=Fixed(4), signature=Opaque(64)), 20)
-SIGNED = Struct(tx=Spelled(Struct(source=MUXED, **TAIL)), signatures=SIGNATURES)
-ENVELOPE = Union({
-    0: Struct(tx=Spelled(Struct(source=HASH, **TAIL)), signatures=SIGNATURES),
-    2: SIGNED,
-    5: Struct(tx=Spelled(Struct(source=MUXED, fee=I64, inner=Union({2: SIGNED}), ext=EXT_0)), signatures=SIGNATURES),
-})
-SET = Struct(previous=HASH, txs=Rows(Spelled(ENVELOPE)))
-VALUE = Struct(
-    set=HASH, time=U64, upgrades=Rows(Opaque(128), 6), ext=Union({0: NOTHING, 1: Struct(node=ACCOUNT_ID, signature=Opaque(64))}),
-)
-UPGRADE = Union({1: U32, 2: U32, 3: U32, 4: U32, 5: U32})
-HEADER = Struct(
-    version=U32, previous=HASH, value=VALUE, results=HASH, levels=HASH, seq=U32, coins=I64, pool=I64, inflation=U32, ids=U64,
-    base_fee=U32, reserve=U32, most=U32, skips=Struct(a=HASH, b=HASH, c=HASH, d=HASH),
-    ext=Union({0: NOTHING, 1: Struct(flags=U32, ext=EXT_0)}),
-)
-RECORD = Struct(seq=U32, set=SET, value=VALUE)
-
-
-def read_whole(kind, data):
-    """The value that a text spells, and no more."""
-    text = Text(data)
-    value = kind.read(text)
-    if text.at < len(data):
-        raise Wrong(text.at, "Trailing")
-    return value
-
-
-def marked(data):
-    return u32(0x80000000 | len(data)) + data
-
-
-# ---- entries and their keys
-
-# an asset as what orders it
-def asset_rank(asset):
-    arm, body = asset
-    return (arm, body["code"], body["issuer"][1]) if arm in (1, 2) else (arm, body or b"", b"")
-
-
-def rank_of_key(key):
-    """A key as what orders it: its type, and then its fields."""
-    kind, body = key
-    if kind == 0:
-        return kind, body["id"][1]
-    if kind == 1:
-        return kind, body["id"][1], *asset_rank(body["asset"])
-    if kind == 2:
-        return kind, body["seller"][1], body["offer"]
-    if kind == 3:
-        return kind, body["id"][1], body["name"]
-    return kind, body["balance"][1] if kind == 4 else body["pool"]
-
-
-def key_of(entry):
-    kind, body = entry["body"]
-    return kind, {name: body[name] for name in KEY.arms[kind].fields}
-
-
-def account_key(name):
-    """The rank of an account's key."""
-    return 0, name
-
-
-def sponsor_of(entry):
-    """Who pays for an entry, where somebody else does."""
-    arm, ext = entry["ext"]
-    return ext["sponsor"][1] if arm and ext["sponsor"] else None
-
 
 # ---- buckets and levels
 
@@ -431,215 +126,7 @@ class Levels:
         return sha(b"".join(sha(curr.hash + snap.hash) for curr, snap in zip(self.curr, self.snap)))
 
 
-# ---- changes with undo
-
-
-class Layer:
-    """Changes over entries by the ranks of their keys."""
-
-    def __init__(self, below):
-        self.below, self.changes = below, {}
-
-    def get(self, rank):
-        return self.changes[rank] if rank in self.changes else self.below.get(rank)
-
-    def put(self, entry):
-        self.changes[rank_of_key(key_of(entry))] = entry
-
-    def erase(self, rank):
-        self.changes[rank] = None
-
-    def commit(self):
-        self.below.changes.update(self.changes)
-
-    def account(self, name):
-        entry = self.get(account_key(name))
-        return None if entry is None else entry["body"][1]
-
-    def set_account(self, name, **fields):
-        entry = self.get(account_key(name))
-        self.put({**entry, "body": (0, {**entry["body"][1], **fields})})
-
-
-def liabilities(account):
-    arm, ext = account["ext"]
-    return ext["liabilities"] if arm else {"buying": 0, "selling": 0}
-
-
-def second(account):
-    """What an account says of sponsorship; zeros where it says nothing."""
-    arm, ext = account["ext"]
-    if arm and ext["ext"][0]:
-        return ext["ext"][1]
-    return {"sponsored": 0, "sponsoring": 0, "sponsors": [None] * len(account["signers"]), "ext": (0, None)}
-
-
-def with_second(account, said):
-    return {**account, "ext": (1, {"liabilities": liabilities(account), "ext": (2, said)})}
-
-
-def sponsor_of_signer(account, place):
-    payer = second(account)["sponsors"][place]
-    return None if payer is None else payer[1]
-
-
-def available(account, reserve):
-    said = second(account)
-    kept = (2 + account["subs"] + said["sponsoring"] - said["sponsored"]) * reserve
-    return account["balance"] - kept - liabilities(account)["selling"]
-
-
-# ---- sponsorship
-
-
-class Refused(Exception):
-    """An operation that fails: the number of its code, and whether it is one of its type."""
-
-    def __init__(self, code, is_own=True):
-        super().__init__(code)
-        self.code, self.is_own = code, is_own
-
-
-TOO_MANY_SUBENTRIES, TOO_MANY_SPONSORING = Refused(-4, False), Refused(-6, False)
-
-
-class Frame:
-    """What the operations of a transaction share: the closing ledger, open sponsorships from the sponsored to the sponsor."""
-
-    def __init__(self, header, time):
-        self.reserve, self.seq, self.time, self.open = header["reserve"], header["seq"] + 1, time, {}
-
-
-def count(layer, name, subs=0, sponsored=0, sponsoring=0):
-    """Adds to the counts of an account. An extension is added for a count that changes."""
-    account = layer.account(name)
-    if sponsored or sponsoring:
-        said = second(account)
-        account = with_second(account, {**said, "sponsored": said["sponsored"] + sponsored, "sponsoring": said["sponsoring"] + sponsoring})
-    layer.set_account(name, **{**account, "subs": account["subs"] + subs})
-
-
-def is_over(account, k):
-    return account["subs"] + second(account)["sponsoring"] + k > 4294967295
-
-
-def test_payer(frame, payer, k, low):
-    if is_over(payer, k):
-        raise TOO_MANY_SPONSORING
-    if available(payer, frame.reserve) < k * frame.reserve:
-        raise Refused(low)
-
-
-def test_subentry(frame, layer, owner, low):
-    account, payer = layer.account(owner), layer.account(frame.open.get(owner, owner))
-    if account["subs"] + 1 > 1000:
-        raise TOO_MANY_SUBENTRIES
-    if is_over(payer, 1) or is_over(account, 1):
-        raise TOO_MANY_SPONSORING
-    if available(payer, frame.reserve) < frame.reserve:
-        raise Refused(low)
-
-
-def pay(layer, owner, payer, k):
-    """A sponsor, if there is one, pays k reserves more of an owner's, or k less where that is below 0."""
-    if payer is not None:
-        count(layer, payer, sponsoring=k)
-        count(layer, owner, sponsored=k)
-
-
-def with_sponsor(entry, payer):
-    if payer is None and entry["ext"][0] == 0:
-        return entry
-    return {**entry, "ext": (1, {"sponsor": None if payer is None else (0, payer), "ext": (0, None)})}
-
-
-def add_data(frame, layer, owner, entry, low):
-    test_subentry(frame, layer, owner, low)
-    count(layer, owner, subs=1)
-    pay(layer, owner, frame.open.get(owner), 1)
-    layer.put(with_sponsor(entry, frame.open.get(owner)))
-
-
-def add_signer(frame, layer, owner, signer, low):
-    test_subentry(frame, layer, owner, low)
-    payer = frame.open.get(owner)
-    count(layer, owner, subs=1)
-    pay(layer, owner, payer, 1)
-    account = layer.account(owner)
-    place = sum(other["key"] < signer["key"] for other in account["signers"])
-    set_signers(layer, owner, lambda rows, own: rows[:place] + [own] + rows[place:], signer, None if payer is None else (0, payer))
-
-
-def set_signers(layer, owner, change, signer, payer):
-    """Changes the list of an account's signers, and with it that of their sponsors, where there is one."""
-    account = layer.account(owner)
-    arm, ext = account["ext"]
-    changed = {**account, "signers": change(account["signers"], signer)}
-    if arm and ext["ext"][0]:
-        said = ext["ext"][1]
-        changed = with_second(changed, {**said, "sponsors": change(said["sponsors"], payer)})
-    layer.set_account(owner, **changed)
-
-
-def place_of(account, key):
-    places = [place for place, signer in enumerate(account["signers"]) if signer["key"] == key]
-    return places[0] if places else None
-
-
-def remove_signer(layer, owner, key):
-    account = layer.account(owner)
-    place = None if account is None else place_of(account, key)
-    if place is None:
-        return
-    payer = sponsor_of_signer(account, place)
-    count(layer, owner, subs=-1)
-    pay(layer, owner, payer, -1)
-    set_signers(layer, owner, lambda rows, own: rows[:place] + rows[place + 1:], None, None)
-
-
-def move(frame, layer, owner, k, old, new, low):
-    """Tests and moves k reserves of an owner from one payer to another; answers whether anything changes."""
-    new = None if new == owner else new
-    if old is None and new is None:
-        return False, None
-    if new is None:
-        if available(layer.account(owner), frame.reserve) < k * frame.reserve:
-            raise Refused(low)
-    else:
-        test_payer(frame, layer.account(new), k, low)
-    pay(layer, owner, old, -k)
-    pay(layer, owner, new, k)
-    return True, new
-
-
 # ---- operations, each over a layer of its own, which it may leave changed where it is refused
-
-
-def is_text(data):
-    return all(0x20 <= byte <= 0x7E for byte in data)
-
-
-def muxed_key(muxed):
-    return muxed[1] if muxed[0] == 0 else muxed[1]["key"]
-
-
-def credit(layer, name, amount, code):
-    account = layer.account(name)
-    if GREATEST - account["balance"] - liabilities(account)["buying"] < amount:
-        raise Refused(code)
-    layer.set_account(name, balance=account["balance"] + amount)
-
-
-def debit(frame, layer, name, amount, code):
-    account = layer.account(name)
-    if available(account, frame.reserve) < amount:
-        raise Refused(code)
-    layer.set_account(name, balance=account["balance"] - amount)
-
-
-def refuse(holds, code):
-    if holds:
-        raise Refused(code)
 
 
 def create_account(frame, layer, source, op):
@@ -658,17 +145,7 @@ def create_account(frame, layer, source, op):
         count(layer, payer, sponsoring=2)
         account = with_second(account, {**second(account), "sponsored": 2})
     layer.put(with_sponsor({"modified": frame.seq, "body": (0, account), "ext": (0, None)}, payer))
-    debit(frame, layer, source, op["balance"], -2)
-
-
-def payment(frame, layer, source, op):
-    name = muxed_key(op["destination"])
-    refuse(op["amount"] <= 0, -1)
-    if name == source:
-        return
-    refuse(layer.account(name) is None, -5)
-    credit(layer, name, op["amount"], -8)
-    debit(frame, layer, source, op["amount"], -2)
+    assets.debit(frame, layer, source, assets.NATIVE, op["balance"], None, None, -2)
 
 
 def set_options(frame, layer, source, op):
@@ -706,7 +183,7 @@ def merge(frame, layer, source, op):
     refuse(account["subs"] != len(account["signers"]), -4)
     refuse(account["seq"] >= frame.seq << 32, -5)
     refuse(second(account)["sponsoring"] or source in frame.open.values(), -7)
-    credit(layer, name, account["balance"], -6)
+    assets.credit(layer, name, assets.NATIVE, account["balance"], None, None, -6)
     for signer in account["signers"]:
         remove_signer(layer, source, signer["key"])
     payer = sponsor_of(layer.get(account_key(source)))
@@ -722,14 +199,12 @@ def manage_data(frame, layer, source, op):
     entry = layer.get(rank)
     if op["value"] is None:
         refuse(entry is None, -2)
-        count(layer, source, subs=-1)
-        pay(layer, source, sponsor_of(entry), -1)
-        layer.erase(rank)
+        remove_subentry(layer, source, rank)
     elif entry is not None:
         layer.put({**entry, "body": (3, {**entry["body"][1], "value": op["value"]})})
     else:
         data = dict(id=(0, source), name=op["name"], value=op["value"], ext=(0, None))
-        add_data(frame, layer, source, {"modified": frame.seq, "body": (3, data), "ext": (0, None)}, -3)
+        add_subentry(frame, layer, source, 3, data, -3)
 
 
 def bump_sequence(frame, layer, source, op):
@@ -749,35 +224,34 @@ def end_sponsoring(frame, layer, source, op):
     del frame.open[source]
 
 
+def revoke_signer(frame, layer, source, body):
+    name = body["id"][1]
+    account = layer.account(name)
+    place = None if account is None else place_of(account, body["key"])
+    refuse(place is None, -1)
+    payer = sponsor_of_signer(account, place)
+    refuse((name if payer is None else payer) != source, -2)
+    is_moved, payer = move(frame, layer, name, 1, payer, frame.open.get(source), -3)
+    if is_moved:
+        account = layer.account(name)
+        said = second(account)
+        new = None if payer is None else (0, payer)
+        sponsors = said["sponsors"][:place] + [new] + said["sponsors"][place + 1:]
+        layer.set_account(name, **with_second(account, {**said, "sponsors": sponsors}))
+
+
 def revoke(frame, layer, source, op):
     arm, body = op
     if arm == 1:
-        name = body["id"][1]
-        account = layer.account(name)
-        place = None if account is None else place_of(account, body["key"])
-        refuse(place is None, -1)
-        payer = sponsor_of_signer(account, place)
-        refuse((name if payer is None else payer) != source, -2)
-        is_moved, payer = move(frame, layer, name, 1, payer, frame.open.get(source), -3)
-        if is_moved:
-            account = layer.account(name)
-            said = second(account)
-            new = None if payer is None else (0, payer)
-            sponsors = said["sponsors"][:place] + [new] + said["sponsors"][place + 1:]
-            layer.set_account(name, **with_second(account, {**said, "sponsors": sponsors}))
-        return
+        return revoke_signer(frame, layer, source, body)
     kind, key = body
-    if kind == 1:
-        asset = key["asset"]
-        code = b"" if asset[0] in (0, 3) else asset[1]["code"]
-        held = code.rstrip(b"\0")
-        least = {1: 1, 2: 5}.get(asset[0], 0)
-        is_coded = len(held) >= least and held.isalnum() and held.isascii()
-        refuse(asset[0] == 0 or asset[0] != 3 and (not is_coded or asset[1]["issuer"] == key["id"]), -5)
+    refuse(kind == 1 and key["asset"][0] != 3 and not assets.can_have_line(key["id"], key["asset"]), -5)
     refuse(kind == 5 or kind == 2 and key["offer"] <= 0 or kind == 3 and not (key["name"] and is_text(key["name"])), -5)
     rank = rank_of_key(body)
     entry = layer.get(rank)
     refuse(entry is None, -1)
+    if kind == 4:
+        return assets.revoke_claimable(frame, layer, source, entry)
     name, payer = key["id"][1], sponsor_of(entry)
     refuse((name if payer is None else payer) != source, -2)
     is_moved, payer = move(frame, layer, name, 2 if kind == 0 else 1, payer, frame.open.get(source), -3)
@@ -786,14 +260,14 @@ def revoke(frame, layer, source, op):
 
 
 OPERATIONS = {
-    0: create_account, 1: payment, 5: set_options, 8: merge, 10: manage_data, 11: bump_sequence, 16: begin_sponsoring,
-    17: end_sponsoring, 18: revoke,
+    0: create_account, 5: set_options, 8: merge, 10: manage_data, 11: bump_sequence, 16: begin_sponsoring, 17: end_sponsoring, 18: revoke,
+    **assets.OPERATIONS,
 }
 
 
 def is_built(op):
     kind, body = op["body"]
-    return kind == 9 or kind in OPERATIONS and (kind != 1 or body["asset"][0] == 0)
+    return kind == 9 or kind in OPERATIONS and (kind != 6 or body["line"][0] != 3)
 
 
 def level_of(op):
@@ -823,9 +297,9 @@ def run_operation(frame, layer, source, op):
 
 
 def default_result(op):
-    """The result of an operation that isn't run: no lumens moved by ACCOUNT_MERGE, no payouts of INFLATION."""
+    """The result of an operation that isn't run: no lumens moved by ACCOUNT_MERGE, no payouts of INFLATION, an id of zeros."""
     kind = op["body"][0]
-    return i32(0) + i32(kind) + i32(0) + {8: i64(0), 9: u32(0)}.get(kind, b"")
+    return i32(0) + i32(kind) + i32(0) + {8: i64(0), 9: u32(0), 14: i32(0) + NO_HASH}.get(kind, b"")
 
 
 # ---- signatures
@@ -921,14 +395,17 @@ def checked(header, frame, layer, tx, source, signatures, pays):
 
 def run_transaction(header, time, layer, tx, source, signatures, pays=True, is_first=False):
     """The outcome of a transaction, by its number and what stands behind it."""
-    frame = Frame(header, time)
+    frame = Frame(header, time, source, tx["seq"])
     end = i32(-12) if is_first else checked(header, frame, layer, tx, source, signatures, pays)
     for name in [source, *(source_of(source, op) for op in tx["operations"])]:
         remove_signer(layer, name, (1, signatures.digest))
     if end is not None:
         return end
     child = Layer(layer)
-    ran = [run_operation(frame, child, source_of(source, op), op) for op in tx["operations"]]
+    ran = []
+    for place, op in enumerate(tx["operations"]):
+        frame.place = place
+        ran.append(run_operation(frame, child, source_of(source, op), op))
     results = many([result for result, _ in ran])
     if not all(succeeds for _, succeeds in ran):
         return i32(-1) + results
@@ -1039,7 +516,7 @@ class Ledger:
     """A ledger behind its last close."""
 
     def __init__(self, network, header, levels, entries):
-        self.network, self.header, self.levels, self.entries = network, header, levels, entries
+        self.network, self.header, self.levels, self.entries, self.outcomes = network, header, levels, entries, {}
         self.hash = sha(HEADER.write(header))
 
     def close(self, data):
@@ -1070,13 +547,13 @@ class Ledger:
         for sent in order:
             if top.account(sent.payer) is None:
                 raise BadRecord(f"FeeSourceMissing {listed.index(sent)}")
-        lines, results, fees, base = [], [], [], set_fee(header, listed)
+        lines, results, fees, base, self.outcomes = [], [], [], set_fee(header, listed), {}
         for sent in order:
             balance = top.account(sent.payer)["balance"]
             fees.append(min(balance, sent.bid, base * max(1, sent.size)))
             top.set_account(sent.payer, balance=balance - fees[-1])
         for sent, fee in zip(order, fees):
-            outcome = run_envelope(header, value["time"], top, sent)
+            outcome = self.outcomes[sent.hash] = run_envelope(header, value["time"], top, sent)
             results.append(sent.hash + i64(fee) + outcome + u32(0))
             number = int.from_bytes(outcome[:4], "big", signed=True)
             lines.append(f"tx {sent.hash.hex()} {fee} {number}\n")
@@ -1127,8 +604,12 @@ def standing(files):
 
 def is_in_range(entry):
     kind, body = entry["body"]
+    if kind == 4:
+        return assets.is_claimable_in_range(entry)
     if sponsor_of(entry) == body["id"][1]:
         return False
+    if kind == 1:
+        return assets.is_line_in_range(body)
     if kind == 3:
         return bool(body["name"]) and is_text(body["name"])
     keys, flags, owed, said = [signer["key"] for signer in body["signers"]], body["flags"], liabilities(body), second(body)
@@ -1140,38 +621,66 @@ def is_in_range(entry):
     )
 
 
+class Counts:
+    """The sums of an image: how many subentries and reserves its entries ask of each account. Who isn't there breaks rule 8."""
+
+    def __init__(self, accounts):
+        self.accounts = accounts
+        self.subs, self.sponsored, self.sponsoring = ({name: 0 for name in accounts} for _ in range(3))
+
+    def add(self, owner, payer, k, subs=0):
+        """Counts k reserves of an owner, if there is one, that somebody else pays for, where a payer is told."""
+        for name in (owner, payer):
+            if name is not None and name not in self.accounts:
+                raise BadImage("rule 8")
+        if owner is not None:
+            self.subs[owner] += subs
+        if payer is not None:
+            self.sponsoring[payer] += k
+            if owner is not None:
+                self.sponsored[owner] += k
+
+    def add_entry(self, entry):
+        kind, body = entry["body"]
+        if kind == 4:
+            self.add(None, sponsor_of(entry), len(body["claimants"]))
+            return
+        name = body["id"][1]
+        self.add(name, sponsor_of(entry), 2 if kind == 0 else 1, 0 if kind == 0 else 1)
+        for place in range(len(body["signers"]) if kind == 0 else 0):
+            self.add(name, sponsor_of_signer(body, place), 1, 1)
+
+    def has(self, name, account):
+        said = second(account)
+        is_paid = said["sponsored"] == self.sponsored[name] and said["sponsoring"] == self.sponsoring[name]
+        return is_paid and account["subs"] + said["sponsoring"] <= 4294967295
+
+
 def judge_entries(header, entries):
-    """The rules of entries, all of accounts and data."""
-    accounts = {entry["body"][1]["id"][1]: entry["body"][1] for entry in entries.values() if entry["body"][0] == 0}
+    """The rules of entries, where there are no offers and no pools."""
+    bodies = {kind: [entry["body"][1] for entry in entries.values() if entry["body"][0] == kind] for kind in range(5)}
+    accounts = {account["id"][1]: account for account in bodies[0]}
     if not all(map(is_in_range, entries.values())):
         raise BadImage("rule 7")
-    subs, sponsored, sponsoring = ({name: 0 for name in accounts} for _ in range(3))
-
-    def count_for(owner, payer, k, is_sub=True):
-        for name in (owner, payer):
-            if name is not None and name not in accounts:
-                raise BadImage("rule 8")
-        subs[owner] += k * is_sub
-        if payer is not None:
-            sponsored[owner] += k
-            sponsoring[payer] += k
-
+    counts = Counts(accounts)
     for entry in entries.values():
-        kind, body = entry["body"]
-        name = body["id"][1]
-        count_for(name, sponsor_of(entry), 1 if kind == 3 else 2, kind == 3)
-        if kind == 0:
-            for place in range(len(body["signers"])):
-                count_for(name, sponsor_of_signer(body, place), 1)
-    said = {name: second(account) for name, account in accounts.items()}
+        counts.add_entry(entry)
+    lumens = [account["balance"] for account in bodies[0]] + [claim["amount"] for claim in bodies[4] if claim["asset"] == assets.NATIVE]
     for number, is_kept in [
-        (9, all(not any(liabilities(account).values()) for account in accounts.values())),
-        (10, all(account["subs"] == subs[name] <= 1000 for name, account in accounts.items())),
-        (11, all(said[name]["sponsored"] == sponsored[name] and said[name]["sponsoring"] == sponsoring[name] for name in accounts)),
-        (13, sum(account["balance"] for account in accounts.values()) + header["pool"] == header["coins"]),
+        (9, not any(owed for body in bodies[0] + bodies[1] for owed in liabilities(body).values())),
+        (10, all(account["subs"] == counts.subs[name] <= 1000 for name, account in accounts.items())),
+        (11, all(counts.has(name, account) for name, account in accounts.items())),
+        (12, not any(map(assets.uses_of, bodies[1]))),
+        (13, sum(lumens) + header["pool"] == header["coins"]),
     ]:
         if not is_kept:
             raise BadImage(f"rule {number}")
+
+
+def has_other_entries(entries):
+    """Whether entries have an offer, a pool, or a line of a pool's shares."""
+    kinds = {(kind, kind == 1 and body["asset"][0] == 3) for kind, body in (entry["body"] for entry in entries.values())}
+    return not kinds <= {(0, False), (1, False), (3, False), (4, False)}
 
 
 def ledger_of(network, header_bytes, files):
@@ -1194,7 +703,7 @@ def ledger_of(network, header_bytes, files):
     entries, levels = standing(buckets), Levels(buckets, header["seq"])
     if levels.hash != header["levels"]:
         raise BadImage("rule 6")
-    if any(entry["body"][0] not in (0, 3) for entry in entries.values()):
+    if has_other_entries(entries):
         raise BadImage("not built")
     judge_entries(header, entries)
     return Ledger(network, header, levels, entries)

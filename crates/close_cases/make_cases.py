@@ -1,6 +1,6 @@
 #!/usr/bin/env python3
-"""Writes cases of `catchup`, with what the program has to answer: data/56.* and on, the stored run of the program `ledger`, and the
-image and records in examples/.
+"""Writes cases of `catchup`, with what the program has to answer: data/56.* to data/228.* of accounts and data, data/289.* and on of
+assets, the stored run of the program `ledger`, and the image and records in examples/. The other cases came from elsewhere.
 
 What is wanted comes from `ledger_model.py`, and each case says its end by hand as well, so that the model is held to it. Prints a line
 for each case. Python 3.9 or later and its standard library.
@@ -11,162 +11,20 @@ for each case. Python 3.9 or later and its standard library.
 import os
 import sys
 
-import ledger_model as model
+from ledger_model import DEAD, GREATEST, HEADER, INIT, LIVE, NO_HASH, catchup, i32, marked, sha, u32, u64
 import make_cases as sets  # that of whole sets of transactions: ledger_model puts its folder first
-from ledger_model import (
-    DEAD, EMPTY, ENTRY, GREATEST, HEADER, INIT, ITEM, LIVE, META, NO_HASH, Bucket, Text, catchup, cut_image, i32, i64, key_of, ledger_of,
-    many, marked, row, sha, u32, u64,
+from asset_cases import PARTS as ASSET_PARTS
+from case_tools import (
+    A_WITH_D, CASES, LUMEN, META_18, NETWORK, NO_RESULTS, A, Account, B, C, D, Data, Story, bucket, case, entry, header_of, image,
+    image_bytes, items, key, offer, predicate, raw, sent, sponsored, upgrade, var, with_counts, with_liabilities,
 )
 
-LUMEN, NOTHING, Account, Data, key, sent, var = (
-    sets.LUMEN, sets.NOTHING, sets.Account, sets.Data, sets.key, sets.sent, sets.var
-)
+NOTHING = sets.NOTHING
 
 HERE = os.path.dirname(os.path.abspath(__file__))
 TOP = os.path.dirname(os.path.dirname(HERE))
-NETWORK = "Test SDF Network ; September 2015"
-FIRST = 56
-# SHA-256 of four zero bytes
-NO_RESULTS = "df3f619804a92fdb4057192dc43dd748ea778adc52bc498ce80524c014b81119"
 
-CASES = []
-
-# ---- images
-
-
-def entry(made, **fields):
-    """The entry of an account or of data, with other fields of its body."""
-    value = ENTRY.read(Text(made.xdr()))
-    return {**value, "body": (value["body"][0], {**value["body"][1], **fields})}
-
-
-def sponsored(value, name):
-    return model.with_sponsor(value, key(name))
-
-
-def with_counts(value, sponsored=0, sponsoring=0, sponsors=None):
-    """An account's entry with these counts, and sponsors of its signers."""
-    account = value["body"][1]
-    rows = [None] * len(account["signers"]) if sponsors is None else [name and (0, key(name)) for name in sponsors]
-    said = {"sponsored": sponsored, "sponsoring": sponsoring, "sponsors": rows, "ext": (0, None)}
-    return {**value, "body": (0, model.with_second(account, said))}
-
-
-def with_liabilities(value, buying=0, selling=0):
-    owed = {"buying": buying, "selling": selling}
-    return {**value, "body": (0, {**value["body"][1], "ext": (1, {"liabilities": owed, "ext": (0, None)})})}
-
-
-def offer(name, number=1):
-    """An offer of lumens for USD, an entry that isn't built."""
-    usd = (1, {"code": b"USD\0", "issuer": (0, key("z"))})
-    price = {"n": 1, "d": 1}
-    body = dict(seller=(0, key(name)), offer=number, selling=(0, None), buying=usd, amount=1, price=price, flags=0, ext=(0, None))
-    return {"modified": 1, "body": (2, body), "ext": (0, None)}
-
-
-def bucket(*rows, version=18):
-    """A bucket of rows (mark, entry), or (DEAD, entry), in the order of their keys."""
-    spelled = [row(arm, key_of(value) if arm == DEAD else value) for arm, value in rows]
-    return Bucket(version, sorted(spelled, key=lambda item: item[0]))
-
-
-def raw(*items):
-    """A file of items as they are."""
-    return b"".join(map(marked, items))
-
-
-def items(*rows):
-    return [ITEM.write((arm, key_of(value) if arm == DEAD else value)) for arm, value in rows]
-
-
-META_18 = ITEM.write((META, {"version": 18, "ext": (0, None)}))
-assert marked(META_18).hex() == "8000000cffffffff0000001200000000"
-assert model.Levels([EMPTY] * 22, 1).hash == sha(11 * sha(bytes(64)))
-assert sha(bytes(64)).hex() == "f5a5fd42d16a20302798ef6ed309979b43003d2320d9f0e8ea9831a92759fb4b"
-
-
-def header_of(**fields):
-    header = dict(
-        seq=5, version=18, previous=sha(b"before"), value={"set": NO_HASH, "time": 1000, "upgrades": [], "ext": (0, None)},
-        results=bytes.fromhex(NO_RESULTS), coins=0, pool=0, inflation=0, ids=0, base_fee=100, reserve=5_000_000, most=1000,
-        skips={name: sha(name.encode()) for name in "abcd"}, ext=(0, None),
-    )
-    return {**header, **fields}
-
-
-def image_bytes(header, files):
-    return b"SLI1" + marked(header) + b"".join(u64(len(file)) + file for file in files)
-
-
-def image(entries=(), files=None, at=0, **fields):
-    """An image. Its entries stand in the file `at`, unless `files` has files or buckets by their places; each field of its header may
-    be another. Its lumens are those of the accounts."""
-    if files is None:
-        files = {at: bucket(*((INIT, value) for value in entries))} if entries else {}
-    hashes = [files.get(place, b"") for place in range(22)]
-    files = [file if isinstance(file, bytes) else file.file for file in hashes]
-    digests = [sha(file) if file else NO_HASH for file in files]
-    levels = sha(b"".join(sha(curr + snap) for curr, snap in zip(digests[0::2], digests[1::2])))
-    coins = sum(value["body"][1]["balance"] for value in entries if value["body"][0] == 0)
-    header = header_of(**{"levels": levels, "coins": max(0, coins + fields.get("pool", 0)), **fields})
-    return image_bytes(HEADER.write(header), files)
-
-
-class Story:
-    """An image and records behind it."""
-
-    def __init__(self, data):
-        self.data, self.length = data, len(data)
-        self.ledger = ledger_of(sha(NETWORK.encode()), *cut_image(Text(data)))
-
-    def record(self, *listed, time=None, upgrades=(), **changes):
-        """The bytes of the next record, or of one with another number, previous hash or hash of its set."""
-        header = self.ledger.header
-        time = header["value"]["time"] + 5 if time is None else time
-        previous = changes.get("previous", self.ledger.hash)
-        envelopes = [envelope.xdr() for envelope in listed]
-        digest = changes.get("digest", sha(previous + b"".join(sorted(envelopes, key=sha))))
-        value = digest + u64(time) + many([var(upgrade) for upgrade in upgrades]) + u32(0)
-        return u32(changes.get("seq", header["seq"] + 1)) + previous + many(envelopes) + value
-
-    def add(self, record):
-        self.data += marked(record)
-        return self
-
-    def close(self, *listed, **changes):
-        """A record that closes the ledger."""
-        record = self.record(*listed, **changes)
-        self.ledger.close(record)
-        return self.add(record)
-
-    def refused(self, *listed, **changes):
-        """A record that is to be refused."""
-        return self.add(self.record(*listed, **changes))
-
-
-def upgrade(kind, value):
-    return u32(kind) + u32(value)
-
-
-# ---- cases
-
-
-def case(name, data, end, closes=None):
-    """A case. `end` is by hand: the last line of the output, or that on standard error where a number of its status stands in front;
-    `end LEDGER` alone leaves the hash to the model. `closes` is how many ledgers close."""
-    data = data.data if isinstance(data, Story) else data
-    out, err, status = catchup(NETWORK, data)
-    last = (out.splitlines() or [""])[-1]
-    told = f"{status} {err.strip()}" if err else last.rsplit(" ", 1)[0] if last.startswith("end ") else last
-    assert told == end, (name, told, end)
-    assert closes is None or sum(line.startswith("closed ") for line in out.splitlines()) == closes, name
-    CASES.append((name, data, out, err, status))
-
-
-A, B, C = (entry(Account(name, 100 * LUMEN)) for name in "abc")
-D = entry(Data("a", b"name", b"value"))
-A_WITH_D = entry(Account("a", 100 * LUMEN, data=1))
+# ---- cases of accounts and data
 
 
 def forms():
@@ -320,17 +178,7 @@ def rules_at_once():
     case("an offer and rule 7", image([wrong, offer("a")]), "10 bad image not built")
 
 
-def predicate(levels):
-    """A predicate of so many levels."""
-    return u32(0) if levels == 1 else u32(3) + u32(1) + predicate(levels - 1)
-
-
-def claimable(levels):
-    claimants = many([u32(0) + u32(0) + key("b") + predicate(levels)])
-    return sets.operation(14, u32(0) + i64(1) + claimants)
-
-
-SELL = sets.operation(3, u32(0) + u32(1) + b"USD\0" + u32(0) + key("b") + i64(1) + u32(1) + u32(1) + i64(0))
+SELL = sets.sell_offer(1, buying=sets.asset("USD", "b"))
 
 
 def bad_records():
@@ -362,8 +210,9 @@ def bad_records():
     bad("a memo that isn't filled up with zeros", with_bytes(105, b"\1", noted), "BadXdr 105 Padding")
     bad("101 operations", lambda story: story.record(sent("a", 1, *[NOTHING] * 101)), "BadXdr 100 TooLong")
     # the first predicate of an operation begins at 168, and each level of it has 8 bytes
-    bad("a predicate of 33 levels", lambda story: story.record(sent("a", 1, claimable(33))), "BadXdr 424 TooDeep")
-    bad("a predicate of 32 levels", lambda story: story.record(sent("a", 1, SELL, claimable(32))), "NotBuilt 0")
+    deepest, deeper = (sets.create_claimable(1, [("b", predicate(levels))]) for levels in (32, 33))
+    bad("a predicate of 33 levels", lambda story: story.record(sent("a", 1, deeper)), "BadXdr 424 TooDeep")
+    bad("a predicate of 32 levels", lambda story: story.record(sent("a", 1, SELL, deepest)), "NotBuilt 0")
 
 
 def terms():
@@ -567,19 +416,29 @@ def compare(folder):
     sys.exit(wrong)
 
 
+# the number of the first case, that of the last one where other cases stand behind it, and what makes them
+BLOCKS = [
+    (56, 228, [
+        forms, header_rules, file_rules, entry_rules, rules_at_once, bad_records, terms, upgrades, set_faults, faults_at_once, closes,
+    ]),
+    (289, None, ASSET_PARTS),
+]
+
+
 def main():
     if len(sys.argv) > 1:
         compare(sys.argv[1])
-    for part in (
-        forms, header_rules, file_rules, entry_rules, rules_at_once, bad_records, terms, upgrades, set_faults, faults_at_once, closes,
-    ):
-        part()
-    for number, (name, data, out, err, status) in enumerate(CASES, FIRST):
-        files = {"args": f"catchup\n--network\n{NETWORK}\n", "in": data, "out": out, "err": err, "status": f"{status}\n"}
-        for kind, content in files.items():
-            write(f"{HERE}/data/{number}.{kind}", content)
-        print(number, name)
-    last = FIRST + len(CASES) - 1
+    for first, last, parts in BLOCKS:
+        CASES.clear()
+        for part in parts:
+            part()
+        assert last in (None, first + len(CASES) - 1)
+        for number, (name, data, out, err, status) in enumerate(CASES, first):
+            files = {"args": f"catchup\n--network\n{NETWORK}\n", "in": data, "out": out, "err": err, "status": f"{status}\n"}
+            for kind, content in files.items():
+                write(f"{HERE}/data/{number}.{kind}", content)
+            print(number, name)
+    last = first + len(CASES) - 1
     write(f"{HERE}/stdout", "".join(f"case {number}: as expected, also byte by byte\n" for number in range(1, last + 1)))
     write_run(stored_run().data, NETWORK, f"{TOP}/crates/ledger")
     write(f"{TOP}/examples/accounts.slt", example().data)

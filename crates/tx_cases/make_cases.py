@@ -143,8 +143,89 @@ class Data:
         return (3, key(self.name), self.data_name)
 
     def xdr(self):
-        ext = u32(0) if self.sponsor is None else u32(1) + u32(1) + u32(0) + key(self.sponsor) + u32(0)
-        return u32(2) + u32(3) + u32(0) + key(self.name) + var(self.data_name) + var(self.value) + u32(0) + ext
+        body = u32(0) + key(self.name) + var(self.data_name) + var(self.value) + u32(0)
+        return u32(2) + u32(3) + body + with_sponsor(self.sponsor)
+
+
+def asset(code, issuer):
+    """An issued asset, by a code of up to 12 characters."""
+    size = 4 if len(code) <= 4 else 12
+    return u32(1 if size == 4 else 2) + code.encode().ljust(size, b"\0") + u32(0) + key(issuer)
+
+
+LUMENS, USD = u32(0), asset("USD", "z")
+
+
+class Line:
+    """A trust line, which is authorised unless other flags are given."""
+
+    def __init__(self, name, balance, limit=GREATEST, line=USD, flags=1, sponsor=None):
+        self.name, self.balance, self.limit, self.line, self.flags, self.sponsor = name, balance, limit, line, flags, sponsor
+
+    @property
+    def key(self):
+        return (1, key(self.name), self.line)
+
+    def xdr(self):
+        body = u32(0) + key(self.name) + self.line + i64(self.balance) + i64(self.limit) + u32(self.flags) + u32(0)
+        return u32(2) + u32(1) + body + with_sponsor(self.sponsor)
+
+
+class Claimable:
+    """A claimable balance, under the id that an operation of a transaction gives it."""
+
+    def __init__(self, digest, claimants, amount, sponsor, line=LUMENS, flags=0):
+        self.digest, self.claimants, self.amount, self.sponsor = digest, claimants, amount, sponsor
+        self.line, self.flags = line, flags
+
+    @property
+    def key(self):
+        return (4, self.digest)
+
+    def xdr(self):
+        ext = u32(1) + u32(0) + u32(self.flags) if self.flags else u32(0)
+        body = u32(0) + self.digest + spelled_claimants(self.claimants) + self.line + i64(self.amount) + ext
+        return u32(2) + u32(4) + body + with_sponsor(self.sponsor)
+
+
+def with_sponsor(name):
+    """The extension of an entry whose sponsor has that name, or of one that has none."""
+    return u32(0) if name is None else u32(1) + u32(1) + u32(0) + key(name) + u32(0)
+
+
+# predicates
+ANY_TIME = u32(0)
+
+
+def both(one, other):
+    return u32(1) + many([one, other])
+
+
+def either(one, other):
+    return u32(2) + many([one, other])
+
+
+def opposite(part):
+    return u32(3) + maybe(part)
+
+
+def before(time):
+    return u32(4) + i64(time)
+
+
+def within(seconds):
+    return u32(5) + i64(seconds)
+
+
+def spelled_claimants(claimants):
+    """Claimants: names, or pairs of a name and a predicate."""
+    pairs = [claimant if isinstance(claimant, tuple) else (claimant, ANY_TIME) for claimant in claimants]
+    return many([u32(0) + u32(0) + key(name) + predicate for name, predicate in pairs])
+
+
+def balance_id(source, seq, place=0):
+    """The id of the balance that the operation at a place of a transaction makes."""
+    return sha(u32(6) + u32(0) + key(source) + i64(seq) + u32(place))
 
 
 # ---- operations
@@ -165,19 +246,43 @@ def create_account(to, balance, source=None):
     return operation(0, u32(0) + key(to) + i64(balance), source)
 
 
-def payment(to, amount, source=None, asset=u32(0)):
+def payment(to, amount, source=None, asset=LUMENS):
     return operation(1, muxed(to) + asset + i64(amount), source)
 
 
-def set_options(source=None, master=None, low=None, med=None, high=None, domain=None, signer=None):
-    numbers = [maybe(None if n is None else u32(n)) for n in (master, low, med, high)]
+def path_payment(to, amount, source=None, sent_asset=LUMENS, asset=LUMENS, kind=2):
+    """PATH_PAYMENT_STRICT_RECEIVE without a path, or of kind 13 PATH_PAYMENT_STRICT_SEND, which has the same fields."""
+    return operation(kind, sent_asset + i64(amount) + muxed(to) + asset + i64(amount) + many([]), source)
+
+
+def sell_offer(amount, selling=LUMENS, buying=USD, source=None, kind=3):
+    """A new offer at a price of 1: to sell, or of kind 12 to buy."""
+    return operation(kind, selling + buying + i64(amount) + u32(1) + u32(1) + i64(0), source)
+
+
+def passive_offer(amount, selling=LUMENS, buying=USD, source=None):
+    return operation(4, selling + buying + i64(amount) + u32(1) + u32(1), source)
+
+
+def set_options(source=None, master=None, low=None, med=None, high=None, domain=None, signer=None, clears=None, sets=None):
+    numbers = [maybe(None if n is None else u32(n)) for n in (clears, sets, master, low, med, high)]
     text = maybe(None if domain is None else var(domain))
     who = maybe(None if signer is None else spelled_signer(signer))
-    return operation(5, u32(0) + u32(0) + u32(0) + b"".join(numbers) + text + who, source)
+    return operation(5, u32(0) + b"".join(numbers) + text + who, source)
 
 
-def change_trust(issuer, source=None):
-    return operation(6, u32(1) + b"USD\0" + u32(0) + key(issuer) + i64(GREATEST), source)
+def change_trust(line=USD, limit=GREATEST, source=None):
+    return operation(6, line + i64(limit), source)
+
+
+def trust_pool(one, other, fee=30, source=None):
+    """CHANGE_TRUST for the shares of a pool of two assets."""
+    return operation(6, u32(3) + u32(0) + one + other + i32(fee) + i64(GREATEST), source)
+
+
+def allow_trust(who, authorize, code="USD", source=None):
+    size = 4 if len(code) <= 4 else 12
+    return operation(7, u32(0) + key(who) + u32(size // 8 + 1) + code.encode().ljust(size, b"\0") + u32(authorize), source)
 
 
 def account_merge(to, source=None):
@@ -202,6 +307,61 @@ def begin_sponsoring(who, source=None):
 
 def end_sponsoring(source=None):
     return operation(17, b"", source)
+
+
+def create_claimable(amount, claimants, asset=LUMENS, source=None):
+    """CREATE_CLAIMABLE_BALANCE for claimants: names, or pairs of a name and a predicate."""
+    return operation(14, asset + i64(amount) + spelled_claimants(claimants), source)
+
+
+def claim(digest, source=None):
+    return operation(15, u32(0) + digest, source)
+
+
+def revoke(ledger_key, source=None):
+    """REVOKE_SPONSORSHIP of what has a key."""
+    return operation(18, u32(0) + ledger_key, source)
+
+
+def account_key(name):
+    return u32(0) + u32(0) + key(name)
+
+
+def line_key(name, line=USD):
+    return u32(1) + u32(0) + key(name) + line
+
+
+def offer_key(name, number):
+    return u32(2) + u32(0) + key(name) + i64(number)
+
+
+def claimable_key(digest):
+    return u32(4) + u32(0) + digest
+
+
+def pool_key(digest):
+    return u32(5) + digest
+
+
+def clawback(who, amount, asset=USD, source=None):
+    return operation(19, asset + muxed(who) + i64(amount), source)
+
+
+def clawback_claimable(digest, source=None):
+    return operation(20, u32(0) + digest, source)
+
+
+def set_line_flags(who, clears=0, sets=0, asset=USD, source=None):
+    return operation(21, u32(0) + key(who) + asset + u32(clears) + u32(sets), source)
+
+
+def deposit(pool, amount, source=None):
+    """LIQUIDITY_POOL_DEPOSIT of as much of both at a price of 1."""
+    return operation(22, pool + i64(amount) + i64(amount) + 4 * u32(1), source)
+
+
+def withdraw(pool, amount, source=None):
+    return operation(23, pool + i64(amount) + i64(0) + i64(0), source)
 
 
 # an operation that succeeds and changes nothing, at the low threshold
@@ -288,11 +448,19 @@ def ran(kind, code, moved=None):
     return u32(0) + u32(kind) + i32(code) + (b"" if moved is None else i64(moved))
 
 
-CREATE, PAYMENT, OPTIONS, MERGE, DATA, BUMP, BEGIN, END = 0, 1, 5, 8, 10, 11, 16, 17
+def set_aside(digest):
+    """The result of a CREATE_CLAIMABLE_BALANCE that made a balance under an id."""
+    return ran(14, 0) + u32(0) + digest
+
+
+CREATE, PAYMENT, OPTIONS, TRUST, ALLOW, MERGE, DATA, BUMP, SET_ASIDE, CLAIM, BEGIN, END, REVOKE, CLAW, CLAW_CLAIMABLE, FLAGS = (
+    0, 1, 5, 6, 7, 8, 10, 11, 14, 15, 16, 17, 18, 19, 20, 21,
+)
 
 OP_BAD_AUTH = i32(-1)
 OP_NO_ACCOUNT = i32(-2)
 OP_NOT_SUPPORTED = i32(-3)
+OP_TOO_MANY_SUBENTRIES = i32(-4)
 
 BUMPED = ran(BUMP, 0)
 
@@ -379,6 +547,8 @@ def case(name, before, listed, wanted=None, charged=None, after=None, fault=None
 A = Account("a", 100 * LUMEN)
 B = Account("b", 100 * LUMEN)
 C = Account("c", 100 * LUMEN)
+# the issuer of USD
+Z = Account("z", 100 * LUMEN)
 
 
 def one_transaction():
@@ -780,20 +950,78 @@ def order():
           Account("n", made, seq=12_884_901_888, signers=[], thresholds=(1, 0, 0, 0))])
 
 
+def lines():
+    """Sets that begin with accounts alone and leave lines."""
+    paid, held = A.but(balance=999_999_900, seq=1), A.but(balance=999_999_900, seq=1, data=1)
+    case("line", [A, Z], [sent("a", 1, change_trust())], [(100, ok(ran(TRUST, 0)))], 100, [held, Z, Line("a", 0)])
+    case("line_of_nobody", [A], [sent("a", 1, change_trust())], [(100, failed(ran(TRUST, -2)))], 100, [paid])
+    # the issuer's flags: 1 asks for its consent, and 8 lets it claw back
+    for flags, of_line in [(1, 0), (2, 1), (3, 0), (10, 5), (15, 4)]:
+        issuer = Z.but(flags=flags)
+        case(f"line_of_issuer_{flags}", [A, issuer], [sent("a", 1, change_trust(limit=7))], [(100, ok(ran(TRUST, 0)))], 100,
+             [held, issuer, Line("a", 0, 7, flags=of_line)])
+    issued = sent("a", 2, payment("a", 60, "z", USD), signers="az")
+    three = [sent("a", 1, change_trust(limit=100)), issued, sent("a", 3, payment("z", 25, asset=USD))]
+    case("issued_and_redeemed", [A, Z], three, [(100, ok(ran(TRUST, 0))), (100, ok(ran(PAYMENT, 0))), (100, ok(ran(PAYMENT, 0)))], 300,
+         [A.but(balance=999_999_700, seq=3, data=1), Z, Line("a", 35, 100)], order=[0, 1, 2])
+    # a sponsors the line of c
+    sandwich = [begin_sponsoring("c"), change_trust(source="c"), end_sponsoring("c")]
+    case("line_with_sponsor", [A, C, Z], [sent("a", 1, *sandwich, fee=300, signers="ac")],
+         [(300, ok(ran(BEGIN, 0), ran(TRUST, 0), ran(END, 0)))], 300,
+         [A.but(balance=999_999_700, seq=1, counts=(0, 1)), C.but(data=1, counts=(1, 0)), Z, Line("c", 0, sponsor="a")])
+    codes = [
+        (payment("z", 5, asset=USD), ran(PAYMENT, -3)), (payment("a", 5, "z", USD), ran(PAYMENT, -6)),
+        (allow_trust("z", 1), ran(ALLOW, -2)), (set_line_flags("a", 1, source="z"), ran(FLAGS, -2)), (clawback("a", 1, source="z"), ran(CLAW, -3)),
+        (claim(balance_id("a", 1)), ran(CLAIM, -1)), (clawback_claimable(balance_id("a", 1)), ran(CLAW_CLAIMABLE, -1)),
+        (create_claimable(5, "c", USD), ran(SET_ASIDE, -3)), (revoke(line_key("a")), ran(REVOKE, -1)),
+    ]
+    case("nothing_there", [A, Z], [sent("a", 1, *(op for op, _ in codes), fee=900, signers="az")],
+         [(900, failed(*(end for _, end in codes)))], 900, [A.but(balance=999_999_100, seq=1), Z])
+
+
+def claimables():
+    """Sets that begin with accounts alone and leave claimable balances."""
+    made = balance_id("a", 1, 0)
+    create = sent("a", 1, create_claimable(500, ["b", ("c", within(10))]))
+    counted = A.but(balance=999_999_400, seq=1, counts=(0, 2))
+    case("claimable", [A, B], [create], [(100, ok(set_aside(made)))], 100,
+         [counted, B, Claimable(made, ["b", ("c", before(1_010))], 500, "a")])
+    # its maker's counts go back to 0, and its extension stays
+    claimed = sent("a", 2, claim(made, "b"), signers="ab")
+    case("claimed", [A, B], [create, claimed], [(100, ok(set_aside(made))), (100, ok(ran(CLAIM, 0)))], 200,
+         [A.but(balance=999_999_300, seq=2, counts=(0, 0)), B.but(balance=1_000_000_500)])
+    # the issuer makes a balance that it can claw back, and does
+    issuer = Z.but(flags=10)
+    create = sent("z", 1, create_claimable(500, "a", USD))
+    made = balance_id("z", 1, 0)
+    left = issuer.but(balance=999_999_900, seq=1, counts=(0, 1))
+    case("claimable_of_issuer", [A, issuer], [create], [(100, ok(set_aside(made)))], 100,
+         [A, left, Claimable(made, "a", 500, "z", USD, 1)])
+    clawed = sent("z", 2, clawback_claimable(made))
+    case("clawed_claimable", [A, issuer], [create, clawed], [(100, ok(set_aside(made))), (100, ok(ran(CLAW_CLAIMABLE, 0)))], 200,
+         [A, left.but(balance=999_999_800, seq=2, counts=(0, 0))])
+
+
 def refusals():
     """Sets that are refused, and states that are none."""
     fine = sent("a", 1, NOTHING)
-    trusting = sent("a", 2, NOTHING, change_trust("b"))
-    credit = payment("b", 5, asset=u32(1) + b"USD\0" + u32(0) + key("b"))
+    selling = sent("a", 2, NOTHING, sell_offer(1))
     lost = sent("z", 1, NOTHING)
-    case("not_built", [A, B], [fine, trusting], fault="operation not built in transaction 1")
-    case("not_built_credit", [A, B], [sent("a", 1, credit)], fault="operation not built in transaction 0")
-    case("not_built_before_fee_source", [A, B], [lost, fine, trusting, sent("b", 1, change_trust("a"))],
+    case("not_built", [A, B], [fine, selling], fault="operation not built in transaction 1")
+    case("not_built_before_fee_source", [A, B], [lost, fine, selling, sent("b", 1, sell_offer(1))],
          fault="operation not built in transaction 2")
     # the first in the list, though it is applied later
-    case("not_built_first_listed", [A, B], [trusting, sent("b", 1, change_trust("a"))], fault="operation not built in transaction 0")
-    case("not_built_inner", [A, B], [fine, bumped("b", 200, sent("a", 2, change_trust("b")))], fault="operation not built in transaction 1")
-    case("not_built_first_version", [A, B], [First(Tx("a", 1, [change_trust("b")]), [])], fault="operation not built in transaction 0")
+    case("not_built_first_listed", [A, B], [selling, sent("b", 1, sell_offer(1))], fault="operation not built in transaction 0")
+    case("not_built_inner", [A, B], [fine, bumped("b", 200, selling)], fault="operation not built in transaction 1")
+    case("not_built_first_version", [A, B], [First(Tx("a", 1, [sell_offer(1)]), [])], fault="operation not built in transaction 0")
+    pool = sha(b"a pool")
+    for name, op in [
+        ("path_receive", path_payment("b", 1)), ("path_send", path_payment("b", 1, kind=13)), ("sell", sell_offer(1)),
+        ("passive", passive_offer(1)), ("buy", sell_offer(1, kind=12)), ("deposit", deposit(pool, 1)), ("withdraw", withdraw(pool, 1)),
+        ("pool_shares", trust_pool(LUMENS, USD)),
+    ]:
+        built = sent("a", 1, payment("b", 1, asset=USD), change_trust(), fee=200)
+        case(f"not_built_{name}", [A, B], [built, sent("a", 2, op)], fault="operation not built in transaction 1")
     case("no_fee_source", [A], [fine, lost], fault="no fee source for transaction 1")
     # the first in the order of application: y's first transaction, which is listed last
     case("no_fee_source_first_applied", [A], [sent("y", 2, NOTHING), fine, sent("y", 1, NOTHING)], fault="no fee source for transaction 2")
@@ -839,8 +1067,8 @@ def thousand():
 
 
 def main():
-    for part in (one_transaction, fees, early_checks, signatures, balances, operations, first_version, fee_bumps, preauthorised, order,
-                 refusals, thousand):
+    for part in (one_transaction, fees, early_checks, signatures, balances, operations, lines, claimables, first_version, fee_bumps,
+                 preauthorised, order, refusals, thousand):
         part()
     folder = os.path.join(os.path.dirname(os.path.abspath(__file__)), "data")
     with open(os.path.join(folder, "cases.txt"), "w", encoding="ascii") as table:

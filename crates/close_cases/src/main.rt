@@ -1,6 +1,6 @@
-//! Runs the cases in a folder, each from five files: `N.args` has its words, one a line, `N.in` its input, and `N.out`,
-//! `N.err` and `N.status` have what it must write and answer, to the byte. Each is run twice: in pieces, and at one byte a
-//! read and a write. Prints a line for each case.
+//! Runs the cases in a folder, each from five files: `N.args` has its words, one a line, `N.in` its input, and
+//! `N.out`, `N.err` and `N.status` have what it must write and answer, to the byte. Each is run twice: in pieces, and
+//! at one byte a read and a write. Prints a line for each case.
 //!
 //! The folder is the program's one argument, or `data` where there is none.
 #![tactic(auto)]
@@ -16,7 +16,7 @@ use std::sync::ledger::{Blank, Ledger};
 use std::{env, fs, io};
 
 /// How many cases there are.
-const CASES: u32 = 228;
+const CASES: u32 = 508;
 
 /// The most bytes that a read or a write moves in the first run of a case.
 const PIECE: usize = 100;

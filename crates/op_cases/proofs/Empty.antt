@@ -3,12 +3,15 @@ use Rattle.std.proofs.Common.{◌≡◌, ap, sym, ◌∙◌, [], Some}
 use Rattle.std.proofs.lemmas.Option.{none-some}
 use Rattle.std.specs.FinMap.{from_entries, get-empty}
 use Rattle.ledger_types.specs.declared.ids.AccountId.{AccountId}
+use Rattle.ledger_types.specs.declared.ids.ClaimableBalanceId.{ClaimableBalanceId}
 use Rattle.ledger_types.specs.declared.account.AccountEntry.{AccountEntry}
 use Rattle.ledger_types.specs.declared.asset.TrustLineAsset.{TrustLineAsset}
+use Rattle.ledger_types.specs.declared.claimable_balance.ClaimableBalanceEntry.{ClaimableBalanceEntry}
 use Rattle.ledger_types.specs.declared.trust_line.TrustLineEntry.{TrustLineEntry}
 use Rattle.ledger_types.specs.declared.key.LedgerKey.TheVariants as key
 use Rattle.ledger_types.specs.KeyOrder.{key_cmp}
 use Rattle.entry_slots.specs.Accounts.{account_of, account_at}
+use Rattle.entry_slots.specs.Balances.{balance_of, balance_at}
 use Rattle.entry_slots.specs.Lines.{line_of, line_at}
 use Rattle.op_cases.specs.Ready.{IsReadyLedger}
 
@@ -21,6 +24,12 @@ no_line : (id : AccountId) (held : TrustLineAsset) (line : TrustLineEntry)
 unfolding line_at
 no_line id held line is = none-some line (sym (ap line_of (get-empty key_cmp (key.TrustLine id held))) ∙ is)
 
+no_balance : (id : ClaimableBalanceId) (balance : ClaimableBalanceEntry)
+    → balance_at (from_entries []) id ≡ Some balance → ⊥
+unfolding balance_at
+no_balance id balance is =
+    none-some balance (sym (ap balance_of (get-empty key_cmp (key.ClaimableBalance id))) ∙ is)
+
 pub nothing_is_ready : IsReadyLedger (from_entries [])
 nothing_is_ready = record {
   ready = record { ready = λ id account is. absurd (nobody id account is) };
@@ -28,4 +37,5 @@ nothing_is_ready = record {
     accounts = record { in_range = λ id account is. absurd (nobody id account is) };
     lines = λ id held line is. absurd (no_line id held line is);
   };
+  amounts = record { low = λ id balance is. absurd (no_balance id balance is) };
 }

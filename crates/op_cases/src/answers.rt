@@ -1,6 +1,9 @@
 //! What operations answer, by the protocol's names and numbers.
 
-use op_types::{AccountMergeResult, Coded, OperationResult, OperationResultTr};
+use ledger_types::ClaimableBalanceId;
+use op_types::{
+    AccountMergeResult, Coded, CreateClaimableBalanceResult, OperationResult, OperationResultTr,
+};
 
 /// The operation's name and the code of its result.
 fn own_answer(answer: &OperationResultTr) -> (&'static str, i32) {
@@ -17,6 +20,17 @@ fn own_answer(answer: &OperationResultTr) -> (&'static str, i32) {
         OperationResultTr::BeginSponsoringFutureReserves(code) => ("begin_sponsoring", code.code()),
         OperationResultTr::EndSponsoringFutureReserves(code) => ("end_sponsoring", code.code()),
         OperationResultTr::RevokeSponsorship(code) => ("revoke", code.code()),
+        other => claim_answer(other),
+    }
+}
+
+/// The same of an operation on claimable balances, or of one that takes something back.
+fn claim_answer(answer: &OperationResultTr) -> (&'static str, i32) {
+    match answer {
+        OperationResultTr::CreateClaimableBalance(code) => ("create_balance", code.code()),
+        OperationResultTr::ClaimClaimableBalance(code) => ("claim_balance", code.code()),
+        OperationResultTr::Clawback(code) => ("clawback", code.code()),
+        OperationResultTr::ClawbackClaimableBalance(code) => ("clawback_balance", code.code()),
         _ => ("another operation", 0),
     }
 }
@@ -27,6 +41,16 @@ pub fn moved_balance(answered: &OperationResult) -> Option<i64> {
         OperationResult::Inner(
             OperationResultTr::AccountMerge(AccountMergeResult::Success(moved)),
         ) => Some(*moved),
+        _ => None,
+    }
+}
+
+/// The id of the claimable balance that an operation says it made.
+pub fn made_balance(answered: &OperationResult) -> Option<ClaimableBalanceId> {
+    match answered {
+        OperationResult::Inner(
+            OperationResultTr::CreateClaimableBalance(CreateClaimableBalanceResult::Success(id)),
+        ) => Some(*id),
         _ => None,
     }
 }

@@ -1,12 +1,12 @@
 //! What changed, a line an entry.
 
+use crate::balances::tell_balance;
 use crate::words::letter_of;
 use entry_map::Batch;
-use entry_slots::{account_liabilities, signer_sponsor};
+use entry_slots::{account_liabilities, line_liabilities, signer_sponsor};
 use ledger_types::{
-    AccountEntry, AccountEntryExtensionV2, AccountId, ClaimableBalanceEntry, DataEntry,
-    LedgerEntry, LedgerEntryBody, LedgerEntryExtensionV1, OfferEntry, Signer, SignerKey,
-    TrustLineAsset, TrustLineEntry,
+    AccountEntry, AccountEntryExtensionV2, AccountId, DataEntry, LedgerEntry, LedgerEntryBody,
+    LedgerEntryExtensionV1, OfferEntry, Signer, SignerKey, TrustLineAsset, TrustLineEntry,
 };
 use std::alloc::AllocError;
 use std::io;
@@ -150,7 +150,9 @@ fn tell_line<R: Print>(rt: &R, line: &TrustLineEntry) -> io::Result<()> {
     tell_line_key(rt, line)?;
     tell_number(rt, "balance", line.balance)?;
     tell_number(rt, "limit", line.limit)?;
-    tell_number(rt, "flags", i64::from(line.flags))
+    tell_number(rt, "flags", i64::from(line.flags))?;
+    tell_number(rt, "buying", line_liabilities(line).buying)?;
+    tell_number(rt, "selling", line_liabilities(line).selling)
 }
 
 fn tell_line_key<R: Print>(rt: &R, line: &TrustLineEntry) -> io::Result<()> {
@@ -159,6 +161,10 @@ fn tell_line_key<R: Print>(rt: &R, line: &TrustLineEntry) -> io::Result<()> {
         TrustLineAsset::Alphanum4 { code: _, issuer } => {
             let issuer = letter_of(&issuer.0);
             print!(rt; "line {letter} {issuer}")
+        }
+        TrustLineAsset::Alphanum12 { code: _, issuer } => {
+            let issuer = letter_of(&issuer.0);
+            print!(rt; "line {letter} long:{issuer}")
         }
         TrustLineAsset::PoolShare(_) => print!(rt; "line {letter} pool"),
         _ => print!(rt; "line {letter}"),
@@ -177,11 +183,6 @@ fn tell_data<R: Print>(rt: &R, data: &DataEntry) -> io::Result<()> {
     tell_text(rt, data.data_name.as_slice())?;
     print!(rt; " ")?;
     tell_text(rt, data.data_value.as_slice())
-}
-
-fn tell_balance<R: Print>(rt: &R, balance: &ClaimableBalanceEntry) -> io::Result<()> {
-    let letter = letter_of(&balance.balance_id.0.0);
-    print!(rt; "balance {letter}")
 }
 
 fn tell_body<R: Print>(rt: &R, body: &LedgerEntryBody) -> io::Result<()> {

@@ -3,10 +3,9 @@
 use crate::words::{account_named, signer_key, text_of};
 use item_list::ItemList;
 use ledger_types::{
-    AccountEntry, AccountEntryExtensionV1, AccountEntryExtensionV2, AccountId, Asset,
-    ClaimPredicate, ClaimableBalanceEntry, ClaimableBalanceId, Claimant, DataEntry, Hash,
+    AccountEntry, AccountEntryExtensionV1, AccountEntryExtensionV2, AccountId, Asset, DataEntry,
     LedgerEntry, LedgerEntryBody, LedgerEntryExtensionV1, Liabilities, OfferEntry, Price, Signer,
-    SignerKey, TrustLineAsset, TrustLineEntry,
+    SignerKey,
 };
 use std::alloc::{AllocError, Global};
 
@@ -154,7 +153,8 @@ fn entry_ext(sponsor: Option<AccountId>) -> Option<LedgerEntryExtensionV1> {
     }
 }
 
-fn entry_of(body: LedgerEntryBody, sponsor: Option<AccountId>) -> LedgerEntry {
+/// An entry, and who pays for it.
+pub fn entry_of(body: LedgerEntryBody, sponsor: Option<AccountId>) -> LedgerEntry {
     LedgerEntry {
         last_modified_ledger_seq: 1,
         body,
@@ -230,46 +230,6 @@ pub fn data_entry(
     ))
 }
 
-/// The entry of a line without a balance.
-pub fn line_entry(
-    account_id: AccountId,
-    asset: TrustLineAsset,
-    sponsor: Option<AccountId>,
-) -> LedgerEntry {
-    entry_of(
-        LedgerEntryBody::TrustLine(TrustLineEntry {
-            account_id,
-            asset,
-            balance: 0,
-            limit: 1,
-            flags: 0,
-            ext: None,
-        }),
-        sponsor,
-    )
-}
-
-/// The entry of a line that holds something.
-pub fn held_entry(
-    account_id: AccountId,
-    asset: TrustLineAsset,
-    balance: i64,
-    limit: i64,
-    flags: u32,
-) -> LedgerEntry {
-    entry_of(
-        LedgerEntryBody::TrustLine(TrustLineEntry {
-            account_id,
-            asset,
-            balance,
-            limit,
-            flags,
-            ext: None,
-        }),
-        None,
-    )
-}
-
 /// The entry of an offer that sells a stroop for one of an asset of the seller's own.
 pub fn offer_entry(seller_id: AccountId, offer_id: i64, sponsor: Option<AccountId>) -> LedgerEntry {
     entry_of(
@@ -287,36 +247,4 @@ pub fn offer_entry(seller_id: AccountId, offer_id: i64, sponsor: Option<AccountI
         }),
         sponsor,
     )
-}
-
-/// So many claimants.
-fn claimants_of(alloc: Global, number: u8) -> Result<ItemList<Claimant>, AllocError> {
-    let mut claimants = ItemList::new(alloc);
-    for letter in 0..number {
-        claimants.push(Claimant {
-            destination: AccountId([letter; 32]),
-            predicate: ClaimPredicate::Unconditional,
-        })?;
-    }
-    Ok(claimants)
-}
-
-/// The entry of a claimable balance of one stroop, which so many accounts can claim.
-pub fn balance_entry(
-    alloc: Global,
-    id: [u8; 32],
-    claimants: u8,
-    sponsor: Option<AccountId>,
-) -> Result<LedgerEntry, AllocError> {
-    let claimants = claimants_of(alloc, claimants)?;
-    Ok(entry_of(
-        LedgerEntryBody::ClaimableBalance(ClaimableBalanceEntry {
-            balance_id: ClaimableBalanceId(Hash(id)),
-            claimants,
-            asset: Asset::Native,
-            amount: 1,
-            ext: None,
-        }),
-        sponsor,
-    ))
 }

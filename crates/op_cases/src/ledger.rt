@@ -1,4 +1,5 @@
-//! Ledgers to which operations may be applied: accounts and lines are in their ranges, and others may pay for accounts.
+//! Ledgers to which operations may be applied: accounts and lines are in their ranges, others may pay for accounts, and
+//! no claimable balance has less than nothing.
 
 ghost use Rattle.std.specs.Prelude.{◌≡◌, ◌<◌, ◌+ℤ◌, ◌≤ℤ◌, pos, true, Some, [], IfOk, OnOk};
 ghost use Rattle.std.specs.FinMap.{from_entries};
@@ -9,11 +10,13 @@ ghost use Rattle.entry_slots.specs.LineExtensions.{line_liabilities};
 ghost use Rattle.entry_slots.specs.Lines.{line_in};
 ghost use Rattle.reserve_rules.specs.Reserve.{IsInRange, IsLineInRange};
 ghost use Rattle.sponsor_rules.specs.Payers.{IsReadyAccount};
-ghost use Rattle.op_cases.specs.Ready.{IsReadyLedger};
+ghost use Rattle.op_cases.specs.Ready.{IsReadyLedger, IsAmountLowIn};
 
 use entry_map::{Entries, MapBase};
 use entry_slots::{account_liabilities, line_liabilities, num_sponsored};
-use ledger_types::{AccountEntry, LedgerEntry, LedgerEntryBody, TrustLineEntry};
+use ledger_types::{
+    AccountEntry, ClaimableBalanceEntry, LedgerEntry, LedgerEntryBody, TrustLineEntry,
+};
 use op_form::stands;
 use op_types::{Operation, OperationBody, OperationResult};
 use sponsor_rules::Ctx;
@@ -95,6 +98,13 @@ fn is_fine_line(line: &TrustLineEntry) -> bool
     is_covered(line) && fits_limit(line)
 }
 
+/// Whether a claimable balance has nothing or more.
+fn is_fine_balance(balance: &ClaimableBalanceEntry) -> bool
+    ensures { result ≡ true → pos 0 ≤ℤ balance.now.amount }
+{
+    balance.amount >= 0
+}
+
 fn is_fine(entry: &LedgerEntry) -> bool
     ensures ready { result ≡ true →
         (account : AnAccount) → account_in entry.now.body ≡ Some account → IsReadyAccount account }
@@ -102,10 +112,12 @@ fn is_fine(entry: &LedgerEntry) -> bool
         (account : AnAccount) → account_in entry.now.body ≡ Some account → IsInRange account }
     ensures lines { result ≡ true →
         (line : ALine) → line_in entry.now.body ≡ Some line → IsLineInRange line }
+    ensures amounts { result ≡ true → IsAmountLowIn entry.now.body }
 {
     match &entry.body {
         LedgerEntryBody::Account(account) => is_fine_account(account),
         LedgerEntryBody::TrustLine(line) => is_fine_line(line),
+        LedgerEntryBody::ClaimableBalance(balance) => is_fine_balance(balance),
         _ => true,
     }
 }
@@ -179,6 +191,10 @@ fn applied_by_type(
         OperationBody::AllowTrust(_) | OperationBody::SetTrustLineFlags(_) => {
             op_flags::apply(op, ctx, entries)
         }
+        OperationBody::CreateClaimableBalance(_)
+        | OperationBody::ClaimClaimableBalance(_)
+        | OperationBody::Clawback(_)
+        | OperationBody::ClawbackClaimableBalance(_) => op_claim::apply(op, ctx, entries),
         _ => op_payment::apply(op, ctx, entries),
     }
 }

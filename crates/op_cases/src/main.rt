@@ -7,10 +7,14 @@
 #![tactic(auto)]
 
 mod answers;
+mod balances;
 mod changes;
+mod claims;
 mod entries;
 mod ledger;
+mod lines;
 mod operations;
+mod predicates;
 mod script;
 mod words;
 

@@ -1,9 +1,10 @@
 //! Operations, read from words.
 
-use crate::words::{account_named, bytes_named, line_asset, signer_key, text_of};
-use ledger_types::{
-    Asset, ChangeTrustAsset, ClaimableBalanceId, Hash, LedgerKey, MuxedAccount, PoolParams, Signer,
+use crate::claims::{claim, create_balance};
+use crate::words::{
+    account_named, balance_id_named, bytes_named, line_asset, muxed, signer_key, text_of,
 };
+use ledger_types::{Asset, ChangeTrustAsset, Hash, LedgerKey, PoolParams, Signer};
 use op_types::{
     AccountMergeOp, AllowTrustOp, AssetCode, BeginSponsoringFutureReservesOp, BumpSequenceOp,
     ChangeTrustOp, CreateAccountOp, ManageDataOp, OperationBody, PaymentOp, RevokeSponsorshipOp,
@@ -22,23 +23,6 @@ fn create_account(id: &str, amount: &str) -> Option<OperationBody> {
             starting_balance,
         })),
         Err(_) => None,
-    }
-}
-
-/// One of the customers that share an account: `X#NUMBER`.
-fn customer(key: &str, number: &str) -> Option<MuxedAccount> {
-    let ed25519 = bytes_named(key)?;
-    match number.parse() {
-        Ok(id) => Some(MuxedAccount::MuxedEd25519 { id, ed25519 }),
-        Err(_) => None,
-    }
-}
-
-/// An account, or one of its customers.
-fn muxed(word: &str) -> Option<MuxedAccount> {
-    match word.split_once('#') {
-        None => Some(MuxedAccount::Ed25519(bytes_named(word)?)),
-        Some((key, number)) => customer(key, number),
     }
 }
 
@@ -110,10 +94,8 @@ fn offer_key(id: &str, number: &str) -> Option<LedgerKey> {
 }
 
 fn balance_key(id: &str) -> Option<LedgerKey> {
-    let bytes = bytes_named(id)?;
-    Some(LedgerKey::ClaimableBalance {
-        balance_id: ClaimableBalanceId(Hash(bytes)),
-    })
+    let balance_id = balance_id_named(id)?;
+    Some(LedgerKey::ClaimableBalance { balance_id })
 }
 
 fn pool_key(id: &str) -> Option<LedgerKey> {
@@ -372,12 +354,12 @@ fn plain_on_sponsorships(name: &str, words: &[&str]) -> Option<OperationBody> {
     }
 }
 
-/// The same of one that names no account.
+/// The same of one that names no account, or another.
 fn plain_without_account(name: &str, words: &[&str]) -> Option<OperationBody> {
     match (name, words) {
         ("inflation", []) => Some(OperationBody::Inflation),
         ("bump_sequence", [to]) => bump(to),
-        _ => None,
+        _ => claim(name, words),
     }
 }
 
@@ -394,6 +376,9 @@ fn data_change(alloc: Global, words: &[&str]) -> Result<Option<OperationBody>, A
 pub fn operation(alloc: Global, words: &[&str]) -> Result<Option<OperationBody>, AllocError> {
     match *words {
         ["manage_data", ref of @ ..] => data_change(alloc, of),
+        ["create_balance", asset, amount, ref claimants @ ..] => {
+            create_balance(alloc, asset, amount, claimants)
+        }
         ["set_options", ref fields @ ..] => options(alloc, fields),
         ["revoke", "data", id, name] => revoke_data(alloc, id, name),
         [name, ref words @ ..] => Ok(plain(name, words)),

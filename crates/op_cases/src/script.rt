@@ -1,20 +1,21 @@
-//! Cases, read line by line: `case NAME`, `ledger BASE_RESERVE SEQ`, entries, open sponsorships, and the operation.
+//! Cases, read line by line: `case NAME`, `ledger BASE_RESERVE SEQ`, `close TIME`, `transaction SOURCE SEQ PLACE` with
+//! the place of the operation in it, entries, open sponsorships, and the operation.
 
 ghost use Rattle.std.specs.Prelude.{◌≡◌, []};
 ghost use Rattle.std.specs.FinMap.{from_entries};
 ghost use Rattle.op_cases.specs.Ready.{IsReadyLedger};
 
-use crate::answers::{answer, moved_balance};
+use crate::answers::{answer, made_balance, moved_balance};
+use crate::balances::{balance_entry, tell_id};
 use crate::changes::tell_changes;
-use crate::entries::{
-    account_entry, balance_entry, data_entry, held_entry, line_entry, offer_entry,
-};
+use crate::entries::{account_entry, data_entry, offer_entry};
 use crate::ledger::{applied, no_entries, put_all};
+use crate::lines::{held_in, line_in};
 use crate::operations::operation;
-use crate::words::{account_named, bytes_named, letter_of, line_asset};
+use crate::words::{account_named, letter_of, sponsor_in};
 use entry_map::{Batch, Entries, MapBase};
 use item_list::ItemList;
-use ledger_types::{AccountId, LedgerEntry};
+use ledger_types::{AccountId, ClaimableBalanceId, LedgerEntry};
 use op_types::{Operation, OperationResult};
 use sponsor_rules::{Ctx, Sponsorship};
 use std::alloc::{AllocError, Global};
@@ -59,6 +60,27 @@ fn take_ledger(ctx: &mut Ctx, base_reserve: &str, seq: &str) -> bool {
     true
 }
 
+/// Takes the time at which the ledger closes. Answers whether it is one.
+fn take_close(ctx: &mut Ctx, time: &str) -> bool {
+    let Ok(time) = time.parse() else {
+        return false;
+    };
+    ctx.close_time = time;
+    true
+}
+
+/// Takes a transaction's source and sequence number, and the operation's place in it. Answers whether they are some.
+fn take_transaction(ctx: &mut Ctx, source: &str, seq: &str, place: &str) -> bool {
+    let (Some(source), Ok(seq), Ok(place)) = (account_named(source), seq.parse(), place.parse())
+    else {
+        return false;
+    };
+    ctx.tx_source = source;
+    ctx.tx_seq = seq;
+    ctx.op_index = place;
+    true
+}
+
 /// Takes an open sponsorship. Answers whether it is one.
 fn take_open(ctx: &mut Ctx, sponsored: &str, sponsor: &str) -> Result<bool, AllocError> {
     let (Some(sponsored), Some(sponsor)) = (account_named(sponsored), account_named(sponsor)) else {
@@ -78,32 +100,6 @@ fn account_in(
         return Ok(None);
     };
     account_entry(alloc, id, balance, fields)
-}
-
-/// Who pays for an entry: nobody but its owner, or the sponsor behind `by`.
-fn sponsor_in(words: &[&str]) -> Option<Option<AccountId>> {
-    match *words {
-        [] => Some(None),
-        ["by", sponsor] => Some(Some(account_named(sponsor)?)),
-        _ => None,
-    }
-}
-
-fn line_in(id: &str, asset: &str, payer: &[&str]) -> Option<LedgerEntry> {
-    let id = account_named(id)?;
-    let asset = line_asset(&[asset])?;
-    let sponsor = sponsor_in(payer)?;
-    Some(line_entry(id, asset, sponsor))
-}
-
-/// A line with a balance, a limit and flags.
-fn held_in(id: &str, asset: &str, balance: &str, limit: &str, flags: &str) -> Option<LedgerEntry> {
-    let id = account_named(id)?;
-    let asset = line_asset(&[asset])?;
-    let (Ok(balance), Ok(limit), Ok(flags)) = (balance.parse(), limit.parse(), flags.parse()) else {
-        return None;
-    };
-    Some(held_entry(id, asset, balance, limit, flags))
 }
 
 fn offer_in(id: &str, number: &str, payer: &[&str]) -> Option<LedgerEntry> {
@@ -128,26 +124,11 @@ fn data_in(
     data_entry(alloc, id, name, value, sponsor).map(Some)
 }
 
-fn balance_in(
-    alloc: Global,
-    id: &str,
-    claimants: &str,
-    payer: &[&str],
-) -> Result<Option<LedgerEntry>, AllocError> {
-    let (Some(id), Ok(claimants)) = (bytes_named(id), claimants.parse()) else {
-        return Ok(None);
-    };
-    match sponsor_in(payer) {
-        None => Ok(None),
-        Some(sponsor) => balance_entry(alloc, id, claimants, sponsor).map(Some),
-    }
-}
-
 /// The entry that needs no memory.
 fn plain_entry_in(words: &[&str]) -> Option<LedgerEntry> {
     match *words {
         ["line", id, asset, ref payer @ ..] => line_in(id, asset, payer),
-        ["held", id, asset, balance, limit, flags] => held_in(id, asset, balance, limit, flags),
+        ["held", ref words @ ..] => held_in(words),
         ["offer", id, number, ref payer @ ..] => offer_in(id, number, payer),
         _ => None,
     }
@@ -158,7 +139,9 @@ fn entry_in(alloc: Global, words: &[&str]) -> Result<Option<LedgerEntry>, AllocE
     match *words {
         ["account", id, balance, ref fields @ ..] => account_in(alloc, id, balance, fields),
         ["data", id, name, value, ref payer @ ..] => data_in(alloc, id, name, value, payer),
-        ["balance", id, claimants, ref payer @ ..] => balance_in(alloc, id, claimants, payer),
+        ["balance", id, asset, amount, ref fields @ ..] => {
+            balance_entry(alloc, id, asset, amount, fields)
+        }
         _ => Ok(plain_entry_in(words)),
     }
 }
@@ -184,14 +167,34 @@ fn tell_sponsorships<R: Print>(rt: &R, ctx: &Ctx, before: usize) -> io::Result<(
     Ok(())
 }
 
+/// Tells the lumens that a merge moved, if one did.
+fn tell_moved<R: Print>(rt: &R, moved: Option<i64>) -> io::Result<()> {
+    match moved {
+        None => Ok(()),
+        Some(moved) => print!(rt; " moved {moved}"),
+    }
+}
+
+/// Tells the id of a claimable balance that was made, if one was.
+fn tell_made<R: Print>(rt: &R, made: Option<ClaimableBalanceId>) -> io::Result<()> {
+    match made {
+        None => Ok(()),
+        Some(id) => {
+            print!(rt; " made ")?;
+            tell_id(rt, &id)
+        }
+    }
+}
+
 fn tell_answer<R: Print>(rt: &R, answered: OperationResult) -> io::Result<()> {
     let (name, code) = answer(&answered);
     let moved = moved_balance(&answered);
+    let made = made_balance(&answered);
     drop(answered);
-    match moved {
-        None => println!(rt; "{name} {code}"),
-        Some(moved) => println!(rt; "{name} {code} moved {moved}"),
-    }
+    print!(rt; "{name} {code}")?;
+    tell_moved(rt, moved)?;
+    tell_made(rt, made)?;
+    println!(rt; "")
 }
 
 /// Tells what an operation answered, and what it changed.
@@ -318,6 +321,10 @@ fn take_entry(alloc: Global, script: &mut Script, words: &[&str]) -> Result<bool
 fn take_line(alloc: Global, script: &mut Script, words: &[&str]) -> Result<bool, AllocError> {
     match *words {
         ["ledger", base_reserve, seq] => Ok(take_ledger(&mut script.ctx, base_reserve, seq)),
+        ["close", time] => Ok(take_close(&mut script.ctx, time)),
+        ["transaction", source, seq, place] => {
+            Ok(take_transaction(&mut script.ctx, source, seq, place))
+        }
         ["open", sponsored, "by", sponsor] => take_open(&mut script.ctx, sponsored, sponsor),
         _ => take_entry(alloc, script, words),
     }

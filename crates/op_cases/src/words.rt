@@ -1,8 +1,11 @@
-//! Words: accounts and keys are named by a letter, which stands for 32 times that letter; `_` is the empty text, and
-//! `#NUMBER` the text of one byte.
+//! Words: accounts and keys are named by a letter, which stands for 32 times that letter, and ids of claimable balances
+//! by a letter or by 64 hexadecimal digits; `_` is the empty text, and `#NUMBER` the text of one byte.
 
+use hex::FromHex;
 use item_list::ItemList;
-use ledger_types::{AccountId, Hash, SignerKey, TrustLineAsset};
+use ledger_types::{
+    AccountId, Asset, ClaimableBalanceId, Hash, MuxedAccount, SignerKey, TrustLineAsset,
+};
 use std::alloc::{AllocError, Global};
 
 /// 32 times the letter.
@@ -18,6 +21,49 @@ pub fn account_named(word: &str) -> Option<AccountId> {
         Some(bytes) => Some(AccountId(bytes)),
         None => None,
     }
+}
+
+/// Who pays for an entry: nobody but its owner, or the sponsor behind `by`.
+pub fn sponsor_in(words: &[&str]) -> Option<Option<AccountId>> {
+    match *words {
+        [] => Some(None),
+        ["by", sponsor] => Some(Some(account_named(sponsor)?)),
+        _ => None,
+    }
+}
+
+/// One of the customers that share an account: `X#NUMBER`.
+fn customer(key: &str, number: &str) -> Option<MuxedAccount> {
+    let ed25519 = bytes_named(key)?;
+    match number.parse() {
+        Ok(id) => Some(MuxedAccount::MuxedEd25519 { id, ed25519 }),
+        Err(_) => None,
+    }
+}
+
+/// An account, or one of its customers.
+pub fn muxed(word: &str) -> Option<MuxedAccount> {
+    match word.split_once('#') {
+        None => Some(MuxedAccount::Ed25519(bytes_named(word)?)),
+        Some((key, number)) => customer(key, number),
+    }
+}
+
+/// The 32 bytes of 64 hexadecimal digits.
+fn bytes_spelled(digits: &str) -> Option<[u8; 32]> {
+    match <[u8; 32] as FromHex>::from_hex(digits) {
+        Ok(bytes) => Some(bytes),
+        Err(_) => None,
+    }
+}
+
+/// The id of a claimable balance: a letter, or 64 hexadecimal digits.
+pub fn balance_id_named(word: &str) -> Option<ClaimableBalanceId> {
+    let bytes = match bytes_named(word) {
+        Some(bytes) => bytes,
+        None => bytes_spelled(word)?,
+    };
+    Some(ClaimableBalanceId(Hash(bytes)))
 }
 
 /// A signer's key of a kind: `key`, `preauth`, or `signer` for hash-x.
@@ -54,6 +100,24 @@ pub fn line_asset(words: &[&str]) -> Option<TrustLineAsset> {
         ["long", issuer] => long_asset(*b"EUROS\0\0\0\0\0\0\0", issuer),
         ["bad_long", issuer] => long_asset(*b"USD\0\0\0\0\0\0\0\0\0", issuer),
         _ => None,
+    }
+}
+
+/// The same in one word: that of what has one, or a kind, a colon and an issuer, as `long:I`.
+pub fn line_asset_named(word: &str) -> Option<TrustLineAsset> {
+    match word.split_once(':') {
+        None => line_asset(&[word]),
+        Some((kind, issuer)) => line_asset(&[kind, issuer]),
+    }
+}
+
+/// The same of what is no share of a pool.
+pub fn asset_named(word: &str) -> Option<Asset> {
+    match line_asset_named(word)? {
+        TrustLineAsset::Native => Some(Asset::Native),
+        TrustLineAsset::Alphanum4 { code, issuer } => Some(Asset::Alphanum4 { code, issuer }),
+        TrustLineAsset::Alphanum12 { code, issuer } => Some(Asset::Alphanum12 { code, issuer }),
+        TrustLineAsset::PoolShare(_) => None,
     }
 }
 

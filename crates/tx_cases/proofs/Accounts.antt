@@ -1,6 +1,6 @@
 -- Accounts that pass the tests of plain ones.
 use Rattle.std.proofs.Common.{◌≡◌, ◌≢◌, refl, sym, ap, subst, ◌∙◌, ◌≤◌, true, false, not, List, [], ◌∷◌, All, AllPairs}
-use Rattle.std.proofs.Common.{Some, None, map, arith}
+use Rattle.std.proofs.Common.{Some, None, map, length, arith}
 use Rattle.std.proofs.lemmas.Bool.{and_parts}
 use Rattle.std.proofs.lemmas.Bool.Decides.{nat_tests}
 use Rattle.std.proofs.lemmas.Cmp.{tied_itself}
@@ -30,7 +30,7 @@ use Rattle.reserve_rules.specs.Reserve.{greatest_i64, IsInRange}
 use Rattle.legal_rules.specs.Ranges.{AreSignersInRange}
 use Rattle.legal_rules.specs.Supply.{held_in}
 use Rattle.tx_cases.specs.Plain.{is_below, are_rising, is_fine, HasPlainForm, AreNumbersFine, AreSignersFine, IsPlain}
-use Rattle.tx_cases.specs.Plain.{HasFewSigners, IsPlainEntry}
+use Rattle.tx_cases.specs.Plain.{IsPlainEntry}
 
 -- ---- signers
 
@@ -71,13 +71,15 @@ fine id s h =
     }
 
 -- nobody pays for the signers of an account without extensions
-in_range : (id : AccountId) (signers : List Signer) → AreSignersFine id signers
+in_range : (id : AccountId) (signers : List Signer) → length signers ≤ 20 → AreSignersFine id signers
     → AreSignersInRange id signers (map (λ signer. None) signers)
-in_range id signers p = record {
+in_range id signers few p = record {
+  few = few;
   rising = rises signers p.rising;
   weights = All-weaker (λ s. is_fine id s ≡ true) (λ s. (1 ≤ s.weight) × (s.weight ≤ 255))
       (λ s h. ((fine id s h).low, (fine id s h).high)) signers each;
-  others = All-weaker (λ s. is_fine id s ≡ true) (λ s. s.key ≢ key.Ed25519 id.0) (λ s h. (fine id s h).other) signers each;
+  others = All-weaker (λ s. is_fine id s ≡ true) (λ s. s.key ≢ key.Ed25519 id.0)
+      (λ s h. (fine id s h).other) signers each;
   items = length-map signers (λ signer. None);
   paid_by_others = All-map (λ s. s ≢ Some id) (λ signer. None) signers (λ k d lt is. cc);
 }
@@ -96,11 +98,12 @@ range_of a unbound p = record {
       (omega (arith, ints, p.most));
 }
 
-signers_of : (a : AccountEntry) → a.ext ≡ None → AreSignersFine a.account_id a.signers
+signers_of : (a : AccountEntry) → a.ext ≡ None → length a.signers ≤ 20 → AreSignersFine a.account_id a.signers
     → AreSignersInRange a.account_id a.signers (sponsorship_of a).signer_sponsoring_ids
-signers_of a unbound p =
-    subst (λ ext. AreSignersInRange a.account_id a.signers (sponsorship_in a.signers (second_in ext)).signer_sponsoring_ids)
-    (sym unbound) (in_range a.account_id a.signers p)
+signers_of a unbound few p =
+    subst (λ ext. AreSignersInRange a.account_id a.signers
+    (sponsorship_in a.signers (second_in ext)).signer_sponsoring_ids)
+    (sym unbound) (in_range a.account_id a.signers few p)
 
 pub plain_of : (a : AccountEntry) → HasPlainForm a → AreNumbersFine a → is_valid_text a.home_domain ≡ true
     → AreSignersFine a.account_id a.signers → IsPlain a
@@ -112,7 +115,7 @@ plain_of a form numbers domain signers = record {
     greatest_seq_num = numbers.greatest;
     flags = numbers.flags;
     home_domain = domain;
-    signers = signers_of a form.unbound signers;
+    signers = signers_of a form.unbound form.few signers;
   };
 }
 
@@ -128,6 +131,5 @@ plain_entry e a is unsponsored p = record {
     few = omega (arith, p.form.few, p.form.subentries);
     range = p.range;
   };
-  signers = subst HasFewSigners (sym is) p.form.few;
   lumens = ap (held_in asset.Native) is;
 }

@@ -19,7 +19,7 @@ use Rattle.legal_rules.specs.FirstStates.{IsPlainAccount, PlainStatesAreLegal}
 use Rattle.legal_rules.specs.Headers.{IsHeaderInRange}
 use Rattle.legal_rules.specs.Legal.{IsLegal}
 use Rattle.legal_rules.specs.Supply.{held}
-use Rattle.tx_cases.specs.Plain.{HasFewSigners, IsPlainLedger, CanFollow}
+use Rattle.tx_cases.specs.Plain.{IsPlainLedger, CanFollow}
 
 -- ---- none
 
@@ -30,7 +30,6 @@ pub none_are_plain : IsPlainLedger (pos 0) (from_entries [])
 none_are_plain = record {
   keyed = λ k e is. absurd (nothing k e is);
   plain = λ k e is. absurd (nothing k e is);
-  signers = λ k e is. absurd (nothing k e is);
   lumens = total_none (held asset.Native) (from_entries []) (λ k e is. absurd (nothing k e is));
 }
 
@@ -48,7 +47,6 @@ pub plain_with : PutAdds → (m : EntryMap) (e : LedgerEntry) (n after : ℤ) �
 plain_with adds m e n after p new = record {
   keyed = put_each (λ k e. key_of e ≡ k) m e p.keyed refl;
   plain = put_each (λ k e. IsPlainAccount e) m e p.plain new.entry.plain;
-  signers = put_each (λ k e. HasFewSigners e.body) m e p.signers new.entry.signers;
   lumens = sum_of adds m e n new.own new.free p.lumens new.entry.lumens ∙ sym new.together;
 }
 

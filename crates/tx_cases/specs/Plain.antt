@@ -10,8 +10,6 @@ use Rattle.ledger_types.specs.declared.signer.SignerKey.{SignerKey}
 use Rattle.ledger_types.specs.declared.signer.SignerKey.TheVariants as key
 use Rattle.ledger_types.specs.declared.account.AccountEntry.{AccountEntry}
 use Rattle.ledger_types.specs.declared.entry.LedgerEntry.{LedgerEntry}
-use Rattle.ledger_types.specs.declared.entry.LedgerEntryBody.{LedgerEntryBody}
-use Rattle.ledger_types.specs.declared.entry.LedgerEntryBody.TheVariants as body
 use Rattle.ledger_types.specs.Keys.{key_of}
 use Rattle.ledger_types.specs.KeyOrder.{signer_key_cmp}
 use Rattle.entry_map.specs.EntryMap.{EntryMap}
@@ -59,23 +57,17 @@ pub record IsPlain (a : AccountEntry) : Type 0 where
   pub form : HasPlainForm a
   pub range : IsAccountInRange a
 
-abbrev pub HasFewSigners : LedgerEntryBody → Type 0
-HasFewSigners (body.Account a) = length a.signers ≤ 20
-HasFewSigners other = Unit {0}
-
 -- ---- entries
 
 -- the entry of a plain account that nobody sponsors, which holds so many stroops
 pub record IsPlainEntry (n : ℤ) (e : LedgerEntry) : Type 0 where
   pub plain : IsPlainAccount e
-  pub signers : HasFewSigners e.body
   pub lumens : held asset.Native e ≡ n
 
 -- such entries alone, each under its own key, which hold so many stroops together
 pub record IsPlainLedger (n : ℤ) (m : EntryMap) : Type 0 where
   pub keyed : EachEntry (λ k e. key_of e ≡ k) m
   pub plain : EachEntry (λ k e. IsPlainAccount e) m
-  pub signers : EachEntry (λ k e. HasFewSigners e.body) m
   pub lumens : total (held asset.Native) m ≡ n
 
 -- an entry that can be put beside others which hold n stroops, so that all hold `after`

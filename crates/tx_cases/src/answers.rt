@@ -1,6 +1,9 @@
 //! What operations answer, by the protocol's names and numbers.
 
-use op_types::{AccountMergeResult, Coded, OperationResult, OperationResultTr};
+use ledger_types::ClaimableBalanceId;
+use op_types::{
+    AccountMergeResult, Coded, CreateClaimableBalanceResult, OperationResult, OperationResultTr,
+};
 
 /// The operation's name and the code of its result.
 fn own_answer(answer: &OperationResultTr) -> (&'static str, i32) {
@@ -15,6 +18,27 @@ fn own_answer(answer: &OperationResultTr) -> (&'static str, i32) {
         OperationResultTr::BeginSponsoringFutureReserves(code) => ("begin_sponsoring", code.code()),
         OperationResultTr::EndSponsoringFutureReserves(code) => ("end_sponsoring", code.code()),
         OperationResultTr::RevokeSponsorship(code) => ("revoke", code.code()),
+        other => line_answer(other),
+    }
+}
+
+/// The same of an operation on lines and their flags.
+fn line_answer(answer: &OperationResultTr) -> (&'static str, i32) {
+    match answer {
+        OperationResultTr::ChangeTrust(code) => ("change_trust", code.code()),
+        OperationResultTr::AllowTrust(code) => ("allow_trust", code.code()),
+        OperationResultTr::SetTrustLineFlags(code) => ("set_trust_line_flags", code.code()),
+        OperationResultTr::Clawback(code) => ("clawback", code.code()),
+        other => balance_answer(other),
+    }
+}
+
+/// The same of an operation on claimable balances.
+fn balance_answer(answer: &OperationResultTr) -> (&'static str, i32) {
+    match answer {
+        OperationResultTr::CreateClaimableBalance(code) => ("create_balance", code.code()),
+        OperationResultTr::ClaimClaimableBalance(code) => ("claim_balance", code.code()),
+        OperationResultTr::ClawbackClaimableBalance(code) => ("clawback_balance", code.code()),
         _ => ("another operation", 0),
     }
 }
@@ -25,6 +49,16 @@ pub fn moved_balance(answered: &OperationResult) -> Option<i64> {
         OperationResult::Inner(
             OperationResultTr::AccountMerge(AccountMergeResult::Success(moved)),
         ) => Some(*moved),
+        _ => None,
+    }
+}
+
+/// The id of the claimable balance that an operation says it made.
+pub fn made_balance(answered: &OperationResult) -> Option<ClaimableBalanceId> {
+    match answered {
+        OperationResult::Inner(
+            OperationResultTr::CreateClaimableBalance(CreateClaimableBalanceResult::Success(id)),
+        ) => Some(*id),
         _ => None,
     }
 }

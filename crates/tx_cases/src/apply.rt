@@ -2,7 +2,6 @@
 
 ghost use Rattle.std.specs.Prelude.{◌≡◌, ◌<◌};
 ghost use Rattle.legal_rules.specs.Legal.{IsLegal};
-ghost use Rattle.op_laws.specs.Underway.{AreSignersFew};
 ghost use Rattle.xdr_tx.specs.Transactions as xdr;
 
 use entry_map::{Entries, MapBase};
@@ -23,7 +22,6 @@ pub fn applied(
     set: &TransactionSet,
 ) -> Result<Result<SetDone, SetFault>, AllocError>
     requires legal { IsLegal header.now entries.old.current }
-    requires signers { AreSignersFew entries.old.current }
     requires seq { header.now.ledger_seq < 2147483647 }
     requires within { xdr.transaction_set.within set.now }
 {

@@ -3,7 +3,6 @@
 ghost use Rattle.std.specs.Prelude.{◌≡◌, ◌<◌, []};
 ghost use Rattle.std.specs.FinMap.{from_entries};
 ghost use Rattle.legal_rules.specs.Legal.{IsLegal};
-ghost use Rattle.op_laws.specs.Underway.{AreSignersFew};
 ghost use Rattle.xdr_tx.specs.Transactions as xdr;
 
 use crate::apply::applied;
@@ -71,7 +70,6 @@ fn difference_of_set(
     wanted: &Wanted,
 ) -> Result<Option<String>, AllocError>
     requires legal { IsLegal header.now entries.old.current }
-    requires signers { AreSignersFew entries.old.current }
     requires seq { header.now.ledger_seq < 2147483647 }
     requires within { xdr.transaction_set.within set.now }
 {
@@ -91,7 +89,6 @@ fn difference_of_bytes(
     wanted: &Wanted,
 ) -> Result<Option<String>, AllocError>
     requires legal { IsLegal header.now entries.old.current }
-    requires signers { AreSignersFew entries.old.current }
     requires seq { header.now.ledger_seq < 2147483647 }
 {
     let mut cursor = Cursor::new(bytes);

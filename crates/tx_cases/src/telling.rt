@@ -1,6 +1,6 @@
 //! Results of transactions as text: each says all that its result has.
 
-use crate::answers::{answer, moved_balance};
+use crate::answers::{answer, made_balance, moved_balance};
 use ledger_types::Hash;
 use op_types::{
     Coded, InnerTransactionOutcome, InnerTransactionResultPair, OperationResult,
@@ -8,24 +8,42 @@ use op_types::{
 };
 use std::alloc::{AllocError, Global};
 
+fn tell_hash(text: &mut String, hash: &Hash) -> Result<(), AllocError> {
+    for byte in hash.0 {
+        write!(text, "{byte:02x}")?;
+    }
+    Ok(())
+}
+
+/// The lumens that an operation moved, where it is a merge.
+fn tell_moved(text: &mut String, answered: &OperationResult) -> Result<(), AllocError> {
+    match moved_balance(answered) {
+        None => Ok(()),
+        Some(moved) => write!(text, " moved {moved}"),
+    }
+}
+
+/// The id of the claimable balance that an operation made, where it did.
+fn tell_made(text: &mut String, answered: &OperationResult) -> Result<(), AllocError> {
+    match made_balance(answered) {
+        None => Ok(()),
+        Some(id) => {
+            write!(text, " made ")?;
+            tell_hash(text, &id.0)
+        }
+    }
+}
+
 fn tell_operation(text: &mut String, answered: &OperationResult) -> Result<(), AllocError> {
     let (name, code) = answer(answered);
-    match moved_balance(answered) {
-        None => write!(text, " {name} {code}"),
-        Some(moved) => write!(text, " {name} {code} moved {moved}"),
-    }
+    write!(text, " {name} {code}")?;
+    tell_moved(text, answered)?;
+    tell_made(text, answered)
 }
 
 fn tell_operations(text: &mut String, results: &[OperationResult]) -> Result<(), AllocError> {
     for answered in results {
         tell_operation(text, answered)?;
-    }
-    Ok(())
-}
-
-fn tell_hash(text: &mut String, hash: &Hash) -> Result<(), AllocError> {
-    for byte in hash.0 {
-        write!(text, "{byte:02x}")?;
     }
     Ok(())
 }

@@ -3,6 +3,7 @@ use Rattle.entry_map.specs.Undo.{Undo}
 use Rattle.op_form.proofs.Balances.{balances_put}
 use Rattle.op_form.proofs.Premises.{ready_with}
 use Rattle.op_cases.specs.Ready.{IsReadyLedger}
+use Rattle.op_cases.proofs.Amounts.{amounts_put}
 use Rattle.op_cases.proofs.ledger.put.Goals as goal
 
 pub returns : goal.returns
@@ -14,4 +15,5 @@ returns c =
         account = c.is_fine.ensures.range fine;
         line = c.is_fine.ensures.lines fine;
       }) c.requires.in_range;
+      amounts = amounts_put c.args.entries.now.current c.args.entry (c.is_fine.ensures.amounts fine) c.requires.amounts;
     })

@@ -4,7 +4,7 @@ use crate::entries::entry_of;
 use crate::words::{account_named, line_asset, line_asset_named, sponsor_in};
 use ledger_types::{
     AccountId, LedgerEntry, LedgerEntryBody, Liabilities, TrustLineAsset, TrustLineEntry,
-    TrustLineEntryExtensionV1,
+    TrustLineEntryExtensionV1, TrustLineEntryExtensionV2,
 };
 
 /// The entry of a line without a balance.
@@ -37,6 +37,19 @@ fn line_ext(liabilities: Liabilities) -> Option<TrustLineEntryExtensionV1> {
     })
 }
 
+/// A line's extensions for how many pools use it.
+fn used_ext(count: i32) -> TrustLineEntryExtensionV1 {
+    TrustLineEntryExtensionV1 {
+        liabilities: Liabilities {
+            buying: 0,
+            selling: 0,
+        },
+        ext: Some(TrustLineEntryExtensionV2 {
+            liquidity_pool_use_count: count,
+        }),
+    }
+}
+
 /// The entry of a line that holds something.
 fn held_entry(
     account_id: AccountId,
@@ -44,7 +57,7 @@ fn held_entry(
     balance: i64,
     limit: i64,
     flags: u32,
-    liabilities: Liabilities,
+    ext: Option<TrustLineEntryExtensionV1>,
 ) -> LedgerEntry {
     entry_of(
         LedgerEntryBody::TrustLine(TrustLineEntry {
@@ -53,7 +66,7 @@ fn held_entry(
             balance,
             limit,
             flags,
-            ext: line_ext(liabilities),
+            ext,
         }),
         None,
     )
@@ -74,28 +87,32 @@ fn liabilities_of(buying: &str, selling: &str) -> Option<Liabilities> {
     }
 }
 
-/// What a line's offers buy and sell: nothing, or `buying AMOUNT selling AMOUNT`.
-fn liabilities_in(words: &[&str]) -> Option<Liabilities> {
+/// What a line's extensions say: nothing, `buying AMOUNT selling AMOUNT` of its offers, or `uses COUNT` of pools.
+fn ext_in(words: &[&str]) -> Option<Option<TrustLineEntryExtensionV1>> {
     match *words {
-        [] => Some(Liabilities {
-            buying: 0,
-            selling: 0,
-        }),
-        ["buying", buying, "selling", selling] => liabilities_of(buying, selling),
+        [] => Some(None),
+        ["buying", buying, "selling", selling] => {
+            let liabilities = liabilities_of(buying, selling)?;
+            Some(line_ext(liabilities))
+        }
+        ["uses", count] => match count.parse() {
+            Ok(count) => Some(Some(used_ext(count))),
+            Err(_) => None,
+        },
         _ => None,
     }
 }
 
-/// A line with a balance, a limit and flags, and what its offers buy and sell.
+/// A line with a balance, a limit and flags, and what its extensions say.
 pub fn held_in(words: &[&str]) -> Option<LedgerEntry> {
-    let [id, asset, balance, limit, flags, ref liabilities @ ..] = *words else {
+    let [id, asset, balance, limit, flags, ref ext @ ..] = *words else {
         return None;
     };
     let id = account_named(id)?;
     let asset = line_asset_named(asset)?;
-    let liabilities = liabilities_in(liabilities)?;
+    let ext = ext_in(ext)?;
     let (Ok(balance), Ok(limit), Ok(flags)) = (balance.parse(), limit.parse(), flags.parse()) else {
         return None;
     };
-    Some(held_entry(id, asset, balance, limit, flags, liabilities))
+    Some(held_entry(id, asset, balance, limit, flags, ext))
 }

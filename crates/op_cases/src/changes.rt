@@ -1,128 +1,119 @@
 //! What changed, a line an entry.
 
 use crate::balances::tell_balance;
-use crate::words::letter_of;
+use crate::told::Told;
 use entry_map::Batch;
 use entry_slots::{account_liabilities, line_liabilities, signer_sponsor};
 use ledger_types::{
     AccountEntry, AccountEntryExtensionV2, AccountId, DataEntry, LedgerEntry, LedgerEntryBody,
     LedgerEntryExtensionV1, OfferEntry, Signer, SignerKey, TrustLineAsset, TrustLineEntry,
 };
-use std::alloc::AllocError;
+use std::alloc::{AllocError, Global};
 use std::io;
 
-/// A number that isn't 0.
-fn tell_number<R: Print>(rt: &R, name: &str, number: i64) -> io::Result<()> {
-    if number == 0 {
-        return Ok(());
-    }
-    print!(rt; " {name} {number}")
-}
-
 /// Text, a byte a character.
-fn tell_text<R: Print>(rt: &R, text: &[u8]) -> io::Result<()> {
+fn tell_text(told: &mut Told, text: &[u8]) {
     for byte in text {
-        let letter = *byte as char;
-        print!(rt; "{letter}")?;
+        told.letter(*byte);
     }
-    Ok(())
 }
 
 /// A sponsor, if there is one.
-fn tell_sponsor<R: Print>(rt: &R, sponsor: Option<AccountId>) -> io::Result<()> {
-    match sponsor {
-        None => Ok(()),
-        Some(sponsor) => {
-            let letter = letter_of(&sponsor.0);
-            print!(rt; " by {letter}")
-        }
+fn tell_sponsor(told: &mut Told, sponsor: Option<AccountId>) {
+    if let Some(sponsor) = sponsor {
+        told.word(" by ");
+        told.name(&sponsor.0);
     }
 }
 
 /// Who pays for an entry, where it has the extension for a sponsor.
-fn tell_payer<R: Print>(rt: &R, ext: &Option<LedgerEntryExtensionV1>) -> io::Result<()> {
+fn tell_payer(told: &mut Told, ext: &Option<LedgerEntryExtensionV1>) {
     match ext {
-        None => Ok(()),
+        None => {}
         Some(
             LedgerEntryExtensionV1 {
                 sponsoring_id: None,
             },
-        ) => print!(rt; " by nobody"),
-        Some(ext) => tell_sponsor(rt, ext.sponsoring_id),
+        ) => told.word(" by nobody"),
+        Some(ext) => tell_sponsor(told, ext.sponsoring_id),
     }
 }
 
 /// A signer's kind and letter.
-fn kind_and_letter(key: &SignerKey) -> (&'static str, char) {
+fn tell_key(told: &mut Told, key: &SignerKey) {
     match key {
-        SignerKey::Ed25519(key) => ("key", letter_of(key)),
-        SignerKey::PreAuthTx(hash) => ("preauth", letter_of(&hash.0)),
-        SignerKey::HashX(hash) => ("signer", letter_of(&hash.0)),
-    }
-}
-
-fn tell_signer<R: Print>(rt: &R, signer: &Signer, sponsor: Option<AccountId>) -> io::Result<()> {
-    let (kind, letter) = kind_and_letter(&signer.key);
-    let weight = signer.weight;
-    print!(rt; " {kind} {letter}:{weight}")?;
-    tell_sponsor(rt, sponsor)
-}
-
-fn tell_signers<R: Print>(rt: &R, account: &AccountEntry) -> io::Result<()> {
-    for (place, signer) in account.signers.as_slice().iter().enumerate() {
-        tell_signer(rt, signer, signer_sponsor(account, place))?;
-    }
-    Ok(())
-}
-
-fn tell_thresholds<R: Print>(rt: &R, account: &AccountEntry) -> io::Result<()> {
-    let [master, low, med, high] = account.thresholds;
-    if account.thresholds == [1, 0, 0, 0] {
-        return Ok(());
-    }
-    print!(rt; " thresholds {master},{low},{med},{high}")
-}
-
-fn tell_domain<R: Print>(rt: &R, account: &AccountEntry) -> io::Result<()> {
-    if account.home_domain.is_empty() {
-        return Ok(());
-    }
-    print!(rt; " domain ")?;
-    tell_text(rt, account.home_domain.as_slice())
-}
-
-fn tell_inflation<R: Print>(rt: &R, account: &AccountEntry) -> io::Result<()> {
-    match account.inflation_dest {
-        None => Ok(()),
-        Some(id) => {
-            let letter = letter_of(&id.0);
-            print!(rt; " inflation {letter}")
+        SignerKey::Ed25519(key) => {
+            told.word(" key ");
+            told.name(key)
         }
+        SignerKey::PreAuthTx(hash) => {
+            told.word(" preauth ");
+            told.name(&hash.0)
+        }
+        SignerKey::HashX(hash) => {
+            told.word(" signer ");
+            told.name(&hash.0)
+        }
+    }
+}
+
+fn tell_signer(told: &mut Told, signer: &Signer, sponsor: Option<AccountId>) {
+    tell_key(told, &signer.key);
+    told.word(":");
+    told.number(i64::from(signer.weight));
+    tell_sponsor(told, sponsor);
+}
+
+fn tell_signers(told: &mut Told, account: &AccountEntry) {
+    for (place, signer) in account.signers.as_slice().iter().enumerate() {
+        tell_signer(told, signer, signer_sponsor(account, place));
+    }
+}
+
+fn tell_thresholds(told: &mut Told, account: &AccountEntry) {
+    if account.thresholds == [1, 0, 0, 0] {
+        return;
+    }
+    let [master, low, med, high] = account.thresholds;
+    told.named(" thresholds", i64::from(master));
+    told.word(",");
+    told.number(i64::from(low));
+    told.word(",");
+    told.number(i64::from(med));
+    told.word(",");
+    told.number(i64::from(high));
+}
+
+fn tell_domain(told: &mut Told, account: &AccountEntry) {
+    if !account.home_domain.is_empty() {
+        told.word(" domain ");
+        tell_text(told, account.home_domain.as_slice());
+    }
+}
+
+fn tell_inflation(told: &mut Told, account: &AccountEntry) {
+    if let Some(id) = account.inflation_dest {
+        told.word(" inflation ");
+        told.name(&id.0);
     }
 }
 
 /// What an account has, but nothing that is 0 or none. Where it has the extension for counts of sponsorship, both are
 /// told.
-fn tell_account<R: Print>(rt: &R, account: &AccountEntry) -> io::Result<()> {
-    let letter = letter_of(&account.account_id.0);
-    print!(rt; "account {letter}")?;
-    tell_numbers(rt, account)?;
-    tell_options(rt, account)?;
-    tell_signers(rt, account)?;
-    tell_extensions(rt, account)
-}
-
-fn tell_numbers<R: Print>(rt: &R, account: &AccountEntry) -> io::Result<()> {
-    tell_number(rt, "balance", account.balance)?;
-    tell_number(rt, "seq", account.seq_num)?;
-    tell_number(rt, "subentries", i64::from(account.num_sub_entries))
-}
-
-fn tell_options<R: Print>(rt: &R, account: &AccountEntry) -> io::Result<()> {
-    tell_inflation(rt, account)?;
-    tell_number(rt, "flags", i64::from(account.flags))?;
-    tell_domain(rt, account)?;
-    tell_thresholds(rt, account)
+fn tell_account(told: &mut Told, account: &AccountEntry) {
+    told.word("account ");
+    told.name(&account.account_id.0);
+    told.if_any("balance", account.balance);
+    told.if_any("seq", account.seq_num);
+    told.if_any("subentries", i64::from(account.num_sub_entries));
+    tell_inflation(told, account);
+    told.if_any("flags", i64::from(account.flags));
+    tell_domain(told, account);
+    tell_thresholds(told, account);
+    tell_signers(told, account);
+    tell_counts(told, account);
+    told.if_any("buying", account_liabilities(account).buying);
+    told.if_any("selling", account_liabilities(account).selling);
 }
 
 /// The extension for counts of sponsorship.
@@ -130,78 +121,79 @@ fn counts_of(account: &AccountEntry) -> Option<&AccountEntryExtensionV2> {
     account.ext.as_ref()?.ext.as_ref()
 }
 
-fn tell_counts<R: Print>(rt: &R, account: &AccountEntry) -> io::Result<()> {
-    let Some(counts) = counts_of(account) else {
-        return Ok(());
-    };
-    let sponsored = counts.num_sponsored;
-    let sponsoring = counts.num_sponsoring;
-    print!(rt; " sponsored {sponsored} sponsoring {sponsoring}")
-}
-
-fn tell_extensions<R: Print>(rt: &R, account: &AccountEntry) -> io::Result<()> {
-    tell_counts(rt, account)?;
-    tell_number(rt, "buying", account_liabilities(account).buying)?;
-    tell_number(rt, "selling", account_liabilities(account).selling)
-}
-
-/// Whose line it is, of which pool or issuer, and its numbers that aren't 0.
-fn tell_line<R: Print>(rt: &R, line: &TrustLineEntry) -> io::Result<()> {
-    tell_line_key(rt, line)?;
-    tell_number(rt, "balance", line.balance)?;
-    tell_number(rt, "limit", line.limit)?;
-    tell_number(rt, "flags", i64::from(line.flags))?;
-    tell_number(rt, "buying", line_liabilities(line).buying)?;
-    tell_number(rt, "selling", line_liabilities(line).selling)
-}
-
-fn tell_line_key<R: Print>(rt: &R, line: &TrustLineEntry) -> io::Result<()> {
-    let letter = letter_of(&line.account_id.0);
-    match line.asset {
-        TrustLineAsset::Alphanum4 { code: _, issuer } => {
-            let issuer = letter_of(&issuer.0);
-            print!(rt; "line {letter} {issuer}")
-        }
-        TrustLineAsset::Alphanum12 { code: _, issuer } => {
-            let issuer = letter_of(&issuer.0);
-            print!(rt; "line {letter} long:{issuer}")
-        }
-        TrustLineAsset::PoolShare(_) => print!(rt; "line {letter} pool"),
-        _ => print!(rt; "line {letter}"),
+fn tell_counts(told: &mut Told, account: &AccountEntry) {
+    if let Some(counts) = counts_of(account) {
+        told.named(" sponsored", i64::from(counts.num_sponsored));
+        told.named(" sponsoring", i64::from(counts.num_sponsoring));
     }
 }
 
-fn tell_offer<R: Print>(rt: &R, offer: &OfferEntry) -> io::Result<()> {
-    let letter = letter_of(&offer.seller_id.0);
-    let id = offer.offer_id;
-    print!(rt; "offer {letter} {id}")
+/// Whose line it is, of which pool or issuer, and its numbers that aren't 0.
+fn tell_line(told: &mut Told, line: &TrustLineEntry) {
+    told.word("line ");
+    told.name(&line.account_id.0);
+    tell_line_asset(told, &line.asset);
+    told.if_any("balance", line.balance);
+    told.if_any("limit", line.limit);
+    told.if_any("flags", i64::from(line.flags));
+    told.if_any("buying", line_liabilities(line).buying);
+    told.if_any("selling", line_liabilities(line).selling);
 }
 
-fn tell_data<R: Print>(rt: &R, data: &DataEntry) -> io::Result<()> {
-    let letter = letter_of(&data.account_id.0);
-    print!(rt; "data {letter} ")?;
-    tell_text(rt, data.data_name.as_slice())?;
-    print!(rt; " ")?;
-    tell_text(rt, data.data_value.as_slice())
+fn tell_line_asset(told: &mut Told, asset: &TrustLineAsset) {
+    match asset {
+        TrustLineAsset::Native => {}
+        TrustLineAsset::Alphanum4 { code: _, issuer } => {
+            told.word(" ");
+            told.name(&issuer.0)
+        }
+        TrustLineAsset::Alphanum12 { code: _, issuer } => {
+            told.word(" long:");
+            told.name(&issuer.0)
+        }
+        TrustLineAsset::PoolShare(_) => told.word(" pool"),
+    }
 }
 
-fn tell_body<R: Print>(rt: &R, body: &LedgerEntryBody) -> io::Result<()> {
+fn tell_offer(told: &mut Told, offer: &OfferEntry) {
+    told.word("offer ");
+    told.name(&offer.seller_id.0);
+    told.named("", offer.offer_id);
+}
+
+fn tell_data(told: &mut Told, data: &DataEntry) {
+    told.word("data ");
+    told.name(&data.account_id.0);
+    told.word(" ");
+    tell_text(told, data.data_name.as_slice());
+    told.word(" ");
+    tell_text(told, data.data_value.as_slice());
+}
+
+fn tell_body(told: &mut Told, body: &LedgerEntryBody) {
     match body {
-        LedgerEntryBody::Account(account) => tell_account(rt, account),
-        LedgerEntryBody::TrustLine(line) => tell_line(rt, line),
-        LedgerEntryBody::Offer(offer) => tell_offer(rt, offer),
-        LedgerEntryBody::Data(data) => tell_data(rt, data),
-        LedgerEntryBody::ClaimableBalance(balance) => tell_balance(rt, balance),
-        _ => print!(rt; "another entry"),
+        LedgerEntryBody::Account(account) => tell_account(told, account),
+        LedgerEntryBody::TrustLine(line) => tell_line(told, line),
+        LedgerEntryBody::Offer(offer) => tell_offer(told, offer),
+        LedgerEntryBody::Data(data) => tell_data(told, data),
+        LedgerEntryBody::ClaimableBalance(balance) => tell_balance(told, balance),
+        LedgerEntryBody::LiquidityPool(_) => told.word("another entry"),
     }
 }
 
 /// An entry, and who pays for it.
-fn tell_entry<R: Print>(rt: &R, word: &str, entry: &LedgerEntry) -> io::Result<()> {
-    print!(rt; "  {word} ")?;
-    tell_body(rt, &entry.body)?;
-    tell_payer(rt, &entry.ext)?;
-    println!(rt; "")
+fn entry_told(alloc: Global, word: &str, entry: &LedgerEntry) -> Told {
+    let mut told = Told::new(alloc);
+    told.word("  ");
+    told.word(word);
+    told.word(" ");
+    tell_body(&mut told, &entry.body);
+    tell_payer(&mut told, &entry.ext);
+    told
+}
+
+fn tell_entry<R: Print + AllocGlobal>(rt: &R, word: &str, entry: &LedgerEntry) -> io::Result<()> {
+    entry_told(rt.alloc(), word, entry).print(rt)
 }
 
 /// The entry with the same key.
@@ -219,7 +211,11 @@ fn same_key<'a>(
 }
 
 /// Whether an entry is new, changed or as it was.
-fn tell_after<R: Print>(rt: &R, before: &Batch, entry: &LedgerEntry) -> io::Result<()> {
+fn tell_after<R: Print + AllocGlobal>(
+    rt: &R,
+    before: &Batch,
+    entry: &LedgerEntry,
+) -> io::Result<()> {
     match same_key(before.init.as_slice(), entry)? {
         None => tell_entry(rt, "new", entry),
         Some(old) if old.has_same_parts(entry) => Ok(()),
@@ -228,7 +224,7 @@ fn tell_after<R: Print>(rt: &R, before: &Batch, entry: &LedgerEntry) -> io::Resu
 }
 
 /// Whether an entry is gone.
-fn tell_gone<R: Print>(rt: &R, after: &Batch, entry: &LedgerEntry) -> io::Result<()> {
+fn tell_gone<R: Print + AllocGlobal>(rt: &R, after: &Batch, entry: &LedgerEntry) -> io::Result<()> {
     match same_key(after.init.as_slice(), entry)? {
         None => tell_entry(rt, "gone", entry),
         Some(_) => Ok(()),
@@ -236,7 +232,11 @@ fn tell_gone<R: Print>(rt: &R, after: &Batch, entry: &LedgerEntry) -> io::Result
 }
 
 /// Tells each entry that is new, changed or gone.
-pub fn tell_changes<R: Print>(rt: &R, before: &Batch, after: &Batch) -> io::Result<()> {
+pub fn tell_changes<R: Print + AllocGlobal>(
+    rt: &R,
+    before: &Batch,
+    after: &Batch,
+) -> io::Result<()> {
     for entry in after.init.as_slice() {
         tell_after(rt, before, entry)?;
     }

@@ -2,20 +2,18 @@
 //! answers, each entry that is new, changed or gone, and the open sponsorships where their number changed. A line that
 //! isn't understood ends the program.
 //!
-//! The folder is the program's one argument, or `data` where there is none. What is wanted (`stdout`) was worked out by
-//! hand.
+//! The folder is the program's one argument, or `data` where there is none. `make_cases.py` spells the cases in
+//! `words.txt`. What is wanted (`stdout`) was worked out by hand.
 #![tactic(auto)]
 
 mod answers;
 mod balances;
 mod changes;
-mod claims;
-mod entries;
+mod hexadecimal;
 mod ledger;
-mod lines;
-mod operations;
 mod predicates;
 mod script;
+mod told;
 mod words;
 
 use script::{Script, read_line};

@@ -1,21 +1,20 @@
 //! Cases, read line by line: `case NAME`, `ledger BASE_RESERVE SEQ`, `close TIME`, `transaction SOURCE SEQ PLACE` with
-//! the place of the operation in it, entries, open sponsorships, and the operation.
+//! the place of the operation in it, entries and the operation in hexadecimal, as XDR, and open sponsorships.
 
 ghost use Rattle.std.specs.Prelude.{◌≡◌, []};
 ghost use Rattle.std.specs.FinMap.{from_entries};
 ghost use Rattle.op_cases.specs.Ready.{IsReadyLedger};
 
 use crate::answers::{answer, made_balance, moved_balance};
-use crate::balances::{balance_entry, tell_id};
+use crate::balances::tell_id;
 use crate::changes::tell_changes;
-use crate::entries::{account_entry, data_entry, offer_entry};
+use crate::hexadecimal::{entry_of, operation_of};
 use crate::ledger::{applied, no_entries, put_all};
-use crate::lines::{held_in, line_in};
-use crate::operations::operation;
-use crate::words::{account_named, letter_of, sponsor_in};
+use crate::told::Told;
+use crate::words::account_named;
 use entry_map::{Batch, Entries, MapBase};
 use item_list::ItemList;
-use ledger_types::{AccountId, ClaimableBalanceId, LedgerEntry};
+use ledger_types::{AccountId, LedgerEntry};
 use op_types::{Operation, OperationResult};
 use sponsor_rules::{Ctx, Sponsorship};
 use std::alloc::{AllocError, Global};
@@ -90,71 +89,18 @@ fn take_open(ctx: &mut Ctx, sponsored: &str, sponsor: &str) -> Result<bool, Allo
     Ok(true)
 }
 
-fn account_in(
-    alloc: Global,
-    id: &str,
-    balance: &str,
-    fields: &[&str],
-) -> Result<Option<LedgerEntry>, AllocError> {
-    let (Some(id), Ok(balance)) = (account_named(id), balance.parse()) else {
-        return Ok(None);
-    };
-    account_entry(alloc, id, balance, fields)
-}
-
-fn offer_in(id: &str, number: &str, payer: &[&str]) -> Option<LedgerEntry> {
-    let id = account_named(id)?;
-    let sponsor = sponsor_in(payer)?;
-    match number.parse() {
-        Ok(number) => Some(offer_entry(id, number, sponsor)),
-        Err(_) => None,
-    }
-}
-
-fn data_in(
-    alloc: Global,
-    id: &str,
-    name: &str,
-    value: &str,
-    payer: &[&str],
-) -> Result<Option<LedgerEntry>, AllocError> {
-    let (Some(id), Some(sponsor)) = (account_named(id), sponsor_in(payer)) else {
-        return Ok(None);
-    };
-    data_entry(alloc, id, name, value, sponsor).map(Some)
-}
-
-/// The entry that needs no memory.
-fn plain_entry_in(words: &[&str]) -> Option<LedgerEntry> {
-    match *words {
-        ["line", id, asset, ref payer @ ..] => line_in(id, asset, payer),
-        ["held", ref words @ ..] => held_in(words),
-        ["offer", id, number, ref payer @ ..] => offer_in(id, number, payer),
-        _ => None,
-    }
-}
-
-/// The entry that a line says, if it says one.
-fn entry_in(alloc: Global, words: &[&str]) -> Result<Option<LedgerEntry>, AllocError> {
-    match *words {
-        ["account", id, balance, ref fields @ ..] => account_in(alloc, id, balance, fields),
-        ["data", id, name, value, ref payer @ ..] => data_in(alloc, id, name, value, payer),
-        ["balance", id, asset, amount, ref fields @ ..] => {
-            balance_entry(alloc, id, asset, amount, fields)
-        }
-        _ => Ok(plain_entry_in(words)),
-    }
-}
-
 /// Tells an open sponsorship.
-fn tell_open<R: Print>(rt: &R, sponsorship: &Sponsorship) -> io::Result<()> {
-    let sponsored = letter_of(&sponsorship.sponsored.0);
-    let sponsor = letter_of(&sponsorship.sponsor.0);
-    println!(rt; "  open {sponsored} by {sponsor}")
+fn tell_open<R: Print + AllocGlobal>(rt: &R, sponsorship: &Sponsorship) -> io::Result<()> {
+    let mut told = Told::new(rt.alloc());
+    told.word("  open ");
+    told.name(&sponsorship.sponsored.0);
+    told.word(" by ");
+    told.name(&sponsorship.sponsor.0);
+    told.print(rt)
 }
 
 /// Tells the open sponsorships, where their number changed.
-fn tell_sponsorships<R: Print>(rt: &R, ctx: &Ctx, before: usize) -> io::Result<()> {
+fn tell_sponsorships<R: Print + AllocGlobal>(rt: &R, ctx: &Ctx, before: usize) -> io::Result<()> {
     if ctx.sponsorships.len() == before {
         return Ok(());
     }
@@ -167,50 +113,36 @@ fn tell_sponsorships<R: Print>(rt: &R, ctx: &Ctx, before: usize) -> io::Result<(
     Ok(())
 }
 
-/// Tells the lumens that a merge moved, if one did.
-fn tell_moved<R: Print>(rt: &R, moved: Option<i64>) -> io::Result<()> {
-    match moved {
-        None => Ok(()),
-        Some(moved) => print!(rt; " moved {moved}"),
+/// What an operation answers: with the lumens that a merge says it moved, or the id of a claimable balance that was
+/// made.
+fn answer_told(alloc: Global, answered: &OperationResult) -> Told {
+    let mut told = Told::new(alloc);
+    let (name, code) = answer(answered);
+    told.named(name, i64::from(code));
+    if let Some(moved) = moved_balance(answered) {
+        told.named(" moved", moved);
     }
-}
-
-/// Tells the id of a claimable balance that was made, if one was.
-fn tell_made<R: Print>(rt: &R, made: Option<ClaimableBalanceId>) -> io::Result<()> {
-    match made {
-        None => Ok(()),
-        Some(id) => {
-            print!(rt; " made ")?;
-            tell_id(rt, &id)
-        }
+    if let Some(id) = made_balance(answered) {
+        told.word(" made ");
+        tell_id(&mut told, &id);
     }
-}
-
-fn tell_answer<R: Print>(rt: &R, answered: OperationResult) -> io::Result<()> {
-    let (name, code) = answer(&answered);
-    let moved = moved_balance(&answered);
-    let made = made_balance(&answered);
-    drop(answered);
-    print!(rt; "{name} {code}")?;
-    tell_moved(rt, moved)?;
-    tell_made(rt, made)?;
-    println!(rt; "")
+    told
 }
 
 /// Tells what an operation answered, and what it changed.
-fn tell_all<R: Print>(
+fn tell_all<R: Print + AllocGlobal>(
     rt: &R,
-    answered: OperationResult,
+    answered: &OperationResult,
     before: &Batch,
     entries: &Entries<'_, MapBase>,
 ) -> io::Result<()> {
-    tell_answer(rt, answered)?;
+    answer_told(rt.alloc(), answered).print(rt)?;
     let after = entries.changes()?;
     tell_changes(rt, before, &after)
 }
 
 /// Tells what an operation answered and changed, or that it was not applied.
-fn tell_applied<R: Print>(
+fn tell_applied<R: Print + AllocGlobal>(
     rt: &R,
     answered: Option<OperationResult>,
     before: &Batch,
@@ -218,12 +150,12 @@ fn tell_applied<R: Print>(
 ) -> io::Result<()> {
     match answered {
         None => println!(rt; "not applied"),
-        Some(answered) => tell_all(rt, answered, before, entries),
+        Some(answered) => tell_all(rt, &answered, before, entries),
     }
 }
 
 /// Applies an operation, and tells what it answers and what changed.
-fn apply_and_tell<R: Print>(
+fn apply_and_tell<R: Print + AllocGlobal>(
     rt: &R,
     before: &Batch,
     entries: &mut Entries<'_, MapBase>,
@@ -237,7 +169,7 @@ fn apply_and_tell<R: Print>(
 }
 
 /// Runs the operation of a case, in its ledger.
-fn run_ready<R: Print>(
+fn run_ready<R: Print + AllocGlobal>(
     rt: &R,
     entries: &mut Entries<'_, MapBase>,
     ctx: &mut Ctx,
@@ -286,35 +218,46 @@ fn run<R: Print + AllocGlobal>(rt: &R, script: &mut Script, op: &Operation) -> i
     run_over(rt, &base, script, op)
 }
 
+/// Runs the case of an operation that a text spells. Answers whether it spells one.
+fn run_spelled<R: Print + AllocGlobal>(
+    rt: &R,
+    script: &mut Script,
+    digits: &str,
+) -> io::Result<bool> {
+    match operation_of(rt.alloc(), digits)? {
+        None => Ok(false),
+        Some(op) => {
+            run(rt, script, &op)?;
+            Ok(true)
+        }
+    }
+}
+
 /// Takes the line of the operation, and runs the case. Answers whether it is one.
 fn run_line<R: Print + AllocGlobal>(
     rt: &R,
     script: &mut Script,
     source: &str,
-    words: &[&str],
+    digits: &str,
 ) -> io::Result<bool> {
-    let Some(source) = account_named(source) else {
-        return Ok(false);
-    };
-    let Some(body) = operation(rt.alloc(), words)? else {
-        return Ok(false);
-    };
-    script.ctx.op_source = source;
-    let op = Operation {
-        source_account: None,
-        body,
-    };
-    run(rt, script, &op)?;
-    Ok(true)
+    match account_named(source) {
+        None => Ok(false),
+        Some(source) => {
+            script.ctx.op_source = source;
+            run_spelled(rt, script, digits)
+        }
+    }
 }
 
 /// Takes the line of an entry. Answers whether it is one.
-fn take_entry(alloc: Global, script: &mut Script, words: &[&str]) -> Result<bool, AllocError> {
-    let Some(entry) = entry_in(alloc, words)? else {
-        return Ok(false);
-    };
-    script.entries.push(entry)?;
-    Ok(true)
+fn take_entry(alloc: Global, script: &mut Script, digits: &str) -> Result<bool, AllocError> {
+    match entry_of(alloc, digits)? {
+        None => Ok(false),
+        Some(entry) => {
+            script.entries.push(entry)?;
+            Ok(true)
+        }
+    }
 }
 
 /// Takes a line that says something of the ledger. Answers whether it is one.
@@ -326,7 +269,8 @@ fn take_line(alloc: Global, script: &mut Script, words: &[&str]) -> Result<bool,
             Ok(take_transaction(&mut script.ctx, source, seq, place))
         }
         ["open", sponsored, "by", sponsor] => take_open(&mut script.ctx, sponsored, sponsor),
-        _ => take_entry(alloc, script, words),
+        ["entry", digits] => take_entry(alloc, script, digits),
+        _ => Ok(false),
     }
 }
 
@@ -346,7 +290,7 @@ pub fn read_line<R: Print + AllocGlobal>(
     match *words {
         [] => Ok(true),
         ["case", name] => begin(rt, script, name),
-        ["op", source, ref words @ ..] => run_line(rt, script, source, words),
+        ["op", source, digits] => run_line(rt, script, source, digits),
         _ => Ok(take_line(rt.alloc(), script, words)?),
     }
 }

@@ -1,5 +1,7 @@
 pub mod Walks
 pub mod Turns
+pub mod Passes
 pub mod Places
 pub mod Tables
+pub mod Above
 pub mod Batches

@@ -88,9 +88,13 @@ own_found [] own k e h = absurd (cc)
 own_found (x ∷ xs) own k e h =
     own_at x k e (find key_cmp k xs) own.0 (λ g. own_found xs own.1 k e g) (eq_by_cmp key_cmp k x.0) refl h
 
+pub get_in : (row : List (LedgerKey × LedgerEntry)) (m : EntryMap) (k : LedgerKey) → IsTableRow row → map_of row ≡ m
+    → find key_cmp k row ≡ get m k
+get_in row m k t is = sym (get-from_sorted key_cmp row k t.rises) ∙ ap (λ n. get n k) is
+
 pub keyed_row : (row : List (LedgerKey × LedgerEntry)) (m : EntryMap) → IsTableRow row → map_of row ≡ m → IsKeyed m
 keyed_row row m t is k =
-    subst (λ o. IfSome o (λ e. key_of e ≡ k)) (sym (get-from_sorted key_cmp row k t.rises) ∙ ap (λ n. get n k) is)
+    subst (λ o. IfSome o (λ e. key_of e ≡ k)) (get_in row m k t is)
     (elim (find key_cmp k row) as (λ o. find key_cmp k row ≡ o → IfSome o (λ e. key_of e ≡ k)) [
       | None ↦ λ e. tt
       | Some v ↦ λ e. own_found row t.own k v e
@@ -112,13 +116,18 @@ own_from (x ∷ xs) s h = (
 
 -- ---- the row behind a batch
 
-pub row_behind : (row older newer left changed all : List (LedgerKey × LedgerEntry)) (init live : List LedgerEntry)
-    (gone dead : List LedgerKey) → older ≡ map with_key init → newer ≡ map with_key live → gone ≡ dead
-    → IsOverlaid older newer changed → IsWithout row gone left → IsOverlaid left changed all
-    → IsRowBehind row init live dead all
-row_behind row older newer left changed all init live gone dead is_older is_newer is_gone c l a = record {
-  rises = a.rises;
-  each = λ k. a.each k ∙ (λ i. option_or (c.each k i) (l.each k i))
-      ∙ (λ i. option_or (option_or (value_at k (is_newer i)) (value_at k (is_older i)))
-      (cond (is_among k (is_gone i)) None (value_at k row)));
+or_or : (l i o : Option LedgerEntry) → option_or l (option_or i o) ≡ option_or (option_or l i) o
+or_or None i o = refl
+or_or (Some x) i o = refl
+
+pub row_behind : (row left made all : List (LedgerKey × LedgerEntry)) (init live : List LedgerEntry)
+    (dead : List LedgerKey) → IsWithout row dead left → IsOverlaid left (map with_key init) made
+    → IsOverlaid made (map with_key live) all → IsRowBehind row init live dead all
+row_behind row left made all init live dead w i l = record {
+  rises = l.rises;
+  each = λ k. l.each k
+      ∙ ap (option_or (value_at k (map with_key live)))
+      (i.each k ∙ ap (option_or (value_at k (map with_key init))) (w.each k))
+      ∙ or_or (value_at k (map with_key live)) (value_at k (map with_key init))
+      (cond (is_among k dead) None (value_at k row));
 }

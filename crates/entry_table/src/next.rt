@@ -6,14 +6,14 @@ ghost use Rattle.entry_map.specs.EntryMap.{EntryMap, IsKeyed};
 ghost use Rattle.entry_map.specs.KeyMaps.{AreRising};
 ghost use Rattle.entry_map.specs.Batch.{IsBatch};
 ghost use Rattle.entry_changes.specs.Next.{stamped, AreNextEntries, IsExactBatch};
-ghost use Rattle.entry_table.specs.Rows.{IsRising, IsRowBehind, with_key};
+ghost use Rattle.entry_table.specs.Rows.{IsRising, IsOverlaid, IsWithout, IsRowBehind, with_key, putting, taking};
 
 use crate::kept::Kept;
-use crate::rows::{overlay, without};
 use crate::table::EntryTable;
 use entry_map::Batch;
 use item_list::ItemList;
-use ledger_types::LedgerEntry;
+use ledger_types::{LedgerEntry, LedgerKey};
+use shared_tree::{Change, Tree};
 use std::alloc::{AllocError, Global};
 
 /// Gives entries the number of the ledger that changed them.
@@ -32,7 +32,7 @@ fn stamp_list(seq: u32, entries: &mut ItemList<LedgerEntry>)
     stamp(seq, entries.as_mut_slice());
 }
 
-/// A row of entries, each under its own key.
+/// A row of copies of entries, each under its own key.
 fn row_of(alloc: Global, entries: &[LedgerEntry]) -> Result<Vec<Kept<LedgerEntry>>, AllocError>
     ensures { IfOk result (λ row. row.items ≡ map with_key entries.now) }
 {
@@ -43,9 +43,83 @@ fn row_of(alloc: Global, entries: &[LedgerEntry]) -> Result<Vec<Kept<LedgerEntry
     Ok(row)
 }
 
+/// The changes that put each entry of a row.
+fn puts_of<'a>(
+    alloc: Global,
+    row: &'a [Kept<LedgerEntry>],
+) -> Result<Vec<Change<'a, LedgerKey, LedgerEntry>>, AllocError>
+    ensures { IfOk result (λ changes. changes.items ≡ putting row.now) }
+{
+    let mut changes = Vec::with_capacity(alloc, row.len())?;
+    for kept in row {
+        changes.push(Change::put(kept))?;
+    }
+    Ok(changes)
+}
+
+/// The changes that take what stands under some keys.
+fn takes_of<'a>(
+    alloc: Global,
+    keys: &'a [LedgerKey],
+) -> Result<Vec<Change<'a, LedgerKey, LedgerEntry>>, AllocError>
+    ensures { IfOk result (λ changes. changes.items ≡ taking keys.now) }
+{
+    let mut changes = Vec::with_capacity(alloc, keys.len())?;
+    for key in keys {
+        changes.push(Change::take(key))?;
+    }
+    Ok(changes)
+}
+
+/// A tree with copies of entries put into it, each under its own key.
+fn with_entries(
+    alloc: Global,
+    tree: &Tree<LedgerKey, LedgerEntry>,
+    entries: &[LedgerEntry],
+) -> Result<Tree<LedgerKey, LedgerEntry>, AllocError>
+    requires tree { IsRising tree.now }
+    requires entries { AreRising (map key_of entries.now) }
+    ensures { IfOk result (λ all. IsOverlaid tree.now (map with_key entries.now) all) }
+{
+    let row = row_of(alloc, entries)?;
+    let changes = puts_of(alloc, row.as_slice())?;
+    tree.with_changes(alloc, changes.as_slice())
+}
+
+/// A tree without what stands under some keys.
+fn without_keys(
+    alloc: Global,
+    tree: &Tree<LedgerKey, LedgerEntry>,
+    keys: &[LedgerKey],
+) -> Result<Tree<LedgerKey, LedgerEntry>, AllocError>
+    requires tree { IsRising tree.now }
+    requires keys { AreRising keys.now }
+    ensures { IfOk result (λ left. IsWithout tree.now keys.now left) }
+{
+    let changes = takes_of(alloc, keys)?;
+    tree.with_changes(alloc, changes.as_slice())
+}
+
+/// The tree behind a batch: without what is gone, and with what is new or changed.
+fn next_tree(
+    tree: &Tree<LedgerKey, LedgerEntry>,
+    batch: &Batch,
+) -> Result<Tree<LedgerKey, LedgerEntry>, AllocError>
+    requires tree { IsRising tree.now }
+    requires init { AreRising (map key_of batch.now.init) }
+    requires live { AreRising (map key_of batch.now.live) }
+    requires dead { AreRising batch.now.dead }
+    ensures { IfOk result (λ next. IsRowBehind tree.now batch.now.init batch.now.live batch.now.dead next) }
+{
+    let alloc = batch.init.allocator();
+    let left = without_keys(alloc, tree, batch.dead.as_slice())?;
+    let made = with_entries(alloc, &left, batch.init.as_slice())?;
+    with_entries(alloc, &made, batch.live.as_slice())
+}
+
 impl EntryTable {
     /// The table behind ledger `seq`, by the batch of what its transactions changed: gives the batch's entries the
-    /// number, and shares all others.
+    /// number, and shares all others. It costs what the batch costs, and not what the table has.
     pub fn next(&self, seq: u32, batch: &mut Batch) -> Result<EntryTable, AllocError>
         requires { (worked : EntryMap) × IsKeyed worked × IsBatch self.now worked batch.old }
         ensures next { (worked : EntryMap) → IsKeyed worked → IsBatch self.now worked batch.old
@@ -55,23 +129,7 @@ impl EntryTable {
     {
         stamp_list(seq, &mut batch.init);
         stamp_list(seq, &mut batch.live);
-        let row = next_row(self.row.as_slice(), batch)?;
-        Ok(EntryTable { row })
+        let tree = next_tree(&self.tree, batch)?;
+        Ok(EntryTable { tree })
     }
-}
-
-/// The row behind a batch: without what is gone, and with what is new or changed.
-fn next_row(row: &[Kept<LedgerEntry>], batch: &Batch) -> Result<Vec<Kept<LedgerEntry>>, AllocError>
-    requires row { IsRising row.now }
-    requires init { AreRising (map key_of batch.now.init) }
-    requires live { AreRising (map key_of batch.now.live) }
-    requires dead { AreRising batch.now.dead }
-    ensures { IfOk result (λ next. IsRowBehind row.now batch.now.init batch.now.live batch.now.dead next.items) }
-{
-    let alloc = batch.init.allocator();
-    let init = row_of(alloc, batch.init.as_slice())?;
-    let live = row_of(alloc, batch.live.as_slice())?;
-    let changed = overlay(alloc, init.as_slice(), live.as_slice())?;
-    let left = without(alloc, row, batch.dead.as_slice())?;
-    overlay(alloc, left.as_slice(), changed.as_slice())
 }

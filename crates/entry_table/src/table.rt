@@ -1,17 +1,19 @@
 //! The table of entries behind a closed ledger.
 
-ghost use Rattle.std.specs.Prelude.{◌≡◌, ◌<◌, length, map, slice_get, option_map, IfOk};
+ghost use Rattle.std.specs.Prelude.{◌≡◌, ◌<◌, length, map, slice_get, option_map, Some, IfOk};
+ghost use Rattle.std.specs.Option.{option_copied};
 ghost use Rattle.std.specs.FinMap.{entries, from_entries, values};
 ghost use Rattle.ledger_types.specs.Keys.{key_of};
 ghost use Rattle.ledger_types.specs.KeyOrder.{key_cmp};
 ghost use Rattle.entry_map.specs.EntryMap.{IsKeyed};
 ghost use Rattle.entry_map.specs.KeyMaps.{AreRising};
-ghost use Rattle.entry_table.specs.Rows.{with_key};
+ghost use Rattle.shared_tree.specs.Rows.{first_above};
+ghost use Rattle.entry_table.specs.Rows.{IsRising, with_key};
 
 use crate::kept::Kept;
-use crate::rows::place_of;
 use entry_map::Base;
 use ledger_types::{LedgerEntry, LedgerKey};
+use shared_tree::Tree;
 use std::alloc::{AllocError, Global};
 use std::marker::Model;
 
@@ -19,7 +21,7 @@ use std::marker::Model;
 /// next ledger shares the entries that stay. Contracts see the map.
 #[derive(Drop)]
 pub struct EntryTable {
-    pub(crate) row: Vec<Kept<LedgerEntry>>,
+    pub(crate) tree: Tree<LedgerKey, LedgerEntry>,
 }
 
 impl Model for EntryTable {
@@ -33,9 +35,9 @@ impl Model for EntryTable {
 
     ghost coded = { map.code keys.the_row.coded entry.the_row.coded };
 
-    ghost view = { λ table. map_of table.row.items };
+    ghost view = { λ table. map_of table.tree };
 
-    ghost invariant = { λ table. IsTableRow table.row.items };
+    ghost invariant = { λ table. IsTableRow table.tree };
 }
 
 impl EntryTable {
@@ -46,7 +48,8 @@ impl EntryTable {
         ensures values { IfOk result (λ table. values table ≡ entries.items) }
     {
         let row = kept_row(alloc, entries)?;
-        Ok(EntryTable { row })
+        let tree = Tree::of_row(alloc, row.as_slice())?;
+        Ok(EntryTable { tree })
     }
 
     /// How many entries there are.
@@ -54,7 +57,7 @@ impl EntryTable {
         ensures count { result ≡ length (entries self.now) }
         ensures keyed { IsKeyed self.now }
     {
-        self.row.len()
+        self.tree.len()
     }
 
     /// The entry at a place in the order of keys.
@@ -63,15 +66,12 @@ impl EntryTable {
         ensures entry { slice_get (values self.now) place ≡ Some result.now }
         ensures keyed { IsKeyed self.now }
     {
-        self.row[place].value()
+        self.tree.entry(place)
     }
 }
 
 /// The row of entries, each under its own key.
-pub(crate) fn kept_row(
-    alloc: Global,
-    entries: Vec<LedgerEntry>,
-) -> Result<Vec<Kept<LedgerEntry>>, AllocError>
+fn kept_row(alloc: Global, entries: Vec<LedgerEntry>) -> Result<Vec<Kept<LedgerEntry>>, AllocError>
     ensures { IfOk result (λ row. row.items ≡ map with_key entries.items) }
 {
     let mut row = Vec::with_capacity(alloc, entries.len())?;
@@ -82,13 +82,27 @@ pub(crate) fn kept_row(
     Ok(row)
 }
 
-/// The entry at a place, if there is one.
-fn copied(row: &[Kept<LedgerEntry>], place: usize) -> Result<Option<LedgerEntry>, AllocError>
-    ensures { IfOk result (λ entry. entry ≡ option_map (λ x. x.1) (slice_get row.now place)) }
+/// The first entry above a key, if there is one.
+fn entry_above<'a>(
+    tree: &'a Tree<LedgerKey, LedgerEntry>,
+    key: &LedgerKey,
+) -> Option<&'a LedgerEntry>
+    requires { IsRising tree.now }
+    ensures { option_copied result ≡ option_map (λ x. x.1) (first_above key_cmp key.now tree.now) }
 {
-    match row.get(place) {
+    match tree.above(key) {
+        None => None,
+        Some(kept) => Some(kept.value()),
+    }
+}
+
+/// A copy of an entry, if there is one.
+fn copied(entry: Option<&LedgerEntry>) -> Result<Option<LedgerEntry>, AllocError>
+    ensures { IfOk result (λ copy. copy ≡ option_copied entry.entry) }
+{
+    match entry {
         None => Ok(None),
-        Some(kept) => Ok(Some(kept.value().copy()?)),
+        Some(entry) => Ok(Some(entry.copy()?)),
     }
 }
 
@@ -96,18 +110,10 @@ impl Base for EntryTable {
     ghost entries = { λ table. table };
 
     fn find(&self, key: &LedgerKey) -> Result<Option<LedgerEntry>, AllocError> {
-        let row = self.row.as_slice();
-        match place_of(row, key) {
-            Ok(place) => copied(row, place),
-            Err(_) => Ok(None),
-        }
+        copied(self.tree.find(key))
     }
 
     fn next_after(&self, key: &LedgerKey) -> Result<Option<LedgerEntry>, AllocError> {
-        let row = self.row.as_slice();
-        match place_of(row, key) {
-            Ok(place) => copied(row, place + 1),
-            Err(place) => copied(row, place),
-        }
+        copied(entry_above(&self.tree, key))
     }
 }

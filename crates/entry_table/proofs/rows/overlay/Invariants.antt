@@ -1,10 +1,16 @@
 use Rattle.std.proofs.Common.{◌≡◌, ◌+◌, ◌++◌, length}
-use Rattle.entry_table.specs.Rows.{walk, putting}
+use Rattle.ledger_types.specs.KeyOrder.{key_cmp}
+use Rattle.shared_tree.specs.Rows.{all_changed}
+use Rattle.entry_table.specs.Rows.{putting, IsRising}
 use Rattle.entry_table.proofs.rows.overlay.Given as goal
 
 -- what was written goes on to the whole
 abbrev pub invariant-loop-ahead : goal.invariant-loop-ahead
-invariant-loop-ahead g l = l.all.items ++ walk l.ahead (putting l.turns) ≡ walk l.older (putting l.newer)
+invariant-loop-ahead g l = record {
+  same : l.all.items ++ all_changed key_cmp (putting l.turns) l.ahead ≡ all_changed key_cmp (putting l.newer) l.older;
+  ahead_rises : IsRising l.ahead;
+  turns_rise : IsRising l.turns;
+}
 
 abbrev pub decreases-loop-ahead : goal.decreases-loop-ahead
-decreases-loop-ahead g l = length l.ahead + length (putting l.turns)
+decreases-loop-ahead g l = length l.ahead + length l.turns

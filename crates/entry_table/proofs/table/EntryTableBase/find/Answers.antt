@@ -1,20 +1,18 @@
-use Rattle.std.proofs.Common.{◌∙◌}
+use Rattle.std.proofs.Common.{ap, ◌∙◌}
 use Rattle.std.proofs.lemmas.Result.{IfOk-weaker}
-use Rattle.entry_table.proofs.Places.{found_by, none_by}
-use Rattle.entry_table.proofs.Tables.{keyed_row}
+use Rattle.std.specs.FinMap.Entries.{find}
+use Rattle.entry_map.proofs.KeyMaps.{derived_is}
+use Rattle.entry_table.proofs.Tables.{get_in, keyed_row}
+use Rattle.entry_table.proofs.Walks.{derived_sorted}
 use Rattle.entry_table.proofs.table.EntryTableBase.find.Goals as goal
 
-pub returns-in-Ok-clause-found : goal.returns-in-Ok-clause-found
-returns-in-Ok-clause-found c = IfOk-weaker c.copied.result _ _ (λ entry is. is
-    ∙ found_by c.self.inside.row.items c.as_slice-row.result.now c.args.self.now c.args.key.now c.in-Ok.place
-    c.self.invariant c.self.view_is c.as_slice-row.ensures.value c.in-Ok.ensures.0 c.in-Ok.ensures.1) c.copied.ensures
+pub find-requires : goal.find-requires
+find-requires c = derived_sorted c.self.inside.tree c.self.invariant.rises
 
-pub returns-in-Ok-clause-keyed : goal.returns-in-Ok-clause-keyed
-returns-in-Ok-clause-keyed c = keyed_row c.self.inside.row.items c.args.self.now c.self.invariant c.self.view_is
+pub returns-clause-found : goal.returns-clause-found
+returns-clause-found c = IfOk-weaker c.copied.result _ _ (λ entry is. is ∙ c.find.ensures
+    ∙ ap (λ R. find R c.args.key.now c.self.inside.tree) derived_is
+    ∙ get_in c.self.inside.tree c.args.self.now c.args.key.now c.self.invariant c.self.view_is) c.copied.ensures
 
-pub returns-in-Err-clause-found : goal.returns-in-Err-clause-found
-returns-in-Err-clause-found c = none_by c.self.inside.row.items c.as_slice-row.result.now c.args.self.now
-    c.args.key.now c.in-Err.field-0 c.self.invariant c.self.view_is c.as_slice-row.ensures.value c.in-Err.ensures.1
-
-pub returns-in-Err-clause-keyed : goal.returns-in-Err-clause-keyed
-returns-in-Err-clause-keyed c = keyed_row c.self.inside.row.items c.args.self.now c.self.invariant c.self.view_is
+pub returns-clause-keyed : goal.returns-clause-keyed
+returns-clause-keyed c = keyed_row c.self.inside.tree c.args.self.now c.self.invariant c.self.view_is

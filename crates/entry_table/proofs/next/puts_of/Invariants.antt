@@ -1,0 +1,6 @@
+use Rattle.std.proofs.Common.{◌≡◌, take}
+use Rattle.entry_table.specs.Rows.{putting}
+use Rattle.entry_table.proofs.next.puts_of.Given as goal
+
+abbrev pub invariant-loop-kept : goal.invariant-loop-kept
+invariant-loop-kept l = l.changes.items ≡ putting (take l.kept-index l.row)

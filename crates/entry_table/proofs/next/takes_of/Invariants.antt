@@ -1,0 +1,6 @@
+use Rattle.std.proofs.Common.{◌≡◌, take}
+use Rattle.entry_table.specs.Rows.{taking}
+use Rattle.entry_table.proofs.next.takes_of.Given as goal
+
+abbrev pub invariant-loop-key : goal.invariant-loop-key
+invariant-loop-key l = l.changes.items ≡ taking (take l.key-index l.keys)

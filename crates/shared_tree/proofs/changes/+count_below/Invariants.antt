@@ -1,0 +1,5 @@
+use Rattle.std.proofs.Common.{length}
+use Rattle.shared_tree.proofs.changes.+count_below.Given as goal
+
+abbrev pub decreases-count_below : goal.decreases-count_below
+decreases-count_below g l = length l.changes.now

@@ -1,0 +1,158 @@
+//! Keeping trees level: no side has more than three times what the other has, each counted with one more. That makes
+//! lookups short, and no contract speaks of it.
+
+ghost use Rattle.std.specs.Prelude.{◌≡◌, ◌++◌, ◌∷◌, IfOk, IfSome};
+ghost use Rattle.std.specs.Option.{option_copied};
+ghost use Rattle.shared_tree.specs.Rows.{between};
+
+use crate::kept::Kept;
+use crate::tree::{Fork, Tree};
+use std::alloc::{AllocError, Global};
+
+impl<K, V> Tree<K, V> {
+    /// What stands on top, where the row is too long to stand beside another one.
+    fn heavy_top(&self, other: &Tree<K, V>) -> Option<&Fork<K, V>>
+        ensures { IfSome (option_copied result) (λ fork. self.now ≡ fork.before ++ fork.kept ∷ fork.behind) }
+    {
+        if self.len() / 3 > other.len() {
+            self.top()
+        } else {
+            None
+        }
+    }
+
+    /// What stands on top, where the row has more than twice what another one has.
+    fn inner_top(&self, outer: &Tree<K, V>) -> Option<&Fork<K, V>>
+        ensures { IfSome (option_copied result) (λ fork. self.now ≡ fork.before ++ fork.kept ∷ fork.behind) }
+    {
+        if self.len() - self.len() / 2 > outer.len() {
+            self.top()
+        } else {
+            None
+        }
+    }
+}
+
+impl<K: Drop, V: Drop> Tree<K, V> {
+    /// What stands on top of a row that is too heavy before a value, with that value and what is behind it.
+    fn shifted_behind(
+        alloc: Global,
+        heavy: &Fork<K, V>,
+        kept: &Kept<K, V>,
+        behind: &Tree<K, V>,
+    ) -> Result<Tree<K, V>, AllocError>
+        ensures { IfOk result (λ tree.
+            tree ≡ (heavy.now.before ++ heavy.now.kept ∷ heavy.now.behind) ++ kept.now ∷ behind.now) }
+    {
+        match heavy.behind.inner_top(&heavy.before) {
+            None => {
+                let later = Tree::fork(alloc, &heavy.behind, kept, behind)?;
+                Tree::fork(alloc, &heavy.before, &heavy.kept, &later)
+            }
+            Some(inner) => {
+                let earlier = Tree::fork(alloc, &heavy.before, &heavy.kept, &inner.before)?;
+                let later = Tree::fork(alloc, &inner.behind, kept, behind)?;
+                Tree::fork(alloc, &earlier, &inner.kept, &later)
+            }
+        }
+    }
+
+    /// What stands on top of a row that is too heavy behind a value, with that value and what is before it.
+    fn shifted_before(
+        alloc: Global,
+        before: &Tree<K, V>,
+        kept: &Kept<K, V>,
+        heavy: &Fork<K, V>,
+    ) -> Result<Tree<K, V>, AllocError>
+        ensures { IfOk result (λ tree.
+            tree ≡ before.now ++ kept.now ∷ (heavy.now.before ++ heavy.now.kept ∷ heavy.now.behind)) }
+    {
+        match heavy.before.inner_top(&heavy.behind) {
+            None => {
+                let earlier = Tree::fork(alloc, before, kept, &heavy.before)?;
+                Tree::fork(alloc, &earlier, &heavy.kept, &heavy.behind)
+            }
+            Some(inner) => {
+                let earlier = Tree::fork(alloc, before, kept, &inner.before)?;
+                let later = Tree::fork(alloc, &inner.behind, &heavy.kept, &heavy.behind)?;
+                Tree::fork(alloc, &earlier, &inner.kept, &later)
+            }
+        }
+    }
+
+    /// A value between two rows, one of which may be a little too heavy.
+    fn leveled(
+        alloc: Global,
+        before: &Tree<K, V>,
+        kept: &Kept<K, V>,
+        behind: &Tree<K, V>,
+    ) -> Result<Tree<K, V>, AllocError>
+        ensures { IfOk result (λ tree. tree ≡ before.now ++ kept.now ∷ behind.now) }
+    {
+        if let Some(heavy) = before.heavy_top(behind) {
+            return Tree::shifted_behind(alloc, heavy, kept, behind);
+        }
+        if let Some(heavy) = behind.heavy_top(before) {
+            return Tree::shifted_before(alloc, before, kept, heavy);
+        }
+        Tree::fork(alloc, before, kept, behind)
+    }
+
+    /// A value between two rows of any lengths.
+    fn linked(
+        alloc: Global,
+        before: &Tree<K, V>,
+        kept: &Kept<K, V>,
+        behind: &Tree<K, V>,
+    ) -> Result<Tree<K, V>, AllocError>
+        ensures { IfOk result (λ tree. tree ≡ before.now ++ kept.now ∷ behind.now) }
+    {
+        if let Some(heavy) = before.heavy_top(behind) {
+            let later = Tree::linked(alloc, &heavy.behind, kept, behind)?;
+            return Tree::leveled(alloc, &heavy.before, &heavy.kept, &later);
+        }
+        if let Some(heavy) = behind.heavy_top(before) {
+            let earlier = Tree::linked(alloc, before, kept, &heavy.before)?;
+            return Tree::leveled(alloc, &earlier, &heavy.kept, &heavy.behind);
+        }
+        Tree::fork(alloc, before, kept, behind)
+    }
+
+    /// Two rows of any lengths, one behind the other.
+    fn chained(
+        alloc: Global,
+        before: &Tree<K, V>,
+        behind: &Tree<K, V>,
+    ) -> Result<Tree<K, V>, AllocError>
+        ensures { IfOk result (λ tree. tree ≡ before.now ++ behind.now) }
+    {
+        let Some(earlier) = before.top() else {
+            return behind.share();
+        };
+        let Some(later) = behind.top() else {
+            return before.share();
+        };
+        if before.len() < behind.len() {
+            let front = Tree::chained(alloc, before, &later.before)?;
+            Tree::linked(alloc, &front, &later.kept, &later.behind)
+        } else {
+            let back = Tree::chained(alloc, &earlier.behind, behind)?;
+            Tree::linked(alloc, &earlier.before, &earlier.kept, &back)
+        }
+    }
+
+    /// Two rows of any lengths, with a value between them or without one.
+    pub(crate) fn joined(
+        alloc: Global,
+        before: &Tree<K, V>,
+        middle: Option<&Kept<K, V>>,
+        behind: &Tree<K, V>,
+    ) -> Result<Tree<K, V>, AllocError>
+        ensures { IfOk result (λ tree. tree ≡ before.now ++ between (option_copied middle.entry) behind.now) }
+    {
+        match middle {
+            None => Tree::chained(alloc, before, behind),
+            Some(kept) => Tree::linked(alloc, before, kept, behind),
+        }
+    }
+}

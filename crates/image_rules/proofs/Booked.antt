@@ -3,28 +3,34 @@ use Rattle.std.proofs.Common.{◌≡◌, ◌≢◌, refl, sym, ap, subst, ◌∙
 use Rattle.std.proofs.Common.{Some, None, Bool, IfSome, arith}
 use Rattle.std.proofs.lemmas.Int.{ints}
 use Rattle.std.proofs.lemmas.List.Elements.{All-weaker}
-use Rattle.std.specs.Prelude.{ℤ, pos, IsTrue}
+use Rattle.std.specs.Prelude.{ℤ, pos, ◌+ℤ◌, IsTrue, if◌then◌else◌}
+use Rattle.std.specs.Cmp.{tied_itself}
+use Rattle.std.specs.Ordering.{is_eq}
 use Rattle.std.specs.List.{slice_get}
 use Rattle.std.specs.FinMap.{get, values}
 use Rattle.ledger_types.specs.declared.ids.AccountId.{AccountId}
+use Rattle.ledger_types.specs.declared.account.AccountEntry.{AccountEntry}
 use Rattle.ledger_types.specs.declared.entry.LedgerEntry.{LedgerEntry}
 use Rattle.ledger_types.specs.declared.entry.LedgerEntryBody.{LedgerEntryBody}
 use Rattle.ledger_types.specs.declared.entry.LedgerEntryBody.TheVariants as body
 use Rattle.ledger_types.specs.declared.key.LedgerKey.{LedgerKey}
 use Rattle.ledger_types.specs.declared.key.LedgerKey.TheVariants as key
 use Rattle.ledger_types.specs.Keys.{key_of, key_of_body}
+use Rattle.ledger_types.proofs.KeyOrdering.{keys_total}
 use Rattle.entry_map.specs.EntryMap.{EntryMap, IsKeyed}
-use Rattle.entry_sums.specs.Sums.{total, EachEntry}
-use Rattle.entry_sums.proofs.Summing.{total_none}
+use Rattle.entry_sums.specs.Sums.{total, part, EachEntry}
+use Rattle.entry_sums.proofs.Summing.{total_none, total_only, total_plus}
+use Rattle.legal_rules.specs.EntryKeys.{for_account}
 use Rattle.legal_rules.specs.Legal.{view, pools_in, IsBooked}
 use Rattle.legal_rules.specs.Books.{counted, stated, stated_at}
 use Rattle.close_rules.specs.EntryRules.{AreOwned}
 use Rattle.image_rules.specs.declared.books.AccountBook.{AccountBook}
 use Rattle.image_rules.specs.declared.books.AccountBook.TheVariants as book
 use Rattle.image_rules.specs.Counts.{greatest_count, CountMap, IsCountOf}
-use Rattle.image_rules.specs.AccountBooks.{kind_of, AreCounts, Agrees}
+use Rattle.image_rules.specs.AccountBooks.{kind_of, itself, own_count, counted_itself, counted_else}
+use Rattle.image_rules.specs.AccountBooks.{AreCounts, Agrees, AgreesIn}
 use Rattle.image_rules.proofs.Listed.{stands_at}
-use Rattle.image_rules.proofs.Naming.{named_of_needed, named_accounts, uncounted}
+use Rattle.image_rules.proofs.Naming.{named_of_needed, named_accounts, uncounted, counted_parts, none_itself}
 
 pub keyed_each : (m : EntryMap) → IsKeyed m → EachEntry (λ k e. key_of e ≡ k) m
 keyed_each m keyed k e there = subst (λ o. IfSome o (λ x. key_of x ≡ k)) there (keyed k)
@@ -50,6 +56,30 @@ pub count_stated : (n count : ℕ) (stated sum : ℤ) → n < 4294967296 → sta
 count_stated n count stated sum small is counts same =
     counted_exactly n count counts.exact small counts.capped
     (same_number n counts.exact (sym is ∙ same ∙ counts.is))
+
+-- ---- what an account counts for itself
+
+own_part : (which : AccountBook) (e : LedgerEntry) (a : AccountEntry) → e.body ≡ body.Account a
+    → counted_itself which (key.Account a.account_id) e ≡ pos (own_count which e)
+own_part which e a is =
+    ap (λ b. for_account (key.Account a.account_id) (itself b) (own_count which e)) is
+    ∙ ap (λ r. if is_eq r then pos (own_count which e) else pos 0) (tied_itself keys_total (key.Account a.account_id))
+
+-- what is counted for an account is what others count for it and what it counts itself
+pub total_parts : (which : AccountBook) (m : EntryMap) (e : LedgerEntry) (a : AccountEntry) → IsKeyed m
+    → get m (key_of e) ≡ Some e → e.body ≡ body.Account a
+    → total (counted (view m) (kind_of which) (key_of e)) m
+    ≡ (total (counted_else which (key.Account a.account_id)) m +ℤ pos (own_count which e))
+total_parts which m e a keyed there is =
+    let k : LedgerKey = key.Account a.account_id in
+    let own_key : key_of e ≡ k = ap key_of_body is in
+    ap (λ q. total (counted (view m) (kind_of which) q) m) own_key
+    ∙ total_plus (counted (view m) (kind_of which) k) (counted_else which k) (counted_itself which k) m
+    (counted_parts which (view m) k)
+    ∙ ap (λ n. total (counted_else which k) m +ℤ n)
+    (total_only (counted_itself which k) m k
+    (λ q x at apart. none_itself which k x (λ same. apart (sym (keyed_each m keyed q x at) ∙ same)))
+    ∙ ap (part (counted_itself which k)) (ap (get m) (sym own_key) ∙ there) ∙ own_part which e a is)
 
 -- ---- all entries
 
@@ -106,19 +136,24 @@ states_none book.Subentries b other = refl
 states_none book.Sponsoring b other = refl
 states_none book.Sponsored b other = refl
 
-module _ (which : AccountBook) (m : EntryMap) (counts : CountMap) (e : LedgerEntry) (answer : Bool)
-    (all : AreCounts (kind_of which) m counts) where
+module _ (which : AccountBook) (m : EntryMap) (counts : CountMap) (i : ℕ) (e : LedgerEntry) (answer : Bool)
+    (all : AreCounts which m counts) (keyed : IsKeyed m) (at : slice_get (values m) i ≡ Some e) where
+  there : get m (key_of e) ≡ Some e
+  there = stands_at m i e (keyed_each m keyed) at
+
+  abbrev own : ℕ
+  own = own_count which e
+
   right_other : (b : LedgerEntryBody) → e.body ≡ b → ((id : AccountId) → key.Account id ≢ key_of_body b)
       → IsRight which m e
   right_other b is other = right_by which m e b is (states_none which b other) other
 
-  right_in : (b : LedgerEntryBody) → e.body ≡ b → Agrees counts (kind_of which) b answer → IsTrue answer
+  right_in : (b : LedgerEntryBody) → e.body ≡ b → AgreesIn counts which own b answer → IsTrue answer
       → IsRight which m e
   right_in (body.Account a) is agrees said =
       ap (stated (kind_of which)) is
-      ∙ (agrees (total (counted (view m) (kind_of which) (key.Account a.account_id)) m)
-      (all (key.Account a.account_id))).0 said
-      ∙ ap (λ b. total (counted (view m) (kind_of which) (key_of_body b)) m) (sym is)
+      ∙ (agrees (total (counted_else which (key.Account a.account_id)) m) (all (key.Account a.account_id))).0 said
+      ∙ sym (total_parts which m e a keyed there is)
   right_in (body.TrustLine line) is agrees said = right_other (body.TrustLine line) is (λ id same. cc)
   right_in (body.Offer offer) is agrees said = right_other (body.Offer offer) is (λ id same. cc)
   right_in (body.Data entry) is agrees said = right_other (body.Data entry) is (λ id same. cc)
@@ -126,17 +161,15 @@ module _ (which : AccountBook) (m : EntryMap) (counts : CountMap) (e : LedgerEnt
       right_other (body.ClaimableBalance balance) is (λ id same. cc)
   right_in (body.LiquidityPool pool) is agrees said = right_other (body.LiquidityPool pool) is (λ id same. cc)
 
-  pub right_of_answer : Agrees counts (kind_of which) e.body answer → IsTrue answer → IsRight which m e
+  pub right_of_answer : Agrees counts which e answer → IsTrue answer → IsRight which m e
   right_of_answer agrees said = right_in e.body refl agrees said
 
-  answer_in : (b : LedgerEntryBody) → e.body ≡ b → Agrees counts (kind_of which) b answer → IsRight which m e
+  answer_in : (b : LedgerEntryBody) → e.body ≡ b → AgreesIn counts which own b answer → IsRight which m e
       → IsTrue answer
   answer_in (body.Account a) is agrees right =
-      (agrees (total (counted (view m) (kind_of which) (key.Account a.account_id)) m)
-      (all (key.Account a.account_id))).1
-      (sym (ap (stated (kind_of which)) is) ∙ right
-      ∙ ap (λ b. total (counted (view m) (kind_of which) (key_of_body b)) m) is)
+      (agrees (total (counted_else which (key.Account a.account_id)) m) (all (key.Account a.account_id))).1
+      (sym (ap (stated (kind_of which)) is) ∙ right ∙ total_parts which m e a keyed there is)
   answer_in other is agrees right = agrees
 
-  pub answer_of_right : Agrees counts (kind_of which) e.body answer → IsRight which m e → IsTrue answer
+  pub answer_of_right : Agrees counts which e answer → IsRight which m e → IsTrue answer
   answer_of_right agrees right = answer_in e.body refl agrees right

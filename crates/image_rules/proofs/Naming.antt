@@ -17,6 +17,7 @@ use Rattle.ledger_types.specs.declared.entry.LedgerEntryBody.{LedgerEntryBody}
 use Rattle.ledger_types.specs.declared.entry.LedgerEntryBody.TheVariants as body
 use Rattle.ledger_types.specs.declared.key.LedgerKey.{LedgerKey}
 use Rattle.ledger_types.specs.declared.key.LedgerKey.TheVariants as key
+use Rattle.ledger_types.specs.Keys.{key_of, key_of_body}
 use Rattle.entry_sums.proofs.Lookups.{apart_keys}
 use Rattle.entry_slots.specs.EntrySponsor.{sponsor_of}
 use Rattle.entry_slots.specs.AccountExtensions.{second_in, sponsorship_in, sponsorship_of}
@@ -26,10 +27,10 @@ use Rattle.legal_rules.specs.EntryKeys.{is_key, for_account}
 use Rattle.legal_rules.specs.Reserves.{is_for, for_each, signer_sponsors_in, subentries_in, sponsored_in_entry}
 use Rattle.legal_rules.specs.Needs.{account_keys, needed_keys, holding_keys}
 use Rattle.legal_rules.specs.PoolShares.{Pools}
-use Rattle.legal_rules.specs.Books.{View, Sponsoring, Sponsored, counted}
+use Rattle.legal_rules.specs.Books.{View, counted}
 use Rattle.image_rules.specs.declared.books.AccountBook.{AccountBook}
 use Rattle.image_rules.specs.declared.books.AccountBook.TheVariants as book
-use Rattle.image_rules.specs.AccountBooks.{kind_of}
+use Rattle.image_rules.specs.AccountBooks.{kind_of, itself, other_owner, own_count, counted_itself, counted_else}
 use Rattle.image_rules.specs.Signers.{ArePayersOthers}
 
 -- ---- lists of keys, one behind another
@@ -224,20 +225,67 @@ paid_sum k (Some id) a b n is = elim (is_key (key.Account id) k) as
       | false ↦ omega (arith, ints)
     ]
 
-pub sponsored_sum : (v : View) (k : LedgerKey) (e : LedgerEntry) (owner : Option AccountId) (paid signers : ℕ)
-    → owner ≡ owner_of e.body → paid + count_by is_there (signer_sponsors_in e.body) ≡ sponsored_in_entry e
+pub sponsored_sum : (k : LedgerKey) (e : LedgerEntry) (owner : Option AccountId) (paid signers : ℕ)
+    → owner ≡ other_owner e.body → paid + count_by is_there (signer_sponsors_in e.body) ≡ sponsored_in_entry e
     → signers ≡ count_by is_there (signer_sponsors_in e.body)
-    → counted v Sponsored k e ≡ (for_account k owner paid +ℤ for_account k owner signers)
-sponsored_sum v k e owner paid signers is sum same =
+    → counted_else book.Sponsored k e ≡ (for_account k owner paid +ℤ for_account k owner signers)
+sponsored_sum k e owner paid signers is sum same =
     ap (λ o. for_account k o (sponsored_in_entry e)) (sym is)
     ∙ paid_sum k owner paid signers (sponsored_in_entry e) (ap (λ n. paid + n) same ∙ sum)
 
-pub sponsoring_sum : (v : View) (k : LedgerKey) (e : LedgerEntry) (sponsor : Option AccountId) (n : ℕ)
+pub sponsoring_sum : (k : LedgerKey) (e : LedgerEntry) (sponsor : Option AccountId) (n : ℕ)
     → sponsor ≡ sponsor_of e → n ≡ multiplicity e.body
-    → counted v Sponsoring k e ≡ (for_account k sponsor n +ℤ for_each k (signer_sponsors_in e.body))
-sponsoring_sum v k e sponsor n is same =
+    → counted_else book.Sponsoring k e ≡ (for_account k sponsor n +ℤ for_each k (signer_sponsors_in e.body))
+sponsoring_sum k e sponsor n is same =
     ap (λ o. for_account k o (multiplicity e.body) +ℤ for_each k (signer_sponsors_in e.body)) (sym is)
     ∙ ap (λ c. for_account k sponsor c +ℤ for_each k (signer_sponsors_in e.body)) (sym same)
+
+-- ---- what an account counts for itself, and what is counted for others
+
+none_more : (a : ℤ) → a ≡ (a +ℤ pos 0)
+none_more a = omega (arith, ints)
+
+none_else : (a : ℤ) → a ≡ (pos 0 +ℤ a)
+none_else a = omega (arith, ints)
+
+nothing_more : (k : LedgerKey) (o : Option AccountId) (a : ℤ) → a ≡ (a +ℤ for_account k o 0)
+nothing_more k None a = none_more a
+nothing_more k (Some id) a = elim (is_key (key.Account id) k) as (λ b. a ≡ (a +ℤ (if b then pos 0 else pos 0))) [
+  | true ↦ none_more a
+  | false ↦ none_more a
+]
+
+owned_parts : (k : LedgerKey) (b : LedgerEntryBody) (n : ℕ) → for_account k (owner_of b) n
+    ≡ (for_account k (other_owner b) n +ℤ for_account k (itself b) n)
+owned_parts k (body.Account a) n = none_else (for_account k (Some a.account_id) n)
+owned_parts k (body.TrustLine line) n = none_more (for_account k (Some line.account_id) n)
+owned_parts k (body.Offer offer) n = none_more (for_account k (Some offer.seller_id) n)
+owned_parts k (body.Data data_entry) n = none_more (for_account k (Some data_entry.account_id) n)
+owned_parts k (body.ClaimableBalance balance) n = none_more (pos 0)
+owned_parts k (body.LiquidityPool pool) n = none_more (pos 0)
+
+pub counted_parts : (which : AccountBook) (v : View) (k : LedgerKey) (e : LedgerEntry)
+    → counted v (kind_of which) k e ≡ (counted_else which k e +ℤ counted_itself which k e)
+counted_parts book.Subentries v k e = owned_parts k e.body (subentries_in e.body)
+counted_parts book.Sponsored v k e = owned_parts k e.body (sponsored_in_entry e)
+counted_parts book.Sponsoring v k e =
+    nothing_more k (itself e.body) (for_account k (sponsor_of e) (multiplicity e.body)
+    +ℤ for_each k (signer_sponsors_in e.body))
+
+-- an account counts nothing for another one
+pub none_itself : (which : AccountBook) (k : LedgerKey) (e : LedgerEntry) → key_of e ≢ k
+    → counted_itself which k e ≡ pos 0
+none_itself which k e other = none_of e.body refl
+  where
+    none_of : (b : LedgerEntryBody) → e.body ≡ b → for_account k (itself b) (own_count which e) ≡ pos 0
+    none_of (body.Account a) is =
+        ap (λ t. if t then pos (own_count which e) else pos 0)
+        (apart_keys (key.Account a.account_id) k (λ same. other (ap key_of_body is ∙ same)))
+    none_of (body.TrustLine line) is = refl
+    none_of (body.Offer offer) is = refl
+    none_of (body.Data data_entry) is = refl
+    none_of (body.ClaimableBalance balance) is = refl
+    none_of (body.LiquidityPool pool) is = refl
 
 -- ---- who pays for signers, by the extension of an account
 

@@ -1,13 +1,18 @@
 -- The books of accounts.
-use Rattle.std.specs.Prelude.{◌≡◌, ◌↔◌, Bool, IsTrue, ℤ}
+use Rattle.std.specs.Prelude.{◌≡◌, ◌↔◌, ℕ, Bool, IsTrue, ℤ, pos, ◌+ℤ◌, Option, Some, None}
+use Rattle.ledger_types.specs.declared.ids.AccountId.{AccountId}
+use Rattle.ledger_types.specs.declared.entry.LedgerEntry.{LedgerEntry}
 use Rattle.ledger_types.specs.declared.entry.LedgerEntryBody.{LedgerEntryBody}
 use Rattle.ledger_types.specs.declared.entry.LedgerEntryBody.TheVariants as body
 use Rattle.ledger_types.specs.declared.key.LedgerKey.{LedgerKey}
 use Rattle.ledger_types.specs.declared.key.LedgerKey.TheVariants as key
 use Rattle.entry_map.specs.EntryMap.{EntryMap}
-use Rattle.entry_sums.specs.Sums.{total}
-use Rattle.legal_rules.specs.Books.{Kind, Subentries, Sponsoring, Sponsored, counted, stated}
-use Rattle.legal_rules.specs.Legal.{view}
+use Rattle.entry_slots.specs.EntrySponsor.{sponsor_of}
+use Rattle.entry_sums.specs.Sums.{Weight, total}
+use Rattle.sponsor_rules.specs.Charge.{multiplicity, owner_of}
+use Rattle.legal_rules.specs.EntryKeys.{for_account}
+use Rattle.legal_rules.specs.Reserves.{subentries_in, signer_sponsors_in, sponsored_in_entry, for_each}
+use Rattle.legal_rules.specs.Books.{Kind, Subentries, Sponsoring, Sponsored, stated}
 use Rattle.image_rules.specs.declared.books.AccountBook.{AccountBook}
 use Rattle.image_rules.specs.declared.books.AccountBook.TheVariants as book
 use Rattle.image_rules.specs.Counts.{CountMap, count_at, IsCountOf}
@@ -17,13 +22,43 @@ kind_of book.Subentries = Subentries
 kind_of book.Sponsoring = Sponsoring
 kind_of book.Sponsored = Sponsored
 
--- what all entries count for each key
-abbrev pub AreCounts : Kind → EntryMap → CountMap → Type 0
-AreCounts kind m counts = (k : LedgerKey) → IsCountOf (count_at counts k) (total (counted (view m) kind k) m)
+-- ---- what an entry counts for itself, and what it counts for others
 
--- whether an account states the sum that is counted for it; what isn't an account has no say
-abbrev pub Agrees : CountMap → Kind → LedgerEntryBody → Bool → Type 0
-Agrees counts kind (body.Account a) answer =
+-- the account that an entry is
+abbrev pub itself : LedgerEntryBody → Option AccountId
+itself (body.Account a) = Some a.account_id
+itself other = None
+
+-- the owner of what isn't an account
+abbrev pub other_owner : LedgerEntryBody → Option AccountId
+other_owner (body.Account a) = None
+other_owner other = owner_of other
+
+-- how much an account counts in a book of which it is the owner itself
+abbrev pub own_count : AccountBook → LedgerEntry → ℕ
+own_count book.Subentries e = subentries_in e.body
+own_count book.Sponsoring e = 0
+own_count book.Sponsored e = sponsored_in_entry e
+
+abbrev pub counted_itself : AccountBook → LedgerKey → Weight
+counted_itself which k e = for_account k (itself e.body) (own_count which e)
+
+abbrev pub counted_else : AccountBook → LedgerKey → Weight
+counted_else book.Subentries k e = for_account k (other_owner e.body) (subentries_in e.body)
+counted_else book.Sponsoring k e =
+    for_account k (sponsor_of e) (multiplicity e.body) +ℤ for_each k (signer_sponsors_in e.body)
+counted_else book.Sponsored k e = for_account k (other_owner e.body) (sponsored_in_entry e)
+
+-- what all entries count for others, for each key
+abbrev pub AreCounts : AccountBook → EntryMap → CountMap → Type 0
+AreCounts which m counts = (k : LedgerKey) → IsCountOf (count_at counts k) (total (counted_else which k) m)
+
+-- whether an account states the sum that is counted for it by itself and by others; what isn't an account has no say
+abbrev pub AgreesIn : CountMap → AccountBook → ℕ → LedgerEntryBody → Bool → Type 0
+AgreesIn counts which own (body.Account a) answer =
     (sum : ℤ) → IsCountOf (count_at counts (key.Account a.account_id)) sum
-    → (IsTrue answer ↔ (stated kind (body.Account a) ≡ sum))
-Agrees counts kind other answer = IsTrue answer
+    → (IsTrue answer ↔ (stated (kind_of which) (body.Account a) ≡ (sum +ℤ pos own)))
+AgreesIn counts which own other answer = IsTrue answer
+
+abbrev pub Agrees : CountMap → AccountBook → LedgerEntry → Bool → Type 0
+Agrees counts which e answer = AgreesIn counts which (own_count which e) e.body answer

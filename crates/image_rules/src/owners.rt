@@ -4,6 +4,8 @@ ghost use Rattle.std.specs.Prelude.{◌≢◌, ◌↔◌, None, All, IsTrue, IfO
 ghost use Rattle.std.specs.List.{flat_map};
 ghost use Rattle.std.specs.FinMap.{get};
 ghost use Rattle.ledger_types.specs.declared.key.LedgerKey.TheVariants as key;
+ghost use Rattle.ledger_types.specs.Keys.{key_of, key_of_body};
+ghost use Rattle.sponsor_rules.specs.Charge as charge;
 ghost use Rattle.legal_rules.specs.Reserves.{signer_sponsors_in};
 ghost use Rattle.legal_rules.specs.Needs.{account_keys, needed_keys};
 ghost use Rattle.legal_rules.specs.Legal.{pools_in};
@@ -48,6 +50,18 @@ fn do_all_stand(entries: &EntryTable, ids: &[Option<AccountId>]) -> Result<bool,
     Ok(true)
 }
 
+/// Whether the owner of an entry stands, where the entry does. An account is its own.
+fn does_owner_stand(entries: &EntryTable, body: &LedgerEntryBody) -> Result<bool, AllocError>
+    requires { get entries.now (key_of_body body.now) ≢ None }
+    ensures { IfOk result (λ there.
+        IsTrue there ↔ All (λ q. get entries.now q ≢ None) (account_keys (charge.owner_of body.now))) }
+{
+    match body {
+        LedgerEntryBody::Account(_) => Ok(true),
+        _ => stands(entries, owner_of(body)),
+    }
+}
+
 /// Whether the sponsors of the signers in an entry stand.
 fn do_payers_stand(entries: &EntryTable, body: &LedgerEntryBody) -> Result<bool, AllocError>
     ensures { IfOk result (λ there.
@@ -73,11 +87,12 @@ fn are_all(owner: bool, sponsor: bool, payers: bool) -> bool
 
 /// Whether what an entry needs stands.
 fn is_owned(entries: &EntryTable, entry: &LedgerEntry) -> Result<bool, AllocError>
-    requires { IsBuiltBody entry.now.body }
+    requires built { IsBuiltBody entry.now.body }
+    requires stands { get entries.now (key_of entry.now) ≢ None }
     ensures { IfOk result (λ kept.
         IsTrue kept ↔ All (λ q. get entries.now q ≢ None) (needed_keys (pools_in entries.now) entry.now)) }
 {
-    let owner = stands(entries, owner_of(&entry.body))?;
+    let owner = does_owner_stand(entries, &entry.body)?;
     let sponsor = stands(entries, sponsor_in(&entry.ext))?;
     let payers = do_payers_stand(entries, &entry.body)?;
     Ok(are_all(owner, sponsor, payers))

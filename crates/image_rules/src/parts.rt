@@ -6,6 +6,7 @@ ghost use Rattle.entry_slots.specs.AccountExtensions.{second_in};
 ghost use Rattle.sponsor_rules.specs.Charge as charge;
 ghost use Rattle.sponsor_laws.specs.Sums.{is_there};
 ghost use Rattle.legal_rules.specs.Reserves as spec;
+ghost use Rattle.image_rules.specs.AccountBooks as books;
 
 use ledger_types::{AccountEntry, AccountEntryExtensionV2, AccountId, LedgerEntryBody};
 use sponsor_rules::{Charge, charge_of};
@@ -21,6 +22,16 @@ pub fn owner_of(body: &LedgerEntryBody) -> Option<AccountId>
             multiplicity: _,
         } => Some(owner),
         _ => None,
+    }
+}
+
+/// The owner of what isn't an account. An account is its own.
+pub fn other_owner(body: &LedgerEntryBody) -> Option<AccountId>
+    ensures { result ≡ books.other_owner body.now }
+{
+    match body {
+        LedgerEntryBody::Account(_) => None,
+        _ => owner_of(body),
     }
 }
 

@@ -1,5 +1,6 @@
 -- The row of what a file says.
-use Rattle.std.proofs.Common.{◌≡◌, ℕ, ◌<◌, true, false, cond, List, [], ◌∷◌, ◌++◌, Option, Some, None, Ok, map}
+use Rattle.std.proofs.Common.{◌≡◌, ℕ, ◌<◌, ◌≤◌, zero-add, drop, true, false, cond, List, [], ◌∷◌, ◌++◌}
+use Rattle.std.proofs.Common.{Option, Some, None, Ok, map}
 use Rattle.std.proofs.Common.{option_map, refl, sym, ap, subst, ◌∙◌, append_assoc, append-nil, arith, length}
 use Rattle.std.specs.Prelude.{IsSomeAnd}
 use Rattle.std.specs.List.{AllByRecursion, flat_map}
@@ -8,8 +9,9 @@ use Rattle.std.specs.FinMap.{entries, entries_sorted, get-entries}
 use Rattle.std.specs.FinMap.Entries.{find, is_sorted, below_all}
 use Rattle.std.proofs.lemmas.List.{length-append}
 use Rattle.std.proofs.lemmas.List.Elements.{recursion_from_All}
-use Rattle.xdr_core.specs.Place.{Place}
+use Rattle.xdr_core.specs.Place.{Place, start_of}
 use Rattle.xdr_core.specs.Leaves.{mark}
+use Rattle.xdr_core.proofs.LeafLaws.{drop_front}
 use Rattle.xdr_entries.specs.Keys.{bucket_entry}
 use Rattle.ledger_types.specs.declared.key.LedgerKey.{LedgerKey}
 use Rattle.ledger_types.specs.declared.bucket.BucketEntry.{BucketEntry}
@@ -17,7 +19,7 @@ use Rattle.ledger_types.specs.KeyOrder.{key_cmp}
 use Rattle.entry_table.specs.Rows.{value_at}
 use Rattle.entry_table.proofs.Walks.{both, first, second, Sorted, Above}
 use Rattle.bucket_items.specs.declared.item.BucketItem.{BucketItem}
-use Rattle.bucket_items.specs.Item.{IsItemText}
+use Rattle.bucket_items.specs.Item.{item_type, Shows}
 use Rattle.bucket_items.specs.MarkedItem.{record_of, IsSpellable, item_at, TakesItem}
 use Rattle.bucket_items.proofs.RecordLaws.{behind_record, record_is_read}
 use Rattle.bucket_core.specs.Bucket.{Change, Filled, Init, Live, Dead, Contents, IsUnderKey}
@@ -44,39 +46,47 @@ starts file rest h is = record {
 }
 
 -- the next item was shown
-abbrev pub Turn : List BucketEntry → Option BucketItem → List ℕ → Type 0
-Turn [] shown rest = shown ≡ None
-Turn (item ∷ others) shown rest =
-    IsSomeAnd shown (λ here. IsItemText here.bytes.now item) × (rest ≡ flat_map record_of others)
+abbrev pub Turn : List BucketEntry → Option BucketItem → Place → Type 0
+Turn [] shown new = shown ≡ None
+Turn (item ∷ others) shown new =
+    IsSomeAnd shown (λ here. Shows here here.bytes.now item)
+    × (new ≡ behind_record 0 item (flat_map record_of others))
 
 taken : (r : Option BucketItem) (new q : Place) (e : BucketEntry) → TakesItem r new e q
-    → IsSomeAnd r (λ here. IsItemText here.bytes.now e) × (new ≡ q)
+    → IsSomeAnd r (λ here. Shows here here.bytes.now e) × (new ≡ q)
 taken None new q e h = absurd h
-taken (Some item) new q e h = (h.1.reads, h.0)
+taken (Some item) new q e h = (h.1, h.0)
 
-turn : (items : List BucketEntry) (p new : Place) (r : Option BucketItem) → AllByRecursion IsSpellable items
-    → p.rest ≡ flat_map record_of items → ((e : BucketEntry) (q : Place) → item_at p ≡ Ok (e, q) → TakesItem r new e q)
-    → (p.rest ≡ [] → (r ≡ None) × (new ≡ p)) → Turn items r new.rest
-turn [] p new r s is item end = (end is).0
-turn (x ∷ xs) p new r s is item end =
+record_at : (text : List ℕ) (x : BucketEntry) (rest : List ℕ) → IsSpellable x → text ≡ record_of x ++ rest
+    → item_at (start_of text) ≡ Ok (x, behind_record 0 x rest)
+record_at text x rest s is = ap (λ (t : List ℕ). item_at (start_of t)) is ∙ record_is_read 0 x rest s
+
+turn : (items : List BucketEntry) (text : List ℕ) (p new : Place) (r : Option BucketItem)
+    → AllByRecursion IsSpellable items → text ≡ flat_map record_of items → p ≡ start_of text
+    → ((e : BucketEntry) (q : Place) → item_at p ≡ Ok (e, q) → TakesItem r new e q)
+    → (p.rest ≡ [] → (r ≡ None) × (new ≡ p)) → Turn items r new
+turn [] text p new r s is start item end = (end (ap (λ (q : Place). q.rest) start ∙ is)).0
+turn (x ∷ xs) text p new r s is start item end =
     let rest = flat_map record_of xs in
-    let place : p ≡ record { at = p.at; rest = record_of x ++ rest } = λ i. record { at = p.at; rest = is i } in
-    let q = behind_record p.at x rest in
-    let t = taken r new q x (item x q (ap item_at place ∙ record_is_read p.at x rest s.0)) in
-    (t.0, ap (λ (y : Place). y.rest) t.1)
+    let q = behind_record 0 x rest in
+    taken r new q x (item x q (ap item_at start ∙ record_at text x rest s.0 is))
 
 record_long : (x : BucketEntry) (rest : List ℕ) → length rest < length (record_of x ++ rest)
 unfolding mark
 record_long x rest = omega (arith, length-append (bucket_entry.spell x) rest)
 
 -- the item in hand is the first one ahead
-pub record Shown (file : Contents) (old new : List ℕ) (row : List (LedgerKey × BucketEntry))
+pub record Shown (file : Contents) (text : List ℕ) (new : Place) (row : List (LedgerKey × BucketEntry))
     (item : BucketItem) : Type 0
   where
     pub is : BucketEntry
-    pub reads : IsItemText item.bytes.now is
-    pub shorter : length new < length old
-    pub goes : (next : List (LedgerKey × BucketEntry)) → next ≡ row ++ rows_of (is ∷ []) → GoesOn file new next
+    pub after : Place
+    pub reads : item_at (start_of text) ≡ Ok (is, after)
+    pub type : item_type is ≡ item.mark
+    pub within : new.at ≤ length text
+    pub shorter : length (drop new.at text) < length text
+    pub goes : (next : List (LedgerKey × BucketEntry)) → next ≡ row ++ rows_of (is ∷ [])
+        → GoesOn file (drop new.at text) next
 
 split_rows : (x : BucketEntry) (xs : List BucketEntry) → rows_of (x ∷ []) ++ rows_of xs ≡ rows_of (x ∷ xs)
 split_rows x xs = elim (key_in x) as (λ o. under_if o x [] ++ rows_of xs ≡ under_if o x (rows_of xs)) [
@@ -84,44 +94,52 @@ split_rows x xs = elim (key_in x) as (λ o. under_if o x [] ++ rows_of xs ≡ un
   | Some k ↦ refl
 ]
 
-shown_of : (items : List BucketEntry) (file : Contents) (p new : Place) (row : List (LedgerKey × BucketEntry))
-    (item : BucketItem) → AllByRecursion IsSpellable items → p.rest ≡ flat_map record_of items
-    → row ++ rows_of items ≡ rows_of (items_of file) → Turn items (Some item) new.rest
-    → Shown file p.rest new.rest row item
-shown_of [] file p new row item s is left t = absurd (cc)
-shown_of (x ∷ xs) file p new row item s is left t = record {
-  is = x;
-  reads = t.0;
-  shorter = subst (λ (r : List ℕ). length new.rest < length r) (sym is)
-      (subst (λ (r : List ℕ). length r < length (record_of x ++ flat_map record_of xs)) (sym t.1)
-      (record_long x (flat_map record_of xs)));
-  goes = λ next grown. record {
-    items = xs;
-    spelled = s.1;
-    text = t.1;
-    left = ap (λ r. r ++ rows_of xs) grown ∙ append_assoc row (rows_of (x ∷ [])) (rows_of xs)
-        ∙ ap (λ r. row ++ r) (split_rows x xs) ∙ left;
-  };
-}
+shown_of : (items : List BucketEntry) (file : Contents) (text : List ℕ) (new : Place)
+    (row : List (LedgerKey × BucketEntry)) (item : BucketItem) → AllByRecursion IsSpellable items
+    → text ≡ flat_map record_of items → row ++ rows_of items ≡ rows_of (items_of file) → Turn items (Some item) new
+    → Shown file text new row item
+shown_of [] file text new row item s is left t = absurd (cc)
+shown_of (x ∷ xs) file text new row item s is left t =
+    let rest : List ℕ = flat_map record_of xs in
+    let at : new.at ≡ length (record_of x) = ap (λ (p : Place). p.at) t.1 ∙ zero-add (length (record_of x)) in
+    let behind : drop new.at text ≡ rest = ap (drop new.at) is ∙ drop_front new.at (record_of x) rest (sym at) in
+    let long : length text ≡ length (record_of x ++ rest) = ap length is in
+    record {
+      is = x;
+      after = behind_record 0 x rest;
+      reads = record_at text x rest s.0 is;
+      type = sym t.0.mark;
+      within = omega (arith, at, long, length-append (record_of x) rest);
+      shorter = omega (arith, ap length behind, long, record_long x rest);
+      goes = λ next grown. record {
+        items = xs;
+        spelled = s.1;
+        text = behind;
+        left = ap (λ r. r ++ rows_of xs) grown ∙ append_assoc row (rows_of (x ∷ [])) (rows_of xs)
+            ∙ ap (λ r. row ++ r) (split_rows x xs) ∙ left;
+      };
+    }
 
-pub shows : (file : Contents) (p new : Place) (row : List (LedgerKey × BucketEntry)) (item : BucketItem)
-    → GoesOn file p.rest row → ((e : BucketEntry) (q : Place) → item_at p ≡ Ok (e, q) → TakesItem (Some item) new e q)
-    → (p.rest ≡ [] → (Some item ≡ None) × (new ≡ p)) → Shown file p.rest new.rest row item
-shows file p new row item g one end =
-    shown_of g.items file p new row item g.spelled g.text g.left
-    (turn g.items p new (Some item) g.spelled g.text one end)
+pub shows : (file : Contents) (text : List ℕ) (p new : Place) (row : List (LedgerKey × BucketEntry)) (item : BucketItem)
+    → GoesOn file text row → p ≡ start_of text
+    → ((e : BucketEntry) (q : Place) → item_at p ≡ Ok (e, q) → TakesItem (Some item) new e q)
+    → (p.rest ≡ [] → (Some item ≡ None) × (new ≡ p)) → Shown file text new row item
+shows file text p new row item g start one end =
+    shown_of g.items file text new row item g.spelled g.text g.left
+    (turn g.items text p new (Some item) g.spelled g.text start one end)
 
-ended_of : (items : List BucketEntry) (file : Contents) (row : List (LedgerKey × BucketEntry)) (rest : List ℕ)
-    → Turn items None rest → row ++ rows_of items ≡ rows_of (items_of file) → row ≡ rows_of (items_of file)
-ended_of [] file row rest t left = sym (append-nil row) ∙ left
-ended_of (x ∷ xs) file row rest t left = absurd t.0
+ended_of : (items : List BucketEntry) (file : Contents) (row : List (LedgerKey × BucketEntry)) (new : Place)
+    → Turn items None new → row ++ rows_of items ≡ rows_of (items_of file) → row ≡ rows_of (items_of file)
+ended_of [] file row new t left = sym (append-nil row) ∙ left
+ended_of (x ∷ xs) file row new t left = absurd t.0
 
-pub ends : (file : Contents) (p new : Place) (row : List (LedgerKey × BucketEntry)) (r : Option BucketItem)
-    → GoesOn file p.rest row → ((e : BucketEntry) (q : Place) → item_at p ≡ Ok (e, q) → TakesItem r new e q)
+pub ends : (file : Contents) (text : List ℕ) (p new : Place) (row : List (LedgerKey × BucketEntry))
+    (r : Option BucketItem) → GoesOn file text row → p ≡ start_of text
+    → ((e : BucketEntry) (q : Place) → item_at p ≡ Ok (e, q) → TakesItem r new e q)
     → (p.rest ≡ [] → (r ≡ None) × (new ≡ p)) → r ≡ None → row ≡ rows_of (items_of file)
-ends file p new row r g one end none =
-    ended_of g.items file row new.rest (subst (λ (o : Option BucketItem). Turn g.items o new.rest) none
-    (turn g.items p new r g.spelled g.text one end)) g.left
+ends file text p new row r g start one end none =
+    ended_of g.items file row new (subst (λ (o : Option BucketItem). Turn g.items o new) none
+    (turn g.items text p new r g.spelled g.text start one end)) g.left
 
 -- ---- what the row says
 

@@ -1,3 +1,5 @@
+pub mod StoredItems
 pub mod FileRows
+pub mod JudgedRows
 pub mod Newest
 pub mod LeftEntries

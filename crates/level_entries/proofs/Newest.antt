@@ -1,19 +1,17 @@
 -- What each key has once a newer file is put over some files.
-use Rattle.std.proofs.Common.{◌≡◌, List, [], ◌∷◌, Option, Some, None, Bool, false, map, option_map, refl, sym, ap}
-use Rattle.std.proofs.Common.{subst, ◌∙◌, ◌↔◌}
-use Rattle.std.proofs.Common.{ℕ, ◌<◌, ◌≤◌, length, get_or, arith, is_some}
-use Rattle.std.specs.Prelude.{IsTrue}
+use Rattle.std.proofs.Common.{◌≡◌, List, [], ◌∷◌, Option, Some, None, false, map, option_map, refl, sym, ap}
+use Rattle.std.proofs.Common.{subst, ◌∙◌}
+use Rattle.std.proofs.Common.{ℕ, is_some}
 use Rattle.std.specs.Option.{option_or}
 use Rattle.ledger_types.specs.declared.key.LedgerKey.{LedgerKey}
 use Rattle.ledger_types.specs.declared.bucket.BucketEntry.{BucketEntry}
-use Rattle.entry_table.specs.Rows.{value_at, IsOverlaid}
+use Rattle.entry_table.specs.Rows.{IsRising, value_at, IsOverlaid}
 use Rattle.bucket_core.specs.Bucket.{Change, Init, Live, Dead, Contents, change_at, version_of, IsUnderKey}
-use Rattle.entry_table.proofs.Walks.{Sorted}
-use Rattle.entry_table.proofs.Places.{found_at, at_of}
 use Rattle.bucket_levels.specs.declared.pair.LevelPair.{LevelPair}
 use Rattle.bucket_levels.specs.Levels.{pair_of}
 use Rattle.bucket_levels.specs.Meaning.{files_of, changes_of, in_front, AreMarkedWell, MayStandOn}
-use Rattle.level_entries.specs.Rows.{told, newest, alone, IsFileRow, IsNewestRow, IsRowOf, MayAllStand}
+use Rattle.level_entries.specs.Rows.{told, newest, alone, IsFileRow, IsNewestRow, IsRowOf, MayAllStand, IsPutOver}
+use Rattle.level_entries.proofs.JudgedRows.{nothing_to_judge, nothing_under}
 
 -- what a change may stand on is told by the newest one
 same_newest : (c d : Change) (xs ys : List Change) → MayStandOn c (d ∷ xs) → MayStandOn c (d ∷ ys)
@@ -110,6 +108,30 @@ module _ (file : Contents) (files : List Contents) where
           (subst (λ (p : Option Change). MayStandOn (told t.0) (alone p)) (n.says k) (may k t.0 t.1)))));
     }
 
+    -- a row that was put over another one, or was refused
+    pub put_over : (o : Option (List (LedgerKey × BucketEntry))) → IsPutOver row newer o → IsRowOf (file ∷ files) o
+    put_over None never = refused never
+    put_over (Some all) h = added all h.0 h.1
+
+-- ---- empty rows
+
+pub over_nothing : (older newer : List (LedgerKey × BucketEntry)) → older ≡ [] → IsRising newer
+    → IsPutOver older newer (Some newer)
+over_nothing older newer none rises = subst (λ (xs : List (LedgerKey × BucketEntry)). IsPutOver xs newer (Some newer))
+    (sym none) (
+      nothing_under [] newer refl,
+      record { rises = rises; each = λ k. or_none (value_at k newer) },
+    )
+  where
+    or_none : (o : Option BucketEntry) → o ≡ option_or o None
+    or_none None = refl
+    or_none (Some item) = refl
+
+pub nothing_over : (older newer : List (LedgerKey × BucketEntry)) → newer ≡ [] → IsRising older
+    → IsPutOver older newer (Some older)
+nothing_over older newer none rises = subst (λ (ys : List (LedgerKey × BucketEntry)). IsPutOver older ys (Some older))
+    (sym none) (nothing_to_judge older [] refl, record { rises = rises; each = λ k. refl })
+
 pub no_files : IsNewestRow [] []
 unfolding changes_of AreMarkedWell
 no_files = record { rises = tt; says = λ k. refl; own = λ k item h. absurd (cc); marks = λ k. tt }
@@ -123,28 +145,6 @@ row_in f files o row h is = subst (λ p. IsRowOf files (option_map f p)) is h
 pub none_in : {V : Type 0} (f : V → List (LedgerKey × BucketEntry)) (files : List Contents) (o : Option V)
     → IsRowOf files (option_map f o) → o ≡ None → ((k : LedgerKey) → AreMarkedWell (changes_of files k)) → ⊥
 none_in f files o h is = subst (λ p. IsRowOf files (option_map f p)) is h
-
-pub all_stand : (older newer : List (LedgerKey × BucketEntry)) (n : ℕ) → length newer ≤ n
-    → ((i : ℕ) (d : LedgerKey × BucketEntry) → i < n → MayStandOn (told (get_or newer i d).1)
-    (alone (option_map told (value_at (get_or newer i d).0 older)))) → MayAllStand older newer
-all_stand older newer n all each k item h =
-    let at = at_of newer k item (k, item) h in
-    subst (λ (x : LedgerKey × BucketEntry). MayStandOn (told x.1) (alone (option_map told (value_at x.0 older)))) at.2
-    (each at.0 (k, item) (omega (arith, all, at.1)))
-
-pub one_refused : (older newer : List (LedgerKey × BucketEntry)) (i : ℕ) (x : LedgerKey × BucketEntry)
-    (item : BucketEntry) (found : Option BucketEntry) (answer : Bool) → Sorted newer → i < length newer
-    → x ≡ get_or newer i x → item ≡ x.1 → found ≡ value_at x.0 older
-    → IsTrue answer ↔ MayStandOn (told item) (alone (option_map told found)) → answer ≡ false
-    → MayAllStand older newer → ⊥
-one_refused older newer i x item found answer s h is same_item same_found judged refusal all =
-    let there : value_at x.0 newer ≡ Some x.1 =
-    subst (λ (y : LedgerKey × BucketEntry). value_at y.0 newer ≡ Some y.1) (sym is) (found_at newer i x s h) in
-    let may : MayStandOn (told item) (alone (option_map told found)) =
-    subst (λ (y : BucketEntry). MayStandOn (told y) (alone (option_map told found))) (sym same_item)
-    (subst (λ (o : Option BucketEntry). MayStandOn (told x.1) (alone (option_map told o))) (sym same_found)
-    (all x.0 x.1 there)) in
-    cc (judged.1 may, refusal)
 
 -- ---- levels
 

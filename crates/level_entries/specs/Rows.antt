@@ -1,10 +1,10 @@
 -- What files say of each key, as rows of items under their keys.
-use Rattle.std.specs.Prelude.{◌≡◌, List, [], ◌∷◌, Option, Some, None, option_map}
+use Rattle.std.specs.Prelude.{◌≡◌, ℕ, ◌+◌, ◌<◌, ◌≤◌, ◌↔◌, List, [], ◌∷◌, drop, length, Option, Some, None, option_map}
 use Rattle.ledger_types.specs.declared.bucket.BucketEntry.{BucketEntry}
 use Rattle.ledger_types.specs.declared.bucket.BucketEntry.TheVariants as bucket
 use Rattle.ledger_types.specs.declared.entry.LedgerEntry.{LedgerEntry}
 use Rattle.ledger_types.specs.declared.key.LedgerKey.{LedgerKey}
-use Rattle.entry_table.specs.Rows.{IsRising, value_at}
+use Rattle.entry_table.specs.Rows.{IsRising, value_at, IsOverlaid, IsPassed}
 use Rattle.bucket_core.specs.Bucket.{Change, Init, Live, Dead, Contents, change_at, IsUnderKey}
 use Rattle.bucket_core.specs.Faults.{key_in}
 use Rattle.bucket_levels.specs.Meaning.{changes_of, AreMarkedWell, MayStandOn}
@@ -72,3 +72,29 @@ IsRowOf files (Some row) = IsNewestRow files row
 abbrev pub MayAllStand : (older newer : List (LedgerKey × BucketEntry)) → Type 0
 MayAllStand older newer = (k : LedgerKey) (item : BucketEntry) → value_at k newer ≡ Some item
     → MayStandOn (told item) (alone (option_map told (value_at k older)))
+
+-- A newer row was put over an older one, or some newer item may not stand there.
+abbrev pub IsPutOver : (older newer : List (LedgerKey × BucketEntry)) → Option (List (LedgerKey × BucketEntry)) → Type 0
+IsPutOver older newer None = MayAllStand older newer → ⊥
+IsPutOver older newer (Some all) = MayAllStand older newer × IsOverlaid older newer all
+
+-- One step of judging: what is left is judged as the whole is, and is shorter; or the whole is refused.
+pub record IsLeftToJudge (older newer others later : List (LedgerKey × BucketEntry)) : Type 0 where
+  pub older_rises : IsRising others
+  pub newer_rises : IsRising later
+  pub same : MayAllStand others later ↔ MayAllStand older newer
+  pub less : length others + length later < length older + length newer
+
+abbrev pub IsJudgedFirst : (older : List (LedgerKey × BucketEntry)) → (place : ℕ)
+    → (newer : List (LedgerKey × BucketEntry)) → (turn : ℕ) → Option (ℕ × ℕ) → Type 0
+IsJudgedFirst older place newer turn None = MayAllStand (drop place older) (drop turn newer) → ⊥
+IsJudgedFirst older place newer turn (Some left) =
+    IsLeftToJudge (drop place older) (drop turn newer) (drop left.0 older) (drop left.1 newer)
+
+-- One step of putting a row over another one: what was written goes on as before, and less is ahead.
+pub record IsPushedFirst (older : List (LedgerKey × BucketEntry)) (place : ℕ)
+    (newer : List (LedgerKey × BucketEntry)) (turn : ℕ) (before after : List (LedgerKey × BucketEntry)) (left : ℕ × ℕ)
+    : Type 0 where
+  pub passed : IsPassed (drop place older) (drop turn newer) (drop left.0 older) (drop left.1 newer) before after
+  pub older_within : left.0 ≤ length older
+  pub newer_within : left.1 ≤ length newer

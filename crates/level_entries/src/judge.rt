@@ -1,44 +1,75 @@
 //! Whether a file's items may stand on what older files say.
 
-ghost use Rattle.std.specs.Prelude.{◌≡◌, ◌↔◌, IsTrue, option_map};
-ghost use Rattle.std.specs.Option.{option_copied};
+ghost use Rattle.std.specs.Prelude.{◌<◌, ◌↔◌, drop, length, IsTrue};
 ghost use Rattle.entry_table.specs.Rows.{IsRising};
-ghost use Rattle.bucket_levels.specs.Meaning.{MayStandOn};
-ghost use Rattle.level_entries.specs.Rows.{told, alone, MayAllStand};
+ghost use Rattle.level_entries.specs.Rows.{MayAllStand, IsJudgedFirst};
+ghost use Rattle.level_entries.specs.Stored.{MayStandBy};
 
-use entry_table::{Kept, look_up};
-use ledger_types::BucketEntry;
+use crate::stored::StoredItem;
+use bucket_items::{BucketEntryType, order};
+use std::cmp::Ordering;
 
-/// Whether an item may stand on the newest older one under its key: INIT on DEAD or nothing, LIVE and DEAD on no DEAD.
-fn may_stand(item: &BucketEntry, older: Option<&BucketEntry>) -> bool
-    ensures { IsTrue result ↔ MayStandOn (told item.now) (alone (option_map told (option_copied older.entry))) }
+/// Whether an item may stand on the newest older one under its key: INIT on DEAD, LIVE and DEAD on no DEAD.
+fn may_stand(item: BucketEntryType, older: BucketEntryType) -> bool
+    ensures { IsTrue result ↔ MayStandBy item older }
 {
     match item {
-        BucketEntry::Init(_) => match older {
-            None => true,
-            Some(BucketEntry::Live(_)) => false,
-            Some(BucketEntry::Init(_)) => false,
-            Some(_) => true,
+        BucketEntryType::Init => match older {
+            BucketEntryType::Live => false,
+            BucketEntryType::Init => false,
+            _ => true,
         },
         _ => match older {
-            None => true,
-            Some(BucketEntry::Live(_)) => true,
-            Some(BucketEntry::Init(_)) => true,
-            Some(_) => false,
+            BucketEntryType::Live => true,
+            BucketEntryType::Init => true,
+            _ => false,
         },
     }
 }
 
-/// Whether each item of a newer row may stand on what an older one has under its key.
-pub(crate) fn may_all_stand(older: &[Kept<BucketEntry>], newer: &[Kept<BucketEntry>]) -> bool
+/// Where two rows are left behind the least key that they have from two places on, or `None` where a newer item may not
+/// stand on the older one under that key.
+fn judge_first(
+    older: &[StoredItem<'_>],
+    place: usize,
+    newer: &[StoredItem<'_>],
+    turn: usize,
+) -> Option<(usize, usize)>
+    requires older { IsRising (drop place older.now) }
+    requires newer { IsRising (drop turn newer.now) }
+    requires place { place < length older.now }
+    requires turn { turn < length newer.now }
+    ensures { IsJudgedFirst older.now place newer.now turn result }
+{
+    let item = &newer[turn];
+    let under = &older[place];
+    match order(under.key(), item.key()) {
+        Ordering::Less => Some((place + 1, turn)),
+        Ordering::Equal => {
+            if may_stand(item.mark(), under.mark()) {
+                Some((place + 1, turn + 1))
+            } else {
+                None
+            }
+        }
+        Ordering::Greater => Some((place, turn + 1)),
+    }
+}
+
+/// Whether each item of a newer row may stand on what an older one has under its key, in one pass.
+pub(crate) fn may_all_stand(older: &[StoredItem<'_>], newer: &[StoredItem<'_>]) -> bool
     requires older { IsRising older.now }
     requires newer { IsRising newer.now }
     ensures { IsTrue result ↔ MayAllStand older.now newer.now }
 {
-    for kept in newer {
-        if !may_stand(kept.value(), look_up(older, kept.key())) {
+    let mut place = 0;
+    let mut turn = 0;
+    while place < older.len() && turn < newer.len() {
+        let Some(left) = judge_first(older, place, newer, turn) else {
             return false;
-        }
+        };
+        place = left.0;
+        turn = left.1;
     }
     true
 }

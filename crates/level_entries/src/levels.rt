@@ -10,88 +10,97 @@ ghost use Rattle.level_entries.specs.Rows.{IsNewestRow, IsRowOf, entries_in};
 ghost use Rattle.level_entries.specs.Rows as spec;
 
 use crate::file_row::file_row;
-use crate::judge::may_all_stand;
+use crate::overlay::put_over;
+use crate::stored::StoredItem;
 use bucket_core::Bucket;
+use bucket_items::BucketEntryType;
 use bucket_levels::LevelPair;
-use entry_table::{EntryTable, Kept, overlay};
+use entry_table::EntryTable;
 use ledger_types::{BucketEntry, LedgerEntry};
 use std::alloc::{AllocError, Global};
 
 /// What each key has once a newer file is put over some files, or `None` where they aren't marked well.
-fn with_file(
+fn with_file<'a>(
     alloc: Global,
-    row: &[Kept<BucketEntry>],
-    bucket: &Bucket,
-) -> Result<Option<Vec<Kept<BucketEntry>>>, AllocError>
-    requires { (files : List Contents) × IsNewestRow files row.now }
-    ensures { (files : List Contents) → IsNewestRow files row.now
+    row: Vec<StoredItem<'a>>,
+    bucket: &'a Bucket,
+) -> Result<Option<Vec<StoredItem<'a>>>, AllocError>
+    requires { (files : List Contents) × IsNewestRow files row.items }
+    ensures { (files : List Contents) → IsNewestRow files row.entry.items
         → IfOk result (λ next. IsRowOf (bucket.now ∷ files) (option_map (λ v. v.items) next)) }
 {
     let newer = file_row(alloc, bucket)?;
-    if !may_all_stand(row, newer.as_slice()) {
-        return Ok(None);
-    }
-    Ok(Some(overlay(alloc, row, newer.as_slice())?))
+    put_over(alloc, row, newer)
 }
 
 /// What each key has once both files of a level are put over some files.
-fn with_pair(
+fn with_pair<'a>(
     alloc: Global,
-    row: &[Kept<BucketEntry>],
-    pair: &LevelPair,
-) -> Result<Option<Vec<Kept<BucketEntry>>>, AllocError>
-    requires { (files : List Contents) × IsNewestRow files row.now }
-    ensures { (files : List Contents) → IsNewestRow files row.now → IfOk result (λ next.
+    row: Vec<StoredItem<'a>>,
+    pair: &'a LevelPair,
+) -> Result<Option<Vec<StoredItem<'a>>>, AllocError>
+    requires { (files : List Contents) × IsNewestRow files row.items }
+    ensures { (files : List Contents) → IsNewestRow files row.entry.items → IfOk result (λ next.
         IsRowOf (pair.now.curr.value ∷ pair.now.snap.value ∷ files) (option_map (λ v. v.items) next)) }
 {
     match with_file(alloc, row, &pair.snap)? {
         None => Ok(None),
-        Some(row) => with_file(alloc, row.as_slice(), &pair.curr),
+        Some(row) => with_file(alloc, row, &pair.curr),
     }
 }
 
 /// What each key has in the files of levels, from the first level on, or `None` where they aren't marked well.
-fn row_of(alloc: Global, pairs: &[LevelPair]) -> Result<Option<Vec<Kept<BucketEntry>>>, AllocError>
+fn row_of<'a>(
+    alloc: Global,
+    pairs: &'a [LevelPair],
+) -> Result<Option<Vec<StoredItem<'a>>>, AllocError>
     ensures { IfOk result (λ row. IsRowOf (files_of (map pair_of pairs.now)) (option_map (λ v. v.items) row)) }
 {
     match pairs {
         [] => Ok(Some(Vec::new(alloc))),
         [pair, deeper @ ..] => match row_of(alloc, deeper)? {
             None => Ok(None),
-            Some(row) => with_pair(alloc, row.as_slice(), pair),
+            Some(row) => with_pair(alloc, row, pair),
         },
     }
 }
 
 /// The entry that an item leaves, if it leaves one.
-fn entry_in(item: &BucketEntry) -> Result<Option<LedgerEntry>, AllocError>
-    ensures { IfOk result (λ entry. entry ≡ spec.entry_in item.now) }
+fn entry_in(item: BucketEntry) -> Option<LedgerEntry>
+    ensures { result ≡ spec.entry_in item }
 {
     match item {
-        BucketEntry::Meta { .. } => Ok(None),
-        BucketEntry::Live(entry) => Ok(Some(entry.copy()?)),
-        BucketEntry::Dead(_) => Ok(None),
-        BucketEntry::Init(entry) => Ok(Some(entry.copy()?)),
+        BucketEntry::Meta { .. } => None,
+        BucketEntry::Live(entry) => Some(entry),
+        BucketEntry::Dead(_) => None,
+        BucketEntry::Init(entry) => Some(entry),
     }
 }
 
 /// Puts the entry that an item leaves at the end, if it leaves one.
-fn push_entry(item: &BucketEntry, entries: &mut Vec<LedgerEntry>) -> Result<(), AllocError>
-    ensures { OnOk result (entries.new.items ≡ entries.old.items ++ spec.in_front_of (spec.entry_in item.now) []) }
+fn push_entry(
+    alloc: Global,
+    item: &StoredItem<'_>,
+    entries: &mut Vec<LedgerEntry>,
+) -> Result<(), AllocError>
+    ensures { OnOk result (entries.new.items ≡ entries.old.items ++ spec.in_front_of (spec.entry_in item.now.1) []) }
 {
-    if let Some(entry) = entry_in(item)? {
+    if item.mark() == BucketEntryType::Dead {
+        return Ok(());
+    }
+    if let Some(entry) = entry_in(item.read(alloc)?) {
         entries.push(entry)?;
     }
     Ok(())
 }
 
-/// The entries that the items of a row leave.
-fn entries_of(alloc: Global, row: &[Kept<BucketEntry>]) -> Result<Vec<LedgerEntry>, AllocError>
-    ensures { IfOk result (λ entries. entries.items ≡ entries_in row.now) }
+/// The entries that the items of a row leave. Items are read from their files here alone.
+fn entries_of(alloc: Global, row: Vec<StoredItem<'_>>) -> Result<Vec<LedgerEntry>, AllocError>
+    ensures { IfOk result (λ entries. entries.items ≡ entries_in row.entry.items) }
 {
-    let mut entries = Vec::with_capacity(alloc, row.len())?;
-    for kept in row {
-        push_entry(kept.value(), &mut entries)?;
+    let mut entries = Vec::new(alloc);
+    for item in &row {
+        push_entry(alloc, item, &mut entries)?;
     }
     Ok(entries)
 }
@@ -107,7 +116,7 @@ pub fn level_entries(alloc: Global, pairs: &[LevelPair]) -> Result<Option<EntryT
     match row_of(alloc, pairs)? {
         None => Ok(None),
         Some(row) => {
-            let entries = entries_of(alloc, row.as_slice())?;
+            let entries = entries_of(alloc, row)?;
             Ok(Some(EntryTable::from_rising(alloc, entries)?))
         }
     }

@@ -4,7 +4,7 @@
 mod file_row;
 mod judge;
 mod levels;
-#[cfg(test)]
-mod tests;
+mod overlay;
+mod stored;
 
 pub use levels::level_entries;

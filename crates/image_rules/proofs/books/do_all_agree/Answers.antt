@@ -9,8 +9,8 @@ returns-then-not-agrees c =
     let e = c.entry.result.now in (
       λ no. absurd (cc),
       λ booked.
-          let holds = answer_of_right c.args.book m c.args.tally.now e c.agrees.result c.requires.counted
-          c.agrees.ensures
+          let holds = answer_of_right c.args.book m c.args.tally.now c.loop-place.place e c.agrees.result
+          c.requires.counted c.entry.ensures.keyed c.entry.ensures.entry c.agrees.ensures
           (right_of_booked c.args.book m c.loop-place.place e c.entry.ensures.keyed c.entry.ensures.entry booked) in cc,
     )
 
@@ -20,8 +20,8 @@ loop-place-preserved c =
     let e = c.entry.result.now in
     holds_more (IsRightKeyed c.args.book m) m c.loop-place.place e c.loop-place.invariant c.entry.ensures.entry (
       c.entry.ensures.keyed,
-      right_of_answer c.args.book m c.args.tally.now e c.agrees.result c.requires.counted c.agrees.ensures
-          c.if-not-agrees.false,
+      right_of_answer c.args.book m c.args.tally.now c.loop-place.place e c.agrees.result c.requires.counted
+          c.entry.ensures.keyed c.entry.ensures.entry c.agrees.ensures c.if-not-agrees.false,
     )
 
 pub returns : goal.returns

@@ -1,8 +1,6 @@
 use Rattle.std.proofs.Common.{subst, sym, arith}
-use Rattle.legal_rules.specs.Books.{counted}
-use Rattle.legal_rules.specs.Legal.{view}
 use Rattle.image_rules.specs.Counts.{count_at, IsCountOf}
-use Rattle.image_rules.specs.AccountBooks.{kind_of}
+use Rattle.image_rules.specs.AccountBooks.{counted_else}
 use Rattle.image_rules.proofs.Listed.{sum_before, sum_more, sum_of_all}
 use Rattle.image_rules.proofs.books.tally_of.Goals as goal
 
@@ -10,13 +8,13 @@ pub loop-place-preserved : goal.loop-place-preserved
 loop-place-preserved c k =
     let m = c.args.entries.now in
     let i = c.loop-place.place in
-    let f = counted (view m) (kind_of c.args.book) k in
+    let f = counted_else c.args.book k in
     subst (IsCountOf (count_at c.add_entry.new.tally k)) (sym (sum_more f m i c.entry.result.now c.entry.ensures.entry))
-    (c.in_ok-add_entry.ensures (view m) k (sum_before f m i) (c.loop-place.invariant k))
+    (c.in_ok-add_entry.ensures k (sum_before f m i) (c.loop-place.invariant k))
 
 pub returns : goal.returns
 returns c k =
     let m = c.args.entries.now in
     subst (IsCountOf (count_at c.loop-place.tally k))
-    (sum_of_all (counted (view m) (kind_of c.args.book) k) m c.loop-place.place (omega arith))
+    (sum_of_all (counted_else c.args.book k) m c.loop-place.place (omega arith))
     (c.loop-place.invariant k)

@@ -1,11 +1,9 @@
 use Rattle.ledger_types.specs.declared.key.LedgerKey.{LedgerKey}
-use Rattle.legal_rules.specs.Books.{counted}
-use Rattle.legal_rules.specs.Legal.{view}
 use Rattle.image_rules.specs.Counts.{count_at, IsCountOf}
-use Rattle.image_rules.specs.AccountBooks.{kind_of}
+use Rattle.image_rules.specs.AccountBooks.{counted_else}
 use Rattle.image_rules.proofs.Listed.{sum_before}
 use Rattle.image_rules.proofs.books.tally_of.Given as goal
 
 abbrev pub invariant-loop-place : goal.invariant-loop-place
 invariant-loop-place l = (k : LedgerKey) → IsCountOf (count_at l.tally k)
-    (sum_before (counted (view l.entries) (kind_of l.book) k) l.entries l.place)
+    (sum_before (counted_else l.book k) l.entries l.place)

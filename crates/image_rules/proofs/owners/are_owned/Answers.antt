@@ -3,14 +3,20 @@ use Rattle.std.specs.FinMap.{get}
 use Rattle.legal_rules.specs.Needs.{needed_keys}
 use Rattle.legal_rules.specs.Legal.{pools_in}
 use Rattle.close_rules.specs.State.{IsBuiltBody}
-use Rattle.image_rules.proofs.Listed.{holds_of_all, holds_at}
+use Rattle.image_rules.proofs.Listed.{holds_of_all, holds_at, stands_at}
+use Rattle.image_rules.proofs.Booked.{keyed_each}
 use Rattle.image_rules.proofs.Bounded.{offers_apart}
 use Rattle.image_rules.proofs.owners.are_owned.Goals as goal
 
 pub is_owned-requires : goal.is_owned-requires
 is_owned-requires c =
-    holds_at (λ x. IsBuiltBody x.body) c.args.entries.now c.loop-place.place c.entry.result.now c.requires
-    c.entry.ensures.entry
+    let m = c.args.entries.now in
+    let e = c.entry.result.now in
+    let there = stands_at m c.loop-place.place e (keyed_each m c.entry.ensures.keyed) c.entry.ensures.entry in
+    record {
+      built = holds_at (λ x. IsBuiltBody x.body) m c.loop-place.place e c.requires c.entry.ensures.entry;
+      stands = λ none. cc (there, none);
+    }
 
 pub returns-then-not-owned : goal.returns-then-not-owned
 returns-then-not-owned c =

@@ -13,7 +13,6 @@ returns c =
     let m = c.args.entries.now in
     let e = c.args.entry.now in
     needed_iff P (pools_in m) e c.are_all.result c.in_ok-owner.owner c.in_ok-sponsor.sponsor c.in_ok-payers.payers
-    (holds_nothing (pools_in m) e.body c.requires) c.are_all.ensures
-    (subst (λ o. IsTrue c.in_ok-owner.owner ↔ All P (account_keys o)) c.owner_of.ensures c.in_ok-owner.ensures)
+    (holds_nothing (pools_in m) e.body c.requires.built) c.are_all.ensures c.in_ok-owner.ensures
     (subst (λ o. IsTrue c.in_ok-sponsor.sponsor ↔ All P (account_keys o)) c.sponsor_in.ensures c.in_ok-sponsor.ensures)
     c.in_ok-payers.ensures

@@ -1,13 +1,15 @@
-use Rattle.std.proofs.Common.{◌<◌, ℕ, option_map, slice_index_or}
-use Rattle.ledger_types.specs.declared.key.LedgerKey.{LedgerKey}
-use Rattle.ledger_types.specs.declared.bucket.BucketEntry.{BucketEntry}
-use Rattle.entry_table.specs.Rows.{value_at}
-use Rattle.bucket_levels.specs.Meaning.{MayStandOn}
-use Rattle.level_entries.specs.Rows.{told, alone}
+use Rattle.std.proofs.Common.{◌+◌, ◌↔◌, drop, length}
+use Rattle.entry_table.specs.Rows.{IsRising}
+use Rattle.level_entries.specs.Rows.{MayAllStand}
 use Rattle.level_entries.proofs.judge.may_all_stand.Given as goal
 
--- the items so far may stand
-abbrev pub invariant-loop-kept : goal.invariant-loop-kept
-invariant-loop-kept l = (i : ℕ) (d : LedgerKey × BucketEntry) → i < l.kept-index
-    → MayStandOn (told (slice_index_or l.newer i d).1)
-    (alone (option_map told (value_at (slice_index_or l.newer i d).0 l.older)))
+-- what is left is judged as the whole is
+abbrev pub invariant-loop-place : goal.invariant-loop-place
+invariant-loop-place l = record {
+  older : IsRising (drop l.place l.older);
+  newer : IsRising (drop l.turn l.newer);
+  same : MayAllStand (drop l.place l.older) (drop l.turn l.newer) ↔ MayAllStand l.older l.newer;
+}
+
+abbrev pub decreases-loop-place : goal.decreases-loop-place
+decreases-loop-place l = length (drop l.place l.older) + length (drop l.turn l.newer)

@@ -38,6 +38,6 @@ returns-in-Some t c =
     (first_and_rest c.args.pairs.now c.pair-item.result c.in-len1-up.len_at_least c.pair-item.is) in
     IfOk-weaker c.with_pair.result _ _ (λ next h.
     subst (λ (fs : List Contents). IsRowOf fs (option_map (λ v. v.items) next)) whole h)
-    (c.with_pair.ensures files (subst (IsNewestRow files) (sym c.as_slice.ensures.value)
+    (c.with_pair.ensures files
     (row_in (λ v. v.items) files c.in_ok-row_of-in-len1-up.field-0 c.in-Some.row
-    c.in_ok-row_of-in-len1-up.ensures c.in-Some.is)))
+    c.in_ok-row_of-in-len1-up.ensures c.in-Some.is))

@@ -1,10 +1,17 @@
-use Rattle.std.proofs.Common.{sym, ◌++◌, [], ◌∙◌}
+use Rattle.std.proofs.Common.{List, ◌<◌, ◌++◌, [], length, get_or, sym, ap, subst, ◌∙◌}
+use Rattle.ledger_types.specs.declared.bucket.BucketEntry.{BucketEntry}
+use Rattle.ledger_types.specs.declared.key.LedgerKey.{LedgerKey}
 use Rattle.level_entries.specs.Rows.{entry_in, in_front_of}
 use Rattle.level_entries.proofs.LeftEntries.{next_entry}
 use Rattle.level_entries.proofs.levels.entries_of.Goals as goal
 
-pub loop-kept-preserved : goal.loop-kept-preserved
-loop-kept-preserved c =
+pub loop-item-preserved : goal.loop-item-preserved
+loop-item-preserved c =
+    let same = c.deref-item-items.ensures.value in
+    let item = c.item-item.result in
+    let place = c.loop-item.item-index in
     c.in_ok-push_entry.ensures
-    ∙ (λ i. c.loop-kept.invariant i ++ in_front_of (entry_in (c.value.ensures i)) [])
-    ∙ sym (next_entry c.args.row.now c.loop-kept.kept-index c.kept-item.result c.loop-kept-test.true c.kept-item.is)
+    ∙ ap (λ es. es ++ in_front_of (entry_in item.1) []) c.loop-item.invariant
+    ∙ sym (next_entry c.args.row.items place item
+    (subst (λ (r : List (LedgerKey × BucketEntry)). place < length r) same c.loop-item-test.true)
+    (c.item-item.is ∙ ap (λ (r : List (LedgerKey × BucketEntry)). get_or r place item) same))

@@ -5,7 +5,6 @@ use Rattle.entry_map.specs.KeyMaps.{AreRising}
 use Rattle.bucket_levels.specs.Levels.{pair_of}
 use Rattle.bucket_levels.specs.Pairs.{Pair, empty_pair}
 use Rattle.bucket_levels.specs.Meaning.{files_of}
-use Rattle.level_entries.specs.Rows.{entries_in}
 use Rattle.level_entries.proofs.Newest.{row_in, empty_of}
 use Rattle.level_entries.proofs.LeftEntries.{entries_rise, stands_for}
 use Rattle.level_entries.proofs.levels.level_entries.Goals as goal
@@ -14,7 +13,7 @@ pub from_rising-requires : goal.from_rising-requires
 from_rising-requires c =
     let files = files_of (map pair_of c.args.pairs.now) in
     subst (λ es. AreRising (map key_of es))
-    (sym (c.in_ok-entries-in-Some.ensures ∙ ap entries_in c.as_slice.ensures.value))
+    (sym c.in_ok-entries-in-Some.ensures)
     (entries_rise files c.in-Some.row.items
     (row_in (λ v. v.items) files c.in_ok-row_of.field-0 c.in-Some.row c.in_ok-row_of.ensures c.in-Some.is))
 
@@ -23,7 +22,7 @@ returns-in_ok-from_rising-in-Some c =
     let levels = map pair_of c.args.pairs.now in
     stands_for levels c.in-Some.row.items c.in_ok-entries-in-Some.entries.items c.in_ok-from_rising-in-Some.field-0
     (row_in (λ v. v.items) (files_of levels) c.in_ok-row_of.field-0 c.in-Some.row c.in_ok-row_of.ensures c.in-Some.is)
-    (c.in_ok-entries-in-Some.ensures ∙ ap entries_in c.as_slice.ensures.value)
+    c.in_ok-entries-in-Some.ensures
     c.in_ok-from_rising-in-Some.ensures.map
     (ap (λ (p : Pair). p.snap) (get_or-map pair_of c.args.pairs.now 10 c.index-pairs-10.result empty_pair
     (omega (arith, c.requires)))

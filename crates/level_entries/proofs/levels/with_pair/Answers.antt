@@ -3,7 +3,7 @@ use Rattle.std.proofs.lemmas.Result.{IfOk-weaker}
 use Rattle.ledger_types.specs.declared.key.LedgerKey.{LedgerKey}
 use Rattle.bucket_core.specs.Bucket.{Contents}
 use Rattle.bucket_levels.specs.Meaning.{AreMarkedWell, changes_of}
-use Rattle.level_entries.specs.Rows.{IsNewestRow, IsRowOf}
+use Rattle.level_entries.specs.Rows.{IsRowOf}
 use Rattle.level_entries.proofs.Newest.{row_in, none_in, fewer_marked}
 use Rattle.level_entries.proofs.levels.with_pair.Goals as goal
 
@@ -11,9 +11,8 @@ pub with_file-requires-in-Some : goal.with_file-requires-in-Some
 with_file-requires-in-Some c =
     let r = c.requires in (
       c.deref.result.now ∷ r.0,
-      subst (IsNewestRow (c.deref.result.now ∷ r.0)) (sym c.as_slice.ensures.value)
-          (row_in (λ v. v.items) (c.deref.result.now ∷ r.0) c.in_ok-with_file.field-0 c.in-Some.row
-          (c.in_ok-with_file.ensures r.0 r.1) c.in-Some.is),
+      row_in (λ v. v.items) (c.deref.result.now ∷ r.0) c.in_ok-with_file.field-0 c.in-Some.row
+          (c.in_ok-with_file.ensures r.0 r.1) c.in-Some.is,
     )
 
 pub returns-in-None : goal.returns-in-None
@@ -29,6 +28,5 @@ returns-in-Some c files n =
     subst (λ (fs : List Contents). IsRowOf fs (option_map (λ v. v.items) next))
     (λ i. c.deref-in-Some.ensures i ∷ c.deref.ensures i ∷ files) h)
     (c.with_file-in-Some.ensures (c.deref.result.now ∷ files)
-    (subst (IsNewestRow (c.deref.result.now ∷ files)) (sym c.as_slice.ensures.value)
     (row_in (λ v. v.items) (c.deref.result.now ∷ files) c.in_ok-with_file.field-0 c.in-Some.row
-    (c.in_ok-with_file.ensures files n) c.in-Some.is)))
+    (c.in_ok-with_file.ensures files n) c.in-Some.is))

@@ -6,3 +6,4 @@ pub mod Places
 pub mod Longer
 pub mod Spelled
 pub mod Ordered
+pub mod Texts

@@ -5,3 +5,4 @@ pub mod Runs
 pub mod SetHash
 pub mod Turns
 pub mod Fees
+pub mod Spellings

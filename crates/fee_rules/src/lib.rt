@@ -8,11 +8,8 @@ mod order;
 mod queued;
 mod set_digest;
 mod spelling;
-#[cfg(test)]
-mod tests;
 mod turn;
 
 pub use envelope::{fee_source, not_below_0, seq_num, source};
 pub use fees::{fee_charged, set_base_fee};
-pub use order::apply_order;
-pub use set_digest::set_hash;
+pub use order::{SetOrder, apply_order, set_order};

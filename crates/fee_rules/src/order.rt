@@ -5,10 +5,12 @@ ghost use Rattle.std.specs.List.{IsDistinct};
 ghost use Rattle.std.specs.List.Sorted.{IsPermutation, IsSorted};
 ghost use Rattle.xdr_tx.specs.Transactions.{transaction_set};
 ghost use Rattle.fee_rules.specs.Queues.{has_place_of};
+ghost use Rattle.fee_rules.specs.SetHash.{hash_of_set};
 ghost use Rattle.fee_rules.specs.Turns as spec;
 
-use crate::queued::{Queued, all_queued};
-use crate::set_digest::hash_of_queued;
+use crate::queued::Queued;
+use crate::set_digest::hash_of_texts;
+use crate::spelling::{Spelled, spell_all};
 use crate::turn::{Turn, turns_of};
 use ledger_types::Hash;
 use op_types::TransactionSet;
@@ -48,14 +50,42 @@ fn places_in_order(
     places_of(alloc, order.as_slice())
 }
 
-/// The places of the transactions of a set, in the order in which they are applied: each source's transactions in the
-/// order of their sequence numbers, and among those that are equally far in their queues by the full hash xor the set's
-/// (TxSetFrame::sortForApply in stellar-core). The set has a spelling: its lists and texts keep their bounds.
+/// The hash of a set, and the order in which its transactions are applied.
+#[derive(Drop)]
+pub struct SetOrder {
+    /// SHA-256 of the hash of the ledger before the set and of the spellings of its envelopes in the order of their own
+    /// hashes, without a count (TxSetFrame::getContentsHash in stellar-core).
+    pub set_hash: Hash,
+    /// Places in the set's list: each source's transactions in the order of their sequence numbers, and among those
+    /// that are equally far in their queues by the full hash xor the set's (TxSetFrame::sortForApply in stellar-core).
+    pub places: Vec<u32>,
+}
+
+/// The hash and the order of a set, each of whose envelopes is spelled and hashed once. The set has a spelling: its
+/// lists and texts keep their bounds.
+pub fn set_order(alloc: Global, set: &TransactionSet) -> Result<SetOrder, AllocError>
+    requires { transaction_set.within set.now }
+    ensures hash { IfOk result (λ order. order.set_hash ≡ hash_of_set set.now) }
+    ensures places { IfOk result (λ order. order.places.items ≡ spec.apply_order_of set.now) }
+{
+    let Spelled { texts, queued } = spell_all(alloc, set.txs.as_slice())?;
+    let previous = &set.previous_ledger_hash;
+    let set_hash = hash_of_texts(alloc, previous, texts.as_slice(), queued.as_slice())?;
+    Ok(SetOrder {
+        places: places_in_order(alloc, &set_hash, queued)?,
+        set_hash,
+    })
+}
+
+/// The places of the transactions of a set, in the order in which they are applied. The set has a spelling: its lists
+/// and texts keep their bounds.
 pub fn apply_order(alloc: Global, set: &TransactionSet) -> Result<Vec<u32>, AllocError>
     requires { transaction_set.within set.now }
     ensures { IfOk result (λ places. places.items ≡ spec.apply_order_of set.now) }
 {
-    let queued = all_queued(alloc, set.txs.as_slice())?;
-    let set_hash = hash_of_queued(alloc, set, queued.as_slice())?;
-    places_in_order(alloc, &set_hash, queued)
+    let SetOrder {
+        set_hash: _,
+        places,
+    } = set_order(alloc, set)?;
+    Ok(places)
 }

@@ -1,72 +1,56 @@
 //! The hash of a set.
 
-ghost use Rattle.std.specs.Prelude.{◌≡◌, All, IfOk, map};
+ghost use Rattle.std.specs.Prelude.{◌≡◌, IfOk, map};
 ghost use Rattle.std.specs.List.{IsDistinct};
-ghost use Rattle.xdr_tx.specs.Transactions.{transaction_envelope, transaction_set};
-ghost use Rattle.fee_rules.specs.Queues.{has_place_of, all_queued as all_queued_of};
-ghost use Rattle.fee_rules.specs.SetHash as spec;
+ghost use Rattle.fee_rules.specs.Queues.{has_place_of};
+ghost use Rattle.fee_rules.specs.Spellings.{text_at, texts_by_hash};
+ghost use Rattle.hash_ids.specs.Ids.{set_hash_of};
 
 use crate::hashed::{Hashed, in_order};
-use crate::queued::{Queued, all_queued};
-use crate::spelling::spelling;
+use crate::queued::Queued;
 use ledger_types::Hash;
-use op_types::{TransactionEnvelope, TransactionSet};
 use std::alloc::{AllocError, Global};
 
-/// The spelling of the envelope at a place of a list.
-fn spelling_at(
-    alloc: Global,
-    envelopes: &[TransactionEnvelope],
-    place: u32,
-) -> Result<Vec<u8>, AllocError>
-    requires { All (λ envelope. transaction_envelope.within envelope) envelopes.now }
-    ensures { IfOk result (λ text. text.items ≡ spec.spelling_at envelopes.now place) }
+/// The text at a place of a list, or nothing.
+fn text_in<'a>(texts: &'a [Vec<u8>], place: u32) -> &'a [u8]
+    ensures { result.now ≡ text_at (map (λ text. text.items) texts.now) place }
 {
-    match envelopes.get(place as usize) {
-        None => Ok(Vec::new(alloc)),
-        Some(envelope) => spelling(alloc, envelope),
+    match texts.get(place as usize) {
+        None => &[],
+        Some(text) => text.as_slice(),
     }
 }
 
-/// The spellings of the envelopes at places of a list.
-fn spellings(
+/// The texts of envelopes in this order.
+fn texts_in<'a>(
     alloc: Global,
-    envelopes: &[TransactionEnvelope],
+    texts: &'a [Vec<u8>],
     order: &[Hashed],
-) -> Result<Vec<Vec<u8>>, AllocError>
-    requires { All (λ envelope. transaction_envelope.within envelope) envelopes.now }
-    ensures { IfOk result (λ texts. map (λ text. text.items) texts.items ≡
-        map (λ hashed. spec.spelling_at envelopes.now hashed.place) order.now) }
+) -> Result<Vec<&'a [u8]>, AllocError>
+    ensures { IfOk result (λ found. map (λ text. text.now) found.items
+        ≡ map (λ hashed. text_at (map (λ text. text.items) texts.now) hashed.place) order.now) }
 {
-    let mut texts = Vec::new(alloc);
+    let mut found = Vec::with_capacity(alloc, order.len())?;
     for hashed in order {
-        texts.push(spelling_at(alloc, envelopes, hashed.place)?)?;
+        found.push(text_in(texts, hashed.place))?;
     }
-    Ok(texts)
+    Ok(found)
 }
 
-/// The hash of a set whose envelopes stand in these queues.
-pub(crate) fn hash_of_queued(
+/// The hash of a set behind the ledger with this hash, whose envelopes have these spellings and stand in these queues:
+/// SHA-256 of the hash of the ledger before it and of the spellings in the order of their own hashes, without a count
+/// (TxSetFrame::getContentsHash in stellar-core).
+pub(crate) fn hash_of_texts(
     alloc: Global,
-    set: &TransactionSet,
+    previous: &Hash,
+    texts: &[Vec<u8>],
     queued: &[Queued],
 ) -> Result<Hash, AllocError>
-    requires within { All (λ envelope. transaction_envelope.within envelope) set.now.txs }
-    requires queued { queued.now ≡ all_queued_of set.now.txs }
-    ensures { IfOk result (λ hash. hash ≡ spec.hash_of_set set.now) }
+    requires { IsDistinct has_place_of queued.now }
+    ensures { IfOk result (λ hash. hash
+        ≡ set_hash_of previous.now (texts_by_hash (map (λ text. text.items) texts.now) queued.now)) }
 {
     let order = in_order(alloc, queued)?;
-    let texts = spellings(alloc, set.txs.as_slice(), order.as_slice())?;
-    hash_ids::set_hash(&set.previous_ledger_hash, texts.as_slice())
-}
-
-/// The hash of a set: SHA-256 of the hash of the ledger before it and of the spellings of its envelopes in the order
-/// of their own hashes, without a count (TxSetFrame::getContentsHash in stellar-core). The set has a spelling: its
-/// lists and texts keep their bounds.
-pub fn set_hash(alloc: Global, set: &TransactionSet) -> Result<Hash, AllocError>
-    requires { transaction_set.within set.now }
-    ensures { IfOk result (λ hash. hash ≡ spec.hash_of_set set.now) }
-{
-    let queued = all_queued(alloc, set.txs.as_slice())?;
-    hash_of_queued(alloc, set, queued.as_slice())
+    let texts = texts_in(alloc, texts, order.as_slice())?;
+    hash_ids::set_hash(previous, texts.as_slice())
 }

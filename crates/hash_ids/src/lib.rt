@@ -4,8 +4,6 @@
 mod digest;
 mod operation_id;
 mod pool;
-#[cfg(test)]
-mod tests;
 mod transaction;
 
 pub use digest::{full_hash, hash, header_hash, network_id};

@@ -7,6 +7,7 @@ use byteorder::{BigEndian, ByteOrder};
 use ledger_types::Hash;
 use sha2::{Digest, Sha256};
 use std::alloc::AllocError;
+use std::convert::AsSlice;
 
 /// The hash of a transaction whose spelling is `tx`. `kind` is the type of its envelope, `ENVELOPE_TYPE_TX` or
 /// `ENVELOPE_TYPE_TX_FEE_BUMP`. A transaction of the first version is spelled behind the four zero bytes of its key's
@@ -26,8 +27,8 @@ pub fn tx_hash(network: &Hash, kind: u32, tx: &[u8]) -> Result<Hash, AllocError>
 
 /// The hash of a transaction set, from the hash of the ledger before it and the spellings of its envelopes, which are
 /// given in rising order of their hashes.
-pub fn set_hash(previous: &Hash, envelopes: &[Vec<u8>]) -> Result<Hash, AllocError>
-    ensures { result ≡ Ok (set_hash_of previous.now (map (λ envelope. envelope.items) envelopes.now)) }
+pub fn set_hash<T: AsSlice<u8>>(previous: &Hash, envelopes: &[T]) -> Result<Hash, AllocError>
+    ensures { result ≡ Ok (set_hash_of previous.now (map (λ envelope. T.items envelope) envelopes.now)) }
 {
     let mut hasher = Sha256::new();
     hasher.update(previous.0.as_slice());

@@ -11,9 +11,10 @@ abbrev answered : List ℕ → Result Hash AllocError
 answered digest = Ok (record { 0 = digest })
 
 pub returns : goal.returns
-returns c =
+returns g c =
     let whole : take c.loop-envelope.envelope-index c.args.envelopes.now
     ≡ c.args.envelopes.now =
     take_all c.loop-envelope.envelope-index c.args.envelopes.now c.loop-envelope-test.false in
-    let text = ap (flat_map (λ e. e.items)) whole ∙ sym (flat_map-map (λ e. e.items) c.args.envelopes.now) in
+    let text = ap (flat_map (λ e. g.T.AsSlice.items e)) whole
+    ∙ sym (flat_map-map (λ e. g.T.AsSlice.items e) c.args.envelopes.now) in
     ap answered (c.finalize.ensures _ c.loop-envelope.invariant ∙ ap (λ t. sha256 (c.args.previous.now.0 ++ t)) text)

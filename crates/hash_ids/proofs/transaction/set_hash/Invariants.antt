@@ -5,5 +5,6 @@ use Rattle.hash_ids.proofs.transaction.set_hash.Given as goal
 
 -- the hasher holds the hash before and the envelopes so far
 abbrev pub invariant-loop-envelope : goal.invariant-loop-envelope
-invariant-loop-envelope l =
-    Holds256 l.hasher (l.previous.0 ++ flat_map (λ envelope. envelope.items) (take l.envelope-index l.envelopes))
+invariant-loop-envelope g l =
+    Holds256 l.hasher (l.previous.0
+    ++ flat_map (λ envelope. g.T.AsSlice.items envelope) (take l.envelope-index l.envelopes))

@@ -77,10 +77,6 @@ impl Encode for CloseRecordFormat {
 }
 
 impl Case for CloseRecordFormat {
-    fn copy(value: &CloseRecord) -> Result<CloseRecord, AllocError> {
-        value.copy()
-    }
-
     ghost lawful = { close_record_laws.lawful };
 }
 
@@ -106,10 +102,6 @@ impl Encode for LedgerEntryFormat {
 }
 
 impl Case for LedgerEntryFormat {
-    fn copy(value: &LedgerEntry) -> Result<LedgerEntry, AllocError> {
-        value.copy()
-    }
-
     ghost lawful = { ledger_entry_laws.lawful };
 }
 
@@ -135,10 +127,6 @@ impl Encode for LedgerHeaderFormat {
 }
 
 impl Case for LedgerHeaderFormat {
-    fn copy(value: &LedgerHeader) -> Result<LedgerHeader, AllocError> {
-        value.copy()
-    }
-
     ghost lawful = { ledger_header_laws.lawful };
 }
 
@@ -164,10 +152,6 @@ impl Encode for LedgerKeyFormat {
 }
 
 impl Case for LedgerKeyFormat {
-    fn copy(value: &LedgerKey) -> Result<LedgerKey, AllocError> {
-        value.copy()
-    }
-
     ghost lawful = { ledger_key_laws.lawful };
 }
 
@@ -193,10 +177,6 @@ impl Encode for LedgerUpgradeFormat {
 }
 
 impl Case for LedgerUpgradeFormat {
-    fn copy(value: &LedgerUpgrade) -> Result<LedgerUpgrade, AllocError> {
-        Ok(*value)
-    }
-
     ghost lawful = { ledger_upgrade_laws.lawful };
 }
 
@@ -223,10 +203,6 @@ impl Encode for MemoFormat {
 }
 
 impl Case for MemoFormat {
-    fn copy(value: &Memo) -> Result<Memo, AllocError> {
-        value.copy()
-    }
-
     ghost lawful = { memo_laws.lawful };
 }
 
@@ -252,10 +228,6 @@ impl Encode for PredicateFormat {
 }
 
 impl Case for PredicateFormat {
-    fn copy(value: &ClaimPredicate) -> Result<ClaimPredicate, AllocError> {
-        value.copy()
-    }
-
     ghost lawful = { claim_predicate_laws.lawful };
 }
 
@@ -282,10 +254,6 @@ impl Encode for PriceFormat {
 }
 
 impl Case for PriceFormat {
-    fn copy(value: &Price) -> Result<Price, AllocError> {
-        Ok(*value)
-    }
-
     ghost lawful = { price_laws.lawful };
 }
 
@@ -312,10 +280,6 @@ impl Encode for SignerKeyFormat {
 }
 
 impl Case for SignerKeyFormat {
-    fn copy(value: &SignerKey) -> Result<SignerKey, AllocError> {
-        Ok(*value)
-    }
-
     ghost lawful = { signer_key_laws.lawful };
 }
 
@@ -341,10 +305,6 @@ impl Encode for StellarValueFormat {
 }
 
 impl Case for StellarValueFormat {
-    fn copy(value: &StellarValue) -> Result<StellarValue, AllocError> {
-        value.copy()
-    }
-
     ghost lawful = { stellar_value_laws.lawful };
 }
 
@@ -370,10 +330,6 @@ impl Encode for TransactionSetFormat {
 }
 
 impl Case for TransactionSetFormat {
-    fn copy(value: &TransactionSet) -> Result<TransactionSet, AllocError> {
-        value.copy()
-    }
-
     ghost lawful = { transaction_set_laws.lawful };
 }
 
@@ -400,10 +356,6 @@ impl Encode for TrustLineAssetFormat {
 }
 
 impl Case for TrustLineAssetFormat {
-    fn copy(value: &TrustLineAsset) -> Result<TrustLineAsset, AllocError> {
-        Ok(*value)
-    }
-
     ghost lawful = { trust_line_asset_laws.lawful };
 }
 
@@ -429,10 +381,6 @@ impl Encode for ResultSetFormat {
 }
 
 impl Case for ResultSetFormat {
-    fn copy(value: &TransactionResultSet) -> Result<TransactionResultSet, AllocError> {
-        value.copy()
-    }
-
     ghost lawful = { transaction_result_set_laws.lawful };
 }
 
@@ -458,10 +406,6 @@ impl Encode for ImageFormat {
 }
 
 impl Case for ImageFormat {
-    fn copy(value: &StartImage) -> Result<StartImage, AllocError> {
-        value.copy()
-    }
-
     ghost lawful = { start_image_laws.lawful };
 }
 
@@ -487,49 +431,25 @@ impl Encode for BucketEntryFormat {
 }
 
 impl Case for BucketEntryFormat {
-    fn copy(value: &BucketEntry) -> Result<BucketEntry, AllocError> {
-        value.copy()
-    }
-
     ghost lawful = { bucket_entry_laws.lawful };
 }
 
 impl Case for AssetFormat {
-    fn copy(value: &Asset) -> Result<Asset, AllocError> {
-        Ok(*value)
-    }
-
     ghost lawful = { asset_laws.lawful };
 }
 
 impl Case for ClaimantFormat {
-    fn copy(value: &Claimant) -> Result<Claimant, AllocError> {
-        value.copy()
-    }
-
     ghost lawful = { claimant_laws.lawful };
 }
 
 impl Case for SignerFormat {
-    fn copy(value: &Signer) -> Result<Signer, AllocError> {
-        Ok(*value)
-    }
-
     ghost lawful = { signer_laws.lawful };
 }
 
 impl Case for OperationFormat {
-    fn copy(value: &Operation) -> Result<Operation, AllocError> {
-        value.copy()
-    }
-
     ghost lawful = { operation_laws.lawful };
 }
 
 impl Case for TransactionEnvelopeFormat {
-    fn copy(value: &TransactionEnvelope) -> Result<TransactionEnvelope, AllocError> {
-        value.copy()
-    }
-
     ghost lawful = { transaction_envelope_laws.lawful };
 }

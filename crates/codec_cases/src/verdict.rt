@@ -1,23 +1,18 @@
 //! What a codec makes of an input.
 
-ghost use Rattle.std.specs.Prelude.{◌≡◌, IfOk};
 ghost use Rattle.xdr_core.specs.Format.{Lawful};
 
 use std::alloc::{AllocError, Global};
 use xdr_core::{Builder, Cursor, Decode, Encode, ReadFault, XdrKind};
 
-/// A type that vectors are of: its codec, and how a value is copied.
+/// A type that vectors are of.
 pub trait Case: Encode {
-    /// The same value once more.
-    fn copy(value: &Self::Value) -> Result<Self::Value, AllocError>
-        ensures { IfOk result (λ copy. copy ≡ value.now) };
-
     // What is read is spelled so, and what is spelled so is read.
     ghost lawful: { Lawful Self.format };
 }
 
-/// What a codec makes of an input, in the words of the vectors: the number of bytes that it takes for a value, a copy
-/// of which written again gives them, or its fault and the fault's place.
+/// What a codec makes of an input, in the words of the vectors: the number of bytes that it takes for a value, which
+/// written again gives them, or its fault and the fault's place.
 pub fn verdict_of<C: Case + Decode<Failure = ReadFault>>(
     alloc: Global,
     input: &[u8],
@@ -46,9 +41,8 @@ fn verdict_of_value<C: Case>(
 ) -> Result<String, AllocError>
     requires { C.format.within value.now }
 {
-    let copy = C::copy(value)?;
     let mut builder = Builder::new(alloc);
-    C::encode(&copy, &mut builder)?;
+    C::encode(value, &mut builder)?;
     let written = builder.as_slice();
     if behind != written.len() || !input.starts_with(written) {
         return format!(in alloc; "other bytes, up to {behind}");

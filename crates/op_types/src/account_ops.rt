@@ -1,10 +1,7 @@
 //! Operations on the source's own account.
 
-ghost use Rattle.std.specs.Prelude.{◌≡◌, IfOk};
-
 use item_list::ItemList;
 use ledger_types::{AccountId, MuxedAccount, Signer};
-use std::alloc::AllocError;
 
 /// Makes an account (CreateAccountOp in Stellar-transaction.x).
 #[derive(Clone, Copy)]
@@ -32,29 +29,6 @@ pub struct SetOptionsOp {
     pub signer: Option<Signer>,
 }
 
-impl SetOptionsOp {
-    /// The same operation once more.
-    pub fn copy(&self) -> Result<SetOptionsOp, AllocError>
-        ensures { IfOk result (λ op. op ≡ self.now) }
-    {
-        let home_domain = match &self.home_domain {
-            None => None,
-            Some(domain) => Some(domain.copy()?),
-        };
-        Ok(SetOptionsOp {
-            inflation_dest: self.inflation_dest,
-            clear_flags: self.clear_flags,
-            set_flags: self.set_flags,
-            master_weight: self.master_weight,
-            low_threshold: self.low_threshold,
-            med_threshold: self.med_threshold,
-            high_threshold: self.high_threshold,
-            home_domain,
-            signer: self.signer,
-        })
-    }
-}
-
 /// Removes the source and gives its lumens away (AccountMergeOp in Stellar-transaction.x).
 #[derive(Clone, Copy)]
 pub struct AccountMergeOp {
@@ -68,25 +42,6 @@ pub struct ManageDataOp {
     pub data_name: ItemList<u8>,
     /// At most 64 bytes; none removes the data.
     pub data_value: Option<ItemList<u8>>,
-}
-
-impl ManageDataOp {
-    /// The same operation once more.
-    pub fn copy(&self) -> Result<ManageDataOp, AllocError>
-        ensures { IfOk result (λ op. op ≡ self.now) }
-    {
-        let data_name = self.data_name.copy()?;
-        match &self.data_value {
-            None => Ok(ManageDataOp {
-                data_name,
-                data_value: None,
-            }),
-            Some(value) => Ok(ManageDataOp {
-                data_name,
-                data_value: Some(value.copy()?),
-            }),
-        }
-    }
 }
 
 /// Raises the source's sequence number to `bump_to`, where that is above it (BumpSequenceOp in Stellar-transaction.x).

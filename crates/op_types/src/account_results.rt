@@ -1,6 +1,5 @@
 //! What operations on the source's own account answer.
 
-ghost use Rattle.std.specs.Prelude.{◌≡◌, IfOk};
 ghost use Rattle.op_types.specs.Codes.{set_options_code, set_options_values, account_merge_code, account_merge_values};
 ghost use Rattle.op_types.specs.Codes.{inflation_code, inflation_values, manage_data_code, manage_data_values};
 ghost use Rattle.op_types.specs.Codes.{bump_sequence_code, bump_sequence_values};
@@ -8,7 +7,6 @@ ghost use Rattle.op_types.specs.Codes.{bump_sequence_code, bump_sequence_values}
 use crate::coded::Coded;
 use item_list::ItemList;
 use ledger_types::AccountId;
-use std::alloc::AllocError;
 
 /// What an account got of inflation (InflationPayout in Stellar-transaction.x). Protocol 18 pays none.
 #[derive(Clone, Copy)]
@@ -143,18 +141,6 @@ pub enum InflationResult {
     Success(ItemList<InflationPayout>),
     /// INFLATION_NOT_TIME, -1.
     NotTime,
-}
-
-impl InflationResult {
-    /// The same result once more.
-    pub fn copy(&self) -> Result<InflationResult, AllocError>
-        ensures { IfOk result (λ answer. answer ≡ self.now) }
-    {
-        match self {
-            InflationResult::Success(payouts) => Ok(InflationResult::Success(payouts.copy()?)),
-            InflationResult::NotTime => Ok(InflationResult::NotTime),
-        }
-    }
 }
 
 impl Coded for InflationResult {

@@ -1,10 +1,7 @@
 //! Claimable balances.
 
-ghost use Rattle.std.specs.Prelude.{◌≡◌, IfOk};
-
 use item_list::ItemList;
 use ledger_types::{Asset, ClaimableBalanceId, Claimant};
-use std::alloc::AllocError;
 
 /// Makes a claimable balance (CreateClaimableBalanceOp in Stellar-transaction.x; CAP-0023).
 #[derive(Drop)]
@@ -13,19 +10,6 @@ pub struct CreateClaimableBalanceOp {
     pub amount: i64,
     /// At most 10.
     pub claimants: ItemList<Claimant>,
-}
-
-impl CreateClaimableBalanceOp {
-    /// The same operation once more.
-    pub fn copy(&self) -> Result<CreateClaimableBalanceOp, AllocError>
-        ensures { IfOk result (λ op. op ≡ self.now) }
-    {
-        Ok(CreateClaimableBalanceOp {
-            asset: self.asset,
-            amount: self.amount,
-            claimants: self.claimants.clone()?,
-        })
-    }
 }
 
 /// Claims a claimable balance (ClaimClaimableBalanceOp in Stellar-transaction.x; CAP-0023).

@@ -1,12 +1,10 @@
 //! What offers answer.
 
-ghost use Rattle.std.specs.Prelude.{◌≡◌, IfOk};
 ghost use Rattle.op_types.specs.Codes.{manage_offer_code, manage_offer_values};
 
 use crate::coded::Coded;
 use item_list::ItemList;
 use ledger_types::{ClaimAtom, OfferEntry};
-use std::alloc::AllocError;
 
 /// What became of an offer (the union in ManageOfferSuccessResult in Stellar-transaction.x).
 #[derive(Clone, Copy)]
@@ -26,29 +24,9 @@ pub struct ManageOfferSuccess {
     pub offer: ManageOfferEffect,
 }
 
-impl ManageOfferSuccess {
-    /// The same once more.
-    pub fn copy(&self) -> Result<ManageOfferSuccess, AllocError>
-        ensures { IfOk result (λ success. success ≡ self.now) }
-    {
-        Ok(ManageOfferSuccess {
-            offers_claimed: self.offers_claimed.copy()?,
-            offer: self.offer,
-        })
-    }
-}
-
-impl Clone for ManageOfferSuccess {
-    ghost is_clone = { λ success copy. copy ≡ success };
-
-    fn clone(&self) -> Result<ManageOfferSuccess, AllocError> {
-        self.copy()
-    }
-}
-
 /// What MANAGE_SELL_OFFER, CREATE_PASSIVE_SELL_OFFER and MANAGE_BUY_OFFER answer (ManageSellOfferResult and
 /// ManageBuyOfferResult in Stellar-transaction.x, whose codes are the same).
-#[derive(Clone, Drop)]
+#[derive(Drop)]
 pub enum ManageOfferResult {
     /// MANAGE_SELL_OFFER_SUCCESS, 0.
     Success(ManageOfferSuccess),
@@ -76,15 +54,6 @@ pub enum ManageOfferResult {
     NotFound,
     /// MANAGE_SELL_OFFER_LOW_RESERVE, -12.
     LowReserve,
-}
-
-impl ManageOfferResult {
-    /// The same result once more.
-    pub fn copy(&self) -> Result<ManageOfferResult, AllocError>
-        ensures { IfOk result (λ answer. answer ≡ self.now) }
-    {
-        self.clone()
-    }
 }
 
 impl Coded for ManageOfferResult {

@@ -1,7 +1,5 @@
 //! Operations.
 
-ghost use Rattle.std.specs.Prelude.{◌≡◌, IfOk};
-
 use crate::account_ops::{
     AccountMergeOp, BumpSequenceOp, CreateAccountOp, ManageDataOp, SetOptionsOp,
 };
@@ -14,7 +12,6 @@ use crate::pool_ops::{LiquidityPoolDepositOp, LiquidityPoolWithdrawOp};
 use crate::sponsor_ops::{BeginSponsoringFutureReservesOp, RevokeSponsorshipOp};
 use crate::trust_ops::{AllowTrustOp, ChangeTrustOp, ClawbackOp, SetTrustLineFlagsOp};
 use ledger_types::MuxedAccount;
-use std::alloc::AllocError;
 
 /// What an operation does (the union `body` of Operation in Stellar-transaction.x), under its type.
 #[derive(Drop)]
@@ -69,58 +66,6 @@ pub enum OperationBody {
     LiquidityPoolWithdraw(LiquidityPoolWithdrawOp),
 }
 
-impl OperationBody {
-    /// The same once more.
-    pub fn copy(&self) -> Result<OperationBody, AllocError>
-        ensures { IfOk result (λ body. body ≡ self.now) }
-    {
-        match self {
-            OperationBody::CreateAccount(op) => Ok(OperationBody::CreateAccount(*op)),
-            OperationBody::Payment(op) => Ok(OperationBody::Payment(*op)),
-            OperationBody::PathPaymentStrictReceive(op) => op
-                .copy()
-                .map(OperationBody::PathPaymentStrictReceive),
-            OperationBody::ManageSellOffer(op) => Ok(OperationBody::ManageSellOffer(*op)),
-            OperationBody::CreatePassiveSellOffer(op) => Ok(OperationBody::CreatePassiveSellOffer(
-                *op,
-            )),
-            OperationBody::SetOptions(op) => op.copy().map(OperationBody::SetOptions),
-            OperationBody::ChangeTrust(op) => Ok(OperationBody::ChangeTrust(*op)),
-            OperationBody::AllowTrust(op) => Ok(OperationBody::AllowTrust(*op)),
-            OperationBody::AccountMerge(op) => Ok(OperationBody::AccountMerge(*op)),
-            OperationBody::Inflation => Ok(OperationBody::Inflation),
-            OperationBody::ManageData(op) => op.copy().map(OperationBody::ManageData),
-            OperationBody::BumpSequence(op) => Ok(OperationBody::BumpSequence(*op)),
-            OperationBody::ManageBuyOffer(op) => Ok(OperationBody::ManageBuyOffer(*op)),
-            OperationBody::PathPaymentStrictSend(op) => op
-                .copy()
-                .map(OperationBody::PathPaymentStrictSend),
-            OperationBody::CreateClaimableBalance(op) => op
-                .copy()
-                .map(OperationBody::CreateClaimableBalance),
-            OperationBody::ClaimClaimableBalance(op) => Ok(OperationBody::ClaimClaimableBalance(
-                *op,
-            )),
-            OperationBody::BeginSponsoringFutureReserves(op) => Ok(
-                OperationBody::BeginSponsoringFutureReserves(*op),
-            ),
-            OperationBody::EndSponsoringFutureReserves => Ok(
-                OperationBody::EndSponsoringFutureReserves,
-            ),
-            OperationBody::RevokeSponsorship(op) => op.copy().map(OperationBody::RevokeSponsorship),
-            OperationBody::Clawback(op) => Ok(OperationBody::Clawback(*op)),
-            OperationBody::ClawbackClaimableBalance(op) => Ok(
-                OperationBody::ClawbackClaimableBalance(*op),
-            ),
-            OperationBody::SetTrustLineFlags(op) => Ok(OperationBody::SetTrustLineFlags(*op)),
-            OperationBody::LiquidityPoolDeposit(op) => Ok(OperationBody::LiquidityPoolDeposit(*op)),
-            OperationBody::LiquidityPoolWithdraw(op) => Ok(OperationBody::LiquidityPoolWithdraw(
-                *op,
-            )),
-        }
-    }
-}
-
 /// An operation (Operation in Stellar-transaction.x).
 pub struct Operation {
     /// Whose operation it is; none stands for the transaction's source.
@@ -135,25 +80,5 @@ impl Drop for Operation {
             body,
         } = self;
         drop(body);
-    }
-}
-
-impl Operation {
-    /// The same operation once more.
-    pub fn copy(&self) -> Result<Operation, AllocError>
-        ensures { IfOk result (λ operation. operation ≡ self.now) }
-    {
-        Ok(Operation {
-            source_account: self.source_account,
-            body: self.body.copy()?,
-        })
-    }
-}
-
-impl Clone for Operation {
-    ghost is_clone = { λ operation copy. copy ≡ operation };
-
-    fn clone(&self) -> Result<Operation, AllocError> {
-        self.copy()
     }
 }

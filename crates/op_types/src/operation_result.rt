@@ -1,6 +1,5 @@
 //! What operations answer.
 
-ghost use Rattle.std.specs.Prelude.{◌≡◌, IfOk};
 ghost use Rattle.op_types.specs.Codes.{operation_code, operation_values};
 
 use crate::account_results::{
@@ -21,7 +20,6 @@ use crate::sponsor_results::{
 use crate::trust_results::{
     AllowTrustResult, ChangeTrustResult, ClawbackResult, SetTrustLineFlagsResult,
 };
-use std::alloc::AllocError;
 
 /// What an operation answers that was run (OperationResultTr in Stellar-transaction.x), under its type.
 #[derive(Drop)]
@@ -76,72 +74,7 @@ pub enum OperationResultTr {
     LiquidityPoolWithdraw(LiquidityPoolWithdrawResult),
 }
 
-impl OperationResultTr {
-    /// The same result once more.
-    pub fn copy(&self) -> Result<OperationResultTr, AllocError>
-        ensures { IfOk result (λ answer. answer ≡ self.now) }
-    {
-        match self {
-            OperationResultTr::CreateAccount(answer) => Ok(OperationResultTr::CreateAccount(
-                *answer,
-            )),
-            OperationResultTr::Payment(answer) => Ok(OperationResultTr::Payment(*answer)),
-            OperationResultTr::PathPaymentStrictReceive(answer) => answer
-                .copy()
-                .map(OperationResultTr::PathPaymentStrictReceive),
-            OperationResultTr::ManageSellOffer(answer) => answer
-                .copy()
-                .map(OperationResultTr::ManageSellOffer),
-            OperationResultTr::CreatePassiveSellOffer(answer) => answer
-                .copy()
-                .map(OperationResultTr::CreatePassiveSellOffer),
-            OperationResultTr::SetOptions(answer) => Ok(OperationResultTr::SetOptions(*answer)),
-            OperationResultTr::ChangeTrust(answer) => Ok(OperationResultTr::ChangeTrust(*answer)),
-            OperationResultTr::AllowTrust(answer) => Ok(OperationResultTr::AllowTrust(*answer)),
-            OperationResultTr::AccountMerge(answer) => Ok(OperationResultTr::AccountMerge(*answer)),
-            OperationResultTr::Inflation(answer) => answer.copy().map(OperationResultTr::Inflation),
-            OperationResultTr::ManageData(answer) => Ok(OperationResultTr::ManageData(*answer)),
-            OperationResultTr::BumpSequence(answer) => Ok(OperationResultTr::BumpSequence(*answer)),
-            OperationResultTr::ManageBuyOffer(answer) => answer
-                .copy()
-                .map(OperationResultTr::ManageBuyOffer),
-            OperationResultTr::PathPaymentStrictSend(answer) => answer
-                .copy()
-                .map(OperationResultTr::PathPaymentStrictSend),
-            OperationResultTr::CreateClaimableBalance(answer) => Ok(
-                OperationResultTr::CreateClaimableBalance(*answer),
-            ),
-            OperationResultTr::ClaimClaimableBalance(answer) => Ok(
-                OperationResultTr::ClaimClaimableBalance(*answer),
-            ),
-            OperationResultTr::BeginSponsoringFutureReserves(answer) => Ok(
-                OperationResultTr::BeginSponsoringFutureReserves(*answer),
-            ),
-            OperationResultTr::EndSponsoringFutureReserves(answer) => Ok(
-                OperationResultTr::EndSponsoringFutureReserves(*answer),
-            ),
-            OperationResultTr::RevokeSponsorship(answer) => Ok(OperationResultTr::RevokeSponsorship(
-                *answer,
-            )),
-            OperationResultTr::Clawback(answer) => Ok(OperationResultTr::Clawback(*answer)),
-            OperationResultTr::ClawbackClaimableBalance(answer) => Ok(
-                OperationResultTr::ClawbackClaimableBalance(*answer),
-            ),
-            OperationResultTr::SetTrustLineFlags(answer) => Ok(OperationResultTr::SetTrustLineFlags(
-                *answer,
-            )),
-            OperationResultTr::LiquidityPoolDeposit(answer) => Ok(
-                OperationResultTr::LiquidityPoolDeposit(*answer),
-            ),
-            OperationResultTr::LiquidityPoolWithdraw(answer) => Ok(
-                OperationResultTr::LiquidityPoolWithdraw(*answer),
-            ),
-        }
-    }
-}
-
 /// What an operation answers (OperationResult in Stellar-transaction.x).
-#[derive(Drop)]
 pub enum OperationResult {
     /// opINNER, 0: the operation was run.
     Inner(OperationResultTr),
@@ -159,28 +92,17 @@ pub enum OperationResult {
     TooManySponsoring,
 }
 
-impl OperationResult {
-    /// The same result once more.
-    pub fn copy(&self) -> Result<OperationResult, AllocError>
-        ensures { IfOk result (λ answer. answer ≡ self.now) }
-    {
+impl Drop for OperationResult {
+    fn drop(self) {
         match self {
-            OperationResult::Inner(answer) => Ok(OperationResult::Inner(answer.copy()?)),
-            OperationResult::BadAuth => Ok(OperationResult::BadAuth),
-            OperationResult::NoAccount => Ok(OperationResult::NoAccount),
-            OperationResult::NotSupported => Ok(OperationResult::NotSupported),
-            OperationResult::TooManySubentries => Ok(OperationResult::TooManySubentries),
-            OperationResult::ExceededWorkLimit => Ok(OperationResult::ExceededWorkLimit),
-            OperationResult::TooManySponsoring => Ok(OperationResult::TooManySponsoring),
+            OperationResult::Inner(inner) => drop(inner),
+            OperationResult::BadAuth
+            | OperationResult::NoAccount
+            | OperationResult::NotSupported
+            | OperationResult::TooManySubentries
+            | OperationResult::ExceededWorkLimit
+            | OperationResult::TooManySponsoring => {}
         }
-    }
-}
-
-impl Clone for OperationResult {
-    ghost is_clone = { λ answer copy. copy ≡ answer };
-
-    fn clone(&self) -> Result<OperationResult, AllocError> {
-        self.copy()
     }
 }
 

@@ -1,10 +1,7 @@
 //! Payments.
 
-ghost use Rattle.std.specs.Prelude.{◌≡◌, IfOk};
-
 use item_list::ItemList;
 use ledger_types::{Asset, MuxedAccount};
-use std::alloc::AllocError;
 
 /// Sends an amount of an asset (PaymentOp in Stellar-transaction.x).
 #[derive(Clone, Copy)]
@@ -29,22 +26,6 @@ pub struct PathPaymentStrictReceiveOp {
     pub path: ItemList<Asset>,
 }
 
-impl PathPaymentStrictReceiveOp {
-    /// The same operation once more.
-    pub fn copy(&self) -> Result<PathPaymentStrictReceiveOp, AllocError>
-        ensures { IfOk result (λ op. op ≡ self.now) }
-    {
-        Ok(PathPaymentStrictReceiveOp {
-            send_asset: self.send_asset,
-            send_max: self.send_max,
-            destination: self.destination,
-            dest_asset: self.dest_asset,
-            dest_amount: self.dest_amount,
-            path: self.path.copy()?,
-        })
-    }
-}
-
 /// Sends a fixed amount of one asset, of which the destination gets what comes of another (PathPaymentStrictSendOp in
 /// Stellar-transaction.x).
 #[derive(Drop)]
@@ -58,20 +39,4 @@ pub struct PathPaymentStrictSendOp {
     pub dest_min: i64,
     /// The assets between the two, in order. At most 5.
     pub path: ItemList<Asset>,
-}
-
-impl PathPaymentStrictSendOp {
-    /// The same operation once more.
-    pub fn copy(&self) -> Result<PathPaymentStrictSendOp, AllocError>
-        ensures { IfOk result (λ op. op ≡ self.now) }
-    {
-        Ok(PathPaymentStrictSendOp {
-            send_asset: self.send_asset,
-            send_amount: self.send_amount,
-            destination: self.destination,
-            dest_asset: self.dest_asset,
-            dest_min: self.dest_min,
-            path: self.path.copy()?,
-        })
-    }
 }

@@ -1,6 +1,5 @@
 //! What payments answer.
 
-ghost use Rattle.std.specs.Prelude.{◌≡◌, IfOk};
 ghost use Rattle.op_types.specs.Codes.{create_account_code, create_account_values, payment_code, payment_values};
 ghost use Rattle.op_types.specs.Codes.{path_payment_strict_receive_code, path_payment_strict_receive_values};
 ghost use Rattle.op_types.specs.Codes.{path_payment_strict_send_code, path_payment_strict_send_values};
@@ -8,7 +7,6 @@ ghost use Rattle.op_types.specs.Codes.{path_payment_strict_send_code, path_payme
 use crate::coded::Coded;
 use item_list::ItemList;
 use ledger_types::{AccountId, Asset, ClaimAtom};
-use std::alloc::AllocError;
 
 /// What a payment along a path moved (PathPaymentStrictReceiveResult and PathPaymentStrictSendResult in
 /// Stellar-transaction.x).
@@ -18,26 +16,6 @@ pub struct PathPaymentSuccess {
     pub offers: ItemList<ClaimAtom>,
     /// What arrived (SimplePaymentResult).
     pub last: SimplePaymentResult,
-}
-
-impl PathPaymentSuccess {
-    /// The same once more.
-    pub fn copy(&self) -> Result<PathPaymentSuccess, AllocError>
-        ensures { IfOk result (λ success. success ≡ self.now) }
-    {
-        Ok(PathPaymentSuccess {
-            offers: self.offers.copy()?,
-            last: self.last,
-        })
-    }
-}
-
-impl Clone for PathPaymentSuccess {
-    ghost is_clone = { λ success copy. copy ≡ success };
-
-    fn clone(&self) -> Result<PathPaymentSuccess, AllocError> {
-        self.copy()
-    }
 }
 
 /// What arrived at the end of a path (SimplePaymentResult in Stellar-transaction.x).
@@ -153,7 +131,7 @@ impl Coded for PaymentResult {
 }
 
 /// What PATH_PAYMENT_STRICT_RECEIVE answers (PathPaymentStrictReceiveResult in Stellar-transaction.x).
-#[derive(Clone, Drop)]
+#[derive(Drop)]
 pub enum PathPaymentStrictReceiveResult {
     /// PATH_PAYMENT_STRICT_RECEIVE_SUCCESS, 0.
     Success(PathPaymentSuccess),
@@ -181,15 +159,6 @@ pub enum PathPaymentStrictReceiveResult {
     OfferCrossSelf,
     /// PATH_PAYMENT_STRICT_RECEIVE_OVER_SENDMAX, -12.
     OverSendmax,
-}
-
-impl PathPaymentStrictReceiveResult {
-    /// The same result once more.
-    pub fn copy(&self) -> Result<PathPaymentStrictReceiveResult, AllocError>
-        ensures { IfOk result (λ answer. answer ≡ self.now) }
-    {
-        self.clone()
-    }
 }
 
 impl Coded for PathPaymentStrictReceiveResult {
@@ -234,7 +203,7 @@ impl Coded for PathPaymentStrictReceiveResult {
 }
 
 /// What PATH_PAYMENT_STRICT_SEND answers (PathPaymentStrictSendResult in Stellar-transaction.x).
-#[derive(Clone, Drop)]
+#[derive(Drop)]
 pub enum PathPaymentStrictSendResult {
     /// PATH_PAYMENT_STRICT_SEND_SUCCESS, 0.
     Success(PathPaymentSuccess),
@@ -262,15 +231,6 @@ pub enum PathPaymentStrictSendResult {
     OfferCrossSelf,
     /// PATH_PAYMENT_STRICT_SEND_UNDER_DESTMIN, -12.
     UnderDestmin,
-}
-
-impl PathPaymentStrictSendResult {
-    /// The same result once more.
-    pub fn copy(&self) -> Result<PathPaymentStrictSendResult, AllocError>
-        ensures { IfOk result (λ answer. answer ≡ self.now) }
-    {
-        self.clone()
-    }
 }
 
 impl Coded for PathPaymentStrictSendResult {

@@ -1,17 +1,16 @@
 //! What transactions answer.
 
-ghost use Rattle.std.specs.Prelude.{◌≡◌, IfOk};
+ghost use Rattle.std.specs.Prelude.{◌≡◌};
+ghost use Rattle.op_types.specs.InnerOutcome.{inner_outcome};
 ghost use Rattle.op_types.specs.Codes.{inner_code, inner_values, outcome_code, outcome_values};
 
 use crate::coded::Coded;
 use crate::operation_result::OperationResult;
 use item_list::ItemList;
 use ledger_types::Hash;
-use std::alloc::AllocError;
 
 /// How the inner transaction of a fee bump ended, with the results of its operations where its checks passed (the union
 /// `result` of InnerTransactionResult in Stellar-transaction.x).
-#[derive(Drop)]
 pub enum InnerTransactionOutcome {
     /// txSUCCESS, 0: the operations succeeded.
     Success(ItemList<OperationResult>),
@@ -47,42 +46,25 @@ pub enum InnerTransactionOutcome {
     FeeBumpInnerSuccess,
 }
 
-impl InnerTransactionOutcome {
-    /// The same outcome once more.
-    pub fn copy(&self) -> Result<InnerTransactionOutcome, AllocError>
-        ensures { IfOk result (λ outcome. outcome ≡ self.now) }
-    {
+impl Drop for InnerTransactionOutcome {
+    fn drop(self) {
         match self {
-            InnerTransactionOutcome::Success(results) => Ok(InnerTransactionOutcome::Success(
-                results.clone()?,
-            )),
-            InnerTransactionOutcome::Failed(results) => Ok(InnerTransactionOutcome::Failed(
-                results.clone()?,
-            )),
-            InnerTransactionOutcome::TooEarly => Ok(InnerTransactionOutcome::TooEarly),
-            InnerTransactionOutcome::TooLate => Ok(InnerTransactionOutcome::TooLate),
-            InnerTransactionOutcome::MissingOperation => Ok(
-                InnerTransactionOutcome::MissingOperation,
-            ),
-            InnerTransactionOutcome::BadSeq => Ok(InnerTransactionOutcome::BadSeq),
-            InnerTransactionOutcome::BadAuth => Ok(InnerTransactionOutcome::BadAuth),
-            InnerTransactionOutcome::InsufficientBalance => Ok(
-                InnerTransactionOutcome::InsufficientBalance,
-            ),
-            InnerTransactionOutcome::NoAccount => Ok(InnerTransactionOutcome::NoAccount),
-            InnerTransactionOutcome::InsufficientFee => Ok(
-                InnerTransactionOutcome::InsufficientFee,
-            ),
-            InnerTransactionOutcome::BadAuthExtra => Ok(InnerTransactionOutcome::BadAuthExtra),
-            InnerTransactionOutcome::InternalError => Ok(InnerTransactionOutcome::InternalError),
-            InnerTransactionOutcome::NotSupported => Ok(InnerTransactionOutcome::NotSupported),
-            InnerTransactionOutcome::FeeBumpInnerFailed => Ok(
-                InnerTransactionOutcome::FeeBumpInnerFailed,
-            ),
-            InnerTransactionOutcome::BadSponsorship => Ok(InnerTransactionOutcome::BadSponsorship),
-            InnerTransactionOutcome::FeeBumpInnerSuccess => Ok(
-                InnerTransactionOutcome::FeeBumpInnerSuccess,
-            ),
+            InnerTransactionOutcome::Success(results) => drop(results),
+            InnerTransactionOutcome::Failed(results) => drop(results),
+            InnerTransactionOutcome::TooEarly
+            | InnerTransactionOutcome::TooLate
+            | InnerTransactionOutcome::MissingOperation
+            | InnerTransactionOutcome::BadSeq
+            | InnerTransactionOutcome::BadAuth
+            | InnerTransactionOutcome::InsufficientBalance
+            | InnerTransactionOutcome::NoAccount
+            | InnerTransactionOutcome::InsufficientFee
+            | InnerTransactionOutcome::BadAuthExtra
+            | InnerTransactionOutcome::InternalError
+            | InnerTransactionOutcome::NotSupported
+            | InnerTransactionOutcome::FeeBumpInnerFailed
+            | InnerTransactionOutcome::BadSponsorship
+            | InnerTransactionOutcome::FeeBumpInnerSuccess => {}
         }
     }
 }
@@ -142,18 +124,6 @@ pub struct InnerTransactionResult {
     pub outcome: InnerTransactionOutcome,
 }
 
-impl InnerTransactionResult {
-    /// The same result once more.
-    pub fn copy(&self) -> Result<InnerTransactionResult, AllocError>
-        ensures { IfOk result (λ answer. answer ≡ self.now) }
-    {
-        Ok(InnerTransactionResult {
-            fee_charged: self.fee_charged,
-            outcome: self.outcome.copy()?,
-        })
-    }
-}
-
 /// The result of the inner transaction of a fee bump beside its hash (InnerTransactionResultPair in
 /// Stellar-transaction.x).
 #[derive(Drop)]
@@ -162,21 +132,8 @@ pub struct InnerTransactionResultPair {
     pub result: InnerTransactionResult,
 }
 
-impl InnerTransactionResultPair {
-    /// The same pair once more.
-    pub fn copy(&self) -> Result<InnerTransactionResultPair, AllocError>
-        ensures { IfOk result (λ pair. pair ≡ self.now) }
-    {
-        Ok(InnerTransactionResultPair {
-            transaction_hash: self.transaction_hash,
-            result: self.result.copy()?,
-        })
-    }
-}
-
 /// How a transaction ended, with the results of its operations where its checks passed, or of its inner transaction
 /// (the union `result` of TransactionResult in Stellar-transaction.x).
-#[derive(Drop)]
 pub enum TransactionOutcome {
     /// txSUCCESS, 0: the operations succeeded.
     Success(ItemList<OperationResult>),
@@ -212,34 +169,53 @@ pub enum TransactionOutcome {
     FeeBumpInnerSuccess(InnerTransactionResultPair),
 }
 
+impl Drop for TransactionOutcome {
+    fn drop(self) {
+        match self {
+            TransactionOutcome::Success(results) => drop(results),
+            TransactionOutcome::Failed(results) => drop(results),
+            TransactionOutcome::FeeBumpInnerFailed(pair) => drop(pair),
+            TransactionOutcome::FeeBumpInnerSuccess(pair) => drop(pair),
+            TransactionOutcome::TooEarly
+            | TransactionOutcome::TooLate
+            | TransactionOutcome::MissingOperation
+            | TransactionOutcome::BadSeq
+            | TransactionOutcome::BadAuth
+            | TransactionOutcome::InsufficientBalance
+            | TransactionOutcome::NoAccount
+            | TransactionOutcome::InsufficientFee
+            | TransactionOutcome::BadAuthExtra
+            | TransactionOutcome::InternalError
+            | TransactionOutcome::NotSupported
+            | TransactionOutcome::BadSponsorship => {}
+        }
+    }
+}
+
 impl TransactionOutcome {
-    /// The same outcome once more.
-    pub fn copy(&self) -> Result<TransactionOutcome, AllocError>
-        ensures { IfOk result (λ outcome. outcome ≡ self.now) }
+    /// The same end, of an inner transaction.
+    pub fn into_inner(self) -> InnerTransactionOutcome
+        ensures { result ≡ inner_outcome self }
     {
         match self {
-            TransactionOutcome::Success(results) => Ok(TransactionOutcome::Success(
-                results.clone()?,
-            )),
-            TransactionOutcome::Failed(results) => Ok(TransactionOutcome::Failed(results.clone()?)),
-            TransactionOutcome::TooEarly => Ok(TransactionOutcome::TooEarly),
-            TransactionOutcome::TooLate => Ok(TransactionOutcome::TooLate),
-            TransactionOutcome::MissingOperation => Ok(TransactionOutcome::MissingOperation),
-            TransactionOutcome::BadSeq => Ok(TransactionOutcome::BadSeq),
-            TransactionOutcome::BadAuth => Ok(TransactionOutcome::BadAuth),
-            TransactionOutcome::InsufficientBalance => Ok(TransactionOutcome::InsufficientBalance),
-            TransactionOutcome::NoAccount => Ok(TransactionOutcome::NoAccount),
-            TransactionOutcome::InsufficientFee => Ok(TransactionOutcome::InsufficientFee),
-            TransactionOutcome::BadAuthExtra => Ok(TransactionOutcome::BadAuthExtra),
-            TransactionOutcome::InternalError => Ok(TransactionOutcome::InternalError),
-            TransactionOutcome::NotSupported => Ok(TransactionOutcome::NotSupported),
-            TransactionOutcome::FeeBumpInnerFailed(pair) => Ok(
-                TransactionOutcome::FeeBumpInnerFailed(pair.copy()?),
-            ),
-            TransactionOutcome::BadSponsorship => Ok(TransactionOutcome::BadSponsorship),
-            TransactionOutcome::FeeBumpInnerSuccess(pair) => Ok(
-                TransactionOutcome::FeeBumpInnerSuccess(pair.copy()?),
-            ),
+            TransactionOutcome::Success(results) => InnerTransactionOutcome::Success(results),
+            TransactionOutcome::Failed(results) => InnerTransactionOutcome::Failed(results),
+            TransactionOutcome::TooEarly => InnerTransactionOutcome::TooEarly,
+            TransactionOutcome::TooLate => InnerTransactionOutcome::TooLate,
+            TransactionOutcome::MissingOperation => InnerTransactionOutcome::MissingOperation,
+            TransactionOutcome::BadSeq => InnerTransactionOutcome::BadSeq,
+            TransactionOutcome::BadAuth => InnerTransactionOutcome::BadAuth,
+            TransactionOutcome::InsufficientBalance => InnerTransactionOutcome::InsufficientBalance,
+            TransactionOutcome::NoAccount => InnerTransactionOutcome::NoAccount,
+            TransactionOutcome::InsufficientFee => InnerTransactionOutcome::InsufficientFee,
+            TransactionOutcome::BadAuthExtra => InnerTransactionOutcome::BadAuthExtra,
+            TransactionOutcome::InternalError => InnerTransactionOutcome::InternalError,
+            TransactionOutcome::NotSupported => InnerTransactionOutcome::NotSupported,
+            TransactionOutcome::FeeBumpInnerFailed(_) =>
+                InnerTransactionOutcome::FeeBumpInnerFailed,
+            TransactionOutcome::BadSponsorship => InnerTransactionOutcome::BadSponsorship,
+            TransactionOutcome::FeeBumpInnerSuccess(_) =>
+                InnerTransactionOutcome::FeeBumpInnerSuccess,
         }
     }
 }
@@ -297,18 +273,6 @@ pub struct TransactionResult {
     pub outcome: TransactionOutcome,
 }
 
-impl TransactionResult {
-    /// The same result once more.
-    pub fn copy(&self) -> Result<TransactionResult, AllocError>
-        ensures { IfOk result (λ answer. answer ≡ self.now) }
-    {
-        Ok(TransactionResult {
-            fee_charged: self.fee_charged,
-            outcome: self.outcome.copy()?,
-        })
-    }
-}
-
 /// A transaction's result beside its hash (TransactionResultPair in Stellar-ledger.x).
 #[derive(Drop)]
 pub struct TransactionResultPair {
@@ -316,40 +280,9 @@ pub struct TransactionResultPair {
     pub result: TransactionResult,
 }
 
-impl TransactionResultPair {
-    /// The same pair once more.
-    pub fn copy(&self) -> Result<TransactionResultPair, AllocError>
-        ensures { IfOk result (λ pair. pair ≡ self.now) }
-    {
-        Ok(TransactionResultPair {
-            transaction_hash: self.transaction_hash,
-            result: self.result.copy()?,
-        })
-    }
-}
-
-impl Clone for TransactionResultPair {
-    ghost is_clone = { λ pair copy. copy ≡ pair };
-
-    fn clone(&self) -> Result<TransactionResultPair, AllocError> {
-        self.copy()
-    }
-}
-
 /// The results of a set, in the order in which its transactions were applied (TransactionResultSet in
 /// Stellar-ledger.x).
 #[derive(Drop)]
 pub struct TransactionResultSet {
     pub results: ItemList<TransactionResultPair>,
-}
-
-impl TransactionResultSet {
-    /// The same results once more.
-    pub fn copy(&self) -> Result<TransactionResultSet, AllocError>
-        ensures { IfOk result (λ set. set ≡ self.now) }
-    {
-        Ok(TransactionResultSet {
-            results: self.results.clone()?,
-        })
-    }
 }

@@ -1,6 +1,7 @@
 -- A map under layers, key by key, and what each change of the layers is to the map with undo.
-use Rattle.std.proofs.Common.{◌≡◌, refl, sym, ap, ◌∙◌, Bool, true, false, cond, List, [], ◌∷◌, ◌++◌, Option, Some, None}
-use Rattle.std.specs.Option.{unwrap_or, option_or}
+use Rattle.std.proofs.Common.{◌≡◌, refl, sym, ap, subst, ◌∙◌, Bool, true, false, cond, List, [], ◌∷◌, ◌++◌}
+use Rattle.std.proofs.Common.{Option, Some, None, MatchOption, Bor}
+use Rattle.std.specs.Option.{unwrap_or, option_or, option_copied}
 use Rattle.std.specs.Ordering.{eq_by_cmp}
 use Rattle.std.specs.FinMap.{empty, get, insert, entries, find, get-empty, get-entries, get-insert, get-remove}
 use Rattle.std.specs.FinMap.{same_map}
@@ -10,7 +11,7 @@ use Rattle.ledger_types.specs.Keys.{key_of}
 use Rattle.ledger_types.specs.KeyOrder.{key_cmp}
 use Rattle.ledger_types.proofs.KeyOrdering.{keys_total, keys_exact}
 use Rattle.entry_map.specs.EntryMap.{EntryMap, put, erase}
-use Rattle.entry_map.specs.Undo.{started, with_current, opened, undone, kept}
+use Rattle.entry_map.specs.Undo.{Undo, started, with_current, opened, undone, kept}
 use Rattle.entry_map.specs.Layers.{LayerMap, with_changes, under_one, under, each_under, undo_of, change_of}
 use Rattle.entry_map.specs.Layers.{newest_change}
 
@@ -53,6 +54,18 @@ pub get-current : (m : EntryMap) (ls : List LayerMap) (top : LayerMap) (q : Ledg
 get-current m ls top q = get-under_one (under m ls) top q
     ∙ ap (unwrap_or (get top q)) (get-under m ls q)
     ∙ sym (unwrap_or-or (get top q) (change_of ls q) (get m q))
+
+-- what was changed under layers is what the map has there, and the map's own is elsewhere
+pub changed_under : (m : EntryMap) (ls : List LayerMap) (top : LayerMap) (q : LedgerKey)
+    → (u : Undo) → undo_of m ls top ≡ u → (r : Option (Option (Bor LedgerEntry)))
+    → MatchOption r (newest_change ls top q ≡ None) (λ change. newest_change ls top q ≡ Some (option_copied change))
+    → MatchOption r (get u.current q ≡ get u.base q) (λ change. get u.current q ≡ option_copied change)
+changed_under m ls top q u is None h =
+    subst (λ (v : Undo). get v.current q ≡ get v.base q) is
+    (get-current m ls top q ∙ ap (λ o. unwrap_or o (get m q)) h)
+changed_under m ls top q u is (Some change) h =
+    subst (λ (v : Undo). get v.current q ≡ option_copied change) is
+    (get-current m ls top q ∙ ap (λ o. unwrap_or o (get m q)) h)
 
 -- ---- changes of one layer
 

@@ -1,6 +1,7 @@
 //! Layers of changes over a base.
 
-ghost use Rattle.std.specs.Prelude.{◌≡◌, IfOk, IfSome, OnOk};
+ghost use Rattle.std.specs.Prelude.{◌≡◌, IfOk, IfSome, MatchOption, OnOk};
+ghost use Rattle.std.specs.Option.{option_copied};
 ghost use Rattle.std.specs.FinMap.{get};
 ghost use Rattle.ledger_types.specs.Keys.{key_of};
 ghost use Rattle.entry_map.specs.EntryMap.{IsNextAfter, put, erase};
@@ -11,7 +12,7 @@ use crate::base::Base;
 use crate::batch::Batch;
 use crate::changes::changes_of;
 use crate::layer::Layer;
-use crate::lookup::entry_at;
+use crate::lookup::{change_at, entry_at};
 use crate::walk::entry_after;
 use ledger_types::{LedgerEntry, LedgerKey};
 use std::alloc::{AllocError, Global};
@@ -59,6 +60,21 @@ impl<'a, B: Base> Entries<'a, B> {
         ensures keyed { IfOk result (λ entry. IfSome entry (λ e. key_of e ≡ key.now)) }
     {
         entry_at(self.base, self.lower.as_slice(), &self.top, key)
+    }
+
+    /// What a key was changed to against the base, if it was: an entry, or none where it was erased. Nothing is copied.
+    pub fn changed(&self, key: &LedgerKey) -> Option<Option<&LedgerEntry>>
+        ensures { MatchOption result (get self.now.current key.now ≡ get self.now.base key.now)
+            (λ change. get self.now.current key.now ≡ option_copied change) }
+    {
+        change_at(self.lower.as_slice(), &self.top, key)
+    }
+
+    /// The entry that the base has with a key.
+    pub fn base_entry(&self, key: &LedgerKey) -> Result<Option<LedgerEntry>, AllocError>
+        ensures { IfOk result (λ entry. entry ≡ get self.now.base key.now) }
+    {
+        self.base.find(key)
     }
 
     /// The entry with the least key above a key.

@@ -9,8 +9,6 @@ mod key_map;
 mod layer;
 mod lookup;
 mod map_base;
-#[cfg(test)]
-mod tests;
 mod walk;
 
 pub use base::Base;

@@ -1,6 +1,6 @@
 //! What stands under a key in a base under layers.
 
-ghost use Rattle.std.specs.Prelude.{◌≡◌, IfOk, IfSome};
+ghost use Rattle.std.specs.Prelude.{◌≡◌, IfOk, IfSome, MatchOption, None, Some};
 ghost use Rattle.std.specs.Option.{option_copied};
 ghost use Rattle.std.specs.FinMap.{get};
 ghost use Rattle.ledger_types.specs.Keys.{key_of};
@@ -39,6 +39,22 @@ fn newest_change<'a>(
     match top.get(key) {
         Some(change) => Some(change),
         None => change_in(lower, key),
+    }
+}
+
+/// What a key was changed to, if it was: an entry, or none where it was erased. Nothing is copied.
+pub fn change_at<'a>(
+    lower: &'a [Layer],
+    top: &'a Layer,
+    key: &LedgerKey,
+) -> Option<Option<&'a LedgerEntry>>
+    ensures { MatchOption result (newest_change lower.now top.now key.now ≡ None)
+        (λ change. newest_change lower.now top.now key.now ≡ Some (option_copied change)) }
+{
+    match newest_change(lower, top, key) {
+        None => None,
+        Some(None) => Some(None),
+        Some(Some(entry)) => Some(Some(entry.get())),
     }
 }
 

@@ -1,4 +1,5 @@
 pub mod Accounts
+pub mod AccountFacts
 pub mod Lines
 pub mod Offers
 pub mod DataEntries

@@ -1,6 +1,7 @@
 //! Accounts among the entries of a ledger.
 
 ghost use Rattle.std.specs.Prelude.{◌≡◌, IfOk, IfSome, OnOk};
+ghost use Rattle.std.specs.Option.{option_copied};
 ghost use Rattle.ledger_types.specs.declared.key.LedgerKey.TheVariants as key;
 ghost use Rattle.entry_map.specs.EntryMap.{put, erase};
 ghost use Rattle.entry_map.specs.Undo.{with_current};
@@ -32,6 +33,16 @@ pub fn account_slot_in(entry: LedgerEntry) -> Option<AccountSlot>
             account,
             ext,
         }),
+        _ => None,
+    }
+}
+
+/// The account in an entry, if it is that of one.
+pub fn account_in(entry: Option<&LedgerEntry>) -> Option<&AccountEntry>
+    ensures { option_copied result ≡ spec.account_of (option_copied entry.entry) }
+{
+    match &entry?.body {
+        LedgerEntryBody::Account(account) => Some(account),
         _ => None,
     }
 }
@@ -87,4 +98,23 @@ pub fn erase_account<B: Base>(
     entries.erase(&LedgerKey::Account {
         account_id: *account_id,
     })
+}
+
+/// Gives the account with this id, if it stands, another sequence number.
+#[tactic(auto, unfolding(crate::specs::Accounts::with_account))]
+pub fn set_seq_num<B: Base>(
+    entries: &mut Entries<'_, B>,
+    account_id: &AccountId,
+    seq_num: i64,
+) -> Result<(), AllocError>
+    ensures { OnOk result (
+        entries.new ≡
+        with_current entries.old (
+        spec.with_account entries.old.current account_id.now (λ account. record account { seq_num = seq_num }))) }
+{
+    let Some(mut slot) = load_account(entries, account_id)? else {
+        return Ok(());
+    };
+    slot.account.seq_num = seq_num;
+    store_account(entries, slot)
 }

@@ -2,6 +2,7 @@
 #![tactic(auto)]
 
 mod account_extensions;
+mod account_facts;
 mod accounts;
 mod balances;
 mod data_entries;
@@ -15,7 +16,11 @@ pub use account_extensions::{
     account_liabilities, both_extensions, num_sponsored, num_sponsoring, set_account_liabilities,
     signer_sponsor,
 };
-pub use accounts::{AccountSlot, account_slot_in, erase_account, load_account, store_account};
+pub use account_facts::{AccountFacts, facts_of, load_facts};
+pub use accounts::{
+    AccountSlot, account_in, account_slot_in, erase_account, load_account, set_seq_num,
+    store_account,
+};
 pub use balances::{BalanceSlot, balance_slot_in, erase_balance, load_balance, store_balance};
 pub use data_entries::{DataSlot, data_slot_in, erase_data, load_data, store_data};
 pub use entry_sponsor::{set_sponsor, sponsor_in};

@@ -4,7 +4,7 @@ ghost use Rattle.std.specs.Prelude.{◌≡◌, IfOk, is_some};
 ghost use Rattle.entry_slots.specs.Accounts.{account_at};
 
 use entry_map::{Base, Entries};
-use entry_slots::load_account;
+use entry_slots::load_facts;
 use ledger_types::AccountId;
 use std::alloc::AllocError;
 
@@ -12,5 +12,5 @@ use std::alloc::AllocError;
 pub fn stands<B: Base>(entries: &Entries<'_, B>, id: &AccountId) -> Result<bool, AllocError>
     ensures { IfOk result (λ stands. stands ≡ is_some (account_at entries.now.current id.now)) }
 {
-    Ok(load_account(entries, id)?.is_some())
+    Ok(load_facts(entries, id)?.is_some())
 }

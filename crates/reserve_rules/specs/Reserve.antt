@@ -3,6 +3,7 @@
 use Rattle.std.specs.Prelude.{ℕ, ◌+◌, ℤ, pos, neg_ℤ, ◌⊎◌, ◌+ℤ◌, ◌-ℤ◌, ◌*ℤ◌, ◌≤ℤ◌, ◌<ℤ◌}
 use Rattle.ledger_types.specs.declared.account.AccountEntry.{AccountEntry}
 use Rattle.ledger_types.specs.declared.trust_line.TrustLineEntry.{TrustLineEntry}
+use Rattle.entry_slots.specs.declared.account_facts.AccountFacts.{AccountFacts}
 use Rattle.entry_slots.specs.AccountExtensions.{account_liabilities, num_sponsoring, num_sponsored}
 use Rattle.entry_slots.specs.LineExtensions.{line_liabilities}
 
@@ -13,14 +14,23 @@ greatest_i64 = pos 9223372036854775807
 -- ---- accounts
 
 -- two reserves, one for each subentry and each reserve paid as a sponsor, less those that others pay
+abbrev pub kept_for : (num_sub_entries num_sponsoring num_sponsored base_reserve : ℕ) → ℤ
+kept_for num_sub_entries num_sponsoring num_sponsored base_reserve =
+    (pos (2 + num_sub_entries + num_sponsoring) -ℤ pos num_sponsored) *ℤ pos base_reserve
+
 abbrev pub min_balance : AccountEntry → ℕ → ℤ
 min_balance account base_reserve =
-    (pos (2 + account.num_sub_entries + num_sponsoring account) -ℤ pos (num_sponsored account)) *ℤ pos base_reserve
+    kept_for account.num_sub_entries (num_sponsoring account) (num_sponsored account) base_reserve
 
 -- what the account can spend; it may be below 0
 abbrev pub available : AccountEntry → ℕ → ℤ
 available account base_reserve = account.balance -ℤ min_balance account base_reserve -ℤ
     (account_liabilities account).selling
+
+-- the same by an account's facts
+abbrev pub facts_available : AccountFacts → ℕ → ℤ
+facts_available facts base_reserve = facts.balance -ℤ
+    kept_for facts.num_sub_entries facts.num_sponsoring facts.num_sponsored base_reserve -ℤ facts.liabilities.selling
 
 -- what the account can take
 abbrev pub room : AccountEntry → ℤ

@@ -5,7 +5,7 @@ ghost use Rattle.entry_slots.specs.AccountExtensions as extensions;
 ghost use Rattle.reserve_rules.specs.Reserve as spec;
 
 use crate::change::changed;
-use entry_slots::{account_liabilities, num_sponsored, num_sponsoring};
+use entry_slots::{AccountFacts, account_liabilities, num_sponsored, num_sponsoring};
 use ledger_types::AccountEntry;
 
 /// What an account has to keep, in stroops: two reserves, one for each subentry and each reserve that it pays for
@@ -25,6 +25,22 @@ pub fn available(account: &AccountEntry, base_reserve: u32) -> i128
         account.balance,
         kept(account, base_reserve),
         selling(account),
+    )
+}
+
+/// What an account can spend by its facts, as `available` gives it.
+pub fn facts_available(facts: &AccountFacts, base_reserve: u32) -> i128
+    ensures { result ≡ spec.facts_available facts.now base_reserve }
+{
+    spendable(
+        facts.balance,
+        kept_for(
+            facts.num_sub_entries,
+            facts.num_sponsoring,
+            facts.num_sponsored,
+            base_reserve,
+        ),
+        facts.liabilities.selling,
     )
 }
 
@@ -69,8 +85,27 @@ fn kept(account: &AccountEntry, base_reserve: u32) -> i128
     ensures above { neg_ℤ (pos (2 ^ 67)) ≤ℤ result }
     ensures below { result ≤ℤ pos (2 ^ 67) }
 {
-    let counted = 2 + account.num_sub_entries as u64 + num_sponsoring(account) as u64;
-    reserves(counted, num_sponsored(account), base_reserve)
+    kept_for(
+        account.num_sub_entries,
+        num_sponsoring(account),
+        num_sponsored(account),
+        base_reserve,
+    )
+}
+
+/// What has to be kept for these counts of an account, and how far from 0 that may be.
+fn kept_for(
+    num_sub_entries: u32,
+    num_sponsoring: u32,
+    num_sponsored: u32,
+    base_reserve: u32,
+) -> i128
+    ensures value { result ≡ spec.kept_for num_sub_entries num_sponsoring num_sponsored base_reserve }
+    ensures above { neg_ℤ (pos (2 ^ 67)) ≤ℤ result }
+    ensures below { result ≤ℤ pos (2 ^ 67) }
+{
+    let counted = 2 + num_sub_entries as u64 + num_sponsoring as u64;
+    reserves(counted, num_sponsored, base_reserve)
 }
 
 /// So many reserves less so many, in stroops.

@@ -4,8 +4,6 @@
 mod account;
 mod change;
 mod line;
-#[cfg(test)]
-mod tests;
 
-pub use account::{add_balance, available, min_balance, room};
+pub use account::{add_balance, available, facts_available, min_balance, room};
 pub use line::{line_add, line_available, line_room};

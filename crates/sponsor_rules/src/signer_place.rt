@@ -1,12 +1,15 @@
 //! Where signers stand, and who pays for them.
 
-ghost use Rattle.std.specs.Prelude.{◌≡◌, ◌≤◌, length};
+ghost use Rattle.std.specs.Prelude.{◌≡◌, ◌≤◌, length, IfOk, Some};
+ghost use Rattle.std.specs.Option.{option_copied};
 ghost use Rattle.ledger_types.specs.KeyOrder.{signer_key_cmp};
-ghost use Rattle.entry_slots.specs.Accounts.{account_of_slot};
+ghost use Rattle.entry_slots.specs.Accounts.{account_at, account_of, account_of_slot};
 ghost use Rattle.sponsor_rules.specs.SignerPlace as spec;
 
-use entry_slots::{AccountSlot, signer_sponsor};
-use ledger_types::{AccountId, Signer, SignerKey};
+use entry_map::{Base, Entries};
+use entry_slots::{AccountSlot, account_in, signer_sponsor};
+use ledger_types::{AccountEntry, AccountId, LedgerEntry, LedgerKey, Signer, SignerKey};
+use std::alloc::AllocError;
 use std::cmp::Ordering;
 
 /// Where a signer stands among those of its account, and who pays its reserve in the account's place.
@@ -51,14 +54,46 @@ fn place_of(key: &SignerKey, signers: &[Signer]) -> Option<usize>
 pub fn found_signer(key: &SignerKey, slot: &Option<AccountSlot>) -> Option<FoundSigner>
     ensures { result ≡ spec.found_signer key.now (account_of_slot slot.now) }
 {
-    let Some(slot) = slot else {
-        return None;
-    };
-    match place_of(key, slot.account.signers.as_slice()) {
+    match slot {
         None => None,
-        Some(place) => Some(FoundSigner {
-            place,
-            sponsor: signer_sponsor(&slot.account, place),
-        }),
+        Some(slot) => signer_in(key, &slot.account),
+    }
+}
+
+/// Where the signer with a key stands among those of an account that stands.
+fn signer_in(key: &SignerKey, account: &AccountEntry) -> Option<FoundSigner>
+    ensures { result ≡ spec.found_signer key.now (Some account.now) }
+{
+    let place = place_of(key, account.signers.as_slice())?;
+    Some(FoundSigner {
+        place,
+        sponsor: signer_sponsor(account, place),
+    })
+}
+
+/// Where the signer with a key stands among those of an account's entry, and who pays for it.
+fn signer_of_entry(key: &SignerKey, entry: Option<&LedgerEntry>) -> Option<FoundSigner>
+    ensures { result ≡ spec.found_signer key.now (account_of (option_copied entry.entry)) }
+{
+    signer_in(key, account_in(entry)?)
+}
+
+/// Where the signer with a key stands among those of the account with an id, and who pays for it. An account that has
+/// changed is looked at where it is.
+#[tactic(auto, unfolding(entry_slots::specs::Accounts::account_at))]
+pub fn find_signer<B: Base>(
+    entries: &Entries<'_, B>,
+    account: &AccountId,
+    key: &SignerKey,
+) -> Result<Option<FoundSigner>, AllocError>
+    ensures { IfOk result (λ found. found ≡
+        spec.found_signer key.now (account_at entries.now.current account.now)) }
+{
+    let account = LedgerKey::Account {
+        account_id: *account,
+    };
+    match entries.changed(&account) {
+        Some(entry) => Ok(signer_of_entry(key, entry)),
+        None => Ok(signer_of_entry(key, entries.base_entry(&account)?.as_ref())),
     }
 }

@@ -16,8 +16,8 @@ use crate::owner::{change_payer, gain_subentry, lose_subentry};
 use crate::payers::{open_sponsor, payer_other_than};
 use crate::paying::{exchange_payers, lower_sponsoring, pay_for_subentry};
 use crate::signer_edits::{insert_signer, remove_signer_at, set_signer_sponsor};
-use crate::signer_place::{FoundSigner, found_signer};
-use crate::stored::{load, still_loaded, store_changed};
+use crate::signer_place::{FoundSigner, find_signer};
+use crate::stored::{load, store_changed};
 use entry_map::{Base, Entries};
 use entry_slots::AccountSlot;
 use ledger_types::{AccountId, Hash, Signer, SignerKey};
@@ -81,12 +81,11 @@ pub fn remove_signer<B: Base>(
     ensures low { OnOk result (keeping.RaisesNone entries.old.current entries.new.current) }
     ensures means { OnOk result (keeping.LeavesMeans entries.old.current entries.new.current) }
 {
-    let slot = load(entries, account)?;
-    let Some(found) = found_signer(key, &slot) else {
+    let Some(found) = find_signer(entries, account, key)? else {
         return Ok(());
     };
     lower_sponsoring(entries, 1, &found.sponsor)?;
-    let slot = still_loaded(entries, account, slot, &found.sponsor)?;
+    let slot = load(entries, account)?;
     take_signer(entries, account, slot, found)
 }
 
@@ -145,7 +144,7 @@ pub fn move_signer<B: Base>(
         spec.map_after_moving_signer ctx.now account.now key.now payer entries.old.current) }
     ensures means { OnOk result (keeping.LeavesMeans entries.old.current entries.new.current) }
 {
-    let Some(found) = found_signer(key, &load(entries, account)?) else {
+    let Some(found) = find_signer(entries, account, key)? else {
         return Ok(());
     };
     let new = payer_other_than(account, payer);

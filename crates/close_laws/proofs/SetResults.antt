@@ -48,7 +48,8 @@ use Rattle.value_hashes.specs.Hashes.{signed_hash_of, transaction_hash_of}
 use Rattle.tx_apply.specs.Built.{operations_of}
 use Rattle.tx_apply.specs.Checks as checks
 use Rattle.tx_apply.specs.FeeBump as bump
-use Rattle.tx_apply.specs.InnerResult.{inner_outcome, inner_pair, bump_outcome}
+use Rattle.op_types.specs.InnerOutcome.{inner_outcome}
+use Rattle.tx_apply.specs.InnerResult.{inner_pair, bump_outcome}
 use Rattle.tx_apply.specs.Running.{placed, done_by, done_at, Ran, run}
 use Rattle.tx_apply.specs.Set.{Closing, ctx_in, all_held, envelope_applied, result_pair, all_applied}
 use Rattle.tx_apply.specs.Set.{envelopes_in_order}

@@ -1,8 +1,9 @@
 -- The files of an image as those of levels.
 use Rattle.std.proofs.Common.{◌≡◌, ℕ, zero, suc, ◌+◌, ◌*◌, ◌<◌, ◌⊎◌, inl, inr, List, [], ◌∷◌, ◌++◌, length, map, get_or}
-use Rattle.std.proofs.Common.{take, Some, None, Result, Err, refl, sym, ap, ◌∙◌, subst, arith, All, append_assoc}
+use Rattle.std.proofs.Common.{take, drop, Some, None, Result, Err, refl, sym, ap, ◌∙◌, subst, arith, All, append_assoc}
 use Rattle.std.specs.List.{flat_map}
-use Rattle.std.proofs.lemmas.List.{map-append, flat_map_more, take_all, take_more, length_push}
+use Rattle.std.proofs.lemmas.List.{get_or-drop, drop-drop, length-drop, map-append}
+use Rattle.std.proofs.lemmas.List.{flat_map_more, take_all, take_more, length_push}
 use Rattle.std.proofs.lemmas.List.Elements.{All-nil, All-head, All-tail, All-push}
 use Rattle.bucket_core.specs.Bucket.{Contents}
 use Rattle.bucket_core.specs.File.{file_of, HasFile}
@@ -122,6 +123,25 @@ all_read files levels n count end read = record {
   count = read.count ∙ end;
   have = read.have;
   are = sym (take_all (2 * n) files (omega arith)) ∙ read.are;
+}
+
+-- ---- files taken one by one
+
+-- a file was taken from the front of those ahead
+pub record NextFile (files after : List (List ℕ)) (place : ℕ) (file : List ℕ) : Type 0 where
+  pub is : file ≡ get_or files place file
+  pub left : after ≡ drop (place + 1) files
+
+pub file_ahead : (files ahead : List (List ℕ)) (place : ℕ) → ahead ≡ drop place files → place < length files
+    → 0 < length ahead
+file_ahead files ahead place left below = omega (arith, ap length left, length-drop place files)
+
+pub next_file : (files ahead after : List (List ℕ)) (place : ℕ) (file : List ℕ) → ahead ≡ drop place files
+    → file ≡ get_or ahead 0 file → after ≡ take 0 ahead ++ drop (0 + 1) ahead → NextFile files after place file
+next_file files ahead after place file left first taken = record {
+  is = first ∙ ap (λ (f : List (List ℕ)). get_or f 0 file) left ∙ get_or-drop place files 0 file
+      ∙ (let same : place + 0 ≡ place = omega arith in ap (λ (n : ℕ). get_or files n file) same);
+  left = taken ∙ ap (λ (f : List (List ℕ)). drop 1 f) left ∙ drop-drop 1 place files;
 }
 
 -- ---- where one is no bucket's

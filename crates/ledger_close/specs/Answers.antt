@@ -18,6 +18,8 @@ use Rattle.close_rules.specs.State.{ClosingState, IsSpelled}
 use Rattle.close_rules.specs.Refusals.{record_in, term_fault, upgrade_fault}
 use Rattle.close_rules.specs.Close.{Closed, IsClose}
 use Rattle.close_rules.specs.Images.{IsJudged}
+use Rattle.fee_rules.specs.Turns.{apply_order_of}
+use Rattle.ledger_close.specs.declared.refusals.Judged.{Judged}
 
 -- Want of memory is free; every other fault is the one that a definition names.
 abbrev pub FaultIs : CloseFault → (CloseFault → Type 0) → Type 0
@@ -50,6 +52,12 @@ abbrev pub IsUpgradedBy : ClosingState → CloseRecord → Result LedgerHeader C
 IsUpgradedBy s closing (Ok next) =
     (terms_of s closing ≡ None) × (next ≡ all_upgraded s.header (map upgrade_in closing.scp_value.upgrades))
 IsUpgradedBy s closing (Err wrong) = FaultIs wrong (λ f. terms_of s closing ≡ Some f)
+
+-- the same, and the order of the record's set was found
+abbrev pub IsJudgedBy : ClosingState → CloseRecord → Result Judged CloseFault → Type 0
+IsJudgedBy s closing (Ok judged) =
+    IsUpgradedBy s closing (Ok judged.next) × (judged.order.items ≡ apply_order_of closing.tx_set)
+IsJudgedBy s closing (Err wrong) = IsUpgradedBy s closing (Err wrong)
 
 -- the fault of a close whose set isn't applied
 abbrev pub fault_of_set : SetFault → CloseFault

@@ -2,6 +2,7 @@
 
 ghost use Rattle.std.specs.Prelude.{◌≡◌, ◌<◌};
 ghost use Rattle.xdr_header.specs.Records.{close_record};
+ghost use Rattle.fee_rules.specs.Turns.{apply_order_of};
 ghost use Rattle.close_rules.specs.State.{IsSpelled};
 ghost use Rattle.ledger_close.specs.Answers as answer;
 ghost use Rattle.ledger_close.specs.Worked as spec;
@@ -10,7 +11,7 @@ use crate::ledger::Ledger;
 use close_rules::CloseFault;
 use entry_map::{Batch, Entries};
 use entry_table::EntryTable;
-use tx_apply::{SetDone, SetFault, apply_set};
+use tx_apply::{SetDone, SetFault, apply_set_in_order};
 use xdr_header::CloseRecord;
 
 /// What a set leaves: its results with the fee pool and the ids, the entries behind the close, and what of them is
@@ -34,21 +35,23 @@ fn fault_of(fault: SetFault) -> CloseFault
 }
 
 impl Ledger {
-    /// Applies the set of a record to the ledger's entries, which stay as they are.
-    pub(crate) fn apply(&self, closing: &CloseRecord) -> Result<Worked, CloseFault>
+    /// Applies the set of a record, in its order, to the ledger's entries, which stay as they are.
+    pub(crate) fn apply(&self, closing: &CloseRecord, order: &[u32]) -> Result<Worked, CloseFault>
         requires spelled { IsSpelled close_record closing.now }
         requires seq { self.now.header.ledger_seq < 2147483647 }
+        requires order { order.now ≡ apply_order_of closing.now.tx_set }
         ensures { spec.IsWorked self.now closing.now result }
     {
         let alloc = closing.tx_set.txs.allocator();
         let mut entries = Entries::new(alloc, &self.entries)?;
         let close_time = closing.scp_value.close_time;
-        let done = match apply_set(
+        let done = match apply_set_in_order(
             &mut entries,
             &self.header,
             close_time,
             &self.network,
             &closing.tx_set,
+            order,
         ) {
             Ok(done) => done,
             Err(fault) => return Err(fault_of(fault)),

@@ -41,13 +41,12 @@ fn fault_of(wrong: BucketFault) -> ImageFault
 }
 
 /// The bucket whose file this is.
-fn read_bucket(file: &ItemList<u8>) -> Result<Arc<Bucket>, ImageFault>
-    ensures ok { IfOk result (λ bucket. spec.IsFileOf file.now bucket.value) }
-    ensures bad { IfErr result (λ wrong. spec.IsFileFault wrong (spec.IsNoFile file.now)) }
+fn read_bucket(file: ItemList<u8>) -> Result<Arc<Bucket>, ImageFault>
+    ensures ok { IfOk result (λ bucket. spec.IsFileOf file bucket.value) }
+    ensures bad { IfErr result (λ wrong. spec.IsFileFault wrong (spec.IsNoFile file)) }
 {
     no_fault_in_a_file();
-    let copy = Vec::from_slice(file.allocator(), file.as_slice())?;
-    match Bucket::read(copy) {
+    match Bucket::read(file.into_vec()) {
         Ok(bucket) => {
             bucket.cursor();
             Ok(bucket)
@@ -57,10 +56,10 @@ fn read_bucket(file: &ItemList<u8>) -> Result<Arc<Bucket>, ImageFault>
 }
 
 /// The two files of a level.
-fn read_pair(curr: &ItemList<u8>, snap: &ItemList<u8>) -> Result<LevelPair, ImageFault>
-    ensures curr { IfOk result (λ pair. spec.IsFileOf curr.now pair.curr.value) }
-    ensures snap { IfOk result (λ pair. spec.IsFileOf snap.now pair.snap.value) }
-    ensures bad { IfErr result (λ wrong. spec.IsFileFault wrong (spec.IsNoFile curr.now ⊎ spec.IsNoFile snap.now)) }
+fn read_pair(curr: ItemList<u8>, snap: ItemList<u8>) -> Result<LevelPair, ImageFault>
+    ensures curr { IfOk result (λ pair. spec.IsFileOf curr pair.curr.value) }
+    ensures snap { IfOk result (λ pair. spec.IsFileOf snap pair.snap.value) }
+    ensures bad { IfErr result (λ wrong. spec.IsFileFault wrong (spec.IsNoFile curr ⊎ spec.IsNoFile snap)) }
 {
     let curr = match read_bucket(curr) {
         Ok(bucket) => bucket,
@@ -80,19 +79,21 @@ fn push_pair(pairs: &mut Vec<LevelPair>, pair: LevelPair) -> Result<(), AllocErr
     Ok(())
 }
 
-/// The levels whose files these are, curr and snap of each from the first one on.
+/// The levels whose files these are, curr and snap of each from the first one on. The bytes of each file are moved.
 pub(crate) fn read_pairs(
     alloc: Global,
-    files: &[ItemList<u8>],
+    mut files: Vec<ItemList<u8>>,
 ) -> Result<Vec<LevelPair>, ImageFault>
-    requires { length files.now ≡ 22 }
-    ensures ok { IfOk result (λ pairs. AreFilesOf (map pair_of pairs.items) files.now) }
+    requires { length files.items ≡ 22 }
+    ensures ok { IfOk result (λ pairs. AreFilesOf (map pair_of pairs.items) files.items) }
     ensures bad { IfErr result
-        (λ wrong. spec.IsFileFault wrong ((levels : List Pair) → AreFilesOf levels files.now → ⊥)) }
+        (λ wrong. spec.IsFileFault wrong ((levels : List Pair) → AreFilesOf levels files.items → ⊥)) }
 {
     let mut pairs = Vec::with_capacity(alloc, 11)?;
     for level in 0..11usize {
-        match read_pair(&files[2 * level], &files[2 * level + 1]) {
+        let curr = files.remove(0);
+        let snap = files.remove(0);
+        match read_pair(curr, snap) {
             Ok(pair) => push_pair(&mut pairs, pair)?,
             Err(fault) => return Err(fault),
         }

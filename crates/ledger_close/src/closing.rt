@@ -13,7 +13,7 @@ ghost use Rattle.ledger_close.specs.Worked.{Leaves};
 use crate::apply::Worked;
 use crate::ledger::Ledger;
 use crate::prepare::Prepared;
-use crate::refusals::read_closing;
+use crate::refusals::{Judged, read_closing};
 use close_laws::entries::{entries_stay_spellable, next_is_legal};
 use close_laws::header::next_header_is_spelled;
 use close_laws::results::results_are_spelled;
@@ -88,11 +88,11 @@ impl Ledger {
         ensures steps { AreStepsWith self.now closing steps.old steps.new }
     {
         let _ = &self.network;
-        let next = match self.judge_terms(&closing) {
-            Ok(next) => next,
+        let Judged { next, order } = match self.judge_terms(&closing) {
+            Ok(judged) => judged,
             Err(fault) => return Err(fault),
         };
-        let worked = match self.apply(&closing) {
+        let worked = match self.apply(&closing, order.as_slice()) {
             Ok(worked) => worked,
             Err(fault) => return Err(fault),
         };

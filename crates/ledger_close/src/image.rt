@@ -67,16 +67,16 @@ fn judge_header(alloc: Global, image: &StartImage) -> Result<LedgerHeader, Image
 }
 
 /// The files of an image's levels, by the fourth rule.
-fn judge_files(alloc: Global, files: &[ItemList<u8>]) -> Result<Vec<LevelPair>, ImageFault>
-    ensures ok { IfOk result (λ pairs. judging.AreFewFiles files.now (map pair_of pairs.items)) }
+fn judge_files(alloc: Global, files: ItemList<ItemList<u8>>) -> Result<Vec<LevelPair>, ImageFault>
+    ensures ok { IfOk result (λ pairs. judging.AreFewFiles files (map pair_of pairs.items)) }
     ensures bad { IfErr result
-        (λ wrong. IsFileFault wrong ((levels : List Pair) → judging.AreFewFiles files.now levels → ⊥)) }
+        (λ wrong. IsFileFault wrong ((levels : List Pair) → judging.AreFewFiles files levels → ⊥)) }
 {
     a_file_is_of_one_bucket();
     if files.len() != 22 {
         return Err(broken(ImageRule::Bucket));
     }
-    let pairs = match read_pairs(alloc, files) {
+    let pairs = match read_pairs(alloc, files.into_vec()) {
         Ok(pairs) => pairs,
         Err(fault) => return Err(fault),
     };
@@ -135,7 +135,8 @@ impl Ledger {
             Ok(header) => header,
             Err(fault) => return Err(fault),
         };
-        let pairs = match judge_files(alloc, image.files.as_slice()) {
+        let StartImage { header: _, files } = image;
+        let pairs = match judge_files(alloc, files) {
             Ok(pairs) => pairs,
             Err(fault) => return Err(fault),
         };

@@ -10,7 +10,7 @@ ghost use Rattle.ledger_close.specs.Answers as answer;
 
 use crate::ledger::Ledger;
 use close_rules::CloseFault;
-use fee_rules::set_hash;
+use fee_rules::{SetOrder, set_order};
 use header_chain::{UpgradeFault, apply_upgrades};
 use ledger_types::{Hash, LedgerHeader};
 use std::alloc::Global;
@@ -111,17 +111,31 @@ fn upgraded(mut next: LedgerHeader, closing: &CloseRecord) -> Result<LedgerHeade
     }
 }
 
+/// A record that isn't refused by its terms: the header as its upgrades leave it, and the order in which its
+/// transactions are applied.
+#[derive(Drop)]
+pub(crate) struct Judged {
+    pub(crate) next: LedgerHeader,
+    pub(crate) order: Vec<u32>,
+}
+
 impl Ledger {
-    /// The header as the record's upgrades leave it, or what the record is refused for by its terms.
-    pub(crate) fn judge_terms(&self, closing: &CloseRecord) -> Result<LedgerHeader, CloseFault>
+    /// What a record that isn't refused by its terms asks for, or what it is refused for by them.
+    pub(crate) fn judge_terms(&self, closing: &CloseRecord) -> Result<Judged, CloseFault>
         requires { IsSpelled close_record closing.now }
-        ensures { answer.IsUpgradedBy self.now closing.now result }
+        ensures { answer.IsJudgedBy self.now closing.now result }
     {
         let alloc = closing.tx_set.txs.allocator();
-        let set_digest = set_hash(alloc, &closing.tx_set)?;
-        if let Some(fault) = term_fault(&self.header, &self.digest, closing, &set_digest) {
+        let SetOrder { set_hash, places } = set_order(alloc, &closing.tx_set)?;
+        if let Some(fault) = term_fault(&self.header, &self.digest, closing, &set_hash) {
             return Err(fault);
         }
-        upgraded(self.header.copy()?, closing)
+        match upgraded(self.header.copy()?, closing) {
+            Ok(next) => Ok(Judged {
+                next,
+                order: places,
+            }),
+            Err(fault) => Err(fault),
+        }
     }
 }

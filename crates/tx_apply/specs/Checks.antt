@@ -37,11 +37,13 @@ abbrev pub is_late : ℕ → Option TimeBounds → Bool
 is_late close_time None = false
 is_late close_time (Some bounds) = not (nat_eq bounds.max_time 0) && nat_lt bounds.max_time close_time
 
--- the sequence number isn't the next one, or there is no next one
+-- a sequence number isn't the next one behind the last, or there is no next one
+abbrev pub is_not_next : (seq_num last : ℤ) → Bool
+is_not_next seq_num last = int_eq last greatest_i64 || not (int_eq seq_num (last +ℤ pos 1))
+
 abbrev pub is_bad_seq : ℤ → Option AccountEntry → Bool
 is_bad_seq seq_num None = false
-is_bad_seq seq_num (Some account) =
-    int_eq account.seq_num greatest_i64 || not (int_eq seq_num (account.seq_num +ℤ pos 1))
+is_bad_seq seq_num (Some account) = is_not_next seq_num account.seq_num
 
 -- the bid is below the base fee for each operation
 abbrev pub is_low : ℕ → Transaction → Bool

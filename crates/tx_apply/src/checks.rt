@@ -11,12 +11,12 @@ ghost use Rattle.tx_apply.specs.Checks as spec;
 
 use crate::signing::{all_pass, all_used, check_account, check_operations, push_auth_results};
 use entry_map::{Base, Entries};
-use entry_slots::{load_account, store_account};
+use entry_slots::{load_facts, set_seq_num};
 use item_list::ItemList;
-use ledger_types::{AccountEntry, AccountId};
+use ledger_types::AccountId;
 use op_form::ThresholdLevel;
 use op_types::{Operation, TimeBounds, Transaction, TransactionOutcome};
-use reserve_rules::available;
+use reserve_rules::facts_available;
 use signer_check::Checker;
 use sponsor_rules::Ctx;
 use std::alloc::AllocError;
@@ -43,11 +43,11 @@ fn is_late(close_time: u64, bounds: &Option<TimeBounds>) -> bool
     }
 }
 
-/// Whether a sequence number isn't the next one of an account.
-fn is_bad_seq(seq_num: i64, account: &AccountEntry) -> bool
-    ensures { result ≡ spec.is_bad_seq seq_num (Some account.now) }
+/// Whether a sequence number isn't the next one behind the last.
+fn is_not_next(seq_num: i64, last: i64) -> bool
+    ensures { result ≡ spec.is_not_next seq_num last }
 {
-    account.seq_num == i64::MAX || seq_num != account.seq_num + 1
+    last == i64::MAX || seq_num != last + 1
 }
 
 /// Whether the bid is below the base fee for each operation.
@@ -102,24 +102,19 @@ fn source_fault<B: Base>(
     ensures { IfOk result (λ fault. fault ≡
         first_fault (spec.source_tests seq_num (account_at entries.now.current source.now))) }
 {
-    match load_account(entries, source)? {
+    match load_facts(entries, source)? {
         None => Ok(Some(TransactionOutcome::NoAccount)),
-        Some(slot) if is_bad_seq(seq_num, &slot.account) => Ok(Some(TransactionOutcome::BadSeq)),
+        Some(facts) if is_not_next(seq_num, facts.seq_num) => Ok(Some(TransactionOutcome::BadSeq)),
         Some(_) => Ok(None),
     }
 }
 
 /// The source's sequence number becomes the transaction's.
-#[tactic(auto, unfolding(entry_slots::specs::Accounts::with_account))]
 fn use_up_seq_num<B: Base>(tx: &Transaction, entries: &mut Entries<'_, B>) -> Result<(), AllocError>
     ensures { OnOk result (
         entries.new ≡ with_current entries.old (spec.map_after_seq_num tx.now entries.old.current)) }
 {
-    let Some(mut slot) = load_account(entries, &tx.source_account.account_id())? else {
-        return Ok(());
-    };
-    slot.account.seq_num = tx.seq_num;
-    store_account(entries, slot)
+    set_seq_num(entries, &tx.source_account.account_id(), tx.seq_num)
 }
 
 // ---- behind it
@@ -132,9 +127,9 @@ pub(crate) fn is_poor<B: Base>(
 ) -> Result<bool, AllocError>
     ensures { IfOk result (λ poor. poor ≡ spec.is_poor ctx.now (account_at entries.now.current id.now)) }
 {
-    match load_account(entries, id)? {
+    match load_facts(entries, id)? {
         None => Ok(false),
-        Some(slot) => Ok(available(&slot.account, ctx.base_reserve) < 0),
+        Some(facts) => Ok(facts_available(&facts, ctx.base_reserve) < 0),
     }
 }
 

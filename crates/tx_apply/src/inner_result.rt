@@ -4,33 +4,7 @@ ghost use Rattle.std.specs.Prelude.{◌≡◌};
 ghost use Rattle.tx_apply.specs.InnerResult as spec;
 
 use ledger_types::Hash;
-use op_types::{
-    InnerTransactionOutcome, InnerTransactionResult, InnerTransactionResultPair, TransactionOutcome,
-};
-
-/// The same end, of an inner transaction.
-fn inner_outcome(outcome: TransactionOutcome) -> InnerTransactionOutcome
-    ensures { result ≡ spec.inner_outcome outcome }
-{
-    match outcome {
-        TransactionOutcome::Success(results) => InnerTransactionOutcome::Success(results),
-        TransactionOutcome::Failed(results) => InnerTransactionOutcome::Failed(results),
-        TransactionOutcome::TooEarly => InnerTransactionOutcome::TooEarly,
-        TransactionOutcome::TooLate => InnerTransactionOutcome::TooLate,
-        TransactionOutcome::MissingOperation => InnerTransactionOutcome::MissingOperation,
-        TransactionOutcome::BadSeq => InnerTransactionOutcome::BadSeq,
-        TransactionOutcome::BadAuth => InnerTransactionOutcome::BadAuth,
-        TransactionOutcome::InsufficientBalance => InnerTransactionOutcome::InsufficientBalance,
-        TransactionOutcome::NoAccount => InnerTransactionOutcome::NoAccount,
-        TransactionOutcome::InsufficientFee => InnerTransactionOutcome::InsufficientFee,
-        TransactionOutcome::BadAuthExtra => InnerTransactionOutcome::BadAuthExtra,
-        TransactionOutcome::InternalError => InnerTransactionOutcome::InternalError,
-        TransactionOutcome::NotSupported => InnerTransactionOutcome::NotSupported,
-        TransactionOutcome::FeeBumpInnerFailed(_) => InnerTransactionOutcome::FeeBumpInnerFailed,
-        TransactionOutcome::BadSponsorship => InnerTransactionOutcome::BadSponsorship,
-        TransactionOutcome::FeeBumpInnerSuccess(_) => InnerTransactionOutcome::FeeBumpInnerSuccess,
-    }
-}
+use op_types::{InnerTransactionResult, InnerTransactionResultPair, TransactionOutcome};
 
 /// The hash and the result of an inner transaction, whose fee is 0.
 fn inner_pair(hash: &Hash, outcome: TransactionOutcome) -> InnerTransactionResultPair
@@ -40,7 +14,7 @@ fn inner_pair(hash: &Hash, outcome: TransactionOutcome) -> InnerTransactionResul
         transaction_hash: *hash,
         result: InnerTransactionResult {
             fee_charged: 0,
-            outcome: inner_outcome(outcome),
+            outcome: outcome.into_inner(),
         },
     }
 }

@@ -22,4 +22,4 @@ mod transaction;
 
 pub use fault::SetFault;
 pub use laws::{fees_conserve, operations_are_lawful, sets_conserve, transactions_conserve};
-pub use set::{SetDone, apply_set};
+pub use set::{SetDone, apply_set, apply_set_in_order};

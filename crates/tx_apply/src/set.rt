@@ -142,9 +142,45 @@ fn apply_in_order<B: Base>(
 }
 
 /// Applies a set to the entries of the ledger before: all fees are taken first, and then the transactions are applied,
-/// both in the order of application (LedgerManagerImpl in stellar-core). `header` is that of the ledger before, and
-/// `close_time` that of the set's value, in seconds since 1970-01-01T00:00:00Z. A set that is refused leaves the
-/// entries.
+/// both in the order of application (LedgerManagerImpl in stellar-core), which is `order`. `header` is that of the
+/// ledger before, and `close_time` that of the set's value, in seconds since 1970-01-01T00:00:00Z. A set that is
+/// refused leaves the entries.
+pub fn apply_set_in_order<B: Base>(
+    entries: &mut Entries<'_, B>,
+    header: &LedgerHeader,
+    close_time: u64,
+    network: &Hash,
+    set: &TransactionSet,
+    order: &[u32],
+) -> Result<SetDone, SetFault>
+    requires legal { IsLegal header.now entries.old.current }
+    requires seq { header.now.ledger_seq < 2147483647 }
+    requires within { xdr.transaction_set.within set.now }
+    requires order { order.now ≡ apply_order_of set.now }
+    ensures answer { spec.IsAnswer (spec.closing_of network.now header.now close_time) set.now entries.old entries.new
+        result }
+    ensures conserved { OnOk result (
+        laws.IsConserved (spec.closing_of network.now header.now close_time) set.now entries.old.current) }
+    ensures lawful { OnOk result (
+        laws.AreLawful (spec.set_applied (spec.closing_of network.now header.now close_time) set.now
+        entries.old.current).steps) }
+{
+    legal_settles();
+    transaction_laws();
+    let envelopes = set.txs.as_slice();
+    if let Some(index) = unbuilt_place(envelopes) {
+        return Err(SetFault::NotBuilt {
+            index: index as u32,
+        });
+    }
+    all_numbers_fit(envelopes);
+    if let Some(index) = missing_among(entries, envelopes, order)? {
+        return Err(SetFault::FeeSourceMissing { index });
+    }
+    Ok(apply_in_order(entries, header, close_time, network, set, order)?)
+}
+
+/// Applies a set to the entries of the ledger before, as `apply_set_in_order` does, in the order that it finds.
 pub fn apply_set<B: Base>(
     entries: &mut Entries<'_, B>,
     header: &LedgerHeader,
@@ -163,18 +199,6 @@ pub fn apply_set<B: Base>(
         laws.AreLawful (spec.set_applied (spec.closing_of network.now header.now close_time) set.now
         entries.old.current).steps) }
 {
-    legal_settles();
-    transaction_laws();
-    let envelopes = set.txs.as_slice();
-    if let Some(index) = unbuilt_place(envelopes) {
-        return Err(SetFault::NotBuilt {
-            index: index as u32,
-        });
-    }
-    all_numbers_fit(envelopes);
     let order = apply_order(set.txs.allocator(), set)?;
-    if let Some(index) = missing_among(entries, envelopes, order.as_slice())? {
-        return Err(SetFault::FeeSourceMissing { index });
-    }
-    Ok(apply_in_order(entries, header, close_time, network, set, order.as_slice())?)
+    apply_set_in_order(entries, header, close_time, network, set, order.as_slice())
 }

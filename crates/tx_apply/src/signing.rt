@@ -1,14 +1,16 @@
 //! The signature checks of a transaction's source and of its operations' sources.
 
-ghost use Rattle.std.specs.Prelude.{◌≡◌, ◌++◌, IfOk, OnOk};
+ghost use Rattle.std.specs.Prelude.{◌≡◌, ◌≤◌, ◌++◌, length, IfOk, IfSome, OnOk};
 ghost use Rattle.std.specs.List.{list_all};
+ghost use Rattle.std.specs.Option.{option_copied};
+ghost use Rattle.entry_slots.specs.Accounts.{account_of};
 ghost use Rattle.op_laws.specs.Steps.{AreSignersFew};
 ghost use Rattle.tx_apply.specs.Signing as spec;
 
 use entry_map::{Base, Entries};
-use entry_slots::load_account;
+use entry_slots::account_in;
 use item_list::ItemList;
-use ledger_types::{AccountEntry, AccountId};
+use ledger_types::{AccountId, LedgerEntry, LedgerKey};
 use op_form::{ThresholdLevel, default_result, level_of, threshold_at};
 use op_types::{Operation, OperationResult};
 use signer_check::Checker;
@@ -24,7 +26,27 @@ pub(crate) fn source_of(source: &AccountId, operation: &Operation) -> AccountId
     }
 }
 
-/// Whether the signatures reach a threshold of an account. One that doesn't stand has no signature that counts.
+/// Whether the signatures reach a threshold of the account in an entry. One that isn't there has no signature that
+/// counts.
+fn check_entry(checker: &mut Checker, entry: Option<&LedgerEntry>, level: ThresholdLevel) -> bool
+    requires { IfSome (account_of (option_copied entry)) (λ account. length account.signers ≤ 20) }
+    ensures passes { result ≡ (spec.auth_by checker.old.hash level checker.old.signatures
+        (account_of (option_copied entry.entry))).passes }
+    ensures used { checker.new ≡ record checker.old {
+      signatures =
+          (spec.auth_by checker.old.hash level checker.old.signatures
+          (account_of (option_copied entry.entry))).signatures;
+    } }
+{
+    match account_in(entry) {
+        None => false,
+        Some(account) => checker.check(account, u32::from(threshold_at(level, account))),
+    }
+}
+
+/// Whether the signatures reach a threshold of an account. One that doesn't stand has no signature that counts. An
+/// account that has changed is looked at where it is.
+#[tactic(auto, unfolding(entry_slots::specs::Accounts::account_at))]
 pub(crate) fn check_account<B: Base>(
     entries: &Entries<'_, B>,
     checker: &mut Checker,
@@ -39,12 +61,10 @@ pub(crate) fn check_account<B: Base>(
           (spec.auth_of checker.old.hash level checker.old.signatures entries.now.current id.now).signatures;
     }) }
 {
-    match load_account(entries, id)? {
-        None => Ok(false),
-        Some(slot) => {
-            let needed = u32::from(threshold_at(level, &slot.account));
-            Ok(checker.check(&slot.account, needed))
-        }
+    let key = LedgerKey::Account { account_id: *id };
+    match entries.changed(&key) {
+        Some(entry) => Ok(check_entry(checker, entry, level)),
+        None => Ok(check_entry(checker, entries.base_entry(&key)?.as_ref(), level)),
     }
 }
 

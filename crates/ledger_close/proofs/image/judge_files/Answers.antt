@@ -3,16 +3,18 @@ use Rattle.bucket_levels.specs.declared.pair.LevelPair.{LevelPair}
 use Rattle.bucket_levels.specs.Levels.{pair_of}
 use Rattle.bucket_levels.specs.Size.{file_total}
 use Rattle.close_rules.specs.State.{max_file_total}
+use Rattle.close_rules.specs.Images.{AreFilesOf}
 use Rattle.ledger_close.proofs.Judged.{no_levels, too_long}
 use Rattle.ledger_close.proofs.image.judge_files.Goals as goal
 
-pub returns-then-files-ne22-clause-bad : goal.returns-then-files-ne22-clause-bad
-returns-then-files-ne22-clause-bad c = no_levels c.args.files.now c.broken.result c.broken.ensures c.if-files-ne22.true
+pub returns-then-len-ne22-clause-bad : goal.returns-then-len-ne22-clause-bad
+returns-then-len-ne22-clause-bad c = no_levels c.args.files c.broken.result c.broken.ensures (search rules)
 
 pub returns-then-not-are_few-clause-bad : goal.returns-then-not-are_few-clause-bad
 returns-then-not-are_few-clause-bad c =
     let same : c.as_slice.result.now ≡ c.in-Ok.pairs.items = search rules in
     let long : file_total (map pair_of c.as_slice.result.now) ≤ max_file_total → ⊥ = search rules in
-    too_long c.a_file_is_of_one_bucket.ensures c.args.files.now (map pair_of c.in-Ok.pairs.items)
-    c.broken-then-not-are_few.result c.broken-then-not-are_few.ensures c.in-Ok.ensures.ok
+    too_long c.a_file_is_of_one_bucket.ensures c.args.files (map pair_of c.in-Ok.pairs.items)
+    c.broken-then-not-are_few.result c.broken-then-not-are_few.ensures
+    (subst (AreFilesOf (map pair_of c.in-Ok.pairs.items)) c.into_vec.ensures c.in-Ok.ensures.ok)
     (λ few. long (subst (λ (p : List LevelPair). file_total (map pair_of p) ≤ max_file_total) (sym same) few))

@@ -11,14 +11,14 @@ use Rattle.ledger_close.proofs.Works.{refused_set, applied_set, applied_done, ap
 use Rattle.ledger_close.proofs.Works.{applied_batch}
 use Rattle.ledger_close.proofs.ledger.Ledger.apply.Goals as goal
 
-pub apply_set-requires-clause-within : goal.apply_set-requires-clause-within
-apply_set-requires-clause-within c = (set_spelled c.args.closing.now c.requires.spelled).within
+pub apply_set_in_order-requires-clause-within : goal.apply_set_in_order-requires-clause-within
+apply_set_in_order-requires-clause-within c = (set_spelled c.args.closing.now c.requires.spelled).within
 
 pub returns-in-Err : goal.returns-in-Err
 returns-in-Err c =
     let l = c.self.inside in
     let s = state_of l.network l.header l.levels.pairs l.entries in
-    let here = refused_set s c.args.closing.now c.in_ok-entries.entries c.apply_set.new.entries c.in-Err.fault
+    let here = refused_set s c.args.closing.now c.in_ok-entries.entries c.apply_set_in_order.new.entries c.in-Err.fault
     c.in_ok-entries.ensures c.in-Err.ensures.answer in
     let told = subst (λ f. FaultIs f (λ g. set_fault s c.args.closing.now ≡ Rattle.std.proofs.Common.Some g))
     (sym c.fault_of.ensures) here in
@@ -32,7 +32,7 @@ next-requires c =
     let closing = c.args.closing.now in (
       (applied_in s closing).entries,
       applied_keyed s closing c.in_ok-entries.entries c.in_ok-entries.ensures c.in-Ok.ensures.conserved,
-      applied_batch s closing c.in_ok-entries.entries c.apply_set.new.entries c.in-Ok.done c.in_ok-batch.batch
+      applied_batch s closing c.in_ok-entries.entries c.apply_set_in_order.new.entries c.in-Ok.done c.in_ok-batch.batch
           c.in_ok-entries.ensures c.in-Ok.ensures.answer c.in_ok-batch.ensures,
     )
 
@@ -44,7 +44,7 @@ returns c =
     let begun = c.in_ok-entries.ensures in
     let answer = c.in-Ok.ensures.answer in
     let old = c.in_ok-entries.entries in
-    let new = c.apply_set.new.entries in
+    let new = c.apply_set_in_order.new.entries in
     let keyed = applied_keyed s closing old begun c.in-Ok.ensures.conserved in
     let batch = applied_batch s closing old new c.in-Ok.done c.in_ok-batch.batch begun answer c.in_ok-batch.ensures in
     let next = c.in_ok-next.ensures.next (applied_in s closing).entries keyed batch in

@@ -1,4 +1,4 @@
-use Rattle.std.proofs.Common.{rules, ◌≡◌, ℕ, List, map, Err, sym, subst}
+use Rattle.std.proofs.Common.{rules, ◌≡◌, List, map, Err, sym, subst}
 use Rattle.bucket_levels.specs.Levels.{pair_of}
 use Rattle.bucket_levels.specs.Pairs.{Pair}
 use Rattle.ledger_close.specs.Judging.{AreFewFiles, Stands, AreJudged}
@@ -8,14 +8,12 @@ use Rattle.ledger_close.proofs.ledger.Ledger.from_image.Goals as goal
 pub returns-in-Err-judge_entries : goal.returns-in-Err-judge_entries
 returns-in-Err-judge_entries c =
     let levels : c.in_ok-levels.levels.pairs ≡ map pair_of c.in-Ok-judge_files.pairs.items = search rules in
-    let slice : c.as_slice-2.result.now ≡ c.in-Ok-judge_files.pairs.items = search rules in
-    let text : c.as_slice.result.now ≡ c.args.image.files = search rules in
+    let slice : c.as_slice.result.now ≡ c.in-Ok-judge_files.pairs.items = search rules in
     let files : AreFewFiles c.args.image.files (map pair_of c.in-Ok-judge_files.pairs.items) =
-    subst (λ (f : List (List ℕ)). AreFewFiles f (map pair_of c.in-Ok-judge_files.pairs.items)) text
     c.in-Ok-judge_files.ensures.ok in
-    let stands : Stands (map pair_of c.as_slice-2.result.now) c.in-Ok-judge_marks.entries =
+    let stands : Stands (map pair_of c.as_slice.result.now) c.in-Ok-judge_marks.entries =
     c.in-Ok-judge_marks.ensures.ok in
-    let same : map pair_of c.as_slice-2.result.now ≡ map pair_of c.in-Ok-judge_files.pairs.items = cc in
+    let same : map pair_of c.as_slice.result.now ≡ map pair_of c.in-Ok-judge_files.pairs.items = cc in
     by_entries c.args.network c.args.image c.in-Ok.header (map pair_of c.in-Ok-judge_files.pairs.items)
     c.in-Ok-judge_marks.entries c.in-Err-judge_entries.fault
     (has_levels c.args.image c.in-Ok.header (map pair_of c.in-Ok-judge_files.pairs.items) c.in-Ok.ensures.0 files)
@@ -27,15 +25,13 @@ returns-in-Err-judge_entries c =
 pub invariant_of-result : goal.invariant_of-result
 invariant_of-result c =
     let levels : c.in_ok-levels.levels.pairs ≡ map pair_of c.in-Ok-judge_files.pairs.items = search rules in
-    let slice : c.as_slice-2.result.now ≡ c.in-Ok-judge_files.pairs.items = search rules in
+    let slice : c.as_slice.result.now ≡ c.in-Ok-judge_files.pairs.items = search rules in
     let number : c.in_ok-levels.levels.seq ≡ c.in-Ok.header.ledger_seq = search rules in
-    let text : c.as_slice.result.now ≡ c.args.image.files = search rules in
     let files : AreFewFiles c.args.image.files (map pair_of c.in-Ok-judge_files.pairs.items) =
-    subst (λ (f : List (List ℕ)). AreFewFiles f (map pair_of c.in-Ok-judge_files.pairs.items)) text
     c.in-Ok-judge_files.ensures.ok in
-    let stands : Stands (map pair_of c.as_slice-2.result.now) c.in-Ok-judge_marks.entries =
+    let stands : Stands (map pair_of c.as_slice.result.now) c.in-Ok-judge_marks.entries =
     c.in-Ok-judge_marks.ensures.ok in
-    let same : map pair_of c.as_slice-2.result.now ≡ c.in_ok-levels.levels.pairs = cc in
+    let same : map pair_of c.as_slice.result.now ≡ c.in_ok-levels.levels.pairs = cc in
     is_kept c.args.network c.in_ok-digest.digest c.args.image c.in-Ok.header c.in-Ok-judge_marks.entries
     c.in_ok-levels.levels
     (record {
@@ -48,14 +44,12 @@ invariant_of-result c =
 pub returns : goal.returns
 returns c =
     let levels : c.in_ok-levels.levels.pairs ≡ map pair_of c.in-Ok-judge_files.pairs.items = search rules in
-    let slice : c.as_slice-2.result.now ≡ c.in-Ok-judge_files.pairs.items = search rules in
-    let text : c.as_slice.result.now ≡ c.args.image.files = search rules in
+    let slice : c.as_slice.result.now ≡ c.in-Ok-judge_files.pairs.items = search rules in
     let files : AreFewFiles c.args.image.files (map pair_of c.in-Ok-judge_files.pairs.items) =
-    subst (λ (f : List (List ℕ)). AreFewFiles f (map pair_of c.in-Ok-judge_files.pairs.items)) text
     c.in-Ok-judge_files.ensures.ok in
-    let stands : Stands (map pair_of c.as_slice-2.result.now) c.in-Ok-judge_marks.entries =
+    let stands : Stands (map pair_of c.as_slice.result.now) c.in-Ok-judge_marks.entries =
     c.in-Ok-judge_marks.ensures.ok in
-    let same : map pair_of c.as_slice-2.result.now ≡ c.in_ok-levels.levels.pairs = cc in
+    let same : map pair_of c.as_slice.result.now ≡ c.in_ok-levels.levels.pairs = cc in
     whole_judged c.args.network c.args.image c.in-Ok.header c.in_ok-levels.levels.pairs c.in-Ok-judge_marks.entries
     (record {
       header = c.in-Ok.ensures;

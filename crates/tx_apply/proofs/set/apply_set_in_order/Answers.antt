@@ -5,7 +5,7 @@ use Rattle.tx_apply.specs.Set.{closing_of}
 use Rattle.tx_apply.proofs.Unbuilt.{unbuilt_within}
 use Rattle.tx_apply.proofs.Conserving.{set_conserved, set_lawful}
 use Rattle.fee_rules.proofs.Ordered.{places_stand}
-use Rattle.tx_apply.proofs.set.apply_set.Goals as goal
+use Rattle.tx_apply.proofs.set.apply_set_in_order.Goals as goal
 
 pub overflow_cast-result : goal.overflow_cast-result
 overflow_cast-result g c =
@@ -23,12 +23,14 @@ all_numbers_fit-requires g c =
 pub missing_among-requires : goal.missing_among-requires
 missing_among-requires g c =
     let stand = places_stand c.args.set.now in
-    search (rules, stand)
+    let order = c.requires.order in
+    search (rules, stand, order)
 
 pub apply_in_order-requires-clause-places : goal.apply_in_order-requires-clause-places
 apply_in_order-requires-clause-places g c =
     let stand = places_stand c.args.set.now in
-    search (rules, stand)
+    let order = c.requires.order in
+    search (rules, stand, order)
 
 pub returns-clause-conserved : goal.returns-clause-conserved
 returns-clause-conserved g c =

@@ -8,8 +8,6 @@ mod find;
 mod item_key;
 mod judge;
 pub mod laws;
-#[cfg(test)]
-mod tests;
 
 pub use bucket::Bucket;
 pub use bucket_items::{BucketEntryType, BucketItem};

@@ -12,7 +12,7 @@ use ledger_types::BucketEntry;
 use xdr_core::Cursor;
 
 /// What an item says of its key (BucketEntryType in Stellar-ledger.x; CAP-0020).
-#[derive(Clone, Copy, Debug, PartialEq, Eq)]
+#[derive(Clone, Copy, PartialEq, Eq)]
 pub enum BucketEntryType {
     /// METAENTRY, -1: the bucket's own item, which has no key.
     Meta,

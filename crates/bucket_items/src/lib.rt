@@ -5,8 +5,6 @@ mod item;
 mod key_ref;
 mod key_text;
 mod marked_item;
-#[cfg(test)]
-mod tests;
 
 pub use item::{BucketEntryType, BucketItem};
 pub use key_ref::{KeyRef, read_key_ref};

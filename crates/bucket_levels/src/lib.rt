@@ -8,8 +8,6 @@ mod pair;
 mod plan;
 mod size;
 mod spills;
-#[cfg(test)]
-mod tests;
 
 pub use laws::steps_stand;
 pub use levels::Levels;

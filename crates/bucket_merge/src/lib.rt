@@ -10,8 +10,6 @@ mod out;
 mod record;
 mod side;
 mod take;
-#[cfg(test)]
-mod tests;
 mod write;
 
 pub use job::{MergeBack, MergeJob};

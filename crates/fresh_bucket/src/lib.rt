@@ -3,8 +3,6 @@
 
 mod fresh;
 mod items;
-#[cfg(test)]
-mod tests;
 mod write;
 
 pub use fresh::fresh_bucket;

@@ -2,8 +2,6 @@
 #![tactic(auto)]
 
 mod skip_list;
-#[cfg(test)]
-mod tests;
 mod upgrades;
 
 pub use skip_list::finish;

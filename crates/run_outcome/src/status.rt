@@ -6,7 +6,7 @@ ghost use Rattle.run_outcome.specs.Statuses.{status_code};
 use close_rules::ImageRule;
 
 /// How a run of the program ends.
-#[derive(Clone, Copy, Debug, PartialEq, Eq)]
+#[derive(Clone, Copy, PartialEq, Eq)]
 pub enum Status {
     /// 0: all is done, and the input was read to its end.
     Done,

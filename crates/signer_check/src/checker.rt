@@ -12,7 +12,7 @@ use std::alloc::{AllocError, Global};
 use std::marker::Model;
 
 /// The signatures of a transaction, and which of them the checks so far used (SignatureChecker in stellar-core).
-#[derive(Debug, Drop)]
+#[derive(Drop)]
 pub struct Checker {
     /// The hash of the transaction.
     hash: Hash,

@@ -8,7 +8,7 @@ use ledger_types::Hash;
 use op_types::DecoratedSignature;
 
 /// What a signature shows, and whether a check used it.
-#[derive(Clone, Copy, Debug, PartialEq, Eq)]
+#[derive(Clone, Copy, PartialEq, Eq)]
 pub struct HeldSignature {
     /// The last four bytes of the signer's key, as the signature says.
     pub hint: [u8; 4],

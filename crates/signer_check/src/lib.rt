@@ -7,8 +7,6 @@ mod held;
 mod matching;
 mod missing;
 mod reaching;
-#[cfg(test)]
-mod tests;
 
 pub use checker::Checker;
 pub use held::HeldSignature;

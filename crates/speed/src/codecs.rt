@@ -6,7 +6,7 @@ use xdr_entries::{read_ledger_entry, write_ledger_entry};
 use xdr_tx::{read_transaction_set, write_transaction_set};
 
 /// What was done.
-#[derive(Clone, Copy, Debug, PartialEq, Eq)]
+#[derive(Clone, Copy, PartialEq, Eq)]
 pub struct Done {
     /// How many values were read.
     pub values: u64,

@@ -17,7 +17,7 @@ const PUT_STEP: u64 = 7919;
 const GET_STEP: u64 = 104_729;
 
 /// What was done.
-#[derive(Clone, Copy, Debug, PartialEq, Eq)]
+#[derive(Clone, Copy, PartialEq, Eq)]
 pub struct Tally {
     /// How many offers were put.
     pub puts: u64,

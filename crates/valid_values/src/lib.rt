@@ -3,8 +3,6 @@
 
 mod asset;
 mod predicate;
-#[cfg(test)]
-mod tests;
 mod text;
 
 pub use asset::is_valid_asset;

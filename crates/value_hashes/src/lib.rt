@@ -2,12 +2,8 @@
 //! a ledger's header and of its results, each SHA-256 (FIPS 180-4) of the one spelling.
 #![tactic(auto)]
 
-#[cfg(test)]
-mod end_tests;
 mod envelope;
 mod ledger;
-#[cfg(test)]
-mod tests;
 mod transaction;
 
 pub use envelope::{envelope_hash, signed_hash};

@@ -5,8 +5,6 @@
 mod fraction;
 mod quotient;
 mod root;
-#[cfg(test)]
-mod tests;
 
 pub use fraction::frac_cmp;
 pub use quotient::{Round, mul_div, scaled_div};

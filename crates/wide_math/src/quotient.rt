@@ -5,7 +5,7 @@ ghost use Rattle.std.specs.Option.{SomeIff};
 ghost use Rattle.wide_math.specs.Quotient.{quotient};
 
 /// Which way a quotient that isn't whole is rounded.
-#[derive(Clone, Copy, Debug, PartialEq, Eq)]
+#[derive(Clone, Copy, PartialEq, Eq)]
 pub enum Round {
     /// To the next whole number below.
     Down,

@@ -1,0 +1,21 @@
+//! Tests of the crates of hashes, entries, rules and headers.
+#![tactic(auto)]
+
+#[cfg(test)]
+mod ends;
+#[cfg(test)]
+mod entries;
+#[cfg(test)]
+mod fees;
+#[cfg(test)]
+mod hashes;
+#[cfg(test)]
+mod headers;
+#[cfg(test)]
+mod identities;
+#[cfg(test)]
+mod reserves;
+#[cfg(test)]
+mod signatures;
+#[cfg(test)]
+mod table;

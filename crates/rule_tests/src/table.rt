@@ -1,0 +1,63 @@
+//! What no contract says: that calls succeed where there is memory.
+
+use entry_map::{Base, Entries};
+use entry_table::EntryTable;
+use ledger_types::{AccountId, Asset, LedgerEntry, LedgerEntryBody, LedgerKey, OfferEntry, Price};
+use std::alloc::{AllocError, Global};
+
+const SELLER: AccountId = AccountId([7; 32]);
+
+/// An offer, last changed in ledger 1.
+fn offer(offer_id: i64) -> LedgerEntry {
+    LedgerEntry {
+        last_modified_ledger_seq: 1,
+        body: LedgerEntryBody::Offer(OfferEntry {
+            seller_id: SELLER,
+            offer_id,
+            selling: Asset::Native,
+            buying: Asset::Native,
+            amount: 5,
+            price: Price { n: 1, d: 1 },
+            flags: 0,
+        }),
+        ext: None,
+    }
+}
+
+/// The table of one offer.
+fn one_offer(alloc: Global) -> Result<EntryTable, AllocError> {
+    let mut offers = Vec::new(alloc);
+    offers.push(offer(3))?;
+    EntryTable::from_rising(alloc, offers)
+}
+
+/// The table behind ledger 9, which brings an offer more.
+fn next_offer(alloc: Global, table: &EntryTable) -> Result<EntryTable, AllocError> {
+    let _count = table.len();
+    let mut entries = Entries::new(alloc, table)?;
+    entries.put(offer(2))?;
+    let mut batch = entries.changes()?;
+    table.next(9, &mut batch)
+}
+
+/// The ledger in which an entry of a base was last changed.
+fn changed_in<B: Base>(base: &B, key: &LedgerKey) -> Result<Option<u32>, AllocError> {
+    match base.find(key)? {
+        None => Ok(None),
+        Some(entry) => Ok(Some(entry.last_modified_ledger_seq)),
+    }
+}
+
+/// Whether the new offer has the number of the ledger, and the old one its own.
+fn is_stamped(alloc: Global) -> Result<bool, AllocError> {
+    let table = one_offer(alloc)?;
+    let next = next_offer(alloc, &table)?;
+    let new = changed_in(&next, &offer(2).key()?)?;
+    let old = changed_in(&next, &offer(3).key()?)?;
+    Ok(next.len() == 2 && new == Some(9) && old == Some(1))
+}
+
+#[test]
+fn a_new_offer_has_the_number_of_its_ledger(rt: HostRuntime) {
+    assert!(rt; is_stamped(rt.alloc()) == Ok(true));
+}

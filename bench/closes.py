@@ -1,25 +1,32 @@
 #!/usr/bin/env python3
 """Measures `catchup`: opening an image, and closing ledgers behind it.
 
-    bench/closes.py [PROGRAM]
+    bench/closes.py [PROGRAM [OTHER]]
 
-PROGRAM is the built program, crates/ledger/out/ledger of this repository where none is given.
+PROGRAM is the built program, crates/ledger/out/ledger of this repository where none is given. OTHER is another build, of an earlier
+state say: both are then run in turn, and the last lines tell what PROGRAM takes of OTHER's times.
 
-Images of 1,000, 10,000 and 100,000 accounts are opened alone, and with 50 records of 100 transactions, of two mixes. One is of accounts:
-payments, new accounts, options, data, sequence numbers, data that another account pays for, and merges. The other is of assets: lines that
-are made and changed, what is issued, paid and redeemed in them, authorisations taken back and given, claimable balances made, claimed and
-clawed back, and clawback. What the program prints is compared with what the ledger in Python beside `close_cases` says.
+Images of 1,000, 10,000 and 100,000 accounts are opened, and then 50 records of 100 transactions are handed in one by one, of two mixes.
+One is of accounts: payments, new accounts, options, data, sequence numbers, data that another account pays for, and merges. The other is
+of assets: lines that are made and changed, what is issued, paid and redeemed in them, authorisations taken back and given, claimable
+balances made, claimed and clawed back, and clawback. What the program prints is compared with what the ledger in Python beside
+`close_cases` says.
 
-The script prints processor time and peak memory, the bytes of an image for a second of opening, ledgers and transactions a second
-without opening, and how much longer all of it takes than sha256sum of the same input.
+The script prints processor time and peak memory of opening; then the processor time of closing without the longest close, ledgers and
+transactions a second of it, and the longest close by itself, which is the one in which a deep level is merged; each close by the least
+of several runs. A close is measured from when its record is handed in until the program waits for the next one. Last it tells how much
+longer closing takes behind 100,000 accounts than behind 1,000, and all of a run than sha256sum of the same input.
 
-Exit status: 0 where all is well, 1 where ten times the accounts take more than 15 times as long to open, 2 where a run fails or prints
-another text. Python 3.9 or later, its standard library, and sha256sum.
+Exit status: 0 where all is well, 1 where ten times the accounts take more than 15 times as long to open, or closing takes more than
+twice as long behind 100,000 accounts as behind 1,000, 2 where a run fails or prints another text. Linux (it reads /proc), Python 3.9
+or later, its standard library, and sha256sum.
 """
 
 import os
+import subprocess
 import sys
 import tempfile
+import time
 
 from measuring import TOP, built, run, stop
 
@@ -32,7 +39,7 @@ LEDGERS, SIZE = 50, 100
 SENDERS = 500
 # AUTH_REVOCABLE and AUTH_CLAWBACK_ENABLED
 CLAWING = 10
-GREATEST_RATIO = 15
+GREATEST_RATIO, GREATEST_GROWTH = 15, 2
 BALANCE = 1_000_000_000
 NETWORK = "Test SDF Network ; September 2015"
 SEQ = 630
@@ -113,7 +120,7 @@ class Holder(Sender):
 
 
 def story(data, sender):
-    """The records behind an image, and what `catchup` prints for all."""
+    """The records behind an image, one by one, and what `catchup` prints for all."""
     ledger = model.ledger_of(model.sha(NETWORK.encode()), *model.cut_image(model.Text(data)))
     records, lines = [], []
     for number in range(LEDGERS):
@@ -123,42 +130,127 @@ def story(data, sender):
         record = model.u32(ledger.header["seq"] + 1) + ledger.hash + model.many(listed) + value
         lines.append(ledger.close(record))
         records.append(model.marked(record))
-    return b"".join(records), "".join(lines) + f"end {ledger.header['seq']} {ledger.hash.hex()}\n"
+    return records, "".join(lines) + f"end {ledger.header['seq']} {ledger.hash.hex()}\n"
+
+
+class Watched:
+    """A program that is run, and what it has used so far."""
+
+    def __init__(self, program):
+        words = [program, "catchup", "--network", NETWORK]
+        self.process = subprocess.Popen(words, stdin=subprocess.PIPE, stdout=subprocess.PIPE, bufsize=0)
+        self.folder, self.text = f"/proc/{self.process.pid}", b""
+
+    def used(self):
+        """The processor time so far, in seconds, once the program waits for input."""
+        before = None
+        while True:
+            with open(f"{self.folder}/stat") as file:
+                waits = file.read().rsplit(")", 1)[1].split()[0] == "S"
+            with open(f"{self.folder}/schedstat") as file:
+                now = int(file.read().split()[0])
+            if waits and now == before:
+                return now / 1e9
+            before = now
+            time.sleep(0.0005)
+
+    def peak(self):
+        """The peak of memory so far, in kB."""
+        with open(f"{self.folder}/status") as file:
+            return next(int(line.split()[1]) for line in file if line.startswith("VmHWM"))
+
+    def hand_in(self, data):
+        self.process.stdin.write(data)
+
+    def read_close(self):
+        """Reads what is printed for one close."""
+        at = len(self.text)
+        while b"closed " not in self.text[at:] or not self.text.endswith(b"\n"):
+            more = self.process.stdout.read(1 << 16)
+            if not more:
+                stop("the program ended before its input did")
+            self.text += more
+
+    def end(self):
+        """Ends the input, and gives all that was printed."""
+        self.process.stdin.close()
+        self.text += self.process.stdout.read()
+        if self.process.wait():
+            stop(f"the program ended with status {self.process.returncode}")
+        return self.text.decode()
+
+
+def watched(program, data, records, wanted):
+    """The processor time of opening, its peak of memory, and the processor time of each close, of one run."""
+    it = Watched(program)
+    it.hand_in(data)
+    opening, peak, closes = it.used(), it.peak(), []
+    last = opening
+    for record in records:
+        it.hand_in(record)
+        it.read_close()
+        now = it.used()
+        closes.append(now - last)
+        last = now
+    if it.end() != wanted:
+        stop("catchup printed another text")
+    return opening, peak, closes
+
+
+def least(runs):
+    """The least of several runs: opening, its peak of memory, closing without the longest close, and that one."""
+    closes = [min(times) for times in zip(*(it[2] for it in runs))]
+    return min(it[0] for it in runs), max(it[1] for it in runs), sum(closes) - max(closes), max(closes)
+
+
+def tell(name, count, mix, size, done, opening, peak, closing, longest):
+    print(
+        f"{name}{count:7} accounts, {mix}: image of {size / 1e6:.2f} MB opened in {opening * 1e3:.1f} ms"
+        f" ({size / opening / 1e6:.1f} MB/s), {peak / 1e3:.1f} MB of memory, {peak * 1e3 / size:.1f} times the image;"
+        f" {LEDGERS - 1} ledgers of {SIZE} transactions in {closing * 1e3:.1f} ms: {(LEDGERS - 1) / closing:.0f} ledgers and"
+        f" {(LEDGERS - 1) * SIZE / closing:.0f} transactions a second ({done} of {LEDGERS * SIZE} succeed); the longest close"
+        f" {longest * 1e3:.1f} ms",
+        flush=True,
+    )
 
 
 def main():
-    program = sys.argv[1] if len(sys.argv) > 1 else built("ledger")
-    words = [program, "catchup", "--network", NETWORK]
-    opening = {}
+    programs = sys.argv[1:] or [built("ledger")]
+    results = {}
     with tempfile.TemporaryDirectory() as folder:
         source = os.path.join(folder, "input")
         for count, mix in [(count, mix) for count in (1_000, 10_000, 100_000) for mix in ("assets", "accounts")]:
             data = image(count, CLAWING if mix == "assets" else 0)
             sender = Holder(count, SENDERS) if mix == "assets" else Sender(count, count // 2)
             records, wanted = story(data, sender)
-            runs = 3 if count == 100_000 else 5
             with open(source, "wb") as file:
-                file.write(data)
-            opening[count], opened, _ = run(words, runs, folder, source)
-            with open(source, "ab") as file:
-                file.write(records)
-            whole, most, text = run(words, runs, folder, source)
-            if text.decode() != wanted:
-                stop(f"catchup from {count} accounts, with {mix}, printed another text")
-            hashed, _, _ = run(["sha256sum", source], runs, folder)
-            closing = max(whole - opening[count], 1e-9)
+                file.write(data + b"".join(records))
+            hashed, _, _ = run(["sha256sum", source], 3, folder)
             done = sum(line.startswith("tx ") and line.split()[-1] in "01" for line in wanted.splitlines())
-            print(
-                f"{count:7} accounts, {mix}: image of {len(data) / 1e6:.2f} MB opened in {opening[count] * 1e3:.1f} ms"
-                f" ({len(data) / opening[count] / 1e6:.1f} MB/s), {opened / 1e3:.1f} MB of memory; {LEDGERS} ledgers of {SIZE}"
-                f" transactions, of which {done} succeed in all, in {closing * 1e3:.1f} ms: {LEDGERS / closing:.0f} ledgers and"
-                f" {LEDGERS * SIZE / closing:.0f} transactions a second, {most / 1e3:.1f} MB; all of it takes"
-                f" {whole / max(hashed, 1e-9):.1f} times as long as sha256sum of the input"
-            )
-    ratios = [opening[10_000] / opening[1_000], opening[100_000] / opening[10_000]]
-    print("ten times the accounts take {:.1f} and {:.1f} times as long to open".format(*ratios))
-    if max(ratios) > GREATEST_RATIO:
-        sys.exit(1)
+            runs = {program: [] for program in programs}
+            for _ in range(3 if count == 100_000 else 7):
+                for program in programs:
+                    runs[program].append(watched(program, data, records, wanted))
+            for program in programs:
+                found = least(runs[program])
+                results[program, count, mix] = found
+                name = f"{program}: " if len(programs) > 1 else ""
+                tell(name, count, mix, len(data), done, *found)
+                whole = found[0] + found[2] + found[3]
+                print(f"    all of it takes {whole / max(hashed, 1e-9):.1f} times as long as sha256sum of the input", flush=True)
+    main_one, fails = programs[0], False
+    for mix in ("assets", "accounts"):
+        small, middle, large = [results[main_one, count, mix] for count in (1_000, 10_000, 100_000)]
+        ratios, growth = (middle[0] / small[0], large[0] / middle[0]), large[2] / small[2]
+        print(f"{mix}: ten times the accounts take {ratios[0]:.1f} and {ratios[1]:.1f} times as long to open;"
+              f" closing takes {growth:.2f} times as long behind 100,000 accounts as behind 1,000")
+        fails = fails or max(ratios) > GREATEST_RATIO or growth > GREATEST_GROWTH
+    for other in programs[1:]:
+        for count, mix in [(count, mix) for count in (1_000, 10_000, 100_000) for mix in ("assets", "accounts")]:
+            new, old = results[main_one, count, mix], results[other, count, mix]
+            print(f"{count:7} accounts, {mix}, of {other}: opening {new[0] / old[0]:.2f}, its memory {new[1] / old[1]:.2f}, closing"
+                  f" {new[2] / old[2]:.2f}, the longest close {new[3] / old[3]:.2f}")
+    sys.exit(fails)
 
 
 if __name__ == "__main__":

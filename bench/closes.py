@@ -32,7 +32,7 @@ from measuring import TOP, built, run, stop
 
 sys.path[:0] = [f"{TOP}/crates/close_cases", f"{TOP}/crates/tx_cases"]
 import ledger_model as model  # noqa: E402
-import make_cases as sets  # noqa: E402
+import set_cases as sets  # noqa: E402
 
 LEDGERS, SIZE = 50, 100
 # how many accounts send, of a mix of assets

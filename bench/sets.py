@@ -23,7 +23,7 @@ import tempfile
 from measuring import TOP, built, run
 
 sys.path.insert(0, f"{TOP}/crates/tx_cases")
-import make_cases as made  # noqa: E402
+import set_cases as made  # noqa: E402
 
 ACCOUNTS = 10_000
 GREATEST_RATIO = 13

@@ -1,9 +1,9 @@
-"""The cases of trust lines and of claimable balances, which `make_cases.py` writes. Each says by hand how it ends, what each operation
+"""The cases of trust lines and of claimable balances, which `run_cases.py` writes. Each says by hand how it ends, what each operation
 answers, and what is left.
 """
 
 import ledger_model as model
-import make_cases as sets  # that of whole sets of transactions: ledger_model puts its folder first
+import set_cases as sets  # ledger_model puts its folder first
 from asset_model import issuer_of, line_rank
 from case_tools import (
     A, META_18, USD, Account, B, C, Story, bucket, case, claimable, entry, image, items, key, line, offer, pool, predicate, raw,
@@ -50,7 +50,7 @@ def line_ranges():
     ]:
         case(f"a line: {name}", image([HOLDER, value]), "10 bad image rule 7")
     for data in BAD_CODES:
-        case(f"a line: the code {data!r}", image([HOLDER, line("a", code(data))]), "10 bad image rule 7")
+        case(f"a line: the code {data.hex()}", image([HOLDER, line("a", code(data))]), "10 bad image rule 7")
     # issuers needn't stand
     fine = [
         line("a", USD, balance=GREATEST, limit=GREATEST), line("a", EUR, limit=1, flags=0), line("a", LONG, 100, 100, 2),
@@ -80,7 +80,7 @@ def claimable_ranges():
         ("a not of nothing", sets.opposite(None)), ("a time below 0 at the second place of an or", sets.either(part, sets.before(-1))),
     ]:
         wrong.append((name, claimable(ID, [("c", part), ("b", held)])))
-    wrong += [(f"the code {data!r}", claimable(ID, asset=code(data))) for data in BAD_CODES[::4]]
+    wrong += [(f"the code {data.hex()}", claimable(ID, asset=code(data))) for data in BAD_CODES[::4]]
     for name, value in wrong:
         case(f"a claimable balance: {name}", image([PAYER, value]), "10 bad image rule 7")
     # claimants needn't stand, nor issuers
@@ -514,7 +514,8 @@ def times():
         story.run("a", (sets.create_claimable(10, [("b", held)], USD), sets.set_aside(made)))
         assert story.claimables()[made]["body"][1]["claimants"][0][1]["predicate"] == (4, stored)
         story.run("b", (sets.claim(made), R(15, number)), time=when)
-        case(f"times: stored as {stored} behind {last}, at {when}", story, "end 7", 2)
+        ahead = int.from_bytes(held[4:], "big")
+        case(f"times: {ahead} seconds behind {last} stored as {stored}, at {when}", story, "end 7", 2)
     # predicates of parts; each time they are judged at 2000, and the relative ones count from 1005
     early, late = before(2000), before(2001)
     table = [

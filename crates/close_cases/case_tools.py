@@ -1,7 +1,7 @@
-"""Images, records behind them, and cases: what the cases of accounts, in `make_cases.py`, and those of `asset_cases.py` are made with."""
+"""Images, records behind them, and cases: what the cases of accounts, in `run_cases.py`, and those of `asset_cases.py` are made with."""
 
 import ledger_model as model
-import make_cases as sets  # that of whole sets of transactions: ledger_model puts its folder first
+import set_cases as sets  # ledger_model puts its folder first
 from asset_model import line_rank
 from entry_model import ASSET, CLAIMANT, LINE_ASSET, Rows
 from ledger_model import (

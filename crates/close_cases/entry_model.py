@@ -6,7 +6,7 @@ import os
 import sys
 
 sys.path.insert(0, os.path.join(os.path.dirname(os.path.dirname(os.path.abspath(__file__))), "tx_cases"))
-from make_cases import GREATEST, i32, i64, many, sha, u32, u64  # noqa: E402, F401
+from set_cases import GREATEST, i32, i64, many, sha, u32, u64  # noqa: E402, F401
 
 # ---- XDR, both ways
 

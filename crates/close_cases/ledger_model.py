@@ -3,7 +3,7 @@
 It shares nothing with the program. It follows the protocol's XDR (RFC 4506; the .x files of stellar-core), CAP-0015 for fee bumps,
 CAP-0018 for authorisation, CAP-0020 for buckets, CAP-0023 for claimable balances, CAP-0033 for sponsorship, CAP-0035 for clawback, and
 stellar-core for the rest. Values and reserves stand in `entry_model.py`, the operations of assets in `asset_model.py`.
-`make_cases.py` makes cases with it, `bench/` inputs. Python 3.9 or later and its standard library.
+`run_cases.py` makes cases with it, `bench/` inputs. Python 3.9 or later and its standard library.
 """
 
 import asset_model as assets

@@ -4,3 +4,4 @@ pub mod Joined
 pub mod Climb
 pub mod Standing
 pub mod Planning
+pub mod Unmerged

@@ -63,18 +63,17 @@ work_is_within seq fresh old level le =
     work_within seq fresh old (level_count - level) level (omega (arith, le))
 
 -- the work of one level more
-pub work_follows : (seq : ℕ) (seen fresh : Contents) (old : List Pair) (level start before now : ℕ) → seen ≡ fresh
-    → before ≤ start + work_above seq fresh old level → now ≤ before + work_at seq seen old level
+pub work_follows : (seq : ℕ) (fresh : Contents) (old : List Pair) (level start before now : ℕ)
+    → before ≤ start + work_above seq fresh old level → now ≤ before + work_at seq fresh old level
     → now ≤ start + work_above seq fresh old (level + 1)
-work_follows seq seen fresh old level start before now e was more =
-    let same = ap (λ (c : Contents). work_at seq c old level) e in
+work_follows seq fresh old level start before now was more =
     let next = work_more seq fresh old level in
-    omega (arith, same, next, was, more)
+    omega (arith, next, was, more)
 
-pub work_stays_within : (seq : ℕ) (seen fresh : Contents) (old : List Pair) (level start before now : ℕ)
-    → level < level_count → seen ≡ fresh → before ≤ start + work_above seq fresh old level
-    → now ≤ before + work_at seq seen old level → now ≤ start + work_above seq fresh old level_count
-work_stays_within seq seen fresh old level start before now lt e was more =
-    let here = work_follows seq seen fresh old level start before now e was more in
+pub work_stays_within : (seq : ℕ) (fresh : Contents) (old : List Pair) (level start before now : ℕ)
+    → level < level_count → before ≤ start + work_above seq fresh old level
+    → now ≤ before + work_at seq fresh old level → now ≤ start + work_above seq fresh old level_count
+work_stays_within seq fresh old level start before now lt was more =
+    let here = work_follows seq fresh old level start before now was more in
     let all = work_is_within seq fresh old (level + 1) (omega (arith, lt)) in
     omega (arith, here, all)

@@ -4,7 +4,7 @@ ghost use Rattle.std.specs.Prelude.{◌≡◌, ◌≤◌, ◌+◌, length, IfOk}
 ghost use Rattle.bucket_core.specs.Bucket.{Contents};
 ghost use Rattle.bucket_core.specs.File.{count_of};
 ghost use Rattle.bucket_merge.specs.Merge.{IsMerge};
-ghost use Rattle.bucket_levels.specs.Step.{base_at, snap_after, IsCurrAfter, IsPairAfter, IsStep};
+ghost use Rattle.bucket_levels.specs.Step.{snap_after, IsCurrAfter, IsPairAfter, IsStep};
 ghost use Rattle.bucket_levels.specs.Work.{work, work_at};
 ghost use Rattle.bucket_levels.specs.Levels.{pair_of};
 ghost use Rattle.bucket_levels.specs.Hash.{list_hash};
@@ -71,17 +71,6 @@ fn merged<L: Ledger>(job: MergeJob, steps: &mut Steps<L>) -> Result<Arc<Bucket>,
 }
 
 impl Levels {
-    /// What is merged onto in a level, 0 to 10.
-    fn base(&self, level: u32, seq: u32) -> &Arc<Bucket>
-        requires { level ≤ 10 }
-        ensures { result.now.value ≡ base_at seq self.now.pairs level }
-    {
-        if spills(level, seq) {
-            return self.empty();
-        }
-        &self.pair(level).curr
-    }
-
     /// The snap of a level, 0 to 10, behind a step.
     fn snap_after(&self, level: u32, seq: u32) -> &Arc<Bucket>
         requires { level ≤ 10 }
@@ -93,8 +82,27 @@ impl Levels {
         &self.pair(level).snap
     }
 
+    /// The curr of level 0 behind a step. Where the level spills, the fresh bucket is merged onto nothing, and stays as
+    /// it is.
+    #[tactic(auto, using(crate::proofs::Unmerged::spilled_first))]
+    fn first_curr<L: Ledger>(
+        &self,
+        seq: u32,
+        fresh: &Arc<Bucket>,
+        steps: &mut Steps<L>,
+    ) -> Result<Arc<Bucket>, AllocError>
+        ensures curr { IfOk result (λ curr. IsCurrAfter seq fresh.now.value self.now.pairs 0 curr.value) }
+        ensures most { steps.new ≤ steps.old + work_at seq fresh.now.value self.now.pairs 0 }
+    {
+        if spills(0, seq) {
+            return fresh.clone();
+        }
+        merge_fresh(&self.pair(0).curr, fresh, steps)
+    }
+
     /// The curr of a level from 1 to 10 behind a step, onto which the snap above is merged where the level above
-    /// spills.
+    /// spills. Where the level spills too, that snap is merged onto nothing, and stays as it is.
+    #[tactic(auto, using(crate::proofs::Unmerged::spilled_below, crate::proofs::Unmerged::merged_below))]
     fn curr_below<L: Ledger>(
         &self,
         level: u32,
@@ -110,9 +118,13 @@ impl Levels {
         if !spills(level - 1, seq) {
             return self.pair(level).curr.clone();
         }
-        let base = self.base(level, seq).clone()?;
         let snap = self.pair(level - 1).snap.clone()?;
-        merged(MergeJob::new(level, seq, base, snap), steps)
+        let onto_nothing = spills(level, seq);
+        if onto_nothing {
+            return Ok(snap);
+        }
+        let curr = self.pair(level).curr.clone()?;
+        merged(MergeJob::new(level, seq, curr, snap), steps)
     }
 
     /// The curr of a level, 0 to 10, behind a step.
@@ -120,15 +132,15 @@ impl Levels {
         &self,
         level: u32,
         seq: u32,
-        fresh: &Bucket,
+        fresh: &Arc<Bucket>,
         steps: &mut Steps<L>,
     ) -> Result<Arc<Bucket>, AllocError>
         requires { level ≤ 10 }
-        ensures curr { IfOk result (λ curr. IsCurrAfter seq fresh.now self.now.pairs level curr.value) }
-        ensures most { steps.new ≤ steps.old + work_at seq fresh.now self.now.pairs level }
+        ensures curr { IfOk result (λ curr. IsCurrAfter seq fresh.now.value self.now.pairs level curr.value) }
+        ensures most { steps.new ≤ steps.old + work_at seq fresh.now.value self.now.pairs level }
     {
         if level == 0 {
-            return merge_fresh(self.base(0, seq), fresh, steps);
+            return self.first_curr(seq, fresh, steps);
         }
         self.curr_below(level, seq, steps)
     }
@@ -138,12 +150,12 @@ impl Levels {
         &self,
         level: u32,
         seq: u32,
-        fresh: &Bucket,
+        fresh: &Arc<Bucket>,
         steps: &mut Steps<L>,
     ) -> Result<LevelPair, AllocError>
         requires { level ≤ 10 }
-        ensures pair { IfOk result (λ pair. IsPairAfter seq fresh.now self.now.pairs level (pair_of pair)) }
-        ensures most { steps.new ≤ steps.old + work_at seq fresh.now self.now.pairs level }
+        ensures pair { IfOk result (λ pair. IsPairAfter seq fresh.now.value self.now.pairs level (pair_of pair)) }
+        ensures most { steps.new ≤ steps.old + work_at seq fresh.now.value self.now.pairs level }
     {
         let curr = self.curr_after(level, seq, fresh, steps)?;
         let snap = self.snap_after(level, seq).clone()?;

@@ -1,12 +1,21 @@
-//! Runs the cases in a folder, each from five files: `N.args` has its words, one a line, `N.in` its input, and
-//! `N.out`, `N.err` and `N.status` have what it must write and answer, to the byte. Each is run twice: in pieces, and
-//! at one byte a read and a write. Prints a line for each case.
+//! Runs the cases in a folder. `names` has their names, one a line, each of which says what the case shows; `NAME.case` has
+//! a head of lines, an empty line, what the program must write, and then its input. A line of the head is one of
+//!
+//! - `word WORD`, a word of the command line;
+//! - `status N`, the exit status that it must answer;
+//! - `error LINE`, a line that it must write to standard error;
+//! - `output N`, the number of bytes that it must write to standard output.
+//!
+//! Each is run twice: in pieces, and at one byte a read and a write. Prints a line for each case.
 //!
 //! The folder is the program's one argument, or `data` where there is none.
 #![tactic(auto)]
 
 ghost use Rattle.std.specs.Prelude.{◌≡◌, ◌<◌};
 
+mod case;
+
+use case::{Case, read_case};
 use outside::{MemSink, MemSource, Steps};
 use replay::run_program;
 use std::alloc::Global;
@@ -15,58 +24,21 @@ use std::rt::Files;
 use std::sync::ledger::{Blank, Ledger};
 use std::{env, fs, io};
 
-/// How many cases there are.
-const CASES: u32 = 508;
-
 /// The most bytes that a read or a write moves in the first run of a case.
 const PIECE: usize = 100;
 
-/// The bytes of one file of a case.
-fn file<R: Files + AllocGlobal>(
-    rt: &R,
-    folder: &str,
-    case: u32,
-    kind: &str,
-) -> io::Result<Vec<u8>> {
-    let path = format!(in rt.alloc(); "{folder}/{case}.{kind}")?;
-    fs::read(rt, path.as_str())
-}
-
-/// The text of one file of a case.
-fn text<R: Files + AllocGlobal>(rt: &R, folder: &str, case: u32, kind: &str) -> io::Result<String> {
-    let path = format!(in rt.alloc(); "{folder}/{case}.{kind}")?;
-    fs::read_to_string(rt, path.as_str())
-}
-
-/// The words of a case.
-fn words<R: Files + AllocGlobal>(rt: &R, folder: &str, case: u32) -> io::Result<Vec<String>> {
-    let lines = text(rt, folder, case, "args")?;
-    let mut words = Vec::new(rt.alloc());
-    for line in lines.lines() {
-        words.push(line.to_string(rt.alloc())?)?;
+/// What differs first from what a case wants, if something does.
+fn compared(case: &Case, status: u8, out: &[u8], err: &[u8]) -> Option<&'static str> {
+    if status != case.status {
+        return Some("another status");
     }
-    Ok(words)
-}
-
-/// What differs first from the files of a case, if something does.
-fn compared<R: Files + AllocGlobal>(
-    rt: &R,
-    folder: &str,
-    case: u32,
-    status: u8,
-    out: &[u8],
-    err: &[u8],
-) -> io::Result<Option<&'static str>> {
-    if text(rt, folder, case, "status")?.trim().parse() != Ok(status) {
-        return Ok(Some("another status"));
+    if out != case.output.as_slice() {
+        return Some("other output");
     }
-    if out != file(rt, folder, case, "out")?.as_slice() {
-        return Ok(Some("other output"));
+    if err != case.error.as_slice() {
+        return Some("other text on standard error");
     }
-    if err != file(rt, folder, case, "err")?.as_slice() {
-        return Ok(Some("other text on standard error"));
-    }
-    Ok(None)
+    None
 }
 
 /// Runs the program, and counts the steps of its merges in a book of their own.
@@ -98,39 +70,45 @@ fn status_of(
 }
 
 /// What differs first where a read and a write of a case move at most so many bytes, if something does.
-fn difference<R: Files + AllocGlobal>(
-    rt: &R,
-    folder: &str,
-    case: u32,
-    most: usize,
-) -> io::Result<Option<&'static str>>
+fn difference(alloc: Global, case: &Case, most: usize) -> io::Result<Option<&'static str>>
     requires { 0 < most }
 {
-    let words = words(rt, folder, case)?;
-    let mut input = MemSource::new(file(rt, folder, case, "in")?, most, Vec::new(rt.alloc()));
-    let mut out = MemSink::new(rt.alloc(), most, Vec::new(rt.alloc()));
-    let mut err = MemSink::new(rt.alloc(), most, Vec::new(rt.alloc()));
-    let status = status_of(rt.alloc(), words.as_slice(), &mut input, &mut out, &mut err);
-    compared(rt, folder, case, status, out.bytes(), err.bytes())
+    let mut input = MemSource::new(case.input.as_slice().to_vec(alloc)?, most, Vec::new(alloc));
+    let mut out = MemSink::new(alloc, most, Vec::new(alloc));
+    let mut err = MemSink::new(alloc, most, Vec::new(alloc));
+    let status = status_of(alloc, case.words.as_slice(), &mut input, &mut out, &mut err);
+    Ok(compared(case, status, out.bytes(), err.bytes()))
 }
 
 /// What a case shows.
-fn outcome<R: Files + AllocGlobal>(rt: &R, folder: &str, case: u32) -> io::Result<&'static str> {
-    if let Some(difference) = difference(rt, folder, case, PIECE)? {
+fn outcome(alloc: Global, case: &Case) -> io::Result<&'static str> {
+    if let Some(difference) = difference(alloc, case, PIECE)? {
         return Ok(difference);
     }
-    match difference(rt, folder, case, 1)? {
+    match difference(alloc, case, 1)? {
         Some(_) => Ok("something else byte by byte"),
         None => Ok("as expected, also byte by byte"),
+    }
+}
+
+/// What the case of a name shows.
+fn tried<R: Files + AllocGlobal>(rt: &R, folder: &str, name: &str) -> io::Result<&'static str> {
+    let path = format!(in rt.alloc(); "{folder}/{name}.case")?;
+    let text = fs::read(rt, path.as_str())?;
+    match read_case(rt.alloc(), text.as_slice())? {
+        Some(case) => outcome(rt.alloc(), &case),
+        None => Ok("no case"),
     }
 }
 
 fn main(rt: HostRuntime) -> io::Result<()> {
     let given = env::args(&rt)?.nth(1);
     let folder = given.as_ref().map_or("data", |it| it.as_str());
-    for case in 1..CASES + 1 {
-        let said = outcome(&rt, folder, case)?;
-        println!(rt; "case {case}: {said}")?;
+    let path = format!(in rt.alloc(); "{folder}/names")?;
+    let names = fs::read_to_string(&rt, path.as_str())?;
+    for name in names.lines() {
+        let said = tried(&rt, folder, name)?;
+        println!(rt; "{name}: {said}")?;
     }
     Ok(())
 }

@@ -10,6 +10,7 @@ use Rattle.xdr_header.specs.declared.image.StartImage.{StartImage}
 use Rattle.xdr_header.specs.Header.{ledger_header}
 use Rattle.entry_map.specs.EntryMap.{EntryMap}
 use Rattle.legal_rules.specs.Headers.{header_flags}
+use Rattle.op_form.specs.Sequences.{last_seq}
 use Rattle.bucket_core.specs.File.{file_of, HasFile}
 use Rattle.bucket_levels.specs.Spills.{level_count}
 use Rattle.bucket_levels.specs.Pairs.{Pair}
@@ -41,7 +42,7 @@ header_in bytes = read_whole (ledger_header.read (start_of bytes))
 -- 3: all but the version, which is a rule of its own
 pub record AreFieldsInRange (h : LedgerHeader) : Type 0 where
   pub seq_low : 1 ≤ h.ledger_seq
-  pub seq_high : h.ledger_seq ≤ 2147483647
+  pub seq_high : h.ledger_seq ≤ last_seq
   pub base_fee : 1 ≤ h.base_fee
   pub base_reserve : 1 ≤ h.base_reserve
   pub total_coins : pos 0 ≤ℤ h.total_coins
@@ -60,7 +61,7 @@ pub record AreFilesOf (levels : List Pair) (files : List (List ℕ)) : Type 0 wh
 -- 4: each file is that of a bucket, and together they aren't too long
 pub record HasFiles (image : StartImage) (levels : List Pair) : Type 0 where
   pub files : AreFilesOf levels image.files
-  pub few : file_total levels ≤ max_file_total
+  pub fit : file_total levels ≤ max_file_total
 
 -- ---- an image, as far as it is judged
 

@@ -14,6 +14,7 @@ use Rattle.xdr_header.specs.Records.{close_record}
 use Rattle.value_hashes.specs.Hashes.{ledger_hash_of}
 use Rattle.entry_slots.specs.Tests.{Tests, first_fault}
 use Rattle.fee_rules.specs.SetHash.{hash_of_set}
+use Rattle.op_form.specs.Sequences.{last_seq}
 use Rattle.header_chain.specs.Upgrades.{upgrade_in, first_place, is_bad_at, is_out_of_profile}
 use Rattle.tx_apply.specs.Built.{unbuilt_place}
 use Rattle.tx_apply.specs.Set.{missing_place}
@@ -36,10 +37,6 @@ unfoldable pub record_in : List ℕ → Result CloseRecord XdrFault
 record_in bytes = close_record.read (start_of bytes) >>= ended
 
 -- ---- its terms
-
--- the number of the last ledger
-abbrev pub last_seq : ℕ
-last_seq = 2147483647
 
 abbrev pub is_same_hash : Hash → Hash → Bool
 is_same_hash a b = bytes_eq a.0 b.0

@@ -2,8 +2,10 @@
 
 ghost use Rattle.std.specs.Prelude.{◌≡◌, ◌*◌, ◌^◌, ◌≤◌, ◌↔◌, pos, ◌≤ℤ◌, IsTrue};
 ghost use Rattle.legal_rules.specs.Headers.{header_flags};
+ghost use Rattle.op_form.specs.Sequences.{last_seq};
 ghost use Rattle.close_rules.specs.Images.{AreFieldsInRange};
 
+use close_rules::LAST_SEQ;
 use ledger_types::LedgerHeader;
 
 /// Which operations of pools are disabled.
@@ -19,10 +21,10 @@ fn flags_of(header: &LedgerHeader) -> u32
 /// Whether the number of a ledger is one, and no more ids were drawn than ledgers draw.
 fn is_number_in_range(ledger_seq: u32, id_pool: u64) -> bool
     ensures { IsTrue result ↔
-        ((1 ≤ ledger_seq) × (ledger_seq ≤ 2147483647) × (id_pool ≤ ledger_seq * 2 ^ 32)) }
+        ((1 ≤ ledger_seq) × (ledger_seq ≤ last_seq) × (id_pool ≤ ledger_seq * 2 ^ 32)) }
 {
     1 <= ledger_seq
-        && ledger_seq <= 2_147_483_647
+        && ledger_seq <= LAST_SEQ
         && id_pool <= u64::from(ledger_seq) * 4_294_967_296
 }
 

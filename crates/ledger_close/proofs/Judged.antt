@@ -45,7 +45,7 @@ use Rattle.close_rules.specs.Images.{HasLevels, HasEntries, state_of}
 use Rattle.ledger_close.specs.States.{IsKept}
 use Rattle.ledger_close.specs.Answers.{JudgesImage}
 use Rattle.ledger_close.specs.ImageFiles.{IsFileFault}
-use Rattle.ledger_close.specs.Judging.{IsHeaderJudged, AreFewFiles, Stands, AreJudged}
+use Rattle.ledger_close.specs.Judging.{IsHeaderJudged, DoFilesFit, Stands, AreJudged}
 use Rattle.ledger_close.proofs.Files.{HasBoth, OneFile, levels_are_one}
 
 -- ---- the header
@@ -66,11 +66,11 @@ whole_read bytes h p law text reads end =
 -- files that are too long together are those of no levels but these
 pub too_long : OneFile → (files : List (List ℕ)) (levels : List Pair) (answer : ImageFault)
     → answer ≡ fault.BadImage rule.Bucket → AreFilesOf levels files → (file_total levels ≤ max_file_total → ⊥)
-    → IsFileFault answer ((others : List Pair) → AreFewFiles files others → ⊥)
+    → IsFileFault answer ((others : List Pair) → DoFilesFit files others → ⊥)
 too_long law files levels answer is are long =
-    subst (λ (a : ImageFault). IsFileFault a ((others : List Pair) → AreFewFiles files others → ⊥)) (sym is)
-    (λ others few. long (subst (λ (l : List Pair). file_total l ≤ max_file_total)
-    (levels_are_one law files others levels few.are are) few.few))
+    subst (λ (a : ImageFault). IsFileFault a ((others : List Pair) → DoFilesFit files others → ⊥)) (sym is)
+    (λ others fit. long (subst (λ (l : List Pair). file_total l ≤ max_file_total)
+    (levels_are_one law files others levels fit.are are) fit.fit))
 
 -- levels have two files each
 pair_files : (levels : List Pair)
@@ -80,16 +80,16 @@ pair_files (pair ∷ levels) = omega (arith, pair_files levels)
 
 -- files of another number are those of no levels
 pub no_levels : (files : List (List ℕ)) (answer : ImageFault) → answer ≡ fault.BadImage rule.Bucket
-    → (length files ≡ 22 → ⊥) → IsFileFault answer ((levels : List Pair) → AreFewFiles files levels → ⊥)
+    → (length files ≡ 22 → ⊥) → IsFileFault answer ((levels : List Pair) → DoFilesFit files levels → ⊥)
 no_levels files answer is other =
-    subst (λ (a : ImageFault). IsFileFault a ((levels : List Pair) → AreFewFiles files levels → ⊥)) (sym is)
-    (λ levels few. other (ap length few.are.are ∙ pair_files levels ∙ ap (λ (n : ℕ). 2 * n) few.are.count))
+    subst (λ (a : ImageFault). IsFileFault a ((levels : List Pair) → DoFilesFit files levels → ⊥)) (sym is)
+    (λ levels fit. other (ap length fit.are.are ∙ pair_files levels ∙ ap (λ (n : ℕ). 2 * n) fit.are.count))
 
 -- the first four rules are kept
 pub has_levels : (image : StartImage) (h : LedgerHeader) (levels : List Pair) → HasHeader image h
-    → AreFewFiles image.files levels → HasLevels image h levels
+    → DoFilesFit image.files levels → HasLevels image h levels
 has_levels image h levels header files =
-    record { header = header; files = record { files = files.are; few = files.few } }
+    record { header = header; files = record { files = files.are; fit = files.fit } }
 
 -- ---- entries
 
@@ -312,13 +312,13 @@ is_closing network image h levels m has spelled built kept = record {
   header = spelled;
   entries = entries_spelled levels m has.files.files.files.have has.standing;
   built = built;
-  files = has.files.files.few;
+  files = has.files.files.fit;
 }
 
 -- an image that keeps all rules
 pub record IsWhole (image : StartImage) (h : LedgerHeader) (levels : List Pair) (m : EntryMap) : Type 0 where
   pub header : IsHeaderJudged image (Ok h)
-  pub files : AreFewFiles image.files levels
+  pub files : DoFilesFit image.files levels
   pub stands : Stands levels m
   pub judged : AreJudged h levels m (Ok tt)
 

@@ -36,9 +36,9 @@ IsHeaderJudged image (Err (fault.BadImage rule.Fields)) = BreaksFields image
 IsHeaderJudged image (Err other) = ⊥
 
 -- levels with these files, which aren't too long
-pub record AreFewFiles (files : List (List ℕ)) (levels : List Pair) : Type 0 where
+pub record DoFilesFit (files : List (List ℕ)) (levels : List Pair) : Type 0 where
   pub are : AreFilesOf levels files
-  pub few : file_total levels ≤ max_file_total
+  pub fit : file_total levels ≤ max_file_total
 
 -- ---- entries
 

@@ -3,6 +3,7 @@
 ghost use Rattle.std.specs.Prelude.{◌≡◌, ◌<◌};
 ghost use Rattle.xdr_header.specs.Records.{close_record};
 ghost use Rattle.fee_rules.specs.Turns.{apply_order_of};
+ghost use Rattle.op_form.specs.Sequences.{last_seq};
 ghost use Rattle.close_rules.specs.State.{IsSpelled};
 ghost use Rattle.ledger_close.specs.Answers as answer;
 ghost use Rattle.ledger_close.specs.Worked as spec;
@@ -38,7 +39,7 @@ impl Ledger {
     /// Applies the set of a record, in its order, to the ledger's entries, which stay as they are.
     pub(crate) fn apply(&self, closing: &CloseRecord, order: &[u32]) -> Result<Worked, CloseFault>
         requires spelled { IsSpelled close_record closing.now }
-        requires seq { self.now.header.ledger_seq < 2147483647 }
+        requires seq { self.now.header.ledger_seq < last_seq }
         requires order { order.now ≡ apply_order_of closing.now.tx_set }
         ensures { spec.IsWorked self.now closing.now result }
     {

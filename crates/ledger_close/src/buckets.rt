@@ -102,7 +102,7 @@ pub(crate) fn read_pairs(
 }
 
 /// Whether the files of levels aren't too long together.
-pub(crate) fn are_few(pairs: &[LevelPair]) -> bool
+pub(crate) fn do_files_fit(pairs: &[LevelPair]) -> bool
     requires { length pairs.now ≤ 11 }
     ensures { IsTrue result ↔ (file_total (map pair_of pairs.now) ≤ max_file_total) }
 {

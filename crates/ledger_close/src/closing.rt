@@ -13,7 +13,7 @@ ghost use Rattle.ledger_close.specs.Worked.{Leaves};
 use crate::apply::Worked;
 use crate::ledger::Ledger;
 use crate::prepare::Prepared;
-use crate::refusals::{Judged, read_closing};
+use crate::refusals::{Judged, read_record};
 use close_laws::entries::{entries_stay_spellable, next_is_legal};
 use close_laws::header::next_header_is_spelled;
 use close_laws::results::results_are_spelled;
@@ -49,6 +49,7 @@ impl Ledger {
         ensures finished { spec.IsFinished self.now closing result }
         ensures steps { AreStepsWith self.now closing steps.old steps.new }
     {
+        // read, so that the contract can speak of the ledger as a whole
         let _ = &self.network;
         entries_stay_spellable();
         next_is_legal();
@@ -87,6 +88,7 @@ impl Ledger {
         ensures closed { spec.IsClosedBy self.now closing result }
         ensures steps { AreStepsWith self.now closing steps.old steps.new }
     {
+        // read, so that the contract can speak of the ledger as a whole
         let _ = &self.network;
         let Judged { next, order } = match self.judge_terms(&closing) {
             Ok(judged) => judged,
@@ -111,7 +113,7 @@ impl Ledger {
         ensures answers { answer.Answers self.now bytes.now result }
         ensures steps { AreSteps self.now bytes.now steps.old steps.new }
     {
-        let closing = match read_closing(self.allocator(), bytes) {
+        let closing = match read_record(self.allocator(), bytes) {
             Ok(closing) => closing,
             Err(fault) => return Err(fault),
         };

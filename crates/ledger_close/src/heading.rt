@@ -3,6 +3,7 @@
 ghost use Rattle.std.specs.Prelude.{◌≡◌, ◌<◌, IfOk, map};
 ghost use Rattle.xdr_header.specs.declared.record.CloseRecord.{CloseRecord as ARecord};
 ghost use Rattle.xdr_results.specs.Results.{transaction_result_set};
+ghost use Rattle.op_form.specs.Sequences.{last_seq};
 ghost use Rattle.bucket_levels.specs.Hash.{list_hash};
 ghost use Rattle.header_chain.specs.Upgrades.{upgrade_in, all_upgraded};
 ghost use Rattle.header_chain.specs.SkipList.{finished};
@@ -50,7 +51,7 @@ impl Ledger {
         done: &SetDone,
         step: &LevelStep,
     ) -> Result<LedgerHeader, AllocError>
-        requires seq { self.now.header.ledger_seq < 2147483647 }
+        requires seq { self.now.header.ledger_seq < last_seq }
         requires results { transaction_result_set.within done.now.results }
         ensures { (closing : ARecord) → scp_value ≡ closing.scp_value
             → next ≡ all_upgraded self.now.header (map upgrade_in closing.scp_value.upgrades)

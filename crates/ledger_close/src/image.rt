@@ -8,7 +8,7 @@ ghost use Rattle.ledger_close.specs.Answers as answer;
 ghost use Rattle.ledger_close.specs.ImageFiles.{IsFileFault};
 ghost use Rattle.ledger_close.specs.Judging as judging;
 
-use crate::buckets::{are_few, read_pairs};
+use crate::buckets::{do_files_fit, read_pairs};
 use crate::ledger::Ledger;
 use bucket_core::laws::a_file_is_of_one_bucket;
 use bucket_levels::{LevelPair, Levels};
@@ -68,9 +68,9 @@ fn judge_header(alloc: Global, image: &StartImage) -> Result<LedgerHeader, Image
 
 /// The files of an image's levels, by the fourth rule.
 fn judge_files(alloc: Global, files: ItemList<ItemList<u8>>) -> Result<Vec<LevelPair>, ImageFault>
-    ensures ok { IfOk result (λ pairs. judging.AreFewFiles files (map pair_of pairs.items)) }
+    ensures ok { IfOk result (λ pairs. judging.DoFilesFit files (map pair_of pairs.items)) }
     ensures bad { IfErr result
-        (λ wrong. IsFileFault wrong ((levels : List Pair) → judging.AreFewFiles files levels → ⊥)) }
+        (λ wrong. IsFileFault wrong ((levels : List Pair) → judging.DoFilesFit files levels → ⊥)) }
 {
     a_file_is_of_one_bucket();
     if files.len() != 22 {
@@ -80,7 +80,7 @@ fn judge_files(alloc: Global, files: ItemList<ItemList<u8>>) -> Result<Vec<Level
         Ok(pairs) => pairs,
         Err(fault) => return Err(fault),
     };
-    if !are_few(pairs.as_slice()) {
+    if !do_files_fit(pairs.as_slice()) {
         return Err(broken(ImageRule::Bucket));
     }
     Ok(pairs)

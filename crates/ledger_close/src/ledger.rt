@@ -3,6 +3,7 @@
 ghost use Rattle.std.specs.Prelude.{◌≡◌, ◌≤◌, IfOk, ℕ, List, Ok};
 ghost use Rattle.std.specs.FinMap.{get};
 ghost use Rattle.value_hashes.specs.Hashes.{ledger_hash_of};
+ghost use Rattle.op_form.specs.Sequences.{last_seq};
 ghost use Rattle.close_rules.specs.Close.{IsClose};
 
 use crate::prepare::Prepared;
@@ -44,7 +45,7 @@ impl Ledger {
     /// The header of the last close.
     pub fn header(&self) -> &LedgerHeader
         ensures header { result.now ≡ self.now.header }
-        ensures seq { result.now.ledger_seq ≤ 2147483647 }
+        ensures seq { result.now.ledger_seq ≤ last_seq }
     {
         &self.header
     }

@@ -4,6 +4,7 @@ ghost use Rattle.std.specs.Prelude.{◌<◌, IfOk};
 ghost use Rattle.entry_map.specs.EntryMap.{EntryMap, IsKeyed};
 ghost use Rattle.entry_changes.specs.Next.{IsExactBatch};
 ghost use Rattle.entry_changes.specs.Spellable.{AreSpellable};
+ghost use Rattle.op_form.specs.Sequences.{last_seq};
 ghost use Rattle.ledger_close.specs.Counted.{AreStepsTo};
 ghost use Rattle.ledger_close.specs.Leveled.{IsLeveled};
 
@@ -24,7 +25,7 @@ impl Ledger {
         batch: &Batch,
         steps: &mut Steps<L>,
     ) -> Result<LevelStep, AllocError>
-        requires seq { self.now.header.ledger_seq < 2147483647 }
+        requires seq { self.now.header.ledger_seq < last_seq }
         requires spellable { (after : EntryMap) × IsExactBatch self.now.entries after batch.now × AreSpellable after }
         ensures levels { (after : EntryMap) → IsExactBatch self.now.entries after batch.now → IsKeyed after
             → IfOk result (IsLeveled self.now version after) }

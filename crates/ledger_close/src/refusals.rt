@@ -5,11 +5,12 @@ ghost use Rattle.value_hashes.specs.Hashes.{ledger_hash_of};
 ghost use Rattle.fee_rules.specs.SetHash.{hash_of_set};
 ghost use Rattle.close_rules.specs.State.{ClosingState, IsSpelled};
 ghost use Rattle.xdr_header.specs.Records.{close_record};
+ghost use Rattle.op_form.specs.Sequences.{last_seq};
 ghost use Rattle.close_rules.specs.Refusals as spec;
 ghost use Rattle.ledger_close.specs.Answers as answer;
 
 use crate::ledger::Ledger;
-use close_rules::CloseFault;
+use close_rules::{CloseFault, LAST_SEQ};
 use fee_rules::{SetOrder, set_order};
 use header_chain::{UpgradeFault, apply_upgrades};
 use ledger_types::{Hash, LedgerHeader};
@@ -30,7 +31,7 @@ fn bad_xdr(fault: XdrFault) -> CloseFault
 
 /// The record that bytes are.
 #[tactic(auto, unfolding(close_rules::specs::Refusals::record_in))]
-pub(crate) fn read_closing(alloc: Global, bytes: &[u8]) -> Result<CloseRecord, CloseFault>
+pub(crate) fn read_record(alloc: Global, bytes: &[u8]) -> Result<CloseRecord, CloseFault>
     ensures { answer.IsRead bytes.now result }
 {
     reading_and_spelling_agree();
@@ -61,12 +62,12 @@ fn term_fault(
     closing: &CloseRecord,
     set_digest: &Hash,
 ) -> Option<CloseFault>
-    requires seq { header.now.ledger_seq ≤ 2147483647 }
+    requires seq { header.now.ledger_seq ≤ last_seq }
     requires digest { digest.now ≡ ledger_hash_of header.now }
     requires set { set_digest.now ≡ hash_of_set closing.now.tx_set }
     ensures { (s : ClosingState) → s.header ≡ header.now → result ≡ spec.term_fault s closing.now }
 {
-    if header.ledger_seq == 2147483647 {
+    if header.ledger_seq == LAST_SEQ {
         return Some(CloseFault::SeqEnd);
     }
     let want = header.ledger_seq + 1;

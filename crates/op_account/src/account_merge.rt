@@ -3,6 +3,7 @@
 ghost use Rattle.std.specs.Prelude.{◌≡◌, ◌≤ℤ◌, ◌<◌, pos, IfOk, OnOk, Some};
 ghost use Rattle.entry_map.specs.Undo.{with_current};
 ghost use Rattle.entry_slots.specs.Tests.{first_fault};
+ghost use Rattle.op_form.specs.Sequences.{last_seq};
 ghost use Rattle.op_form.specs.Done.{Makes};
 ghost use Rattle.op_form.specs.Premises.{AccountsAreInRange};
 ghost use Rattle.op_account.specs.AccountMerge as spec;
@@ -24,7 +25,7 @@ pub fn account_merge<B: Base>(
     ctx: &Ctx,
     entries: &mut Entries<'_, B>,
 ) -> Result<OperationResult, AllocError>
-    requires seq { ctx.now.seq < 2147483647 }
+    requires seq { ctx.now.seq < last_seq }
     requires in_range { AccountsAreInRange entries.old.current }
     ensures { IfOk result (λ r.
         Makes r ctx.now entries.old entries.new (spec.account_merge ctx.now op.now entries.old.current)) }
@@ -54,7 +55,7 @@ fn answer(code: AccountMergeResult) -> OperationResult
 
 /// Why the source can't be merged, if it can't.
 fn refusal(ctx: &Ctx, account: &AccountEntry) -> Option<OperationResult>
-    requires { ctx.now.seq < 2147483647 }
+    requires { ctx.now.seq < last_seq }
     ensures { result ≡ first_fault (spec.source_tests ctx.now account.now) }
 {
     if account.flags & AUTH_IMMUTABLE != 0 {

@@ -5,6 +5,7 @@ ghost use Rattle.entry_slots.specs.Accounts.{HasAccount};
 ghost use Rattle.entry_map.specs.EntryMap.{EntryMap as AMap};
 ghost use Rattle.sponsor_rules.specs.Adding.{AreReady};
 ghost use Rattle.sponsor_rules.specs.Payers.{is_same_account};
+ghost use Rattle.op_form.specs.Sequences.{last_seq};
 ghost use Rattle.op_form.specs.Done.{Makes};
 ghost use Rattle.op_form.specs.Premises.{AccountsAreInRange};
 ghost use Rattle.op_account.specs.CreateAccount as spec;
@@ -23,7 +24,7 @@ pub fn create_account<B: Base>(
     ctx: &Ctx,
     entries: &mut Entries<'_, B>,
 ) -> Result<OperationResult, AllocError>
-    requires seq { ctx.now.seq < 2147483647 }
+    requires seq { ctx.now.seq < last_seq }
     requires source { HasAccount entries.old.current ctx.now.op_source }
     requires in_range { AccountsAreInRange entries.old.current }
     ensures { IfOk result (λ r.
@@ -51,7 +52,7 @@ fn add_and_pay<B: Base>(
     ctx: &Ctx,
     entries: &mut Entries<'_, B>,
 ) -> Result<OperationResult, AllocError>
-    requires seq { ctx.now.seq < 2147483647 }
+    requires seq { ctx.now.seq < last_seq }
     requires amount { pos 0 ≤ℤ op.now.starting_balance }
     requires apart { is_same_account op.now.destination ctx.now.op_source ≡ false }
     requires source { HasAccount entries.old.current ctx.now.op_source }
@@ -79,7 +80,7 @@ fn add_and_pay<B: Base>(
 
 /// The new account's entry.
 fn new_entry(op: &CreateAccountOp, ctx: &Ctx) -> LedgerEntry
-    requires { ctx.now.seq < 2147483647 }
+    requires { ctx.now.seq < last_seq }
     ensures value { result ≡ spec.new_entry ctx.now op.now }
     ensures ready { (m : AMap) → AreReady op.now.destination result.body m }
 {

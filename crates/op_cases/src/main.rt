@@ -2,7 +2,7 @@
 //! answers, each entry that is new, changed or gone, and the open sponsorships where their number changed. A line that
 //! isn't understood ends the program.
 //!
-//! The folder is the program's one argument, or `data` where there is none. `make_cases.py` spells the cases in
+//! The folder is the program's one argument, or `data` where there is none. `operation_cases.py` spells the cases in
 //! `words.txt`. What is wanted (`stdout`) was worked out by hand.
 #![tactic(auto)]
 

@@ -1,6 +1,7 @@
 //! CREATE_CLAIMABLE_BALANCE.
 
 ghost use Rattle.std.specs.Prelude.{◌≡◌, ◌<◌, ◌<ℤ◌, pos, IfOk};
+ghost use Rattle.op_form.specs.Sequences.{last_seq};
 ghost use Rattle.op_form.specs.Done.{Makes};
 ghost use Rattle.op_form.specs.Premises.{BalancesAreInRange};
 ghost use Rattle.op_claim.specs.CreateClaimableBalance as spec;
@@ -23,7 +24,7 @@ pub fn create_claimable_balance<B: Base>(
     ctx: &Ctx,
     entries: &mut Entries<'_, B>,
 ) -> Result<OperationResult, AllocError>
-    requires seq { ctx.now.seq < 2147483647 }
+    requires seq { ctx.now.seq < last_seq }
     requires in_range { BalancesAreInRange entries.old.current }
     ensures { IfOk result (λ r.
         Makes r ctx.now entries.old entries.new (spec.create_claimable_balance ctx.now op.now entries.old.current)) }
@@ -97,7 +98,7 @@ fn give_and_add<B: Base>(
     ctx: &Ctx,
     entries: &mut Entries<'_, B>,
 ) -> Result<OperationResult, AllocError>
-    requires seq { ctx.now.seq < 2147483647 }
+    requires seq { ctx.now.seq < last_seq }
     requires amount { pos 0 <ℤ op.now.amount }
     requires in_range { BalancesAreInRange entries.old.current }
     ensures { IfOk result (λ r.

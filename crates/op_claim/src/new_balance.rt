@@ -3,6 +3,7 @@
 ghost use Rattle.std.specs.Prelude.{◌≡◌, ◌<◌, IfOk};
 ghost use Rattle.entry_map.specs.EntryMap.{EntryMap as AMap};
 ghost use Rattle.sponsor_rules.specs.Adding.{AreReady};
+ghost use Rattle.op_form.specs.Sequences.{last_seq};
 ghost use Rattle.op_claim.specs.CreateClaimableBalance as spec;
 
 use crate::predicates::fixed_claimants;
@@ -88,7 +89,7 @@ pub fn new_balance(
     ctx: &Ctx,
     can_be_clawed_back: bool,
 ) -> Result<LedgerEntry, AllocError>
-    requires { ctx.now.seq < 2147483647 }
+    requires { ctx.now.seq < last_seq }
     ensures value { IfOk result (λ entry. entry ≡ spec.new_balance ctx.now op.now can_be_clawed_back) }
     ensures ready { IfOk result (λ entry. (m : AMap) → AreReady ctx.now.op_source entry.body m) }
 {

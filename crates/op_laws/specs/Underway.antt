@@ -9,6 +9,7 @@ use Rattle.legal_rules.specs.Legal.{view}
 use Rattle.legal_rules.specs.Owing.{nothing_owed, IsLegalOwing}
 use Rattle.legal_rules.specs.Sponsorships.{AreSponsorshipsSound}
 use Rattle.legal_rules.specs.Supply.{held}
+use Rattle.op_form.specs.Sequences.{last_seq}
 use Rattle.op_form.specs.Done.{Move}
 use Rattle.op_laws.specs.Moves.{issued}
 
@@ -30,7 +31,7 @@ pub record IsUnderway (ctx : Ctx) (m : EntryMap) : Type 0 where
   pub settled : IsSettled ctx.id_pool m
   pub sponsorships : AreSponsorshipsSound ctx m
   -- a ledger can close above the header's
-  pub seq : ctx.seq < 2147483647
+  pub seq : ctx.seq < last_seq
 
 -- at most so many ids were drawn
 pub record AreDrawn (count was now : ℕ) : Type 0 where

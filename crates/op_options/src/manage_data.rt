@@ -6,6 +6,7 @@ ghost use Rattle.entry_map.specs.Undo.{with_current};
 ghost use Rattle.entry_slots.specs.DataEntries as data_entries;
 ghost use Rattle.sponsor_rules.specs.Adding.{AreReady};
 ghost use Rattle.sponsor_rules.specs.Payers.{IsReady};
+ghost use Rattle.op_form.specs.Sequences.{last_seq};
 ghost use Rattle.op_form.specs.Done.{Makes};
 ghost use Rattle.op_form.specs.Premises.{AccountsAreReady};
 ghost use Rattle.op_options.specs.ManageData as spec;
@@ -26,7 +27,7 @@ pub fn manage_data<B: Base>(
     ctx: &Ctx,
     entries: &mut Entries<'_, B>,
 ) -> Result<OperationResult, AllocError>
-    requires seq { ctx.now.seq < 2147483647 }
+    requires seq { ctx.now.seq < last_seq }
     requires ready { AccountsAreReady entries.old.current }
     ensures { IfOk result (λ r.
         Makes r ctx.now entries.old entries.new (spec.manage_data ctx.now op.now entries.old.current)) }
@@ -74,7 +75,7 @@ fn set_value<B: Base>(
     name: &ItemList<u8>,
     value: &ItemList<u8>,
 ) -> Result<OperationResult, AllocError>
-    requires seq { ctx.now.seq < 2147483647 }
+    requires seq { ctx.now.seq < last_seq }
     requires ready { AccountsAreReady entries.old.current }
     ensures { IfOk result (λ r.
         Makes r ctx.now entries.old entries.new (
@@ -117,7 +118,7 @@ fn add<B: Base>(
     name: &ItemList<u8>,
     value: &ItemList<u8>,
 ) -> Result<OperationResult, AllocError>
-    requires seq { ctx.now.seq < 2147483647 }
+    requires seq { ctx.now.seq < last_seq }
     requires ready { AccountsAreReady entries.old.current }
     ensures { IfOk result (λ r.
         Makes r ctx.now entries.old entries.new (
@@ -133,7 +134,7 @@ fn add<B: Base>(
 
 /// The entry of new data.
 fn new_data(ctx: &Ctx, name: &ItemList<u8>, value: &ItemList<u8>) -> Result<LedgerEntry, AllocError>
-    requires { ctx.now.seq < 2147483647 }
+    requires { ctx.now.seq < last_seq }
     ensures value { IfOk result (λ entry. entry ≡ spec.new_data ctx.now name.now value.now) }
     ensures ready { IfOk result (λ entry.
         (m : AMap) → IsReady m ctx.now.op_source → AreReady ctx.now.op_source entry.body m) }

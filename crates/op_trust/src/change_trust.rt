@@ -7,6 +7,7 @@ ghost use Rattle.entry_slots.specs.Lines as lines;
 ghost use Rattle.reserve_rules.specs.Reserve.{IsLineInRange};
 ghost use Rattle.sponsor_rules.specs.Adding.{AreReady};
 ghost use Rattle.sponsor_rules.specs.Payers.{IsReady};
+ghost use Rattle.op_form.specs.Sequences.{last_seq};
 ghost use Rattle.op_form.specs.Assets as assets;
 ghost use Rattle.op_form.specs.Done.{Makes};
 ghost use Rattle.op_form.specs.Premises.{AccountsAreReady, BalancesAreInRange};
@@ -39,7 +40,7 @@ pub fn change_trust<B: Base>(
     ctx: &Ctx,
     entries: &mut Entries<'_, B>,
 ) -> Result<OperationResult, AllocError>
-    requires seq { ctx.now.seq < 2147483647 }
+    requires seq { ctx.now.seq < last_seq }
     requires ready { AccountsAreReady entries.old.current }
     requires in_range { BalancesAreInRange entries.old.current }
     ensures { IfOk result (λ r.
@@ -77,7 +78,7 @@ fn change<B: Base>(
     ctx: &Ctx,
     entries: &mut Entries<'_, B>,
 ) -> Result<OperationResult, AllocError>
-    requires seq { ctx.now.seq < 2147483647 }
+    requires seq { ctx.now.seq < last_seq }
     requires ready { AccountsAreReady entries.old.current }
     requires in_range { BalancesAreInRange entries.old.current }
     ensures { IfOk result (λ r.
@@ -199,7 +200,7 @@ fn make_line<B: Base>(
     ctx: &Ctx,
     entries: &mut Entries<'_, B>,
 ) -> Result<OperationResult, AllocError>
-    requires seq { ctx.now.seq < 2147483647 }
+    requires seq { ctx.now.seq < last_seq }
     requires ready { AccountsAreReady entries.old.current }
     ensures { IfOk result (λ r.
         Makes r ctx.now entries.old entries.new (spec.changed ctx.now asset.now limit entries.old.current None)) }
@@ -221,7 +222,7 @@ fn add_line<B: Base>(
     entries: &mut Entries<'_, B>,
     issuer: &AccountEntry,
 ) -> Result<OperationResult, AllocError>
-    requires seq { ctx.now.seq < 2147483647 }
+    requires seq { ctx.now.seq < last_seq }
     requires ready { AccountsAreReady entries.old.current }
     ensures { IfOk result (λ r.
         Makes r ctx.now entries.old entries.new (
@@ -258,7 +259,7 @@ fn new_line_flags(issuer: &AccountEntry) -> u32
 
 /// The entry of a new line.
 fn new_line(asset: &Asset, limit: i64, ctx: &Ctx, issuer: &AccountEntry) -> LedgerEntry
-    requires { ctx.now.seq < 2147483647 }
+    requires { ctx.now.seq < last_seq }
     ensures value { result ≡ spec.new_line ctx.now asset.now limit issuer.now }
     ensures ready { (m : AMap) → IsReady m ctx.now.op_source → AreReady ctx.now.op_source result.body m }
 {

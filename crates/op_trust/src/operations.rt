@@ -1,6 +1,7 @@
 //! The operations of this crate, by their types.
 
 ghost use Rattle.std.specs.Prelude.{◌<◌, IfOk};
+ghost use Rattle.op_form.specs.Sequences.{last_seq};
 ghost use Rattle.op_form.specs.Done.{Does};
 ghost use Rattle.op_form.specs.Premises as premises;
 ghost use Rattle.op_trust.specs.Operations as spec;
@@ -19,7 +20,7 @@ pub fn apply<B: Base>(
     ctx: &mut Ctx,
     entries: &mut Entries<'_, B>,
 ) -> Result<OperationResult, AllocError>
-    requires seq { ctx.old.seq < 2147483647 }
+    requires seq { ctx.old.seq < last_seq }
     requires ready { premises.AccountsAreReady entries.old.current }
     requires in_range { premises.BalancesAreInRange entries.old.current }
     ensures { IfOk result (λ r.

@@ -10,7 +10,7 @@ use Rattle.close_rules.specs.State.{ClosingState}
 use Rattle.run_outcome.specs.declared.status.Status.{Status}
 use Rattle.run_outcome.specs.declared.status.Status.TheVariants as status
 use Rattle.run_outcome.specs.Statuses.{IsCutShort}
-use Rattle.run_outcome.specs.Command.{command_of}
+use Rattle.run_outcome.specs.Command.{passphrase_of}
 use Rattle.run_outcome.specs.Lines.{end_line}
 use Rattle.run_outcome.specs.Outcome.{Outcome, frames, IsOutcomeOf, IsOutcome}
 use Rattle.run_outcome.specs.Run.{AnsweredTo, DidCatchUp, RanAs, Ran}
@@ -19,7 +19,7 @@ use Rattle.replay.proofs.OneOutcome.{outcomes_are_one}
 
 -- the run that the words ask for
 catchup_of : (words : List (List ℕ)) (passphrase : List ℕ) (input out err : Seen) (end : Status)
-    → Ran words input out err end → command_of words ≡ Some passphrase → DidCatchUp passphrase input out err end
+    → Ran words input out err end → passphrase_of words ≡ Some passphrase → DidCatchUp passphrase input out err end
 catchup_of words passphrase input out err end ran command =
     subst (λ (c : Option (List ℕ)). RanAs c input out err end) command ran
 

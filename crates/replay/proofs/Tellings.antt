@@ -14,7 +14,7 @@ use Rattle.close_rules.specs.Images.{IsJudged}
 use Rattle.run_outcome.specs.declared.status.Status.{Status}
 use Rattle.run_outcome.specs.declared.status.Status.TheVariants as status
 use Rattle.run_outcome.specs.Statuses.{status_line, IsCutShort}
-use Rattle.run_outcome.specs.Command.{command_of}
+use Rattle.run_outcome.specs.Command.{passphrase_of}
 use Rattle.run_outcome.specs.Outcome.{Outcome, IsStarted, IsOutcomeOf, IsOutputFrontOf}
 use Rattle.run_outcome.specs.Run.{IsTold, AnsweredTo, DidCatchUp, RanAs, Ran}
 use Rattle.replay.specs.Starting.{CaughtUp}
@@ -99,11 +99,11 @@ did_catch_up passphrase input out err end after run (inr (inr (e, failed))) =
 -- ---- the words
 
 pub ran_command : (words : List (List ℕ)) (passphrase : List ℕ) (input out err : Seen) (end : Status)
-    → command_of words ≡ Some passphrase → DidCatchUp passphrase input out err end → Ran words input out err end
+    → passphrase_of words ≡ Some passphrase → DidCatchUp passphrase input out err end → Ran words input out err end
 ran_command words passphrase input out err end command did =
     subst (λ (c : Option (List ℕ)). RanAs c input out err end) (sym command) did
 
-pub ran_usage : (words : List (List ℕ)) (input out err : Seen) (end : Status) → command_of words ≡ None
+pub ran_usage : (words : List (List ℕ)) (input out err : Seen) (end : Status) → passphrase_of words ≡ None
     → IsUntouched input → IsUntouched out → IsTold status.Usage err end → Ran words input out err end
 ran_usage words input out err end none same_input same_out told =
     subst (λ (c : Option (List ℕ)). RanAs c input out err end) (sym none)

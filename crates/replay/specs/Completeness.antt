@@ -10,7 +10,7 @@ use Rattle.close_rules.specs.State.{ClosingState}
 use Rattle.close_rules.specs.Images.{IsJudged}
 use Rattle.run_outcome.specs.declared.status.Status.{Status}
 use Rattle.run_outcome.specs.declared.status.Status.TheVariants as status
-use Rattle.run_outcome.specs.Command.{command_of}
+use Rattle.run_outcome.specs.Command.{passphrase_of}
 use Rattle.run_outcome.specs.Lines.{end_line}
 use Rattle.run_outcome.specs.Outcome.{Outcome, IsOutcome, max_record_len, frames, AreClosed}
 use Rattle.run_outcome.specs.Run.{DidCatchUp, Ran}
@@ -29,7 +29,7 @@ Catchups P = (passphrase bytes : List ℕ) (input out err : Seen) (end : Status)
 -- the same, of the runs that the words ask for
 abbrev pub Runs : ((passphrase input : List ℕ) → (Seen → Seen → Seen → Status → Type 0)) → Type 0
 Runs P = (words : List (List ℕ)) (passphrase bytes : List ℕ) (input out err : Seen) (end : Status)
-    → Ran words input out err end → command_of words ≡ Some passphrase → input.before ≡ Some bytes
+    → Ran words input out err end → passphrase_of words ≡ Some passphrase → input.before ≡ Some bytes
     → P passphrase bytes input out err end
 
 -- ---- where nothing failed

@@ -6,6 +6,7 @@ use Rattle.run_streams.specs.Seen.{Seen, Failed, Gave, Received, ReceivedPrefix}
 use Rattle.record_stream.specs.declared.piece.PieceFault.{PieceFault}
 use Rattle.record_stream.specs.declared.piece.PieceFault.TheVariants as fault
 use Rattle.ledger_types.specs.declared.header.LedgerHeader.{LedgerHeader}
+use Rattle.op_form.specs.Sequences.{last_seq}
 use Rattle.close_rules.specs.declared.close_fault.CloseFault.{CloseFault}
 use Rattle.close_rules.specs.declared.close_fault.CloseFault.TheVariants as close
 use Rattle.close_rules.specs.State.{ClosingState}
@@ -80,7 +81,7 @@ pub record Goes (old new : Standing) (input out : Seen) : Type 0 where
   pub received : Received out (lines_of closed)
   pub input_later : input.faults_before ≤ input.faults_now
   pub out_later : out.faults_before ≤ out.faults_now
-  pub low : old.state.header.ledger_seq ≤ 2147483647
+  pub low : old.state.header.ledger_seq ≤ last_seq
 
 -- the run goes on, or this is its end
 abbrev pub Turned : (old new : Standing) (input out : Seen) → Option Status → Type 0

@@ -10,6 +10,7 @@ ghost use Rattle.run_outcome.specs.Outcome.{framed, lines_of};
 ghost use Rattle.replay.specs.Following.{Turned, WroteOn, Refuses, Closes, Passes, EndsAt, Followed};
 
 use crate::ends::{write_end, write_refusal};
+use close_rules::LAST_SEQ;
 use ledger_close::{CloseFault, Ledger, Prepared};
 use outside::{Sink, Source, Steps, write_all};
 use record_stream::{PieceFault, RecordLength, read_piece, without_front};
@@ -135,9 +136,6 @@ fn stop<O: Sink>(
         PieceFault::NoMemory => Status::NoMemory,
     }
 }
-
-/// The number of the last ledger that can close.
-const LAST_SEQ: u32 = 2147483647;
 
 /// The next record closes the ledger, or ends the run.
 fn turn<I: Source, O: Sink, L: Count>(

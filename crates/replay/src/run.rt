@@ -2,7 +2,7 @@
 
 ghost use Rattle.std.specs.Prelude.{◌≡◌, None, Some, MatchOption};
 ghost use Rattle.run_streams.specs.Seen.{seen};
-ghost use Rattle.run_outcome.specs.Command.{command_of};
+ghost use Rattle.run_outcome.specs.Command.{passphrase_of};
 ghost use Rattle.run_outcome.specs.Run.{words_of, IsTold, DidCatchUp, Ran};
 ghost use Rattle.run_outcome.specs.Statuses.{status_code};
 ghost use Rattle.run_outcome.specs.declared.status.Status.{Status};
@@ -16,9 +16,9 @@ use std::alloc::Global;
 use std::sync::ledger::Ledger as Count;
 
 /// The passphrase of `catchup --network PASSPHRASE`, where the words are this command.
-fn network_of(words: &[String]) -> Option<&str>
-    ensures { MatchOption result (command_of (words_of words.now) ≡ None) (
-        λ network. command_of (words_of words.now) ≡ Some network.now) }
+fn passphrase_of(words: &[String]) -> Option<&str>
+    ensures { MatchOption result (passphrase_of (words_of words.now) ≡ None) (
+        λ network. passphrase_of (words_of words.now) ≡ Some network.now) }
 {
     match words {
         [command, option, network] => {
@@ -61,7 +61,7 @@ fn run<I: Source, O: Sink, E: Sink, L: Count>(
     ensures { Ran (words_of words.now) (seen I.left I.faults input.old input.new)
         (seen O.taken O.faults out.old out.new) (seen E.taken E.faults err.old err.new) result }
 {
-    match network_of(words) {
+    match passphrase_of(words) {
         Some(network) => catch_up_told(alloc, network, input, out, err, steps),
         None => tell_usage(err),
     }

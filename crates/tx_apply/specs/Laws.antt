@@ -10,6 +10,7 @@ use Rattle.entry_map.specs.EntryMap.{EntryMap}
 use Rattle.entry_sums.specs.Sums.{total}
 use Rattle.legal_rules.specs.Legal.{IsLegal}
 use Rattle.legal_rules.specs.Supply.{held}
+use Rattle.op_form.specs.Sequences.{last_seq}
 use Rattle.op_laws.specs.Laws.{IsFit, IsLawful}
 use Rattle.op_laws.specs.Moves.{issued}
 use Rattle.op_laws.specs.Underway.{IsSettled, LeavesSettled, AreDrawn}
@@ -30,7 +31,7 @@ AreAllFit envelopes = All (λ whole. AreFit (operations_of whole)) envelopes
 -- a legal state and a set, between which and the ledger after the header's nothing stands but the rules
 pub record CanClose (closing : Closing) (set : TransactionSet) (m : EntryMap) : Type 0 where
   pub legal : IsLegal closing.header m
-  pub seq : closing.header.ledger_seq < 2147483647
+  pub seq : closing.header.ledger_seq < last_seq
   pub fit : AreAllFit set.txs
 
 -- ---- the laws
@@ -48,7 +49,7 @@ FeesConserve = (id_pool base_fee : ℕ) (whole : TransactionEnvelope) (m : Entry
 -- behind its fee a transaction moves what its moves say, and no lumens are made or lost
 abbrev pub TransactionsConserve : Type 0
 TransactionsConserve = (closing : Closing) (id_pool : ℕ) (whole : TransactionEnvelope) (m : EntryMap)
-    → IsSettled id_pool m → closing.header.ledger_seq < 2147483647 → AreFit (operations_of whole)
+    → IsSettled id_pool m → closing.header.ledger_seq < last_seq → AreFit (operations_of whole)
     → LeavesSettled (envelope_applied closing id_pool whole m).id_pool m
     (envelope_applied closing id_pool whole m).entries (envelope_applied closing id_pool whole m).moves
 

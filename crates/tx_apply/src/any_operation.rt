@@ -2,6 +2,7 @@
 
 ghost use Rattle.std.specs.Prelude.{◌<◌, IfOk};
 ghost use Rattle.entry_slots.specs.Accounts.{HasAccount};
+ghost use Rattle.op_form.specs.Sequences.{last_seq};
 ghost use Rattle.op_form.specs.Done.{Does};
 ghost use Rattle.op_form.specs.Premises as premises;
 ghost use Rattle.op_laws.specs.AnyOperation as spec;
@@ -19,7 +20,7 @@ pub(crate) fn apply_operation<B: Base>(
     ctx: &mut Ctx,
     entries: &mut Entries<'_, B>,
 ) -> Result<OperationResult, AllocError>
-    requires seq { ctx.old.seq < 2147483647 }
+    requires seq { ctx.old.seq < last_seq }
     requires source { HasAccount entries.old.current ctx.old.op_source }
     requires ready { premises.AccountsAreReady entries.old.current }
     requires in_range { premises.BalancesAreInRange entries.old.current }

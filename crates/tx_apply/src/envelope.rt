@@ -4,6 +4,7 @@ ghost use Rattle.std.specs.Prelude.{◌≡◌, ◌<◌, ◌++◌, [], ◌∷◌,
 ghost use Rattle.entry_map.specs.Undo.{with_current};
 ghost use Rattle.value_hashes.specs.Hashes.{signed_hash_of};
 ghost use Rattle.xdr_tx.specs.Transactions as xdr;
+ghost use Rattle.op_form.specs.Sequences.{last_seq};
 ghost use Rattle.op_laws.specs.Underway.{IsSettled};
 ghost use Rattle.op_laws.specs.Steps.{TransactionLaws};
 ghost use Rattle.tx_apply.specs.Built.{operations_of};
@@ -38,7 +39,7 @@ fn apply_v1_envelope<B: Base>(
 ) -> Result<TransactionOutcome, AllocError>
     requires settled { IsSettled ctx.old.id_pool entries.old.current }
     requires closed { ctx.old.sponsorships ≡ [] }
-    requires seq { ctx.old.seq < 2147483647 }
+    requires seq { ctx.old.seq < last_seq }
     requires laws { TransactionLaws }
     requires within { xdr.transaction_v1_envelope.within envelope.now }
     requires fit { AreFit envelope.now.tx.operations }
@@ -74,7 +75,7 @@ fn apply_fee_bump_envelope<B: Base>(
 ) -> Result<TransactionOutcome, AllocError>
     requires settled { IsSettled ctx.old.id_pool entries.old.current }
     requires closed { ctx.old.sponsorships ≡ [] }
-    requires seq { ctx.old.seq < 2147483647 }
+    requires seq { ctx.old.seq < last_seq }
     requires laws { TransactionLaws }
     requires within { xdr.fee_bump_envelope.within envelope.now }
     requires fit { AreFit envelope.now.tx.inner_tx.tx.operations }
@@ -117,7 +118,7 @@ fn apply_envelope<B: Base>(
 ) -> Result<TransactionOutcome, AllocError>
     requires settled { IsSettled ctx.old.id_pool entries.old.current }
     requires closed { ctx.old.sponsorships ≡ [] }
-    requires seq { ctx.old.seq < 2147483647 }
+    requires seq { ctx.old.seq < last_seq }
     requires laws { TransactionLaws }
     requires within { xdr.transaction_envelope.within envelope.now }
     requires fit { AreFit (operations_of envelope.now) }
@@ -166,7 +167,7 @@ pub(crate) fn apply_one<B: Base>(
     results: &mut ItemList<TransactionResultPair>,
 ) -> Result<u64, AllocError>
     requires settled { IsSettled id_pool entries.old.current }
-    requires seq { header.now.ledger_seq < 2147483647 }
+    requires seq { header.now.ledger_seq < last_seq }
     requires laws { TransactionLaws }
     requires within { xdr.transaction_envelope.within envelope.now }
     requires fit { AreFit (operations_of envelope.now) }

@@ -4,6 +4,7 @@ ghost use Rattle.std.specs.Prelude.{◌≡◌, ◌≤◌, ◌<◌, ◌*◌, ◌^
 ghost use Rattle.entry_map.specs.Undo.{with_current};
 ghost use Rattle.entry_slots.specs.Accounts.{account_at};
 ghost use Rattle.entry_slots.specs.Tests.{first_fault};
+ghost use Rattle.op_form.specs.Sequences.{last_seq};
 ghost use Rattle.op_laws.specs.Underway.{IsSettled};
 ghost use Rattle.op_laws.specs.Steps.{TransactionLaws};
 ghost use Rattle.tx_apply.specs.FeeBump as spec;
@@ -89,7 +90,7 @@ fn apply_behind_auth<B: Base>(
 ) -> Result<TransactionOutcome, AllocError>
     requires settled { IsSettled ctx.old.id_pool entries.old.current }
     requires closed { ctx.old.sponsorships ≡ [] }
-    requires seq { ctx.old.seq < 2147483647 }
+    requires seq { ctx.old.seq < last_seq }
     requires laws { TransactionLaws }
     requires few { length bump.now.inner_tx.tx.operations ≤ 100 }
     requires fit { AreFit bump.now.inner_tx.tx.operations }
@@ -135,7 +136,7 @@ pub(crate) fn apply_fee_bump<B: Base>(
 ) -> Result<TransactionOutcome, AllocError>
     requires settled { IsSettled ctx.old.id_pool entries.old.current }
     requires closed { ctx.old.sponsorships ≡ [] }
-    requires seq { ctx.old.seq < 2147483647 }
+    requires seq { ctx.old.seq < last_seq }
     requires laws { TransactionLaws }
     requires few { length bump.now.inner_tx.tx.operations ≤ 100 }
     requires fit { AreFit bump.now.inner_tx.tx.operations }

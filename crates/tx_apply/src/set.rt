@@ -8,6 +8,7 @@ ghost use Rattle.fee_rules.specs.Turns.{apply_order_of};
 ghost use Rattle.legal_rules.specs.Supply.{held};
 ghost use Rattle.xdr_tx.specs.Transactions as xdr;
 ghost use Rattle.legal_rules.specs.Legal.{IsLegal};
+ghost use Rattle.op_form.specs.Sequences.{last_seq};
 ghost use Rattle.op_laws.specs.Underway.{IsSettled};
 ghost use Rattle.op_laws.specs.Steps.{TransactionLaws};
 ghost use Rattle.tx_apply.specs.Laws as laws;
@@ -69,7 +70,7 @@ fn apply_all<B: Base>(
     results: &mut ItemList<TransactionResultPair>,
 ) -> Result<u64, AllocError>
     requires settled { IsSettled header.now.id_pool entries.old.current }
-    requires seq { header.now.ledger_seq < 2147483647 }
+    requires seq { header.now.ledger_seq < last_seq }
     requires laws { TransactionLaws }
     requires within { All (λ envelope. xdr.transaction_envelope.within envelope) envelopes.now }
     requires places { All (λ place. place < length envelopes.now) order.now }
@@ -109,7 +110,7 @@ fn apply_in_order<B: Base>(
     requires settled { IsSettled header.now.id_pool entries.old.current }
     requires lumens { (total (held asset.Native) entries.old.current +ℤ header.now.fee_pool) ≡ header.now.total_coins }
     requires fee_pool { pos 0 ≤ℤ header.now.fee_pool }
-    requires seq { header.now.ledger_seq < 2147483647 }
+    requires seq { header.now.ledger_seq < last_seq }
     requires laws { TransactionLaws }
     requires within { xdr.transaction_set.within set.now }
     requires fit { laws.AreAllFit set.now.txs }
@@ -154,7 +155,7 @@ pub fn apply_set_in_order<B: Base>(
     order: &[u32],
 ) -> Result<SetDone, SetFault>
     requires legal { IsLegal header.now entries.old.current }
-    requires seq { header.now.ledger_seq < 2147483647 }
+    requires seq { header.now.ledger_seq < last_seq }
     requires within { xdr.transaction_set.within set.now }
     requires order { order.now ≡ apply_order_of set.now }
     ensures answer { spec.IsAnswer (spec.closing_of network.now header.now close_time) set.now entries.old entries.new
@@ -189,7 +190,7 @@ pub fn apply_set<B: Base>(
     set: &TransactionSet,
 ) -> Result<SetDone, SetFault>
     requires legal { IsLegal header.now entries.old.current }
-    requires seq { header.now.ledger_seq < 2147483647 }
+    requires seq { header.now.ledger_seq < last_seq }
     requires within { xdr.transaction_set.within set.now }
     ensures answer { spec.IsAnswer (spec.closing_of network.now header.now close_time) set.now entries.old entries.new
         result }

@@ -2,6 +2,7 @@
 
 ghost use Rattle.std.specs.Prelude.{◌≡◌, ◌≤◌, ◌<◌, [], length, IfOk, OnOk};
 ghost use Rattle.entry_map.specs.Undo.{with_current};
+ghost use Rattle.op_form.specs.Sequences.{last_seq};
 ghost use Rattle.op_laws.specs.Underway.{IsSettled, IsUnderway};
 ghost use Rattle.op_laws.specs.Steps.{TransactionLaws};
 ghost use Rattle.tx_apply.specs.Laws.{AreFit};
@@ -74,7 +75,7 @@ pub(crate) fn apply_transaction<B: Base>(
 ) -> Result<TransactionOutcome, AllocError>
     requires settled { IsSettled ctx.old.id_pool entries.old.current }
     requires closed { ctx.old.sponsorships ≡ [] }
-    requires seq { ctx.old.seq < 2147483647 }
+    requires seq { ctx.old.seq < last_seq }
     requires laws { TransactionLaws }
     requires few { length tx.now.operations ≤ 100 }
     requires fit { AreFit tx.now.operations }

@@ -1,7 +1,7 @@
 //! Runs the cases in `cases.txt` in a folder: each is a state of plain accounts, a set of transactions, and what the
 //! set has to leave. Prints each case that goes otherwise, and their number.
 //!
-//! The folder is the program's one argument, or `data` where there is none. `make_cases.py` writes the table; all that
+//! The folder is the program's one argument, or `data` where there is none. `set_cases.py` writes the table; all that
 //! is wanted stands in it by hand.
 #![tactic(auto)]
 

@@ -1,23 +1,19 @@
 use Rattle.std.proofs.Common.{◌+◌, List, map, sym, subst}
-use Rattle.bucket_core.specs.Bucket.{Contents}
 use Rattle.bucket_levels.specs.Pairs.{Pair}
 use Rattle.bucket_levels.specs.Levels.{pair_of}
-use Rattle.bucket_levels.specs.Step.{IsPairAfter}
 use Rattle.bucket_levels.specs.Planned.{ArePlanned}
 use Rattle.bucket_levels.proofs.Planning.{one_more_planned, pushed, work_follows, work_stays_within}
 use Rattle.bucket_levels.proofs.levels.Levels.plan_batch.Goals as goal
 
 pub returns-in_err-pair_after-clause-most : goal.returns-in_err-pair_after-clause-most
 returns-in_err-pair_after-clause-most g c =
-    work_stays_within c.args.seq c.deref-in-loop-level.result.now c.args.fresh.value c.args.self.now.pairs
-    c.loop-level.level c.args.steps.now c.loop-level.steps c.pair_after.new.steps c.loop-level-test.true
-    c.deref-in-loop-level.ensures c.loop-level.invariant.most c.pair_after.ensures.most
+    work_stays_within c.args.seq c.args.fresh.value c.args.self.now.pairs c.loop-level.level c.args.steps.now
+    c.loop-level.steps c.pair_after.new.steps c.loop-level-test.true c.loop-level.invariant.most c.pair_after.ensures.most
 
 pub returns-in_err-push-clause-most : goal.returns-in_err-push-clause-most
 returns-in_err-push-clause-most g c =
-    work_stays_within c.args.seq c.deref-in-loop-level.result.now c.args.fresh.value c.args.self.now.pairs
-    c.loop-level.level c.args.steps.now c.loop-level.steps c.pair_after.new.steps c.loop-level-test.true
-    c.deref-in-loop-level.ensures c.loop-level.invariant.most c.pair_after.ensures.most
+    work_stays_within c.args.seq c.args.fresh.value c.args.self.now.pairs c.loop-level.level c.args.steps.now
+    c.loop-level.steps c.pair_after.new.steps c.loop-level-test.true c.loop-level.invariant.most c.pair_after.ensures.most
 
 pub loop-level-preserved : goal.loop-level-preserved
 loop-level-preserved g c =
@@ -25,14 +21,11 @@ loop-level-preserved g c =
     let old = c.args.self.now.pairs in
     let level = c.loop-level.level in
     let pair = c.in_ok-pair_after.field-0 in
-    let here = subst (λ (fresh : Contents). IsPairAfter seq fresh old level (pair_of pair))
-    c.deref-in-loop-level.ensures c.in_ok-pair_after.ensures.pair in
     let items = pushed c.loop-level.pairs.items c.push.new.self.items pair c.in_ok-push.ensures.items in
     record {
       planned = subst (λ (pairs : List Pair). ArePlanned seq c.args.fresh.value old (level + 1) pairs) (sym items)
           (one_more_planned seq c.args.fresh.value old level (map pair_of c.loop-level.pairs.items) (pair_of pair)
-          c.loop-level.invariant.planned here);
-      most = work_follows seq c.deref-in-loop-level.result.now c.args.fresh.value old level c.args.steps.now
-          c.loop-level.steps c.pair_after.new.steps c.deref-in-loop-level.ensures c.loop-level.invariant.most
-          c.pair_after.ensures.most;
+          c.loop-level.invariant.planned c.in_ok-pair_after.ensures.pair);
+      most = work_follows seq c.args.fresh.value old level c.args.steps.now c.loop-level.steps
+          c.pair_after.new.steps c.loop-level.invariant.most c.pair_after.ensures.most;
     }

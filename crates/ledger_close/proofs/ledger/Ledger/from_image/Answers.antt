@@ -1,7 +1,7 @@
 use Rattle.std.proofs.Common.{rules, ◌≡◌, List, map, Err, sym, subst}
 use Rattle.bucket_levels.specs.Levels.{pair_of}
 use Rattle.bucket_levels.specs.Pairs.{Pair}
-use Rattle.ledger_close.specs.Judging.{AreFewFiles, Stands, AreJudged}
+use Rattle.ledger_close.specs.Judging.{DoFilesFit, Stands, AreJudged}
 use Rattle.ledger_close.proofs.Judged.{by_entries, has_levels, is_kept, whole_judged}
 use Rattle.ledger_close.proofs.ledger.Ledger.from_image.Goals as goal
 
@@ -9,7 +9,7 @@ pub returns-in-Err-judge_entries : goal.returns-in-Err-judge_entries
 returns-in-Err-judge_entries c =
     let levels : c.in_ok-levels.levels.pairs ≡ map pair_of c.in-Ok-judge_files.pairs.items = search rules in
     let slice : c.as_slice.result.now ≡ c.in-Ok-judge_files.pairs.items = search rules in
-    let files : AreFewFiles c.args.image.files (map pair_of c.in-Ok-judge_files.pairs.items) =
+    let files : DoFilesFit c.args.image.files (map pair_of c.in-Ok-judge_files.pairs.items) =
     c.in-Ok-judge_files.ensures.ok in
     let stands : Stands (map pair_of c.as_slice.result.now) c.in-Ok-judge_marks.entries =
     c.in-Ok-judge_marks.ensures.ok in
@@ -27,7 +27,7 @@ invariant_of-result c =
     let levels : c.in_ok-levels.levels.pairs ≡ map pair_of c.in-Ok-judge_files.pairs.items = search rules in
     let slice : c.as_slice.result.now ≡ c.in-Ok-judge_files.pairs.items = search rules in
     let number : c.in_ok-levels.levels.seq ≡ c.in-Ok.header.ledger_seq = search rules in
-    let files : AreFewFiles c.args.image.files (map pair_of c.in-Ok-judge_files.pairs.items) =
+    let files : DoFilesFit c.args.image.files (map pair_of c.in-Ok-judge_files.pairs.items) =
     c.in-Ok-judge_files.ensures.ok in
     let stands : Stands (map pair_of c.as_slice.result.now) c.in-Ok-judge_marks.entries =
     c.in-Ok-judge_marks.ensures.ok in
@@ -36,7 +36,7 @@ invariant_of-result c =
     c.in_ok-levels.levels
     (record {
       header = c.in-Ok.ensures;
-      files = subst (λ (l : List Pair). AreFewFiles c.args.image.files l) (sym levels) files;
+      files = subst (λ (l : List Pair). DoFilesFit c.args.image.files l) (sym levels) files;
       stands = subst (λ (l : List Pair). Stands l c.in-Ok-judge_marks.entries) same stands;
       judged = c.in-Ok-judge_entries.ensures;
     }) c.in_ok-digest.ensures number
@@ -45,7 +45,7 @@ pub returns : goal.returns
 returns c =
     let levels : c.in_ok-levels.levels.pairs ≡ map pair_of c.in-Ok-judge_files.pairs.items = search rules in
     let slice : c.as_slice.result.now ≡ c.in-Ok-judge_files.pairs.items = search rules in
-    let files : AreFewFiles c.args.image.files (map pair_of c.in-Ok-judge_files.pairs.items) =
+    let files : DoFilesFit c.args.image.files (map pair_of c.in-Ok-judge_files.pairs.items) =
     c.in-Ok-judge_files.ensures.ok in
     let stands : Stands (map pair_of c.as_slice.result.now) c.in-Ok-judge_marks.entries =
     c.in-Ok-judge_marks.ensures.ok in
@@ -53,7 +53,7 @@ returns c =
     whole_judged c.args.network c.args.image c.in-Ok.header c.in_ok-levels.levels.pairs c.in-Ok-judge_marks.entries
     (record {
       header = c.in-Ok.ensures;
-      files = subst (λ (l : List Pair). AreFewFiles c.args.image.files l) (sym levels) files;
+      files = subst (λ (l : List Pair). DoFilesFit c.args.image.files l) (sym levels) files;
       stands = subst (λ (l : List Pair). Stands l c.in-Ok-judge_marks.entries) same stands;
       judged = c.in-Ok-judge_entries.ensures;
     })

@@ -52,20 +52,15 @@ own_keys (e ∷ es) = (refl, own_keys es)
 pub row_made : (es : List LedgerEntry) → AreRising (map key_of es) → IsTableRow (map with_key es)
 row_made es h = record { rises = sorted_keys es h; own = own_keys es }
 
-pub map_made : (es : List LedgerEntry) → AreRising (map key_of es) → map_of (map with_key es) ≡ from_entries
-    (map with_key es)
-map_made es h = same_map keys_total keys_exact _ _ (λ q. get-from_sorted key_cmp (map with_key es) q (sorted_keys es h)
-    ∙ sym (get-from_entries keys_total (map with_key es) q))
+pub map_made : (row : List (LedgerKey × LedgerEntry)) → Sorted row → map_of row ≡ from_entries row
+map_made row s = same_map keys_total keys_exact _ _
+    (λ q. get-from_sorted key_cmp row q s ∙ sym (get-from_entries keys_total row q))
 
 pub entries_of : (row : List (LedgerKey × LedgerEntry)) (m : EntryMap) → Sorted row → map_of row ≡ m → entries m ≡ row
 entries_of row m s is = ap (λ n. entries n) (sym is) ∙ entries-from_sorted key_cmp row s
 
-alone : (es : List LedgerEntry) → map (λ x. x.1) (map with_key es) ≡ es
-alone [] = refl
-alone (e ∷ es) = ap (λ r. e ∷ r) (alone es)
-
-pub values_made : (es : List LedgerEntry) → AreRising (map key_of es) → values (map_of (map with_key es)) ≡ es
-values_made es h = ap (λ r. map (λ x. x.1) r) (entries_of (map with_key es) _ (sorted_keys es h) refl) ∙ alone es
+pub values_made : (row : List (LedgerKey × LedgerEntry)) → Sorted row → values (map_of row) ≡ map (λ x. x.1) row
+values_made row s = ap (λ r. map (λ x. x.1) r) (entries_of row _ s refl)
 
 pub value_in : (row : List (LedgerKey × LedgerEntry)) (m : EntryMap) (place : ℕ) → Sorted row → map_of row ≡ m
     → slice_get (values m) place ≡ option_map (λ x. x.1) (slice_get row place)

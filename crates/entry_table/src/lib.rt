@@ -7,6 +7,6 @@ mod next;
 mod rows;
 mod table;
 
-pub use kept::Kept;
-pub use rows::{look_up, overlay};
+pub use kept::{Kept, kept_entry};
+pub use rows::overlay;
 pub use table::EntryTable;

@@ -8,7 +8,7 @@ ghost use Rattle.entry_map.specs.Batch.{IsBatch};
 ghost use Rattle.entry_changes.specs.Next.{stamped, AreNextEntries, IsExactBatch};
 ghost use Rattle.entry_table.specs.Rows.{IsRising, IsOverlaid, IsWithout, IsRowBehind, with_key, putting, taking};
 
-use crate::kept::Kept;
+use crate::kept::{Kept, kept_entry};
 use crate::table::EntryTable;
 use entry_map::Batch;
 use item_list::ItemList;
@@ -38,7 +38,7 @@ fn row_of(alloc: Global, entries: &[LedgerEntry]) -> Result<Vec<Kept<LedgerEntry
 {
     let mut row = Vec::with_capacity(alloc, entries.len())?;
     for entry in entries {
-        row.push(Kept::new(alloc, entry.key()?, entry.copy()?)?)?;
+        row.push(kept_entry(alloc, entry.copy()?)?)?;
     }
     Ok(row)
 }

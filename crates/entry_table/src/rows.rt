@@ -1,11 +1,9 @@
 //! Rows of shared values in the order of their keys.
 
 ghost use Rattle.std.specs.Prelude.{◌≡◌, ◌<◌, ◌++◌, ◌∷◌, [], length, IfOk, OnOk};
-ghost use Rattle.std.specs.Option.{option_copied};
-ghost use Rattle.entry_table.specs.Rows.{IsRising, IsOverlaid, IsPassed, value_at};
+ghost use Rattle.entry_table.specs.Rows.{IsRising, IsOverlaid, IsPassed};
 
 use crate::kept::Kept;
-use ledger_types::LedgerKey;
 use std::alloc::{AllocError, Global};
 use std::cmp::Ordering;
 
@@ -87,20 +85,4 @@ pub fn overlay<V: Drop>(
     }
     push_all(turns, &mut all)?;
     Ok(all)
-}
-
-/// The value under a key in a row. It halves the row at each step.
-pub fn look_up<'a, V>(row: &'a [Kept<V>], key: &LedgerKey) -> Option<&'a V>
-    requires { IsRising row.now }
-    ensures { option_copied result ≡ value_at key.now row.now }
-{
-    let (earlier, others) = row.split_at(row.len() / 2);
-    let Some((kept, later)) = others.split_first() else {
-        return None;
-    };
-    match kept.key().cmp(key) {
-        Ordering::Less => look_up(later, key),
-        Ordering::Equal => Some(kept.value()),
-        Ordering::Greater => look_up(earlier, key),
-    }
 }

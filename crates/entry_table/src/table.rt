@@ -3,12 +3,10 @@
 ghost use Rattle.std.specs.Prelude.{◌≡◌, ◌<◌, length, map, slice_get, option_map, Some, IfOk};
 ghost use Rattle.std.specs.Option.{option_copied};
 ghost use Rattle.std.specs.FinMap.{entries, from_entries, values};
-ghost use Rattle.ledger_types.specs.Keys.{key_of};
 ghost use Rattle.ledger_types.specs.KeyOrder.{key_cmp};
 ghost use Rattle.entry_map.specs.EntryMap.{IsKeyed};
-ghost use Rattle.entry_map.specs.KeyMaps.{AreRising};
 ghost use Rattle.shared_tree.specs.Rows.{first_above};
-ghost use Rattle.entry_table.specs.Rows.{IsRising, with_key};
+ghost use Rattle.entry_table.specs.Rows.{IsRising, IsTableRow};
 
 use crate::kept::Kept;
 use entry_map::Base;
@@ -41,13 +39,12 @@ impl Model for EntryTable {
 }
 
 impl EntryTable {
-    /// The table of entries in the rising order of their keys.
-    pub fn from_rising(alloc: Global, entries: Vec<LedgerEntry>) -> Result<EntryTable, AllocError>
-        requires { AreRising (map key_of entries.items) }
-        ensures map { IfOk result (λ table. table ≡ from_entries (map with_key entries.items)) }
-        ensures values { IfOk result (λ table. values table ≡ entries.items) }
+    /// The table of entries in the rising order of their keys, each under its own key.
+    pub fn from_rising(alloc: Global, row: Vec<Kept<LedgerEntry>>) -> Result<EntryTable, AllocError>
+        requires { IsTableRow row.items }
+        ensures map { IfOk result (λ table. table ≡ from_entries row.items) }
+        ensures values { IfOk result (λ table. values table ≡ map (λ x. x.1) row.items) }
     {
-        let row = kept_row(alloc, entries)?;
         let tree = Tree::of_row(alloc, row.as_slice())?;
         Ok(EntryTable { tree })
     }
@@ -68,18 +65,6 @@ impl EntryTable {
     {
         self.tree.entry(place)
     }
-}
-
-/// The row of entries, each under its own key.
-fn kept_row(alloc: Global, entries: Vec<LedgerEntry>) -> Result<Vec<Kept<LedgerEntry>>, AllocError>
-    ensures { IfOk result (λ row. row.items ≡ map with_key entries.items) }
-{
-    let mut row = Vec::with_capacity(alloc, entries.len())?;
-    for entry in entries {
-        let key = entry.key()?;
-        row.push(Kept::new(alloc, key, entry)?)?;
-    }
-    Ok(row)
 }
 
 /// The first entry above a key, if there is one.

@@ -9,7 +9,7 @@ use Rattle.std.specs.Ordering.{is_eq, eq_by_cmp}
 use Rattle.std.specs.Cmp.{tied_itself}
 use Rattle.std.specs.FinMap.{get, from_entries, get-from_entries}
 use Rattle.std.specs.FinMap.Entries.{find}
-use Rattle.std.proofs.lemmas.List.{take_more}
+use Rattle.std.proofs.lemmas.List.{take_more, map-append}
 use Rattle.std.proofs.lemmas.List.Elements.{All-nil, All-cons}
 use Rattle.ledger_types.specs.declared.key.LedgerKey.{LedgerKey}
 use Rattle.ledger_types.specs.declared.entry.LedgerEntry.{LedgerEntry}
@@ -124,12 +124,13 @@ by_newest (c ∷ xs) None is = absurd (cc)
 by_newest (c ∷ xs) (Some item) is =
     let same : told item ≡ c = cc in sym (after_told item) ∙ ap entry_after same
 
-pub stands_for : (levels : List Pair) (row : List (LedgerKey × BucketEntry)) (es : List LedgerEntry) (table : EntryMap)
-    → IsNewestRow (files_of levels) row → es ≡ entries_in row → table ≡ from_entries (map with_key es)
+pub stands_for : (levels : List Pair) (row : List (LedgerKey × BucketEntry)) (kept : List (LedgerKey × LedgerEntry))
+    (table : EntryMap)
+    → IsNewestRow (files_of levels) row → kept ≡ map with_key (entries_in row) → table ≡ from_entries kept
     → (pair_at levels 10).snap ≡ None → AreWellMarked levels × StandFor levels table
-stands_for levels row es table n is made deepest = (
+stands_for levels row kept table n is made deepest = (
   record { marks = n.marks; deepest = deepest },
-  λ k. ap (λ m. get m k) (made ∙ ap (λ (l : List LedgerEntry). from_entries (map with_key l)) is)
+  λ k. ap (λ m. get m k) (made ∙ ap (λ (l : List (LedgerKey × LedgerEntry)). from_entries l) is)
       ∙ get-from_entries keys_total (map with_key (entries_in row)) k
       ∙ find-entries k row n.rises (each_own row n.rises n.own)
       ∙ by_newest (changes_of (files_of levels) k) (value_at k row) (n.says k),
@@ -147,6 +148,9 @@ entries_more (y ∷ ys) x =
 
 pub next_entry : (row : List (LedgerKey × BucketEntry)) (i : ℕ) (x : LedgerKey × BucketEntry) → i < length row
     → x ≡ get_or row i x
-    → entries_in (take (i + 1) row) ≡ entries_in (take i row) ++ in_front_of (entry_in x.1) []
+    → map with_key (entries_in (take (i + 1) row))
+    ≡ map with_key (entries_in (take i row)) ++ map with_key (in_front_of (entry_in x.1) [])
 next_entry row i x h is =
-    ap entries_in (take_more row i x h ∙ ap (λ y. take i row ++ y ∷ []) (sym is)) ∙ entries_more (take i row) x
+    ap (map with_key)
+    (ap entries_in (take_more row i x h ∙ ap (λ y. take i row ++ y ∷ []) (sym is)) ∙ entries_more (take i row) x)
+    ∙ map-append with_key (entries_in (take i row)) (in_front_of (entry_in x.1) [])

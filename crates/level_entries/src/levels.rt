@@ -1,6 +1,7 @@
 //! The entries of levels.
 
 ghost use Rattle.std.specs.Prelude.{◌≡◌, ◌++◌, ◌∷◌, [], List, length, map, option_map, IfOk, OnOk};
+ghost use Rattle.entry_table.specs.Rows.{with_key};
 ghost use Rattle.bucket_core.specs.Bucket.{Contents};
 ghost use Rattle.bucket_levels.specs.Levels.{pair_of};
 ghost use Rattle.bucket_levels.specs.Meaning.{files_of};
@@ -15,7 +16,7 @@ use crate::stored::StoredItem;
 use bucket_core::Bucket;
 use bucket_items::BucketEntryType;
 use bucket_levels::LevelPair;
-use entry_table::EntryTable;
+use entry_table::{EntryTable, Kept, kept_entry};
 use ledger_types::{BucketEntry, LedgerEntry};
 use std::alloc::{AllocError, Global};
 
@@ -77,28 +78,29 @@ fn entry_in(item: BucketEntry) -> Option<LedgerEntry>
     }
 }
 
-/// Puts the entry that an item leaves at the end, if it leaves one.
+/// Puts the entry that an item leaves at the end of a row, if it leaves one.
 fn push_entry(
     alloc: Global,
     item: &StoredItem<'_>,
-    entries: &mut Vec<LedgerEntry>,
+    entries: &mut Vec<Kept<LedgerEntry>>,
 ) -> Result<(), AllocError>
-    ensures { OnOk result (entries.new.items ≡ entries.old.items ++ spec.in_front_of (spec.entry_in item.now.1) []) }
+    ensures { OnOk result (entries.new.items
+        ≡ entries.old.items ++ map with_key (spec.in_front_of (spec.entry_in item.now.1) [])) }
 {
     if item.mark() == BucketEntryType::Dead {
         return Ok(());
     }
     if let Some(entry) = entry_in(item.read(alloc)?) {
-        entries.push(entry)?;
+        entries.push(kept_entry(alloc, entry)?)?;
     }
     Ok(())
 }
 
-/// The entries that the items of a row leave. Items are read from their files here alone.
-fn entries_of(alloc: Global, row: Vec<StoredItem<'_>>) -> Result<Vec<LedgerEntry>, AllocError>
-    ensures { IfOk result (λ entries. entries.items ≡ entries_in row.entry.items) }
+/// The entries that the items of a row leave, each under its own key. Items are read from their files here alone.
+fn entries_of(alloc: Global, row: Vec<StoredItem<'_>>) -> Result<Vec<Kept<LedgerEntry>>, AllocError>
+    ensures { IfOk result (λ entries. entries.items ≡ map with_key (entries_in row.entry.items)) }
 {
-    let mut entries = Vec::new(alloc);
+    let mut entries = Vec::with_capacity(alloc, row.len())?;
     for item in &row {
         push_entry(alloc, item, &mut entries)?;
     }

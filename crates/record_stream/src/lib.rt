@@ -4,9 +4,12 @@
 
 mod ahead;
 mod fill;
+mod image;
+mod layout;
 mod measure;
 mod piece;
 
 pub use ahead::without_front;
+pub use image::take_image;
 pub use measure::{ImageLength, Measure, RecordLength};
 pub use piece::{PieceFault, read_piece};

@@ -4,9 +4,9 @@ use Rattle.std.proofs.Common.{Ok, Err}
 use Rattle.std.proofs.Common.{refl, sym, ap, subst, ◌∙◌, append_assoc, append-nil, zero-add, arith, inl, inr}
 use Rattle.std.specs.Io.KnownBytes.{Consumes, IsAtEnd}
 use Rattle.std.proofs.KnownBytes.{Consumes-trans}
-use Rattle.std.proofs.lemmas.List.{length-append}
 use Rattle.run_streams.specs.Seen.{Seen, Failed, Received}
 use Rattle.record_stream.specs.Filling.{Grown}
+use Rattle.record_stream.specs.Layouts.{IsTaken}
 use Rattle.record_stream.specs.Measured.{end_by, image_end}
 use Rattle.record_stream.specs.Piece.{IsShort}
 use Rattle.ledger_types.specs.declared.ids.Hash.{Hash}
@@ -54,17 +54,7 @@ ended r = r
 at_of : (at : ℕ) (q : Place) → ended (Ok at) ≡ Ok q.at → at ≡ q.at
 at_of at q e = cc
 
-pub image_within : (new : List ℕ) (at : ℕ) (image : StartImage) (q : Place) → IsBytes new → image_end new ≡ Ok at
-    → read_image new ≡ Ok (image, q) → at ≤ length new
-image_within new at image q fits measured e =
-    let s = start_image_laws.lawful.takes (start_of new) q image fits e in
-    let len : at ≡ length (start_image.spell image) =
-    at_of at q (sym measured ∙ ap (λ (r : Reading XdrFault StartImage). end_by r) e) ∙ s.taken.at
-    ∙ zero-add (length (start_image.spell image)) in
-    let parts : new ≡ start_image.spell image ++ q.rest = s.taken.parts in
-    omega (arith, len, ap length parts ∙ length-append (start_image.spell image) q.rest)
-
-pub image_cut : (input : Seen) (new : List ℕ) (at : ℕ) (image : StartImage) (q : Place)
+image_cut : (input : Seen) (new : List ℕ) (at : ℕ) (image : StartImage) (q : Place)
     → Grown input.before input.now [] new → IsBytes new → image_end new ≡ Ok at → at < 2 ^ 64
     → read_image new ≡ Ok (image, q) → input.faults_before ≤ input.faults_now → Cut image at (drop at new) input
 image_cut input new at image q grown fits measured low e later =
@@ -86,6 +76,16 @@ image_cut input new at image q grown fits measured low e later =
       gave = subst (λ (t : List ℕ). Consumes input.before input.now t) given grown.gave;
       later = later;
     }
+
+pub image_taken : (input : Seen) (new left : List ℕ) (at : ℕ) (image : StartImage) → IsTaken new left image
+    → Grown input.before input.now [] new → IsBytes new → image_end new ≡ Ok at → at < 2 ^ 64
+    → input.faults_before ≤ input.faults_now → Cut image at left input
+image_taken input new left at image taken grown fits measured low later =
+    let ends : at ≡ taken.after.at =
+    at_of at taken.after (sym measured ∙ ap (λ (r : Reading XdrFault StartImage). end_by r) taken.reads) in
+    subst (λ (t : List ℕ). Cut image at t input)
+    (ap (λ (n : ℕ). drop n new) ends ∙ sym taken.behind)
+    (image_cut input new at image taken.after grown fits measured low taken.reads later)
 
 -- ---- runs that wrote nothing
 

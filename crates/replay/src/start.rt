@@ -1,9 +1,7 @@
 //! The start image at the front of an input.
 
-ghost use Rattle.std.specs.Prelude.{◌≡◌, ◌≤◌, ◌^◌, [], MatchResult, IfOk, Ok};
+ghost use Rattle.std.specs.Prelude.{◌≡◌, [], MatchResult};
 ghost use Rattle.xdr_core.specs.Format.{IsBytes};
-ghost use Rattle.xdr_core.specs.Place.{Place, start_of};
-ghost use Rattle.xdr_header.specs.Image.{start_image};
 ghost use Rattle.run_streams.specs.Seen.{seen};
 ghost use Rattle.hash_ids.specs.Ids.{network_id_of};
 ghost use Rattle.run_outcome.specs.declared.status.Status.TheVariants as status;
@@ -12,11 +10,11 @@ ghost use Rattle.replay.specs.Starting.{Cut, IsUnstarted, StartsAt, IsJudgedSo};
 use hash_ids::network_id;
 use ledger_close::{ImageFault, Ledger};
 use outside::Source;
-use record_stream::{ImageLength, PieceFault, read_piece, without_front};
+use record_stream::{ImageLength, PieceFault, read_piece, take_image};
 use run_outcome::Status;
 use std::alloc::Global;
-use xdr_core::{Cursor, ReadFault, XdrFault};
-use xdr_header::{StartImage, read_start_image};
+use xdr_core::XdrFault;
+use xdr_header::StartImage;
 
 /// A ledger, and how long the image is that it starts from.
 #[derive(Drop)]
@@ -42,14 +40,6 @@ fn bad_image(text: &[u8], fault: XdrFault) -> Status
     }
 }
 
-/// The image at the front of a text.
-fn decode(alloc: Global, text: &[u8]) -> Result<StartImage, ReadFault>
-    ensures fits { IsBytes text.now }
-    ensures reads { IfOk result (λ image. (q : Place) × (start_image.read (start_of text.now) ≡ Ok (image, q))) }
-{
-    read_start_image(alloc, &mut Cursor::new(text))
-}
-
 /// Reads the image at the front of the input. Behind it other bytes may be ahead.
 fn read_image<I: Source>(
     alloc: Global,
@@ -70,14 +60,9 @@ fn read_image<I: Source>(
         Err(PieceFault::Failed) => return Err(Status::ReadFault),
         Err(PieceFault::NoMemory) => return Err(Status::NoMemory),
     };
-    // the text is one of an image here, so that only memory can fail
-    let Ok(image) = decode(alloc, ahead.as_slice()) else {
+    let Ok(image) = take_image(alloc, ahead) else {
         return Err(Status::NoMemory);
     };
-    let Ok(rest) = without_front(alloc, ahead.as_slice(), at) else {
-        return Err(Status::NoMemory);
-    };
-    *ahead = rest;
     Ok(FrontImage { image, at })
 }
 

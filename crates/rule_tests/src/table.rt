@@ -1,7 +1,7 @@
 //! What no contract says: that calls succeed where there is memory.
 
 use entry_map::{Base, Entries};
-use entry_table::EntryTable;
+use entry_table::{EntryTable, kept_entry};
 use ledger_types::{AccountId, Asset, LedgerEntry, LedgerEntryBody, LedgerKey, OfferEntry, Price};
 use std::alloc::{AllocError, Global};
 
@@ -26,9 +26,9 @@ fn offer(offer_id: i64) -> LedgerEntry {
 
 /// The table of one offer.
 fn one_offer(alloc: Global) -> Result<EntryTable, AllocError> {
-    let mut offers = Vec::new(alloc);
-    offers.push(offer(3))?;
-    EntryTable::from_rising(alloc, offers)
+    let mut row = Vec::new(alloc);
+    row.push(kept_entry(alloc, offer(3))?)?;
+    EntryTable::from_rising(alloc, row)
 }
 
 /// The table behind ledger 9, which brings an offer more.

@@ -1,10 +1,11 @@
 use Rattle.std.proofs.Common.{map, sym, subst, ap, ◌∙◌, arith}
 use Rattle.std.proofs.lemmas.List.{get_or-map}
-use Rattle.ledger_types.specs.Keys.{key_of}
-use Rattle.entry_map.specs.KeyMaps.{AreRising}
+use Rattle.entry_table.specs.Rows.{IsTableRow}
+use Rattle.entry_table.proofs.Tables.{row_made}
 use Rattle.bucket_levels.specs.Levels.{pair_of}
 use Rattle.bucket_levels.specs.Pairs.{Pair, empty_pair}
 use Rattle.bucket_levels.specs.Meaning.{files_of}
+use Rattle.level_entries.specs.Rows.{entries_in}
 use Rattle.level_entries.proofs.Newest.{row_in, empty_of}
 use Rattle.level_entries.proofs.LeftEntries.{entries_rise, stands_for}
 use Rattle.level_entries.proofs.levels.level_entries.Goals as goal
@@ -12,10 +13,9 @@ use Rattle.level_entries.proofs.levels.level_entries.Goals as goal
 pub from_rising-requires : goal.from_rising-requires
 from_rising-requires c =
     let files = files_of (map pair_of c.args.pairs.now) in
-    subst (λ es. AreRising (map key_of es))
-    (sym c.in_ok-entries-in-Some.ensures)
-    (entries_rise files c.in-Some.row.items
-    (row_in (λ v. v.items) files c.in_ok-row_of.field-0 c.in-Some.row c.in_ok-row_of.ensures c.in-Some.is))
+    subst IsTableRow (sym c.in_ok-entries-in-Some.ensures)
+    (row_made (entries_in c.in-Some.row.items) (entries_rise files c.in-Some.row.items
+    (row_in (λ v. v.items) files c.in_ok-row_of.field-0 c.in-Some.row c.in_ok-row_of.ensures c.in-Some.is)))
 
 pub returns-in_ok-from_rising-in-Some : goal.returns-in_ok-from_rising-in-Some
 returns-in_ok-from_rising-in-Some c =

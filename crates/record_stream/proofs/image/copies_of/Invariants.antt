@@ -1,0 +1,6 @@
+use Rattle.std.proofs.Common.{◌≡◌, map, take}
+use Rattle.record_stream.specs.Layouts.{piece}
+use Rattle.record_stream.proofs.image.copies_of.Given as goal
+
+abbrev pub invariant-loop-span : goal.invariant-loop-span
+invariant-loop-span l = l.copies ≡ map (piece l.text) (take l.span-index l.spans)

@@ -1,0 +1,60 @@
+-- Where the parts of a start image stand in its text, and what it is to take them from there.
+use Rattle.std.specs.Prelude.{◌≡◌, ℕ, ◌+◌, ◌≤◌, List, take, drop, length, map, All, Result, Ok, Err}
+use Rattle.xdr_core.specs.declared.fault.XdrFault.{XdrFault}
+use Rattle.xdr_core.specs.Format.{IsBytes}
+use Rattle.xdr_core.specs.Place.{Place, start_of}
+use Rattle.xdr_core.specs.Xdr.{Xdr}
+use Rattle.xdr_header.specs.declared.image.StartImage.{StartImage}
+use Rattle.xdr_header.specs.Image.{start_image}
+use Rattle.record_stream.specs.declared.layout.Span.{Span}
+use Rattle.record_stream.specs.declared.layout.Layout.{Layout}
+
+-- a piece of a text
+abbrev pub piece : List ℕ → Span → List ℕ
+piece text span = take span.len (drop span.start text)
+
+-- it ends where the text does, or before
+abbrev pub IsWithin : List ℕ → Span → Type 0
+IsWithin text span = span.start + span.len ≤ length text
+
+abbrev pub AreWithin : List ℕ → List Span → Type 0
+AreWithin text spans = All (IsWithin text) spans
+
+-- the image whose parts stand so in a text
+abbrev pub image_in : List ℕ → Layout → StartImage
+image_in text layout = record { header = piece text layout.header; files = map (piece text) layout.files }
+
+-- a place in a text of bytes
+pub record IsIn (text : List ℕ) (p : Place) : Type 0 where
+  pub bytes : IsBytes text
+  pub within : p.at ≤ length text
+  pub rest : p.rest ≡ drop p.at text
+
+-- what was read between two places is this piece
+pub record IsPassed (text : List ℕ) (f : Xdr (List ℕ)) (old new : Place) (span : Span) : Type 0 where
+  pub reads : f.read old ≡ Ok (piece text span, new)
+  pub len : length (piece text span) ≡ span.len
+  pub within : IsWithin text span
+  pub place : IsIn text new
+
+-- ---- the image at the front of a text
+
+-- its parts stand so
+pub record IsLayout (text : List ℕ) (layout : Layout) : Type 0 where
+  pub after : Place
+  pub reads : start_image.read (start_of text) ≡ Ok (image_in text layout, after)
+  pub end : layout.end ≡ after.at
+  pub end_within : layout.end ≤ length text
+  pub header_within : IsWithin text layout.header
+  pub files_within : AreWithin text layout.files
+
+-- its parts stand so, or it has this fault
+abbrev pub IsLaidOut : List ℕ → Result Layout XdrFault → Type 0
+IsLaidOut text (Ok layout) = IsLayout text layout
+IsLaidOut text (Err wrong) = start_image.read (start_of text) ≡ Err wrong
+
+-- it was taken, and the bytes behind it are left
+pub record IsTaken (old new : List ℕ) (image : StartImage) : Type 0 where
+  pub after : Place
+  pub reads : start_image.read (start_of old) ≡ Ok (image, after)
+  pub behind : new ≡ drop after.at old

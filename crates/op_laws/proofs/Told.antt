@@ -1,5 +1,5 @@
 -- What moves tell of each holder, by what the entries hold.
-use Rattle.std.proofs.Common.{◌≡◌, refl, sym, ap, subst, ◌∙◌, ℕ, Bool, true, false, ◌&&◌, List, [], ◌∷◌, Option}
+use Rattle.std.proofs.Common.{◌≡◌, refl, sym, ap, subst, ◌∙◌, ℕ, Bool, true, false, ◌&&◌, List, [], ◌∷◌, ◌++◌, Option}
 use Rattle.std.proofs.Common.{Some, None, arith}
 use Rattle.std.proofs.lemmas.Int.{ints}
 use Rattle.std.proofs.lemmas.Slice.Eq.{bytes_eq-Decides}
@@ -23,8 +23,9 @@ use Rattle.legal_rules.specs.EntryKeys.{is_key}
 use Rattle.legal_rules.specs.Supply.{held, of_asset}
 use Rattle.op_form.specs.Assets.{is_native, is_issued_by, line_asset_of}
 use Rattle.op_form.specs.Done.{Holder, OfAccount, OfBalance, OfPool, FeePool, Transit, Move}
-use Rattle.op_laws.specs.Moves.{is_holder, is_issuer, gained, holding, held_at, place_of, AreTold}
-use Rattle.op_laws.proofs.Holdings.{Increase, none_more, both_more, under, HoldsMore, none_before, none_if}
+use Rattle.op_laws.specs.Moves.{is_holder, is_issuer, gained_in, gained, holding, held_at, place_of, AreTold}
+use Rattle.op_laws.proofs.Holdings.{Increase, none_more, both_more, under, HoldsMore, none_before, holds_itself, none_if}
+use Rattle.op_laws.proofs.Issued.{plus_assoc}
 use Rattle.op_laws.proofs.IssuedMoves.{same_asset, same_issuer}
 
 -- ---- what is told
@@ -38,7 +39,7 @@ abbrev pub Tells : Increase → List Move → Type 0
 Tells more moves = (x : Asset) (holder : Holder) → is_issuer x holder ≡ false
     → more_at more x (place_of x holder) ≡ gained x holder moves
 
-told_at : (more : Increase) (old new : EntryMap) → HoldsMore more old new → (x : Asset) (o : Option LedgerKey)
+pub told_at : (more : Increase) (old new : EntryMap) → HoldsMore more old new → (x : Asset) (o : Option LedgerKey)
     → held_at x new o ≡ (held_at x old o +ℤ more_at more x o)
 told_at more old new holds x None = refl
 told_at more old new holds x (Some k) = holds k x
@@ -56,6 +57,33 @@ none_at x (Some k) = refl
 pub tells_nothing : Tells none_more []
 unfolding gained
 tells_nothing x holder other = none_at x (place_of x holder)
+
+pub told_itself : (m : EntryMap) → AreTold m m []
+told_itself m = told_by none_more m m [] (holds_itself m) tells_nothing
+
+-- ---- moves behind moves
+
+pub gained_behind : (x : Asset) (holder : Holder) (moves more : List Move)
+    → gained x holder (moves ++ more) ≡ (gained x holder moves +ℤ gained x holder more)
+unfolding gained
+gained_behind x holder [] more = sym (none_before (gained x holder more))
+gained_behind x holder (move ∷ moves) more =
+    ap (λ n. gained_in x holder move +ℤ n) (gained_behind x holder moves more)
+    ∙ sym (plus_assoc (gained_in x holder move) (gained x holder moves) (gained x holder more))
+
+-- what is gained at first and then
+pub gained_twice : (x : Asset) (holder : Holder) (moves more : List Move) (a b c : ℤ)
+    → b ≡ (a +ℤ gained x holder moves) → c ≡ (b +ℤ gained x holder more) → c ≡ (a +ℤ gained x holder (moves ++ more))
+gained_twice x holder moves more a b c first next =
+    next ∙ ap (λ n. n +ℤ gained x holder more) first
+    ∙ plus_assoc a (gained x holder moves) (gained x holder more)
+    ∙ ap (λ n. a +ℤ n) (sym (gained_behind x holder moves more))
+
+pub told_twice : (a b c : EntryMap) (moves more : List Move) → AreTold a b moves → AreTold b c more
+    → AreTold a c (moves ++ more)
+told_twice a b c moves more first next x holder other =
+    gained_twice x holder moves more (holding x holder a) (holding x holder b) (holding x holder c)
+    (first x holder other) (next x holder other)
 
 -- ---- one end of a move
 
@@ -168,7 +196,7 @@ module _ (x : Asset) (own : is_eq (asset_cmp x x) ≡ true) (q h : Holder) (at :
         | false ↦ λ differ. elsewhere differ (place_of x q) refl
       ] refl
 
-end_tells : (x held : Asset) (q h : Holder) → HasPlace held h → (n : ℤ) → is_issuer x q ≡ false
+pub end_tells : (x held : Asset) (q h : Holder) → HasPlace held h → (n : ℤ) → is_issuer x q ≡ false
     → more_at (more_for held h n) x (place_of x q) ≡ (if is_eq (asset_cmp x held) && is_holder q h then n else pos 0)
 end_tells x held q h placed n other = elim (is_eq (asset_cmp x held)) as (λ b. is_eq (asset_cmp x held) ≡ b
     → more_at (more_for held h n) x (place_of x q) ≡ (if b && is_holder q h then n else pos 0)) [

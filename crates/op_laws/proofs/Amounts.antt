@@ -35,7 +35,7 @@ use Rattle.op_laws.specs.Underway.{AreEntriesLegal}
 use Rattle.op_laws.proofs.Lawful.{ShiftsLegal}
 use Rattle.op_laws.proofs.LineChanges.{line_legal, line_shifted, line_left}
 use Rattle.op_laws.proofs.Paying.{taken, given, taken_legal, taken_left, given_legal, given_left}
-use Rattle.op_laws.proofs.Holdings.{IsKeyed, Increase, none_more, under}
+use Rattle.op_laws.proofs.Holdings.{IsKeyed, Increase, none_more, under_key}
 use Rattle.op_laws.proofs.Standing.{Leaves, leaves_itself, leaves_as}
 use Rattle.op_laws.proofs.Told.{more_for, account_more}
 use Rattle.op_laws.proofs.Tests.{passed, first_passed}
@@ -49,7 +49,7 @@ pub record IsMoved (id_pool base : ℕ) (shift : Asset → ℤ) (more : Increase
 
 -- n of an asset more in an account's line
 abbrev pub in_line : AccountId → Asset → ℤ → Increase
-in_line id held n = under (key.TrustLine id (line_asset_of held)) (λ x. of_asset x held n)
+in_line id held n = under_key (key.TrustLine id (line_asset_of held)) (λ x. of_asset x held n)
 
 -- n of an asset, unless an account issues it
 abbrev pub unless_issuer : Asset → Asset → AccountId → ℤ → ℤ

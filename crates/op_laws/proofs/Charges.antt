@@ -39,7 +39,7 @@ use Rattle.legal_rules.proofs.Places.{account_after, account_elsewhere}
 use Rattle.op_laws.proofs.Reserves.{pays_more, pays_less, pays_from, other_payer_charged, available_still}
 use Rattle.op_laws.proofs.Reserves.{enough_of}
 use Rattle.op_laws.proofs.Reserves.{next_still, next_covers, subentry_charged, no_subentry_charged}
-use Rattle.op_laws.proofs.Holdings.{IsKeyed, none_more, under, nothing_more, still_holds, none_under, put_same}
+use Rattle.op_laws.proofs.Holdings.{IsKeyed, none_more, under_key, nothing_more, still_holds, none_under, put_same}
 use Rattle.op_laws.proofs.Holdings.{erase_holds}
 use Rattle.op_laws.proofs.Standing.{IsNext, Leaves, leaves_itself, leaves_as, keeps_both, accounts_kept, account_kept}
 use Rattle.op_laws.proofs.Standing.{no_account_changed, put_accounts, keyed_put}
@@ -181,15 +181,15 @@ erase_beside m k id apart = ap account_of (erase_elsewhere m k (key.Account id) 
 -- what an entry held is gone with it
 pub erased_left : (base : ℕ) (m : EntryMap) (k : LedgerKey) (amounts : Asset → ℤ) → IsKeyed m
     → ((id : AccountId) → key.Account id ≢ k) → ((x : Asset) → (part (held x) (get m k) +ℤ amounts x) ≡ pos 0)
-    → Leaves base (under k amounts) m (erase m k)
-erased_left base m k amounts keyed apart none = accounts_kept base (under k amounts) m (erase m k)
+    → Leaves base (under_key k amounts) m (erase m k)
+erased_left base m k amounts keyed apart none = accounts_kept base (under_key k amounts) m (erase m k)
     (erase_each (λ q e. key_of e ≡ q) m k keyed) (λ id. erase_beside m k id (apart id))
     (erase_holds m k amounts none)
 
 -- an entry that held nothing
 pub erased_kept : (base : ℕ) (m : EntryMap) (k : LedgerKey) → IsKeyed m → ((id : AccountId) → key.Account id ≢ k)
     → ((x : Asset) → part (held x) (get m k) ≡ pos 0) → Leaves base none_more m (erase m k)
-erased_kept base m k keyed apart none = leaves_as base (under k (λ x. pos 0)) none_more m (erase m k)
+erased_kept base m k keyed apart none = leaves_as base (under_key k (λ x. pos 0)) none_more m (erase m k)
     (erased_left base m k (λ x. pos 0) keyed apart (λ x. sym (nothing_more (part (held x) (get m k))) ∙ none x))
     (none_under k (λ x. pos 0) (λ x. refl))
 

@@ -69,7 +69,7 @@ use Rattle.op_laws.proofs.IssuedMoves.{same_issuer, issued_so, issued_by_move}
 use Rattle.op_laws.proofs.Lawful.{lawful_with, shifted_after}
 use Rattle.op_laws.proofs.NewBalances.{IsBalanceEntry, balance_entry, claimants_in_range, new_flags, no_balance}
 use Rattle.op_laws.proofs.Paying.{given}
-use Rattle.op_laws.proofs.Holdings.{IsKeyed, none_more, both_more, under, none_before, still_holds, put_holds}
+use Rattle.op_laws.proofs.Holdings.{IsKeyed, none_more, both_more, under_key, none_before, still_holds, put_holds}
 use Rattle.op_laws.proofs.Holdings.{cancelled}
 use Rattle.op_laws.proofs.Standing.{Leaves, leaves_both, leaves_as, keeps_then, accounts_kept, keyed_put}
 use Rattle.op_laws.proofs.Told.{more_for, account_place, balance_place, moved, move_tells, more_turned, redeemed_more}
@@ -157,9 +157,9 @@ module _ (id_pool base : ℕ) (m : EntryMap) (legal : AreEntriesLegal id_pool m)
 
   erased : (now : EntryMap) → Leaves base none_more m now → Leaves base (more_for b.asset (OfBalance id) (neg_ℤ b.amount))
       m (erase now its_key)
-  erased now first = leaves_as base (under its_key less) (more_for b.asset (OfBalance id) (neg_ℤ b.amount)) m
+  erased now first = leaves_as base (under_key its_key less) (more_for b.asset (OfBalance id) (neg_ℤ b.amount)) m
       (erase now its_key)
-      (keeps_then base (under its_key less) m now (erase now its_key) first
+      (keeps_then base (under_key its_key less) m now (erase now its_key) first
       (erased_left base now its_key less first.keyed (λ other same. absurd (cc))
       (λ x. ap (λ n. n +ℤ less x) (still_holds m now first.holds its_key x ∙ ap (part (held x)) at)
       ∙ cancelled (is_eq (asset_cmp x b.asset)) b.amount)))
@@ -292,7 +292,7 @@ module _ (ctx : Ctx) (id : AccountId) (n : ℤ) (m new : EntryMap) (balance : Cl
 balance_left : (ctx : Ctx) (m : EntryMap) (payer : AccountId) (k : ℕ) (e : LedgerEntry) (new : EntryMap) → IsKeyed m
     → ((id : AccountId) → key.Account id ≢ key_of e) → get m (key_of e) ≡ None
     → map_after_adding_balance ctx e payer k m ≡ Ok new
-    → Leaves ctx.base_reserve (under (key_of e) (λ x. held x e)) m new
+    → Leaves ctx.base_reserve (under_key (key_of e) (λ x. held x e)) m new
 balance_left ctx m payer k e new keyed apart free done =
     let now = map_after_charging k (Some payer) m in
     let added = with_sponsor (Some payer) e in
@@ -300,7 +300,7 @@ balance_left ctx m payer k e new keyed apart free done =
     let first = charging_kept ctx.base_reserve k (Some payer) m keyed
     (λ x is. let same : payer ≡ x = cc in subst (λ w. (a : AccountEntry) → account_at m w ≡ Some a
     → pos (k * ctx.base_reserve) ≤ℤ available a ctx.base_reserve) same (payer_had ctx m payer k test.0)) in
-    let more = under (key_of e) (λ x. held x e) in
+    let more = under_key (key_of e) (λ x. held x e) in
     subst (Leaves ctx.base_reserve more m) test.1
     (keeps_then ctx.base_reserve more m now (put now added) first
     (accounts_kept ctx.base_reserve more now (put now added) (keyed_put now added first.keyed)
@@ -389,7 +389,7 @@ module _ (ctx : Ctx) (op : CreateClaimableBalanceOp) (m : EntryMap) (done : Done
       }) entry_range payer second.1)))
       (leaves_as ctx.base_reserve (both_more less more) all m new (leaves_both ctx.base_reserve less more m now new
       one.left
-      (leaves_as ctx.base_reserve (under (key_of entry) (λ x. held x entry)) more now new
+      (leaves_as ctx.base_reserve (under_key (key_of entry) (λ x. held x entry)) more now new
       (balance_left ctx now (payer_of ctx src) times entry new one.left.keyed (λ id at. absurd (cc)) still_free second.1)
       (balance_more op.asset (creating.new_id ctx) n))) (more_turned less more))
       (move_tells op.asset (OfAccount src) to n (account_place op.asset src)

@@ -41,12 +41,12 @@ abbrev pub both_more : (d e : Increase) → Increase
 both_more d e k x = d k x +ℤ e k x
 
 -- for the entry under one key
-abbrev pub under : LedgerKey → (Asset → ℤ) → Increase
-under at amounts k x = if is_key k at then amounts x else pos 0
+abbrev pub under_key : LedgerKey → (Asset → ℤ) → Increase
+under_key at amounts k x = if is_key k at then amounts x else pos 0
 
 -- lumens for one account
 abbrev pub for_one : AccountId → ℤ → Increase
-for_one id n = under (key.Account id) (λ x. lumens_of x n)
+for_one id n = under_key (key.Account id) (λ x. lumens_of x n)
 
 -- Each entry holds so much more.
 abbrev pub HoldsMore : Increase → (old new : EntryMap) → Type 0
@@ -89,14 +89,14 @@ none_if t n none = ap (λ k. if t then k else pos 0) none ∙ same_none t
 
 -- none under a key
 pub none_under : (at : LedgerKey) (amounts : Asset → ℤ) → ((x : Asset) → amounts x ≡ pos 0) → (k : LedgerKey)
-    (x : Asset) → under at amounts k x ≡ none_more k x
+    (x : Asset) → under_key at amounts k x ≡ none_more k x
 none_under at amounts none k x = none_if (is_key k at) (amounts x) (none x)
 
 -- ---- an entry that is put or erased
 
 pub put_holds : (m : EntryMap) (e : LedgerEntry) (amounts : Asset → ℤ)
     → ((x : Asset) → held x e ≡ (part (held x) (get m (key_of e)) +ℤ amounts x))
-    → HoldsMore (under (key_of e) amounts) m (put m e)
+    → HoldsMore (under_key (key_of e) amounts) m (put m e)
 put_holds m e amounts is k x =
     ap (part (held x)) (put_get m e k)
     ∙ elim (is_key k (key_of e)) as (λ b. is_key k (key_of e) ≡ b → part (held x) (cond b (Some e) (get m k))
@@ -109,12 +109,12 @@ put_holds m e amounts is k x =
 -- an entry in the place of one that holds as much
 pub put_same : (m : EntryMap) (e : LedgerEntry) → ((x : Asset) → held x e ≡ part (held x) (get m (key_of e)))
     → HoldsMore none_more m (put m e)
-put_same m e same = holds_as (under (key_of e) (λ x. pos 0)) none_more m (put m e)
+put_same m e same = holds_as (under_key (key_of e) (λ x. pos 0)) none_more m (put m e)
     (put_holds m e (λ x. pos 0) (λ x. same x ∙ nothing_more (part (held x) (get m (key_of e)))))
     (none_under (key_of e) (λ x. pos 0) (λ x. refl))
 
 pub erase_holds : (m : EntryMap) (at : LedgerKey) (amounts : Asset → ℤ)
-    → ((x : Asset) → (part (held x) (get m at) +ℤ amounts x) ≡ pos 0) → HoldsMore (under at amounts) m (erase m at)
+    → ((x : Asset) → (part (held x) (get m at) +ℤ amounts x) ≡ pos 0) → HoldsMore (under_key at amounts) m (erase m at)
 erase_holds m at amounts is k x =
     ap (part (held x)) (erase_get m at k)
     ∙ elim (is_key k at) as (λ b. is_key k at ≡ b → part (held x) (cond b None (get m k))

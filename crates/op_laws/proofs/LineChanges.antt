@@ -29,7 +29,7 @@ use Rattle.legal_rules.proofs.Steps.{legal_as}
 use Rattle.op_form.specs.Assets.{is_native, line_asset_of}
 use Rattle.op_laws.proofs.Charges.{put_beside}
 use Rattle.op_laws.proofs.Lawful.{ShiftsLegal}
-use Rattle.op_laws.proofs.Holdings.{IsKeyed, none_more, under, HoldsMore, none_if, none_under, put_holds}
+use Rattle.op_laws.proofs.Holdings.{IsKeyed, none_more, under_key, HoldsMore, none_if, none_under, put_holds}
 use Rattle.op_laws.proofs.Standing.{Leaves, leaves_as, accounts_kept, keyed_put}
 
 -- ---- a line that stands
@@ -152,17 +152,17 @@ module _ (id_pool : ℕ) (m : EntryMap) (id : AccountId) (held : Asset) (issued 
           (difference_of x held issued t.asset named.1 (f t).balance t.balance)
           ∙ ap (λ n. n +ℤ more x) (sym (had x))
 
-      pub line_left : Leaves base (under at more) m new
+      pub line_left : Leaves base (under_key at more) m new
       line_left =
           let found = line_entry m id (line_asset_of held) t stands in
           let e = with_line_body found.0 (f t) in
-          subst (Leaves base (under at more) m) (sym (with_line_is m id (line_asset_of held) f t found.0 found.1))
-          (accounts_kept base (under at more) m (put m e) (keyed_put m e keyed)
+          subst (Leaves base (under_key at more) m) (sym (with_line_is m id (line_asset_of held) f t found.0 found.1))
+          (accounts_kept base (under_key at more) m (put m e) (keyed_put m e keyed)
           (put_beside m e (λ other same. absurd (cc)))
-          (subst (λ q. HoldsMore (under q more) m (put m e)) its_key (put_holds m e more has_more)))
+          (subst (λ q. HoldsMore (under_key q more) m (put m e)) its_key (put_holds m e more has_more)))
 
       -- the same of a line with the balance that it had
       pub line_kept : (f t).balance ≡ t.balance → Leaves base none_more m new
-      line_kept same = leaves_as base (under at more) none_more m new line_left
+      line_kept same = leaves_as base (under_key at more) none_more m new line_left
           (none_under at more (λ x. none_if (is_eq (asset_cmp x held)) ((f t).balance -ℤ t.balance)
           (no_difference (f t).balance t.balance same)))

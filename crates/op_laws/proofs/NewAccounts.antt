@@ -58,7 +58,7 @@ use Rattle.op_laws.proofs.Lumens.{lumens_move, lumens_told, none_issued}
 use Rattle.op_laws.proofs.Numbers.{still_available}
 use Rattle.op_laws.proofs.Paying.{IsGiven, not_less, given, given_legal, given_left, given_back}
 use Rattle.op_laws.proofs.Reserves.{reserves_of, pays_more, paid_more}
-use Rattle.op_laws.proofs.Holdings.{IsKeyed, none_more, both_more, under, for_one, HoldsMore, none_before, put_holds}
+use Rattle.op_laws.proofs.Holdings.{IsKeyed, none_more, both_more, under_key, for_one, HoldsMore, none_before, put_holds}
 use Rattle.op_laws.proofs.Standing.{IsAfter, Leaves, is_itself_after, leaves_both, leaves_as, keyed_put}
 use Rattle.op_laws.proofs.Tests.{passed, went_on, first_passed, neither, went_after_some, went_after_charge}
 
@@ -112,7 +112,7 @@ module _ (base : ℕ) (m : EntryMap) (keyed : IsKeyed m) (e : LedgerEntry) (a : 
   new_held x = ap (part (held x)) (ap (get m) its_key ∙ absent_at m a.account_id keyed none)
 
   new_holds : HoldsMore (for_one a.account_id a.balance) m now
-  new_holds = subst (λ q. HoldsMore (under q (λ x. lumens_of x a.balance)) m now) its_key
+  new_holds = subst (λ q. HoldsMore (under_key q (λ x. lumens_of x a.balance)) m now) its_key
       (put_holds m e (λ x. lumens_of x a.balance) (λ x. ap (held_in x) is
       ∙ sym (ap (λ n. n +ℤ lumens_of x a.balance) (new_held x) ∙ none_before (lumens_of x a.balance))))
 

@@ -24,7 +24,7 @@ use Rattle.legal_rules.specs.Supply.{held, of_asset}
 use Rattle.op_form.specs.Assets.{is_native, is_issued_by, line_asset_of}
 use Rattle.op_form.specs.Done.{Holder, OfAccount, OfBalance, OfPool, FeePool, Transit, Move}
 use Rattle.op_laws.specs.Moves.{is_holder, is_issuer, gained_in, gained, holding, held_at, place_of, AreTold}
-use Rattle.op_laws.proofs.Holdings.{Increase, none_more, both_more, under, HoldsMore, none_before, holds_itself, none_if}
+use Rattle.op_laws.proofs.Holdings.{Increase, none_more, both_more, under_key, HoldsMore, none_before, holds_itself, none_if}
 use Rattle.op_laws.proofs.Issued.{plus_assoc}
 use Rattle.op_laws.proofs.IssuedMoves.{same_asset, same_issuer}
 
@@ -90,7 +90,7 @@ told_twice a b c moves more first next x holder other =
 -- n of an asset more, where its holder keeps it
 abbrev pub at_place : Option LedgerKey → (Asset → ℤ) → Increase
 at_place None amounts k x = pos 0
-at_place (Some at) amounts k x = under at amounts k x
+at_place (Some at) amounts k x = under_key at amounts k x
 
 abbrev pub more_for : Asset → Holder → ℤ → Increase
 more_for held holder n k x =
@@ -253,27 +253,27 @@ redeemed_more held from to n issuer k x =
 -- an issued asset lies in an account's line, unless that issues it
 pub account_more : (held : Asset) → is_native held ≡ false → (id : AccountId) (n : ℤ) (k : LedgerKey) (x : Asset)
     → (if is_issued_by held id then pos 0
-    else under (key.TrustLine id (line_asset_of held)) (λ y. of_asset y held n) k x)
+    else under_key (key.TrustLine id (line_asset_of held)) (λ y. of_asset y held n) k x)
     ≡ more_for held (OfAccount id) n k x
 account_more asset.Native issued id n k x = absurd (cc)
 account_more (asset.Alphanum4 code issuer) issued id n k x =
     let held = asset.Alphanum4 code issuer in
-    ap (λ t. if t then pos 0 else under (key.TrustLine id (line_asset_of held)) (λ y. of_asset y held n) k x)
+    ap (λ t. if t then pos 0 else under_key (key.TrustLine id (line_asset_of held)) (λ y. of_asset y held n) k x)
     (same_issuer held id)
 account_more (asset.Alphanum12 code issuer) issued id n k x =
     let held = asset.Alphanum12 code issuer in
-    ap (λ t. if t then pos 0 else under (key.TrustLine id (line_asset_of held)) (λ y. of_asset y held n) k x)
+    ap (λ t. if t then pos 0 else under_key (key.TrustLine id (line_asset_of held)) (λ y. of_asset y held n) k x)
     (same_issuer held id)
 
 pub line_more : (held : Asset) → is_native held ≡ false → (id : AccountId) (n : ℤ) → is_issued_by held id ≡ false
     → (k : LedgerKey) (x : Asset)
-    → under (key.TrustLine id (line_asset_of held)) (λ y. of_asset y held n) k x ≡ more_for held (OfAccount id) n k x
+    → under_key (key.TrustLine id (line_asset_of held)) (λ y. of_asset y held n) k x ≡ more_for held (OfAccount id) n k x
 line_more held issued id n other k x =
-    ap (λ t. if t then pos 0 else under (key.TrustLine id (line_asset_of held)) (λ y. of_asset y held n) k x)
+    ap (λ t. if t then pos 0 else under_key (key.TrustLine id (line_asset_of held)) (λ y. of_asset y held n) k x)
     (sym other) ∙ account_more held issued id n k x
 
 pub balance_more : (held : Asset) (id : ClaimableBalanceId) (n : ℤ) (k : LedgerKey) (x : Asset)
-    → under (key.ClaimableBalance id) (λ y. of_asset y held n) k x ≡ more_for held (OfBalance id) n k x
+    → under_key (key.ClaimableBalance id) (λ y. of_asset y held n) k x ≡ more_for held (OfBalance id) n k x
 balance_more asset.Native id n k x = refl
 balance_more (asset.Alphanum4 code issuer) id n k x = refl
 balance_more (asset.Alphanum12 code issuer) id n k x = refl

@@ -326,7 +326,7 @@ step laws base header envelopes order first fees old now fee_pool i envelope aft
     one : fees_taken base (envelopes_at envelopes (drop i order)) now.current ≡ behind_fee envelope fee left
     one = one_left base envelopes order i envelope now.current within there e
 
-    kept : Keeps header.id_pool now.current m fee
+    kept : Keeps header.id_pool (fee_source_of envelope) now.current m fee
     kept = keeps laws header.id_pool base envelope now.current so_far.settled
 
     made : SoFar base header envelopes order first (fees ++ fee ∷ []) old (with_current now m)

@@ -2,7 +2,7 @@
 use Rattle.std.proofs.Common.{◌≡◌, ◌≢◌, refl, sym, ap, subst, ◌∙◌, ℕ, ◌*◌, Bool, true, false, not, ◌||◌}
 use Rattle.std.proofs.Common.{◌∷◌, [], length, map, is_some, Option, Some, None, Ok, arith}
 use Rattle.std.proofs.lemmas.Int.{ints}
-use Rattle.std.specs.Prelude.{ℤ, pos, neg_ℤ, int_le, ◌+ℤ◌, ◌-ℤ◌, ◌≤ℤ◌, if◌then◌else◌}
+use Rattle.std.specs.Prelude.{ℤ, pos, neg_ℤ, int_le, ◌+ℤ◌, ◌≤ℤ◌, if◌then◌else◌}
 use Rattle.std.specs.FinMap.{get}
 use Rattle.std.specs.Ordering.{is_eq}
 use Rattle.ledger_types.specs.declared.ids.AccountId.{AccountId}
@@ -36,7 +36,7 @@ use Rattle.entry_sums.proofs.Lookups.{put_elsewhere}
 use Rattle.reserve_rules.specs.Reserve.{available}
 use Rattle.sponsor_rules.specs.declared.context.Ctx.{Ctx}
 use Rattle.sponsor_rules.specs.Adding.{map_after_adding, map_after_adding_balance}
-use Rattle.sponsor_rules.specs.Payers.{is_same_account, open_sponsor, payer_by, payer_of, payer_tests_at}
+use Rattle.sponsor_rules.specs.Payers.{open_sponsor, payer_by, payer_of, payer_tests_at}
 use Rattle.sponsor_rules.specs.Paying.{map_after_charging, map_after_releasing}
 use Rattle.sponsor_rules.specs.Removing.{map_after_removing, map_after_removing_entry}
 use Rattle.legal_rules.specs.Owing.{nothing_owed}
@@ -155,8 +155,8 @@ module _ (id_pool base : ℕ) (m : EntryMap) (legal : AreEntriesLegal id_pool m)
   abbrev less : Asset → ℤ
   less x = of_asset x b.asset (neg_ℤ b.amount)
 
-  erased : (now : EntryMap) → Leaves base none_more m now → Leaves base (more_for b.asset (OfBalance id) (neg_ℤ b.amount))
-      m (erase now its_key)
+  erased : (now : EntryMap) → Leaves base none_more m now
+      → Leaves base (more_for b.asset (OfBalance id) (neg_ℤ b.amount)) m (erase now its_key)
   erased now first = leaves_as base (under_key its_key less) (more_for b.asset (OfBalance id) (neg_ℤ b.amount)) m
       (erase now its_key)
       (keeps_then base (under_key its_key less) m now (erase now its_key) first
@@ -387,10 +387,11 @@ module _ (ctx : Ctx) (op : CreateClaimableBalanceOp) (m : EntryMap) (done : Done
         unsponsored = refl;
         id_free = λ id. plus_none _ (legal.offers id);
       }) entry_range payer second.1)))
-      (leaves_as ctx.base_reserve (both_more less more) all m new (leaves_both ctx.base_reserve less more m now new
-      one.left
+      (leaves_as ctx.base_reserve (both_more less more) all m new
+      (leaves_both ctx.base_reserve less more m now new one.left
       (leaves_as ctx.base_reserve (under_key (key_of entry) (λ x. held x entry)) more now new
-      (balance_left ctx now (payer_of ctx src) times entry new one.left.keyed (λ id at. absurd (cc)) still_free second.1)
+      (balance_left ctx now (payer_of ctx src) times entry new one.left.keyed (λ id at. absurd (cc)) still_free
+      second.1)
       (balance_more op.asset (creating.new_id ctx) n))) (more_turned less more))
       (move_tells op.asset (OfAccount src) to n (account_place op.asset src)
       (balance_place op.asset (creating.new_id ctx))))

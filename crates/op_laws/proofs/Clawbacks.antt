@@ -1,5 +1,5 @@
 -- CLAWBACK is lawful.
-use Rattle.std.proofs.Common.{◌≡◌, refl, sym, ap, subst, ◌∙◌, true, false, not, ◌||◌, ◌∷◌, []}
+use Rattle.std.proofs.Common.{◌≡◌, sym, ap, subst, ◌∙◌, true, false, not, ◌||◌, ◌∷◌, []}
 use Rattle.std.proofs.Common.{arith}
 use Rattle.std.proofs.lemmas.Int.{ints}
 use Rattle.std.specs.Prelude.{ℤ, pos, neg_ℤ, int_le, int_lt}
@@ -17,7 +17,7 @@ use Rattle.sponsor_rules.specs.Payers.{is_same_account}
 use Rattle.sponsor_rules.proofs.Ids.{same_account}
 use Rattle.legal_rules.specs.Supply.{of_asset}
 use Rattle.op_form.specs.Amounts.{with_less}
-use Rattle.op_form.specs.Assets.{is_native, is_issued_by, line_asset_of, line_of_asset}
+use Rattle.op_form.specs.Assets.{is_issued_by, line_asset_of, line_of_asset}
 use Rattle.op_form.specs.Done.{Done}
 use Rattle.op_form.specs.Done.{OfAccount}
 use Rattle.op_form.specs.Flags.{is_line_clawback_enabled}

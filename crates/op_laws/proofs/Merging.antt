@@ -377,7 +377,8 @@ module _ (ctx : Ctx) (op : AccountMergeOp) (m : EntryMap) (done : Done) (under :
       let same : made ≡ done = cc in
       subst (IsLawful ctx m) same (lawful_by ctx m under
       (both_more (for_one dest a.balance) (for_one src (neg_ℤ a.balance))) made (merged_legal paid h)
-      (merged_each paid h) (merged_holds paid h) (lumens_told src dest a.balance) (none_issued src dest a.balance) (terms_kept ctx) refl (merged_sound paid h))
+      (merged_each paid h) (merged_holds paid h) (lumens_told src dest a.balance) (none_issued src dest a.balance)
+      (terms_kept ctx) refl (merged_sound paid h))
 
 not_not : (b : Bool) → not b ≡ false → b ≡ true
 not_not true h = refl

@@ -2,7 +2,7 @@
 use Rattle.std.proofs.Common.{◌≡◌, ◌≢◌, refl, sym, ap, subst, ◌∙◌, ℕ, ◌+◌, ◌*◌, ◌^◌, ◌<◌, true, false, ◌||◌}
 use Rattle.std.proofs.Common.{is_some, [], ◌∷◌, Option, Some, None, Ok, inl, arith}
 use Rattle.std.proofs.lemmas.Int.{ints}
-use Rattle.std.specs.Prelude.{ℤ, pos, neg_ℤ, int_lt, ◌+ℤ◌, ◌-ℤ◌, ◌*ℤ◌, ◌≤ℤ◌, if◌then◌else◌}
+use Rattle.std.specs.Prelude.{ℤ, pos, neg_ℤ, int_lt, ◌+ℤ◌, ◌-ℤ◌, ◌*ℤ◌, ◌≤ℤ◌}
 use Rattle.std.specs.FinMap.{get}
 use Rattle.std.specs.Ordering.{is_eq, is_lt, int_cmp}
 use Rattle.ledger_types.specs.declared.ids.AccountId.{AccountId}
@@ -58,7 +58,8 @@ use Rattle.op_laws.proofs.Lumens.{lumens_move, lumens_told, none_issued}
 use Rattle.op_laws.proofs.Numbers.{still_available}
 use Rattle.op_laws.proofs.Paying.{IsGiven, not_less, given, given_legal, given_left, given_back}
 use Rattle.op_laws.proofs.Reserves.{reserves_of, pays_more, paid_more}
-use Rattle.op_laws.proofs.Holdings.{IsKeyed, none_more, both_more, under_key, for_one, HoldsMore, none_before, put_holds}
+use Rattle.op_laws.proofs.Holdings.{IsKeyed, none_more, both_more, under_key, for_one, HoldsMore, none_before}
+use Rattle.op_laws.proofs.Holdings.{put_holds}
 use Rattle.op_laws.proofs.Standing.{IsAfter, Leaves, is_itself_after, leaves_both, leaves_as, keyed_put}
 use Rattle.op_laws.proofs.Tests.{passed, went_on, first_passed, neither, went_after_some, went_after_charge}
 
@@ -372,8 +373,9 @@ module _ (ctx : Ctx) (op : CreateAccountOp) (m : EntryMap) (done : Done) (under 
         moves = lumens_move src dest amount ∷ [];
       } in
       let same : made ≡ done = cc in
+      let more = both_more (for_one dest amount) (for_one src (neg_ℤ amount)) in
       subst (IsLawful ctx m) same
-      (lawful_here ctx m under (both_more (for_one dest amount) (for_one src (neg_ℤ amount))) (answer create.Success) new (lumens_move src dest amount ∷ [])
+      (lawful_here ctx m under more (answer create.Success) new (lumens_move src dest amount ∷ [])
       (created_legal added new first.1 h (amount_fits added new left h))
       (leaves_both ctx.base_reserve (for_one dest amount) (for_one src (neg_ℤ amount)) m added new left.leaves
       (given_left ctx.base_reserve src amount added new h left.leaves.keyed))

@@ -1,8 +1,8 @@
 -- What a change leaves of a map: what each entry holds, which accounts stand, and what is available of each.
-use Rattle.std.proofs.Common.{◌≡◌, ◌⊎◌, inl, inr, refl, sym, ap, subst, ◌∙◌, ℕ, Bool, true, false}
+use Rattle.std.proofs.Common.{◌≡◌, ◌⊎◌, inl, inr, refl, sym, ap, subst, ◌∙◌, ℕ, true, false}
 use Rattle.std.proofs.Common.{Option, Some, None, arith}
 use Rattle.std.proofs.lemmas.Int.{ints}
-use Rattle.std.specs.Prelude.{ℤ, pos, ◌+ℤ◌, ◌≤ℤ◌, if◌then◌else◌}
+use Rattle.std.specs.Prelude.{ℤ, pos, ◌+ℤ◌, ◌≤ℤ◌}
 use Rattle.std.specs.FinMap.{get}
 use Rattle.ledger_types.specs.declared.ids.AccountId.{AccountId}
 use Rattle.ledger_types.specs.declared.asset.Asset.{Asset}
@@ -45,17 +45,17 @@ is_itself_after base o = record { covered = λ a is. inr (a, is, omega (arith, i
 
 module _ (base : ℕ) (old now new : Option AccountEntry) (first : IsAfter base old now) (second : IsAfter base now new)
   where
-  covered_on : (a b : AccountEntry) → available a base ≤ℤ available b base → IsCoveredBy base old a
-      → IsCoveredBy base old b
-  covered_on a b le (inl low) = inl (omega (arith, ints))
-  covered_on a b le (inr was) = let also = was.2 in inr (was.0, was.1, omega (arith, ints))
+    covered_on : (a b : AccountEntry) → available a base ≤ℤ available b base → IsCoveredBy base old a
+        → IsCoveredBy base old b
+    covered_on a b le (inl low) = inl (omega (arith, ints))
+    covered_on a b le (inr was) = let also = was.2 in inr (was.0, was.1, omega (arith, ints))
 
-  covered_by : (b : AccountEntry) → IsCoveredBy base now b → IsCoveredBy base old b
-  covered_by b (inl low) = inl low
-  covered_by b (inr was) = covered_on was.0 b was.2 (first.covered was.0 was.1)
+    covered_by : (b : AccountEntry) → IsCoveredBy base now b → IsCoveredBy base old b
+    covered_by b (inl low) = inl low
+    covered_by b (inr was) = covered_on was.0 b was.2 (first.covered was.0 was.1)
 
-  after_both : IsAfter base old new
-  after_both = record { covered = λ b is. covered_by b (second.covered b is) }
+    after_both : IsAfter base old new
+    after_both = record { covered = λ b is. covered_by b (second.covered b is) }
 
 -- ---- all accounts
 
@@ -109,7 +109,8 @@ keeps_then base d old now new first second = leaves_as base (both_more none_more
 pub accounts_kept : (base : ℕ) (more : Increase) (old new : EntryMap) → IsKeyed new
     → ((id : AccountId) → account_at new id ≡ account_at old id) → HoldsMore more old new → Leaves base more old new
 accounts_kept base more old new keyed same holds = record {
-  each = λ id. subst (λ o. IsAfter base (account_at old id) o) (sym (same id)) (is_itself_after base (account_at old id));
+  each = λ id. subst (λ o. IsAfter base (account_at old id) o) (sym (same id))
+      (is_itself_after base (account_at old id));
   holds = holds;
   stand = λ id stands. (stands.0, same id ∙ stands.1);
   keyed = keyed;

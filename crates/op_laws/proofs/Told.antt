@@ -4,7 +4,6 @@ use Rattle.std.proofs.Common.{Some, None, arith}
 use Rattle.std.proofs.lemmas.Int.{ints}
 use Rattle.std.proofs.lemmas.Slice.Eq.{bytes_eq-Decides}
 use Rattle.std.specs.Prelude.{ℤ, pos, neg_ℤ, ◌+ℤ◌, ◌-ℤ◌, if◌then◌else◌}
-use Rattle.std.specs.FinMap.{get}
 use Rattle.std.specs.Ordering.{is_eq}
 use Rattle.ledger_types.specs.declared.ids.AccountId.{AccountId}
 use Rattle.ledger_types.specs.declared.ids.ClaimableBalanceId.{ClaimableBalanceId}
@@ -16,7 +15,6 @@ use Rattle.ledger_types.specs.declared.key.LedgerKey.TheVariants as key
 use Rattle.ledger_types.specs.KeyOrder.{asset_cmp}
 use Rattle.entry_map.specs.EntryMap.{EntryMap}
 use Rattle.entry_map.proofs.KeyMaps.{same_keys, same_itself}
-use Rattle.entry_sums.specs.Sums.{part}
 use Rattle.sponsor_rules.specs.Payers.{is_same_account}
 use Rattle.sponsor_rules.proofs.Ids.{same_account, is_itself}
 use Rattle.legal_rules.specs.EntryKeys.{is_key}
@@ -24,7 +22,8 @@ use Rattle.legal_rules.specs.Supply.{held, of_asset}
 use Rattle.op_form.specs.Assets.{is_native, is_issued_by, line_asset_of}
 use Rattle.op_form.specs.Done.{Holder, OfAccount, OfBalance, OfPool, FeePool, Transit, Move}
 use Rattle.op_laws.specs.Moves.{is_holder, is_issuer, gained_in, gained, holding, held_at, place_of, AreTold}
-use Rattle.op_laws.proofs.Holdings.{Increase, none_more, both_more, under_key, HoldsMore, none_before, holds_itself, none_if}
+use Rattle.op_laws.proofs.Holdings.{Increase, none_more, both_more, under_key, HoldsMore, none_before}
+use Rattle.op_laws.proofs.Holdings.{holds_itself, none_if}
 use Rattle.op_laws.proofs.Issued.{plus_assoc}
 use Rattle.op_laws.proofs.IssuedMoves.{same_asset, same_issuer}
 
@@ -265,9 +264,11 @@ account_more (asset.Alphanum12 code issuer) issued id n k x =
     ap (λ t. if t then pos 0 else under_key (key.TrustLine id (line_asset_of held)) (λ y. of_asset y held n) k x)
     (same_issuer held id)
 
+-- an account's line in an asset that it doesn't issue
 pub line_more : (held : Asset) → is_native held ≡ false → (id : AccountId) (n : ℤ) → is_issued_by held id ≡ false
     → (k : LedgerKey) (x : Asset)
-    → under_key (key.TrustLine id (line_asset_of held)) (λ y. of_asset y held n) k x ≡ more_for held (OfAccount id) n k x
+    → under_key (key.TrustLine id (line_asset_of held)) (λ y. of_asset y held n) k x
+    ≡ more_for held (OfAccount id) n k x
 line_more held issued id n other k x =
     ap (λ t. if t then pos 0 else under_key (key.TrustLine id (line_asset_of held)) (λ y. of_asset y held n) k x)
     (sym other) ∙ account_more held issued id n k x

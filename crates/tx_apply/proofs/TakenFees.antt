@@ -1,7 +1,6 @@
 -- Fees that are taken: what they leave, and which are left.
-use Rattle.std.proofs.Common.{◌≡◌, ◌≢◌, ℕ, suc, ◌+◌, ◌<◌, ◌≤◌, ℤ, pos, negsuc, neg_ℤ, ◌+ℤ◌, ◌-ℤ◌, ◌≤ℤ◌, List, [], ◌∷◌, ◌++◌}
-use Rattle.std.proofs.Common.{Bool, true, false, ◌&&◌, if◌then◌else◌}
-use Rattle.std.proofs.Common.{length}
+use Rattle.std.proofs.Common.{◌≡◌, ◌≢◌, ℕ, suc, ◌+◌, ◌<◌, ◌≤◌, ℤ, pos, negsuc, neg_ℤ, ◌+ℤ◌, ◌-ℤ◌, ◌≤ℤ◌, Bool, true}
+use Rattle.std.proofs.Common.{false, ◌&&◌, if◌then◌else◌, List, [], ◌∷◌, ◌++◌, length}
 use Rattle.std.proofs.Common.{get_or, drop, min, unsigned_abs, Option, Some, None, refl, sym, ap, subst, ◌∙◌}
 use Rattle.std.proofs.Common.{append_assoc, arith}
 use Rattle.std.proofs.lemmas.Int.{ints}
@@ -33,7 +32,8 @@ use Rattle.op_form.specs.Done.{Holder, OfAccount, FeePool, Move}
 use Rattle.op_laws.specs.Moves.{is_holder, gained, holding, is_issuer, lumens_in, place_of, AreTold}
 use Rattle.op_laws.specs.Steps.{TransactionLaws}
 use Rattle.op_laws.specs.Underway.{IsSettled}
-use Rattle.op_laws.proofs.Holdings.{none_more, for_one, HoldsMore, holds_itself, holds_as, no_lumens_more, account_holds}
+use Rattle.op_laws.proofs.Holdings.{none_more, for_one, HoldsMore, holds_itself, holds_as, no_lumens_more}
+use Rattle.op_laws.proofs.Holdings.{account_holds}
 use Rattle.op_laws.proofs.Issued.{plus_assoc}
 use Rattle.op_laws.proofs.Told.{more_at, told_at, told_itself, gained_twice, account_place, end_tells}
 use Rattle.tx_apply.specs.Fees.{fee_of, map_after_fee, fee_move, FeesTaken, behind_fee, fees_taken, sum_of}
@@ -132,8 +132,8 @@ keeps_by laws id_pool base envelope m (Some a) settled e =
       lumens = both.1 asset.Native;
       others = λ x apart. both.1 x ∙ ap (λ (n : ℤ). total (held x) m +ℤ n) (no_lumens x (neg_ℤ (pos fee)) apart)
           ∙ nothing_more (total (held x) m);
-      holds = account_holds m settled.legal.keyed (fee_source_of envelope) (paid (neg_ℤ (pos fee))) a e (neg_ℤ (pos fee))
-          refl refl;
+      holds = account_holds m settled.legal.keyed (fee_source_of envelope) (paid (neg_ℤ (pos fee))) a e
+          (neg_ℤ (pos fee)) refl refl;
     }
 
 pub keeps : TransactionLaws → (id_pool base : ℕ) (envelope : TransactionEnvelope) (m : EntryMap) → IsSettled id_pool m

@@ -7,6 +7,8 @@ use Rattle.std.specs.Option.{ok_or}
 use Rattle.ledger_types.specs.declared.ids.AccountId.{AccountId}
 use Rattle.ledger_types.specs.declared.asset.Asset.{Asset}
 use Rattle.ledger_types.specs.declared.asset.Asset.TheVariants as asset
+use Rattle.ledger_types.specs.declared.key.LedgerKey.{LedgerKey}
+use Rattle.ledger_types.specs.declared.key.LedgerKey.TheVariants as key
 use Rattle.ledger_types.specs.declared.trust_line.TrustLineEntry.{TrustLineEntry}
 use Rattle.entry_map.specs.EntryMap.{EntryMap}
 use Rattle.entry_slots.specs.LineExtensions.{line_liabilities}
@@ -25,6 +27,7 @@ use Rattle.op_form.specs.Amounts.{with_less, with_more, line_debit_tests, line_c
 use Rattle.op_form.specs.Amounts.{map_after_issued_debit, map_after_line_debit_of, map_after_credit}
 use Rattle.op_form.specs.Amounts.{map_after_issued_credit, map_after_line_credit_of}
 use Rattle.op_form.specs.Assets.{is_native, is_issued_by, line_asset_of}
+use Rattle.op_form.specs.Done.{OfAccount}
 use Rattle.op_form.specs.Flags.{is_authorized}
 use Rattle.op_form.specs.Lumens.{map_after_lumens_credit, map_after_lumens_debit}
 use Rattle.op_form.proofs.Balances.{line_more_in_range}
@@ -32,20 +35,21 @@ use Rattle.op_laws.specs.Underway.{AreEntriesLegal}
 use Rattle.op_laws.proofs.Lawful.{ShiftsLegal}
 use Rattle.op_laws.proofs.LineChanges.{line_legal, line_shifted, line_left}
 use Rattle.op_laws.proofs.Paying.{taken, given, taken_legal, taken_left, given_legal, given_left}
-use Rattle.op_laws.proofs.Standing.{IsKeyed, Leaves, none_more, for_one, leaves_itself}
+use Rattle.op_laws.proofs.Holdings.{IsKeyed, Increase, none_more, under_key}
+use Rattle.op_laws.proofs.Standing.{Leaves, leaves_itself, leaves_as}
+use Rattle.op_laws.proofs.Told.{more_for, account_more}
 use Rattle.op_laws.proofs.Tests.{passed, first_passed}
 
 -- ---- what a change moves
 
--- the supply of each asset is shifted so, and each account has so much more
-pub record IsMoved (id_pool base : ℕ) (shift : Asset → ℤ) (more : AccountId → ℤ) (old new : EntryMap) : Type 0 where
+-- the supply of each asset is shifted so, and each entry holds so much more
+pub record IsMoved (id_pool base : ℕ) (shift : Asset → ℤ) (more : Increase) (old new : EntryMap) : Type 0 where
   pub shifts : ShiftsLegal id_pool shift old new
   pub left : Leaves base more old new
 
--- lumens are an account's own
-abbrev pub lumens_more : Asset → AccountId → ℤ → AccountId → ℤ
-lumens_more asset.Native id n = for_one id n
-lumens_more issued id n = none_more
+-- n of an asset more in an account's line
+abbrev pub in_line : AccountId → Asset → ℤ → Increase
+in_line id held n = under_key (key.TrustLine id (line_asset_of held)) (λ x. of_asset x held n)
 
 -- n of an asset, unless an account issues it
 abbrev pub unless_issuer : Asset → Asset → AccountId → ℤ → ℤ
@@ -74,6 +78,15 @@ shifts_nothing id_pool m v sum legal = subst (λ n. IsLegalOwing v id_pool nothi
 still : (id_pool base : ℕ) (m : EntryMap) → IsKeyed m → IsMoved id_pool base (λ x. pos 0) none_more m m
 still id_pool base m keyed =
     record { shifts = shifts_nothing id_pool m; left = leaves_itself base m keyed }
+
+-- what entries hold more, in other words
+moved_as : (id_pool base : ℕ) (shift : Asset → ℤ) (d e : Increase) (old new : EntryMap)
+    → ((k : LedgerKey) (x : Asset) → d k x ≡ e k x) → IsMoved id_pool base shift d old new
+    → IsMoved id_pool base shift e old new
+moved_as id_pool base shift d e old new same moved = record {
+  shifts = moved.shifts;
+  left = leaves_as base d e old new moved.left same;
+}
 
 not_less : (x y : ℤ) → int_lt x y ≡ false → y ≤ℤ x
 not_less x y h = grind (arith, ints)
@@ -113,7 +126,8 @@ module _ (id_pool base : ℕ) (m : EntryMap) (legal : AreEntriesLegal id_pool m)
     (issued : is_native held ≡ false) (t : TrustLineEntry) (stands : line_at m id (line_asset_of held) ≡ Some t) (n : ℤ)
     (low : pos 0 ≤ℤ n) where
   -- a line gives what is available
-  pub line_given : n ≤ℤ line_available t → IsMoved id_pool base (λ x. of_asset x held (neg_ℤ n)) none_more m
+  pub line_given : n ≤ℤ line_available t
+      → IsMoved id_pool base (λ x. of_asset x held (neg_ℤ n)) (in_line id held (neg_ℤ n)) m
       (with_line m id (line_asset_of held) (with_less n))
   line_given enough =
       let its = line_legal (view m) id_pool nothing_owed _ m id (line_asset_of held) t legal stands in
@@ -132,11 +146,14 @@ module _ (id_pool base : ℕ) (m : EntryMap) (legal : AreEntriesLegal id_pool m)
               flags = its.range.flags;
               uses = its.range.uses;
             }) its.bound);
-        left = line_left id_pool m id held issued (with_less n) t stands base legal.keyed;
+        left = leaves_as base (in_line id held ((t.balance -ℤ n) -ℤ t.balance)) (in_line id held (neg_ℤ n)) m new
+            (line_left id_pool m id held issued (with_less n) t stands
+            (record { id = refl; asset = refl; liabilities = refl; uses = refl }) base legal.keyed)
+            (λ k x. ap (λ j. in_line id held j k x) (less_is t.balance n));
       }
 
   -- a line takes what it has room for
-  pub line_taken : n ≤ℤ line_room t → IsMoved id_pool base (λ x. of_asset x held n) none_more m
+  pub line_taken : n ≤ℤ line_room t → IsMoved id_pool base (λ x. of_asset x held n) (in_line id held n) m
       (with_line m id (line_asset_of held) (with_more n))
   line_taken fits =
       let its = line_legal (view m) id_pool nothing_owed _ m id (line_asset_of held) t legal stands in
@@ -154,7 +171,10 @@ module _ (id_pool base : ℕ) (m : EntryMap) (legal : AreEntriesLegal id_pool m)
               flags = its.range.flags;
               uses = its.range.uses;
             }) its.bound);
-        left = line_left id_pool m id held issued (with_more n) t stands base legal.keyed;
+        left = leaves_as base (in_line id held ((t.balance +ℤ n) -ℤ t.balance)) (in_line id held n) m new
+            (line_left id_pool m id held issued (with_more n) t stands
+            (record { id = refl; asset = refl; liabilities = refl; uses = refl }) base legal.keyed)
+            (λ k x. ap (λ j. in_line id held j k x) (more_is t.balance n));
       }
 
 -- ---- issued assets
@@ -163,58 +183,66 @@ module _ (id_pool base : ℕ) (m : EntryMap) (legal : AreEntriesLegal id_pool m)
     (issued : is_native held ≡ false) (n : ℤ) (low : pos 0 ≤ℤ n) (new : EntryMap) where
   given_line : (o : Option TrustLineEntry) → line_at m id (line_asset_of held) ≡ o
       → map_after_line_debit_of id (line_asset_of held) n m o ≡ Ok new
-      → IsMoved id_pool base (λ x. of_asset x held (neg_ℤ n)) none_more m new
+      → IsMoved id_pool base (λ x. of_asset x held (neg_ℤ n)) (in_line id held (neg_ℤ n)) m new
   given_line None stands is = absurd (cc)
   given_line (Some t) stands is =
       let short : Tests DebitFault = (int_lt (line_available t) n, debit.Short) ∷ [] in
       let tests = passed (line_debit_tests n t) (with_line m id (line_asset_of held) (with_less n)) new is in
       let first = first_passed (not (is_authorized t)) debit.NotAuthorized short tests.0 in
       let second = first_passed (int_lt (line_available t) n) debit.Short [] first.1 in
-      subst (IsMoved id_pool base (λ x. of_asset x held (neg_ℤ n)) none_more m) tests.1
+      subst (IsMoved id_pool base (λ x. of_asset x held (neg_ℤ n)) (in_line id held (neg_ℤ n)) m) tests.1
       (line_given id_pool base m legal id held issued t stands n low (not_less (line_available t) n second.0))
 
   given_by : (b : Bool) → is_issued_by held id ≡ b
       → (if b then Ok m else map_after_line_debit_of id (line_asset_of held) n m (line_at m id (line_asset_of held)))
-      ≡ Ok new → IsMoved id_pool base (λ x. if b then pos 0 else of_asset x held (neg_ℤ n)) none_more m new
+      ≡ Ok new → IsMoved id_pool base (λ x. if b then pos 0 else of_asset x held (neg_ℤ n))
+      (λ k x. if b then pos 0 else in_line id held (neg_ℤ n) k x) m new
   given_by true issuer is =
       let same : m ≡ new = cc in
       subst (IsMoved id_pool base (λ x. pos 0) none_more m) same (still id_pool base m legal.keyed)
   given_by false other is = given_line (line_at m id (line_asset_of held)) refl is
 
   issued_given : map_after_issued_debit id held n m ≡ Ok new
-      → IsMoved id_pool base (λ x. unless_issuer x held id (neg_ℤ n)) none_more m new
-  issued_given is = given_by (is_issued_by held id) refl is
+      → IsMoved id_pool base (λ x. unless_issuer x held id (neg_ℤ n)) (more_for held (OfAccount id) (neg_ℤ n)) m new
+  issued_given is = moved_as id_pool base (λ x. unless_issuer x held id (neg_ℤ n))
+      (λ k x. if is_issued_by held id then pos 0 else in_line id held (neg_ℤ n) k x)
+      (more_for held (OfAccount id) (neg_ℤ n)) m new (account_more held issued id (neg_ℤ n))
+      (given_by (is_issued_by held id) refl is)
 
   taken_line : (o : Option TrustLineEntry) → line_at m id (line_asset_of held) ≡ o
       → map_after_line_credit_of id (line_asset_of held) n m o ≡ Ok new
-      → IsMoved id_pool base (λ x. of_asset x held n) none_more m new
+      → IsMoved id_pool base (λ x. of_asset x held n) (in_line id held n) m new
   taken_line None stands is = absurd (cc)
   taken_line (Some t) stands is =
       let full : Tests CreditFault = (int_lt (line_room t) n, credit.Full) ∷ [] in
       let tests = passed (line_credit_tests n t) (with_line m id (line_asset_of held) (with_more n)) new is in
       let first = first_passed (not (is_authorized t)) credit.NotAuthorized full tests.0 in
       let second = first_passed (int_lt (line_room t) n) credit.Full [] first.1 in
-      subst (IsMoved id_pool base (λ x. of_asset x held n) none_more m) tests.1
+      subst (IsMoved id_pool base (λ x. of_asset x held n) (in_line id held n) m) tests.1
       (line_taken id_pool base m legal id held issued t stands n low (not_less (line_room t) n second.0))
 
   taken_by : (b : Bool) → is_issued_by held id ≡ b
       → (if b then Ok m else map_after_line_credit_of id (line_asset_of held) n m (line_at m id (line_asset_of held)))
-      ≡ Ok new → IsMoved id_pool base (λ x. if b then pos 0 else of_asset x held n) none_more m new
+      ≡ Ok new → IsMoved id_pool base (λ x. if b then pos 0 else of_asset x held n)
+      (λ k x. if b then pos 0 else in_line id held n k x) m new
   taken_by true issuer is =
       let same : m ≡ new = cc in
       subst (IsMoved id_pool base (λ x. pos 0) none_more m) same (still id_pool base m legal.keyed)
   taken_by false other is = taken_line (line_at m id (line_asset_of held)) refl is
 
   issued_taken : map_after_issued_credit id held n m ≡ Ok new
-      → IsMoved id_pool base (λ x. unless_issuer x held id n) none_more m new
-  issued_taken is = taken_by (is_issued_by held id) refl is
+      → IsMoved id_pool base (λ x. unless_issuer x held id n) (more_for held (OfAccount id) n) m new
+  issued_taken is = moved_as id_pool base (λ x. unless_issuer x held id n)
+      (λ k x. if is_issued_by held id then pos 0 else in_line id held n k x) (more_for held (OfAccount id) n) m new
+      (account_more held issued id n) (taken_by (is_issued_by held id) refl is)
 
 -- ---- any asset
 
 module _ (ctx : Ctx) (id_pool : ℕ) (m : EntryMap) (legal : AreEntriesLegal id_pool m) (id : AccountId) (n : ℤ)
     (low : pos 0 ≤ℤ n) (new : EntryMap) where
   pub amount_given : (held : Asset) → map_after_debit ctx id held n m ≡ Ok new
-      → IsMoved id_pool ctx.base_reserve (λ x. unless_issuer x held id (neg_ℤ n)) (lumens_more held id (neg_ℤ n)) m new
+      → IsMoved id_pool ctx.base_reserve (λ x. unless_issuer x held id (neg_ℤ n))
+      (more_for held (OfAccount id) (neg_ℤ n)) m new
   amount_given asset.Native is =
       let h = given ctx id n m new (ok_of (map_after_lumens_debit ctx id n m) debit.Short new is) in
       record {
@@ -227,7 +255,7 @@ module _ (ctx : Ctx) (id_pool : ℕ) (m : EntryMap) (legal : AreEntriesLegal id_
       issued_given id_pool ctx.base_reserve m legal id (asset.Alphanum12 code issuer) refl n low new is
 
   pub amount_taken : (held : Asset) → map_after_credit id held n m ≡ Ok new
-      → IsMoved id_pool ctx.base_reserve (λ x. unless_issuer x held id n) (lumens_more held id n) m new
+      → IsMoved id_pool ctx.base_reserve (λ x. unless_issuer x held id n) (more_for held (OfAccount id) n) m new
   amount_taken asset.Native is =
       let h = taken id n m new (ok_of (map_after_lumens_credit id n m) credit.Full new is) in
       record {

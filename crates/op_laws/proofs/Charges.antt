@@ -2,9 +2,10 @@
 use Rattle.std.proofs.Common.{◌≡◌, ◌≢◌, refl, sym, ap, subst, ◌∙◌, ℕ, ◌*◌, ◌≤◌, true, false}
 use Rattle.std.proofs.Common.{◌||◌, [], ◌∷◌, Option, Some, None, Ok, arith}
 use Rattle.std.proofs.lemmas.Int.{ints}
-use Rattle.std.specs.Prelude.{ℤ, pos, ◌≤ℤ◌}
+use Rattle.std.specs.Prelude.{ℤ, pos, ◌+ℤ◌, ◌≤ℤ◌}
 use Rattle.std.specs.FinMap.{get}
 use Rattle.ledger_types.specs.declared.ids.AccountId.{AccountId}
+use Rattle.ledger_types.specs.declared.asset.Asset.{Asset}
 use Rattle.ledger_types.specs.declared.account.AccountEntry.{AccountEntry}
 use Rattle.ledger_types.specs.declared.entry.LedgerEntry.{LedgerEntry}
 use Rattle.ledger_types.specs.declared.key.LedgerKey.{LedgerKey}
@@ -14,6 +15,7 @@ use Rattle.entry_map.specs.EntryMap.{EntryMap, put, erase}
 use Rattle.entry_slots.specs.Accounts.{account_of, account_at, with_account}
 use Rattle.entry_slots.specs.EntrySponsor.{with_sponsor}
 use Rattle.entry_slots.specs.Tests.{Tests, first_fault}
+use Rattle.entry_sums.specs.Sums.{part}
 use Rattle.entry_sums.proofs.Lookups.{put_elsewhere, erase_elsewhere, erase_each}
 use Rattle.reserve_rules.specs.Reserve.{available}
 use Rattle.sponsor_rules.specs.declared.context.Ctx.{Ctx}
@@ -32,12 +34,15 @@ use Rattle.sponsor_rules.specs.Payers.{subentry_tests_at, payer_by, open_sponsor
 use Rattle.sponsor_rules.proofs.Ids.{same_account, apart_accounts}
 use Rattle.sponsor_rules.proofs.Keeping.{with_count_keeps, means_kept}
 use Rattle.sponsor_rules.specs.Keeping.{KeepsMeans}
+use Rattle.legal_rules.specs.Supply.{held}
 use Rattle.legal_rules.proofs.Places.{account_after, account_elsewhere}
 use Rattle.op_laws.proofs.Reserves.{pays_more, pays_less, pays_from, other_payer_charged, available_still}
 use Rattle.op_laws.proofs.Reserves.{enough_of}
 use Rattle.op_laws.proofs.Reserves.{next_still, next_covers, subentry_charged, no_subentry_charged}
-use Rattle.op_laws.proofs.Standing.{IsKeyed, IsNext, Leaves, none_more, leaves_itself, keeps_both, accounts_kept}
-use Rattle.op_laws.proofs.Standing.{account_kept, no_account_changed, put_accounts, keyed_put}
+use Rattle.op_laws.proofs.Holdings.{IsKeyed, none_more, under_key, nothing_more, still_holds, none_under, put_same}
+use Rattle.op_laws.proofs.Holdings.{erase_holds}
+use Rattle.op_laws.proofs.Standing.{IsNext, Leaves, leaves_itself, leaves_as, keeps_both, accounts_kept, account_kept}
+use Rattle.op_laws.proofs.Standing.{no_account_changed, put_accounts, keyed_put}
 use Rattle.op_laws.proofs.Tests.{passed, first_passed}
 
 -- ---- tests
@@ -173,17 +178,28 @@ pub erase_beside : (m : EntryMap) (k : LedgerKey) (id : AccountId) → key.Accou
 unfolding account_at
 erase_beside m k id apart = ap account_of (erase_elsewhere m k (key.Account id) apart)
 
+-- what an entry held is gone with it
+pub erased_left : (base : ℕ) (m : EntryMap) (k : LedgerKey) (amounts : Asset → ℤ) → IsKeyed m
+    → ((id : AccountId) → key.Account id ≢ k) → ((x : Asset) → (part (held x) (get m k) +ℤ amounts x) ≡ pos 0)
+    → Leaves base (under_key k amounts) m (erase m k)
+erased_left base m k amounts keyed apart none = accounts_kept base (under_key k amounts) m (erase m k)
+    (erase_each (λ q e. key_of e ≡ q) m k keyed) (λ id. erase_beside m k id (apart id))
+    (erase_holds m k amounts none)
+
+-- an entry that held nothing
 pub erased_kept : (base : ℕ) (m : EntryMap) (k : LedgerKey) → IsKeyed m → ((id : AccountId) → key.Account id ≢ k)
-    → Leaves base none_more m (erase m k)
-erased_kept base m k keyed apart = accounts_kept base m (erase m k) (erase_each (λ q e. key_of e ≡ q) m k keyed)
-    (λ id. erase_beside m k id (apart id))
+    → ((x : Asset) → part (held x) (get m k) ≡ pos 0) → Leaves base none_more m (erase m k)
+erased_kept base m k keyed apart none = leaves_as base (under_key k (λ x. pos 0)) none_more m (erase m k)
+    (erased_left base m k (λ x. pos 0) keyed apart (λ x. sym (nothing_more (part (held x) (get m k))) ∙ none x))
+    (none_under k (λ x. pos 0) (λ x. refl))
 
 recorded_kept : (base : ℕ) (m : EntryMap) (k : LedgerKey) (t : Option AccountId) → IsKeyed m
     → (o : Option LedgerEntry) → get m k ≡ o → Leaves base none_more m (map_with_recorded m t o)
 recorded_kept base m k t keyed None there = leaves_itself base m keyed
-recorded_kept base m k t keyed (Some e) there = accounts_kept base m (put m (with_sponsor t e))
+recorded_kept base m k t keyed (Some e) there = accounts_kept base none_more m (put m (with_sponsor t e))
     (keyed_put m (with_sponsor t e) keyed)
     (put_accounts m (with_sponsor t e) (sym (ap account_of (ap (get m) (keyed k e there) ∙ there))))
+    (put_same m (with_sponsor t e) (λ x. sym (ap (part (held x)) (ap (get m) (keyed k e there) ∙ there))))
 
 pub sponsor_kept : (base : ℕ) (m : EntryMap) (k : LedgerKey) (t : Option AccountId) → IsKeyed m
     → Leaves base none_more m (map_with_sponsor k t m)
@@ -311,11 +327,16 @@ sponsored_key : (t : Option AccountId) (e : LedgerEntry) → key_of (sponsored_e
 sponsored_key None e = refl
 sponsored_key (Some x) e = refl
 
--- a line, an offer or data is added
+sponsored_held : (t : Option AccountId) (e : LedgerEntry) (x : Asset) → held x (sponsored_entry t e) ≡ held x e
+sponsored_held None e x = refl
+sponsored_held (Some sponsor) e x = refl
+
+-- a line, an offer or data is added that holds nothing, where nothing was held
 pub subentry_kept : (ctx : Ctx) (m : EntryMap) (owner : AccountId) (k : ℕ) (e : LedgerEntry) (new : EntryMap)
-    → IsKeyed m → ((id : AccountId) → key.Account id ≢ key_of e) → map_after_adding_subentry ctx e owner k m ≡ Ok new
+    → IsKeyed m → ((id : AccountId) → key.Account id ≢ key_of e) → ((x : Asset) → held x e ≡ pos 0)
+    → ((x : Asset) → part (held x) (get m (key_of e)) ≡ pos 0) → map_after_adding_subentry ctx e owner k m ≡ Ok new
     → Leaves ctx.base_reserve none_more m new
-subentry_kept ctx m owner k e new keyed apart done =
+subentry_kept ctx m owner k e new keyed apart none free done =
     let t = open_sponsor ctx owner in
     let now = map_after_counting owner k t m in
     let added = sponsored_entry t e in
@@ -323,8 +344,11 @@ subentry_kept ctx m owner k e new keyed apart done =
     let first = charged_kept ctx m owner k keyed test.0 (with_subentry k t) (λ a stands next. next) in
     subst (Leaves ctx.base_reserve none_more m) test.1
     (keeps_both ctx.base_reserve m now (put now added) first
-    (accounts_kept ctx.base_reserve now (put now added) (keyed_put now added first.keyed)
-    (put_beside now added (λ id same. apart id (same ∙ sponsored_key t e)))))
+    (accounts_kept ctx.base_reserve none_more now (put now added) (keyed_put now added first.keyed)
+    (put_beside now added (λ id same. apart id (same ∙ sponsored_key t e)))
+    (put_same now added (λ x. sponsored_held t e x ∙ none x
+    ∙ sym (ap (λ q. part (held x) (get now q)) (sponsored_key t e) ∙ still_holds m now first.holds (key_of e) x
+    ∙ free x)))))
 
 -- ---- what is removed
 

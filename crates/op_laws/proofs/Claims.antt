@@ -2,7 +2,7 @@
 use Rattle.std.proofs.Common.{◌≡◌, ◌≢◌, refl, sym, ap, subst, ◌∙◌, ℕ, ◌*◌, Bool, true, false, not, ◌||◌}
 use Rattle.std.proofs.Common.{◌∷◌, [], length, map, is_some, Option, Some, None, Ok, arith}
 use Rattle.std.proofs.lemmas.Int.{ints}
-use Rattle.std.specs.Prelude.{ℤ, pos, neg_ℤ, int_le, ◌+ℤ◌, ◌-ℤ◌, ◌≤ℤ◌, if◌then◌else◌}
+use Rattle.std.specs.Prelude.{ℤ, pos, neg_ℤ, int_le, ◌+ℤ◌, ◌≤ℤ◌, if◌then◌else◌}
 use Rattle.std.specs.FinMap.{get}
 use Rattle.std.specs.Ordering.{is_eq}
 use Rattle.ledger_types.specs.declared.ids.AccountId.{AccountId}
@@ -31,16 +31,17 @@ use Rattle.entry_slots.specs.Balances.{balance_at}
 use Rattle.entry_slots.specs.EntrySponsor.{sponsor_of, with_sponsor}
 use Rattle.entry_slots.specs.Lines.{line_at, with_line}
 use Rattle.entry_slots.specs.Tests.{Tests}
+use Rattle.entry_sums.specs.Sums.{part}
 use Rattle.entry_sums.proofs.Lookups.{put_elsewhere}
 use Rattle.reserve_rules.specs.Reserve.{available}
 use Rattle.sponsor_rules.specs.declared.context.Ctx.{Ctx}
 use Rattle.sponsor_rules.specs.Adding.{map_after_adding, map_after_adding_balance}
-use Rattle.sponsor_rules.specs.Payers.{is_same_account, open_sponsor, payer_by, payer_of, payer_tests_at}
+use Rattle.sponsor_rules.specs.Payers.{open_sponsor, payer_by, payer_of, payer_tests_at}
 use Rattle.sponsor_rules.specs.Paying.{map_after_charging, map_after_releasing}
 use Rattle.sponsor_rules.specs.Removing.{map_after_removing, map_after_removing_entry}
 use Rattle.legal_rules.specs.Owing.{nothing_owed}
 use Rattle.legal_rules.specs.Ranges.{IsBodyInRange, IsBalanceInRange}
-use Rattle.legal_rules.specs.Supply.{of_asset}
+use Rattle.legal_rules.specs.Supply.{of_asset, held}
 use Rattle.legal_rules.proofs.Given.{sponsors_ready}
 use Rattle.legal_rules.proofs.Kept.{balance_added_so, balance_removed_so}
 use Rattle.legal_rules.proofs.Liable.{line_entry, with_line_body, with_line_is}
@@ -58,17 +59,21 @@ use Rattle.op_claim.specs.ClawbackClaimableBalance as clawing
 use Rattle.op_claim.specs.CreateClaimableBalance as creating
 use Rattle.op_claim.specs.Predicates.{fixed_claimant}
 use Rattle.op_laws.specs.Laws.{IsLawful, AreLawful, AreLawfulWhere, AreClaimantsFew}
-use Rattle.op_laws.specs.Moves.{gained, issued, is_issuer}
+use Rattle.op_laws.specs.Moves.{issued, is_issuer}
 use Rattle.op_laws.specs.Underway.{AreEntriesLegal, IsUnderway}
-use Rattle.op_laws.proofs.Amounts.{IsMoved, lumens_more, unless_issuer, shifts_as, shifts_both, amount_taken}
+use Rattle.op_laws.proofs.Amounts.{IsMoved, unless_issuer, shifts_as, shifts_both, amount_taken}
 use Rattle.op_laws.proofs.Amounts.{amount_given}
 use Rattle.op_laws.proofs.Amounts.{ok_of}
-use Rattle.op_laws.proofs.Charges.{charging_kept, releasing_kept, erased_kept, payer_had, put_beside}
+use Rattle.op_laws.proofs.Charges.{charging_kept, releasing_kept, erased_left, payer_had, put_beside}
 use Rattle.op_laws.proofs.IssuedMoves.{same_issuer, issued_so, issued_by_move}
 use Rattle.op_laws.proofs.Lawful.{lawful_with, shifted_after}
 use Rattle.op_laws.proofs.NewBalances.{IsBalanceEntry, balance_entry, claimants_in_range, new_flags, no_balance}
 use Rattle.op_laws.proofs.Paying.{given}
-use Rattle.op_laws.proofs.Standing.{IsKeyed, Leaves, none_more, keeps_both, leaves_both, accounts_kept, keyed_put}
+use Rattle.op_laws.proofs.Holdings.{IsKeyed, none_more, both_more, under_key, none_before, still_holds, put_holds}
+use Rattle.op_laws.proofs.Holdings.{cancelled}
+use Rattle.op_laws.proofs.Standing.{Leaves, leaves_both, leaves_as, keeps_then, accounts_kept, keyed_put}
+use Rattle.op_laws.proofs.Told.{more_for, account_place, balance_place, moved, move_tells, more_turned, redeemed_more}
+use Rattle.op_laws.proofs.Told.{balance_more}
 use Rattle.op_laws.proofs.Tests.{went_on, first_passed, neither, passed, went_after_some, went_after_step}
 use Rattle.op_laws.proofs.Tests.{went_after_charge}
 use Rattle.op_laws.proofs.TrustLines.{not_true}
@@ -128,36 +133,6 @@ aside_issued x held from id n =
     ∙ (λ i. of_asset x held (issued_so (same_issuer held from i) (no_issuer held id i) n))
     ∙ issued_by_move x held (OfAccount from) (OfBalance id) n
 
-taken_once : (t : Bool) (n : ℤ) → (pos 0 +ℤ (if t then n else pos 0)) ≡ (((if t then n else pos 0) -ℤ pos 0) +ℤ pos 0)
-taken_once true n = omega (arith, ints)
-taken_once false n = omega (arith, ints)
-
-claimed_lumens : (id : ClaimableBalanceId) (to : AccountId) (held : Asset) (n : ℤ) (other : AccountId)
-    → (pos 0 +ℤ lumens_more held to n other) ≡ gained asset.Native other (claimed id to held n ∷ [])
-unfolding gained
-claimed_lumens id to asset.Native n other = taken_once (is_same_account to other) n
-claimed_lumens id to (asset.Alphanum4 code issuer) n other = refl
-claimed_lumens id to (asset.Alphanum12 code issuer) n other = refl
-
-given_once : (t : Bool) (n : ℤ)
-    → ((if t then neg_ℤ n else pos 0) +ℤ pos 0) ≡ ((pos 0 -ℤ (if t then n else pos 0)) +ℤ pos 0)
-given_once true n = omega (arith, ints)
-given_once false n = omega (arith, ints)
-
-aside_lumens : (from : AccountId) (id : ClaimableBalanceId) (held : Asset) (n : ℤ) (other : AccountId)
-    → (lumens_more held from (neg_ℤ n) other +ℤ pos 0) ≡ gained asset.Native other (aside from id held n ∷ [])
-unfolding gained
-aside_lumens from id asset.Native n other = given_once (is_same_account from other) n
-aside_lumens from id (asset.Alphanum4 code issuer) n other = refl
-aside_lumens from id (asset.Alphanum12 code issuer) n other = refl
-
-issuer_lumens : (id : ClaimableBalanceId) (to : AccountId) (held : Asset) (n : ℤ) → is_issued_by held to ≡ true
-    → (other : AccountId) → pos 0 ≡ gained asset.Native other (claimed id to held n ∷ [])
-unfolding gained
-issuer_lumens id to asset.Native n issuer other = absurd (cc)
-issuer_lumens id to (asset.Alphanum4 code issuer) n is other = refl
-issuer_lumens id to (asset.Alphanum12 code issuer) n is other = refl
-
 -- ---- a balance that is removed
 
 at_least_none : (n : ℤ) → pos 1 ≤ℤ n → pos 0 ≤ℤ n
@@ -177,18 +152,29 @@ module _ (id_pool base : ℕ) (m : EntryMap) (legal : AreEntriesLegal id_pool m)
   pub its_range : IsBalanceInRange b
   its_range = (legal.entries its_key e1 at).range.body
 
-  pub balance_gone : IsMoved id_pool base (λ x. neg_ℤ (of_asset x b.asset b.amount)) none_more m
-      (map_after_removing its_key m)
+  abbrev less : Asset → ℤ
+  less x = of_asset x b.asset (neg_ℤ b.amount)
+
+  erased : (now : EntryMap) → Leaves base none_more m now
+      → Leaves base (more_for b.asset (OfBalance id) (neg_ℤ b.amount)) m (erase now its_key)
+  erased now first = leaves_as base (under_key its_key less) (more_for b.asset (OfBalance id) (neg_ℤ b.amount)) m
+      (erase now its_key)
+      (keeps_then base (under_key its_key less) m now (erase now its_key) first
+      (erased_left base now its_key less first.keyed (λ other same. absurd (cc))
+      (λ x. ap (λ n. n +ℤ less x) (still_holds m now first.holds its_key x ∙ ap (part (held x)) at)
+      ∙ cancelled (is_eq (asset_cmp x b.asset)) b.amount)))
+      (balance_more b.asset id (neg_ℤ b.amount))
+
+  pub balance_gone : IsMoved id_pool base (λ x. neg_ℤ (of_asset x b.asset b.amount))
+      (more_for b.asset (OfBalance id) (neg_ℤ b.amount)) m (map_after_removing its_key m)
   balance_gone =
       let n = length b.claimants in
       let s = sponsor_of e1 in
-      let now = map_after_releasing n s m in
-      let first = releasing_kept base n s m legal.keyed in
       record {
         shifts = λ v sum was. balance_removed_so v id_pool nothing_owed sum n its_key e1 m was nothing_settled at refl;
-        left = subst (Leaves base none_more m) (sym (ap (map_after_removing_entry its_key m) at))
-            (keeps_both base m now (erase now its_key) first
-            (erased_kept base now its_key first.keyed (λ other same. absurd (cc))));
+        left = subst (Leaves base (more_for b.asset (OfBalance id) (neg_ℤ b.amount)) m)
+            (sym (ap (map_after_removing_entry its_key m) at))
+            (erased (map_after_releasing n s m) (releasing_kept base n s m legal.keyed));
       }
 
 -- ---- CLAIM_CLAIMABLE_BALANCE
@@ -212,12 +198,17 @@ claim_claimable_balance_is_lawful ctx op m done under stands is =
     let also = taken.2 in
     let made : Done = record { result = claiming.answer claim.Success; entries = taken.0; ctx = ctx; moves = moves } in
     let same : made ≡ done = cc in
-    subst (IsLawful ctx m) same (lawful_with ctx m under _ (claiming.answer claim.Success) taken.0 moves
+    let less = more_for b.asset (OfBalance op.balance_id) (neg_ℤ b.amount) in
+    let more = more_for b.asset (OfAccount src) b.amount in
+    let all = moved b.asset (OfBalance op.balance_id) (OfAccount src) b.amount in
+    subst (IsLawful ctx m) same (lawful_with ctx m under all (claiming.answer claim.Success) taken.0 moves
     (shifts_as ctx.id_pool (λ x. neg_ℤ (of_asset x b.asset b.amount) +ℤ unless_issuer x b.asset src b.amount)
     (λ x. issued x moves) m taken.0 (λ x. claimed_issued x b.asset op.balance_id src b.amount)
     (shifts_both ctx.id_pool shift (λ x. unless_issuer x b.asset src b.amount) m now taken.0 gone.shifts one.shifts))
-    (leaves_both ctx.base_reserve _ _ m now taken.0 gone.left one.left)
-    (claimed_lumens op.balance_id src b.asset b.amount))
+    (leaves_as ctx.base_reserve (both_more less more) all m taken.0
+    (leaves_both ctx.base_reserve less more m now taken.0 gone.left one.left) (more_turned less more))
+    (move_tells b.asset (OfBalance op.balance_id) (OfAccount src) b.amount (balance_place b.asset op.balance_id)
+    (account_place b.asset src)))
 
 -- ---- CLAWBACK_CLAIMABLE_BALANCE
 
@@ -238,10 +229,15 @@ clawback_claimable_balance_is_lawful ctx op m done under stands is =
     let also = went.1 in
     let made : Done = record { result = clawing.answer claw.Success; entries = new; ctx = ctx; moves = moves } in
     let same : made ≡ done = cc in
-    subst (IsLawful ctx m) same (lawful_with ctx m under none_more (clawing.answer claw.Success) new moves
+    let from = OfBalance op.balance_id in
+    let all = moved b.asset from (OfAccount src) b.amount in
+    subst (IsLawful ctx m) same (lawful_with ctx m under all (clawing.answer claw.Success) new moves
     (shifts_as ctx.id_pool (λ x. neg_ℤ (of_asset x b.asset b.amount)) (λ x. issued x moves) m new
-    (λ x. clawed_issued x b.asset op.balance_id src b.amount issuer) gone.shifts) gone.left
-    (issuer_lumens op.balance_id src b.asset b.amount issuer))
+    (λ x. clawed_issued x b.asset op.balance_id src b.amount issuer) gone.shifts)
+    (leaves_as ctx.base_reserve (more_for b.asset from (neg_ℤ b.amount)) all m new gone.left
+    (redeemed_more b.asset from (OfAccount src) b.amount (sym (same_issuer b.asset src) ∙ issuer)))
+    (move_tells b.asset from (OfAccount src) b.amount (balance_place b.asset op.balance_id)
+    (account_place b.asset src)))
 
 -- ---- what a debit leaves under other keys
 
@@ -292,20 +288,25 @@ module _ (ctx : Ctx) (id : AccountId) (n : ℤ) (m new : EntryMap) (balance : Cl
 
 -- ---- a balance that is added
 
+-- a balance is put where nothing was held
 balance_left : (ctx : Ctx) (m : EntryMap) (payer : AccountId) (k : ℕ) (e : LedgerEntry) (new : EntryMap) → IsKeyed m
-    → ((id : AccountId) → key.Account id ≢ key_of e) → map_after_adding_balance ctx e payer k m ≡ Ok new
-    → Leaves ctx.base_reserve none_more m new
-balance_left ctx m payer k e new keyed apart done =
+    → ((id : AccountId) → key.Account id ≢ key_of e) → get m (key_of e) ≡ None
+    → map_after_adding_balance ctx e payer k m ≡ Ok new
+    → Leaves ctx.base_reserve (under_key (key_of e) (λ x. held x e)) m new
+balance_left ctx m payer k e new keyed apart free done =
     let now = map_after_charging k (Some payer) m in
     let added = with_sponsor (Some payer) e in
     let test = passed (payer_tests_at ctx m payer k) (put now added) new done in
     let first = charging_kept ctx.base_reserve k (Some payer) m keyed
     (λ x is. let same : payer ≡ x = cc in subst (λ w. (a : AccountEntry) → account_at m w ≡ Some a
     → pos (k * ctx.base_reserve) ≤ℤ available a ctx.base_reserve) same (payer_had ctx m payer k test.0)) in
-    subst (Leaves ctx.base_reserve none_more m) test.1
-    (keeps_both ctx.base_reserve m now (put now added) first
-    (accounts_kept ctx.base_reserve now (put now added) (keyed_put now added first.keyed)
-    (put_beside now added apart)))
+    let more = under_key (key_of e) (λ x. held x e) in
+    subst (Leaves ctx.base_reserve more m) test.1
+    (keeps_then ctx.base_reserve more m now (put now added) first
+    (accounts_kept ctx.base_reserve more now (put now added) (keyed_put now added first.keyed)
+    (put_beside now added apart)
+    (put_holds now added (λ x. held x e) (λ x. sym (ap (λ n. n +ℤ held x e)
+    (still_holds m now first.holds (key_of e) x ∙ ap (part (held x)) free) ∙ none_before (held x e))))))
 
 payer_stands : (m : EntryMap) (owner : AccountId) (o : Option AccountId) → HasAccount m owner
     → ((sponsor : AccountId) → o ≡ Some sponsor → HasAccount m sponsor) → HasAccount m (payer_by owner o)
@@ -372,18 +373,28 @@ module _ (ctx : Ctx) (op : CreateClaimableBalanceOp) (m : EntryMap) (done : Done
       let result = creating.answer (create.Success (creating.new_id ctx)) in
       let made : Done = record { result = result; entries = new; ctx = ctx; moves = moves } in
       let same : made ≡ done = cc in
-      subst (IsLawful ctx m) same (lawful_with ctx m under _ result new moves
+      let to = OfBalance (creating.new_id ctx) in
+      let less = more_for op.asset (OfAccount src) (neg_ℤ n) in
+      let more = more_for op.asset to n in
+      let all = moved op.asset (OfAccount src) to n in
+      let still_free = balance_beside ctx src n m now (creating.new_id ctx) op.asset first.1 ∙ free in
+      subst (IsLawful ctx m) same (lawful_with ctx m under all result new moves
       (shifts_as ctx.id_pool (λ x. unless_issuer x op.asset src (neg_ℤ n) +ℤ of_asset x op.asset n)
       (λ x. issued x moves) m new (λ x. aside_issued x op.asset src (creating.new_id ctx) n)
       (shifts_both ctx.id_pool shift (λ x. of_asset x op.asset n) m now new one.shifts
       (λ v sum legal. balance_added_so v ctx.id_pool nothing_owed sum ctx src balance entry now new legal refl (record {
-        free = balance_beside ctx src n m now (creating.new_id ctx) op.asset first.1 ∙ free;
+        free = still_free;
         unsponsored = refl;
         id_free = λ id. plus_none _ (legal.offers id);
       }) entry_range payer second.1)))
-      (leaves_both ctx.base_reserve _ _ m now new one.left
-      (balance_left ctx now (payer_of ctx src) times entry new one.left.keyed (λ id at. absurd (cc)) second.1))
-      (aside_lumens src (creating.new_id ctx) op.asset n))
+      (leaves_as ctx.base_reserve (both_more less more) all m new
+      (leaves_both ctx.base_reserve less more m now new one.left
+      (leaves_as ctx.base_reserve (under_key (key_of entry) (λ x. held x entry)) more now new
+      (balance_left ctx now (payer_of ctx src) times entry new one.left.keyed (λ id at. absurd (cc)) still_free
+      second.1)
+      (balance_more op.asset (creating.new_id ctx) n))) (more_turned less more))
+      (move_tells op.asset (OfAccount src) to n (account_place op.asset src)
+      (balance_place op.asset (creating.new_id ctx))))
 
 pub create_claimable_balance_is_lawful : AreLawfulWhere AreClaimantsFew creating.create_claimable_balance
 create_claimable_balance_is_lawful ctx op m done few under stands is =

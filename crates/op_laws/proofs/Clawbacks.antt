@@ -1,5 +1,5 @@
 -- CLAWBACK is lawful.
-use Rattle.std.proofs.Common.{◌≡◌, refl, sym, ap, subst, ◌∙◌, true, false, not, ◌||◌, ◌∷◌, []}
+use Rattle.std.proofs.Common.{◌≡◌, sym, ap, subst, ◌∙◌, true, false, not, ◌||◌, ◌∷◌, []}
 use Rattle.std.proofs.Common.{arith}
 use Rattle.std.proofs.lemmas.Int.{ints}
 use Rattle.std.specs.Prelude.{ℤ, pos, neg_ℤ, int_le, int_lt}
@@ -17,19 +17,20 @@ use Rattle.sponsor_rules.specs.Payers.{is_same_account}
 use Rattle.sponsor_rules.proofs.Ids.{same_account}
 use Rattle.legal_rules.specs.Supply.{of_asset}
 use Rattle.op_form.specs.Amounts.{with_less}
-use Rattle.op_form.specs.Assets.{is_native, is_issued_by, line_asset_of, line_of_asset}
+use Rattle.op_form.specs.Assets.{is_issued_by, line_asset_of, line_of_asset}
 use Rattle.op_form.specs.Done.{Done}
 use Rattle.op_form.specs.Done.{OfAccount}
 use Rattle.op_form.specs.Flags.{is_line_clawback_enabled}
 use Rattle.op_claim.specs.Clawback as spec
 use Rattle.op_laws.specs.Laws.{IsLawful, AreLawful}
-use Rattle.op_laws.specs.Moves.{gained, issued}
-use Rattle.op_laws.proofs.Amounts.{shifts_as, line_given}
+use Rattle.op_laws.specs.Moves.{issued}
+use Rattle.op_laws.proofs.Amounts.{in_line, shifts_as, line_given}
 use Rattle.op_laws.proofs.IssuedMoves.{same_both_ways, same_issuer, issued_so, issued_by_move}
 use Rattle.op_laws.proofs.Lawful.{lawful_with}
 use Rattle.op_laws.proofs.LineFlags.{issued_is}
 use Rattle.op_laws.proofs.Payment.{above, asset_move}
-use Rattle.op_laws.proofs.Standing.{none_more}
+use Rattle.op_laws.proofs.Standing.{leaves_as}
+use Rattle.op_laws.proofs.Told.{account_place, moved, move_tells, redeemed_more, line_more}
 use Rattle.op_laws.proofs.Tests.{went_on, first_passed, neither, went_after_some}
 use Rattle.op_laws.proofs.TrustLines.{not_less, not_true}
 
@@ -54,13 +55,6 @@ redeemed_move x held from to n issuer other =
     ∙ (λ i. of_asset x held (issued_so (sym other i) (sym issuer i) n))
     ∙ (λ i. of_asset x held (issued_so (same_issuer held from i) (same_issuer held to i) n))
     ∙ issued_by_move x held (OfAccount from) (OfAccount to) n
-
-no_lumens : (from to : AccountId) (held : Asset) (n : ℤ) → is_native held ≡ false → (id : AccountId)
-    → pos 0 ≡ gained asset.Native id (asset_move from to held n ∷ [])
-unfolding gained
-no_lumens from to asset.Native n is id = absurd (cc)
-no_lumens from to (asset.Alphanum4 code issuer) n is id = refl
-no_lumens from to (asset.Alphanum12 code issuer) n is id = refl
 
 pub clawback_is_lawful : AreLawful spec.clawback
 clawback_is_lawful ctx op m done under stands is =
@@ -94,12 +88,17 @@ clawback_is_lawful ctx op m done under stands is =
       moves = spec.clawback_move ctx op ∷ [];
     } in
     let same : made ≡ done = cc in
-    let moved = line_given ctx.id_pool ctx.base_reserve m under.settled.legal from held issued_asset t line.1
+    let given = line_given ctx.id_pool ctx.base_reserve m under.settled.legal from held issued_asset t line.1
     op.amount low
     (not_less (line_available t) op.amount enough.0) in
-    subst (IsLawful ctx m) same (lawful_with ctx m under none_more (spec.answer claw.Success) new
+    let other = other_issuer held src from issuer fourth.1 in
+    let all = moved held (OfAccount from) (OfAccount src) op.amount in
+    subst (IsLawful ctx m) same (lawful_with ctx m under all (spec.answer claw.Success) new
     (spec.clawback_move ctx op ∷ [])
     (shifts_as ctx.id_pool (λ x. of_asset x held (neg_ℤ op.amount)) (λ x. issued x (spec.clawback_move ctx op ∷ [])) m
     new
-    (λ x. redeemed_move x held from src op.amount issuer (other_issuer held src from issuer fourth.1)) moved.shifts)
-    moved.left (no_lumens from src held op.amount issued_asset))
+    (λ x. redeemed_move x held from src op.amount issuer other) given.shifts)
+    (leaves_as ctx.base_reserve (in_line from held (neg_ℤ op.amount)) all m new given.left
+    (λ k x. line_more held issued_asset from (neg_ℤ op.amount) other k x
+    ∙ redeemed_more held (OfAccount from) (OfAccount src) op.amount (sym (same_issuer held src) ∙ issuer) k x))
+    (move_tells held (OfAccount from) (OfAccount src) op.amount (account_place held from) (account_place held src)))

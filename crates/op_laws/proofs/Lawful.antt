@@ -20,13 +20,15 @@ use Rattle.legal_rules.specs.Sponsorships.{AreSponsorshipsSound}
 use Rattle.legal_rules.specs.Legal.{view}
 use Rattle.legal_rules.proofs.Legality.{view_of}
 use Rattle.legal_rules.proofs.Steps.{same_id_at}
-use Rattle.op_form.specs.Done.{Done, Move}
+use Rattle.op_form.specs.Done.{Done, OfAccount, Move}
 use Rattle.op_laws.specs.Laws.{IsCovered, IsLawful}
-use Rattle.op_laws.specs.Moves.{gained, issued, lumens_at}
+use Rattle.op_laws.specs.Moves.{gained, issued, lumens_at, AreTold}
 use Rattle.op_laws.specs.Underway.{AreEntriesLegal, IsUnderway, AreDrawn, KeepsTerms}
-use Rattle.op_laws.proofs.Lumens.{no_moves, nothing_issued}
+use Rattle.op_laws.proofs.Lumens.{nothing_issued}
 use Rattle.op_laws.proofs.Settled.{entries_legal, owing_of}
-use Rattle.op_laws.proofs.Standing.{IsAfter, IsCoveredBy, Leaves, none_more}
+use Rattle.op_laws.proofs.Holdings.{IsKeyed, Increase, none_more, HoldsMore, lumens_there}
+use Rattle.op_laws.proofs.Standing.{IsAfter, IsCoveredBy, Leaves}
+use Rattle.op_laws.proofs.Told.{Tells, told_by, tells_nothing}
 
 -- A change keeps a state legal, and the supply of the asset at hand, by whatever it is viewed.
 abbrev pub KeepsLegal : ℕ → (old new : EntryMap) → Type 0
@@ -38,8 +40,8 @@ abbrev pub ShiftsLegal : ℕ → (Asset → ℤ) → (old new : EntryMap) → Ty
 ShiftsLegal id_pool shift old new = (v : View) (sum : ℤ) → IsLegalOwing v id_pool nothing_owed sum old
     → IsLegalOwing v id_pool nothing_owed (sum +ℤ shift v.asset) new
 
-abbrev pub AreEachAfter : ℕ → (AccountId → ℤ) → (old new : EntryMap) → Type 0
-AreEachAfter base more old new = (id : AccountId) → IsAfter base (more id) (account_at old id) (account_at new id)
+abbrev pub AreEachAfter : ℕ → (old new : EntryMap) → Type 0
+AreEachAfter base old new = (id : AccountId) → IsAfter base (account_at old id) (account_at new id)
 
 pub terms_kept : (ctx : Ctx) → KeepsTerms ctx ctx
 terms_kept ctx = record {
@@ -63,7 +65,14 @@ covered_as : (ctx : Ctx) (m : EntryMap) (id : AccountId) (a : AccountEntry) → 
 covered_as ctx m id a named (inl low) = inl low
 covered_as ctx m id a named (inr was) = inr (was.0, ap (account_at m) named ∙ was.1, was.2)
 
-module _ (ctx : Ctx) (m : EntryMap) (under : IsUnderway ctx m) (more : AccountId → ℤ) where
+-- what is told of each holder tells the lumens of each account
+lumens_told_by : (m new : EntryMap) (moves : List Move) → IsKeyed m → IsKeyed new → AreTold m new moves
+    → (id : AccountId) → lumens_at new id ≡ (lumens_at m id +ℤ gained asset.Native (OfAccount id) moves)
+lumens_told_by m new moves keyed also told id =
+    lumens_there new id also ∙ told asset.Native (OfAccount id) refl
+    ∙ ap (λ n. n +ℤ gained asset.Native (OfAccount id) moves) (sym (lumens_there m id keyed))
+
+module _ (ctx : Ctx) (m : EntryMap) (under : IsUnderway ctx m) (more : Increase) where
   pub shifted_after : (shift : Asset → ℤ) (new : EntryMap) → ShiftsLegal ctx.id_pool shift m new
       → AreEntriesLegal ctx.id_pool new
   shifted_after shift new shifts =
@@ -72,12 +81,12 @@ module _ (ctx : Ctx) (m : EntryMap) (under : IsUnderway ctx m) (more : AccountId
 
   -- the entries are left so, with what the moves issue, in a context with the same terms
   pub lawful_moved : (done : Done) → ShiftsLegal ctx.id_pool (λ x. issued x done.moves) m done.entries
-      → AreEachAfter ctx.base_reserve more m done.entries
-      → ((id : AccountId) → more id ≡ gained asset.Native id done.moves)
+      → AreEachAfter ctx.base_reserve m done.entries → HoldsMore more m done.entries → Tells more done.moves
       → KeepsTerms ctx done.ctx → done.ctx.id_pool ≡ ctx.id_pool
       → AreSponsorshipsSound done.ctx done.entries → IsLawful ctx m done
-  lawful_moved done shifts each gains terms pool sound =
+  lawful_moved done shifts each holds tells terms pool sound =
       let legal = shifted_after (λ x. issued x done.moves) done.entries shifts in
+      let told = told_by more m done.entries done.moves holds tells in
       record {
         legal = record {
           settled = record {
@@ -88,7 +97,8 @@ module _ (ctx : Ctx) (m : EntryMap) (under : IsUnderway ctx m) (more : AccountId
         };
         terms = terms;
         ids = none_drawn 1 ctx.id_pool done.ctx.id_pool pool;
-        lumens = λ id. (each id).lumens ∙ ap (λ n. lumens_at m id +ℤ n) (gains id);
+        lumens = lumens_told_by m done.entries done.moves under.settled.legal.keyed legal.keyed told;
+        told = told;
         supply = λ x. (shifts (view_of x m) (total (held x) m) (owing_of x ctx.id_pool m under.settled.legal)).supply;
         reserves = λ id a stands. covered_as ctx m id a (same_id_at done.entries id a legal.keyed stands)
             ((each id).covered a stands);
@@ -96,15 +106,14 @@ module _ (ctx : Ctx) (m : EntryMap) (under : IsUnderway ctx m) (more : AccountId
 
   -- the same where nothing is issued
   pub lawful_by : (done : Done) → KeepsLegal ctx.id_pool m done.entries
-      → AreEachAfter ctx.base_reserve more m done.entries
-      → ((id : AccountId) → more id ≡ gained asset.Native id done.moves)
+      → AreEachAfter ctx.base_reserve m done.entries → HoldsMore more m done.entries → Tells more done.moves
       → ((x : Asset) → issued x done.moves ≡ pos 0) → KeepsTerms ctx done.ctx → done.ctx.id_pool ≡ ctx.id_pool
       → AreSponsorshipsSound done.ctx done.entries → IsLawful ctx m done
-  lawful_by done keeps each gains none terms pool sound =
+  lawful_by done keeps each holds tells none terms pool sound =
       lawful_moved done
       (λ v sum legal. subst (λ n. IsLegalOwing v ctx.id_pool nothing_owed n done.entries)
-      (plus_none sum sum (issued v.asset done.moves) refl (none v.asset)) (keeps v sum legal)) each gains terms pool
-      sound
+      (plus_none sum sum (issued v.asset done.moves) refl (none v.asset)) (keeps v sum legal)) each holds tells
+      terms pool sound
 
   sound_after : (new : EntryMap) → ((id : AccountId) → HasAccount m id → HasAccount new id)
       → AreSponsorshipsSound ctx new
@@ -117,25 +126,23 @@ module _ (ctx : Ctx) (m : EntryMap) (under : IsUnderway ctx m) (more : AccountId
 
   -- the same in the same context
   pub lawful_here : (result : OperationResult) (new : EntryMap) (moves : List Move) → KeepsLegal ctx.id_pool m new
-      → Leaves ctx.base_reserve more m new → ((id : AccountId) → more id ≡ gained asset.Native id moves)
-      → ((x : Asset) → issued x moves ≡ pos 0)
+      → Leaves ctx.base_reserve more m new → Tells more moves → ((x : Asset) → issued x moves ≡ pos 0)
       → IsLawful ctx m (record { result = result; entries = new; ctx = ctx; moves = moves })
-  lawful_here result new moves keeps leaves gains none =
-      lawful_by (record { result = result; entries = new; ctx = ctx; moves = moves }) keeps leaves.each gains none
-      (terms_kept ctx) refl (sound_after new leaves.stand)
+  lawful_here result new moves keeps leaves tells none =
+      lawful_by (record { result = result; entries = new; ctx = ctx; moves = moves }) keeps leaves.each leaves.holds
+      tells none (terms_kept ctx) refl (sound_after new leaves.stand)
 
   -- the same with what the moves issue
   pub lawful_with : (result : OperationResult) (new : EntryMap) (moves : List Move)
       → ShiftsLegal ctx.id_pool (λ x. issued x moves) m new → Leaves ctx.base_reserve more m new
-      → ((id : AccountId) → more id ≡ gained asset.Native id moves)
-      → IsLawful ctx m (record { result = result; entries = new; ctx = ctx; moves = moves })
-  lawful_with result new moves shifts leaves gains =
-      lawful_moved (record { result = result; entries = new; ctx = ctx; moves = moves }) shifts leaves.each gains
-      (terms_kept ctx) refl (sound_after new leaves.stand)
+      → Tells more moves → IsLawful ctx m (record { result = result; entries = new; ctx = ctx; moves = moves })
+  lawful_with result new moves shifts leaves tells =
+      lawful_moved (record { result = result; entries = new; ctx = ctx; moves = moves }) shifts leaves.each
+      leaves.holds tells (terms_kept ctx) refl (sound_after new leaves.stand)
 
 -- nothing moves
 pub lawful_still : (ctx : Ctx) (m : EntryMap) → IsUnderway ctx m → (result : OperationResult) (new : EntryMap)
     → KeepsLegal ctx.id_pool m new → Leaves ctx.base_reserve none_more m new
     → IsLawful ctx m (record { result = result; entries = new; ctx = ctx; moves = [] })
 lawful_still ctx m under result new keeps leaves =
-    lawful_here ctx m under none_more result new [] keeps leaves no_moves nothing_issued
+    lawful_here ctx m under none_more result new [] keeps leaves tells_nothing nothing_issued

@@ -1,10 +1,12 @@
 pub mod Settled
+pub mod Holdings
 pub mod Standing
 pub mod Payments
 pub mod Numbers
 pub mod Reserves
 pub mod Tests
 pub mod Charges
+pub mod Told
 pub mod Lumens
 pub mod Issued
 pub mod Lawful

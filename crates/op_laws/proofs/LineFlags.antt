@@ -45,9 +45,10 @@ use Rattle.op_laws.specs.Moves.{issued}
 use Rattle.op_laws.specs.Underway.{IsUnderway}
 use Rattle.op_laws.proofs.Amounts.{shifts_as}
 use Rattle.op_laws.proofs.Lawful.{lawful_with}
-use Rattle.op_laws.proofs.LineChanges.{line_legal, line_shifted, line_left}
-use Rattle.op_laws.proofs.Lumens.{no_moves, nothing_issued}
-use Rattle.op_laws.proofs.Standing.{none_more}
+use Rattle.op_laws.proofs.LineChanges.{line_legal, line_shifted, line_kept}
+use Rattle.op_laws.proofs.Lumens.{nothing_issued}
+use Rattle.op_laws.proofs.Holdings.{none_more}
+use Rattle.op_laws.proofs.Told.{tells_nothing}
 use Rattle.op_laws.proofs.Tests.{went_on, first_passed, neither, went_after_some}
 use Rattle.op_laws.proofs.TrustLines.{no_less, same_zero, not_true}
 
@@ -191,8 +192,9 @@ module _ (ctx : Ctx) (m : EntryMap) (under : IsUnderway ctx m) (trustor : Accoun
       })
       (still_unbound t f (has_any t.flags 3) (has_any f 3) (flags.is_in_use t) refl refl refl test.0 old_flags.0 known.0
       was.bound)))
-      (line_left ctx.id_pool m trustor held issued_asset (flags.with_flags f) t there ctx.base_reserve
-      under.settled.legal.keyed) no_moves)
+      (line_kept ctx.id_pool m trustor held issued_asset (flags.with_flags f) t there
+      (record { id = refl; asset = refl; liabilities = refl; uses = refl }) ctx.base_reserve under.settled.legal.keyed
+      refl) tells_nothing)
 
 -- ---- ALLOW_TRUST
 

@@ -1,39 +1,36 @@
 -- Lumens that move from one account to another: what each gains, and that none are issued.
-use Rattle.std.proofs.Common.{◌≡◌, refl, sym, ap, Bool, true, false, [], ◌∷◌, arith}
+use Rattle.std.proofs.Common.{◌≡◌, refl, ap, ◌∙◌, Bool, true, false, ◌&&◌, [], ◌∷◌, arith}
 use Rattle.std.proofs.lemmas.Int.{ints}
 use Rattle.std.specs.Prelude.{ℤ, pos, neg_ℤ, ◌+ℤ◌, ◌-ℤ◌, if◌then◌else◌}
+use Rattle.std.specs.Ordering.{is_eq}
 use Rattle.ledger_types.specs.declared.ids.AccountId.{AccountId}
 use Rattle.ledger_types.specs.declared.asset.Asset.{Asset}
 use Rattle.ledger_types.specs.declared.asset.Asset.TheVariants as asset
-use Rattle.sponsor_rules.specs.Payers.{is_same_account}
+use Rattle.ledger_types.specs.KeyOrder.{asset_cmp}
 use Rattle.op_form.specs.Done.{OfAccount, Move}
-use Rattle.op_laws.specs.Moves.{gained, issued}
-use Rattle.op_laws.proofs.Standing.{for_one}
+use Rattle.op_laws.specs.Moves.{is_holder, gained, issued, place_of}
+use Rattle.op_laws.proofs.Holdings.{none_more, both_more, for_one}
+use Rattle.op_laws.proofs.Told.{Tells, none_at, account_place, move_tells}
 
 -- an account gives another one lumens
 abbrev pub lumens_move : (from to : AccountId) → ℤ → Move
 lumens_move from to amount =
     record { from = OfAccount from; to = OfAccount to; asset = asset.Native; amount = amount }
 
-given_and_taken : (t f : Bool) (n : ℤ) → (((if t then n else pos 0) -ℤ (if f then n else pos 0)) +ℤ pos 0)
-    ≡ ((if t then n else pos 0) +ℤ (if f then neg_ℤ n else pos 0))
-given_and_taken true true n = omega (arith, ints)
-given_and_taken true false n = omega (arith, ints)
-given_and_taken false true n = omega (arith, ints)
-given_and_taken false false n = omega (arith, ints)
-
-pub lumens_gained : (from to : AccountId) (amount : ℤ) (id : AccountId)
-    → (for_one to amount id +ℤ for_one from (neg_ℤ amount) id)
-    ≡ gained asset.Native id (lumens_move from to amount ∷ [])
-unfolding gained
-lumens_gained from to amount id = sym (given_and_taken (is_same_account to id) (is_same_account from id) amount)
+pub lumens_told : (from to : AccountId) (amount : ℤ)
+    → Tells (both_more (for_one to amount) (for_one from (neg_ℤ amount))) (lumens_move from to amount ∷ [])
+lumens_told from to amount = move_tells asset.Native (OfAccount from) (OfAccount to) amount
+    (account_place asset.Native from) (account_place asset.Native to)
 
 -- the same account gives itself
-pub nothing_gained : (from to : AccountId) (amount : ℤ) → to ≡ from → (id : AccountId)
-    → pos 0 ≡ gained asset.Native id (lumens_move from to amount ∷ [])
+pub itself_told : (from to : AccountId) (amount : ℤ) → to ≡ from
+    → Tells none_more (lumens_move from to amount ∷ [])
 unfolding gained
-nothing_gained from to amount same id = back (is_same_account to id) (is_same_account from id) amount
-    (ap (λ x. is_same_account x id) same)
+itself_told from to amount same x holder other =
+    let of = is_eq (asset_cmp x asset.Native) in
+    none_at x (place_of x holder)
+    ∙ back (of && is_holder holder (OfAccount to)) (of && is_holder holder (OfAccount from)) amount
+    (ap (λ id. of && is_holder holder (OfAccount id)) same)
   where
     back : (t f : Bool) (n : ℤ) → t ≡ f
         → pos 0 ≡ (((if t then n else pos 0) -ℤ (if f then n else pos 0)) +ℤ pos 0)
@@ -41,10 +38,6 @@ nothing_gained from to amount same id = back (is_same_account to id) (is_same_ac
     back true false n is = absurd (cc)
     back false true n is = absurd (cc)
     back false false n is = omega (arith, ints)
-
-pub no_moves : (id : AccountId) → pos 0 ≡ gained asset.Native id []
-unfolding gained
-no_moves id = refl
 
 -- lumens have no issuer
 pub none_issued : (from to : AccountId) (amount : ℤ) (x : Asset)

@@ -5,6 +5,7 @@ use Rattle.std.proofs.lemmas.Int.{ints}
 use Rattle.std.specs.Prelude.{ℤ, pos, neg_ℤ, ◌+ℤ◌, ◌≤ℤ◌}
 use Rattle.std.specs.FinMap.{get}
 use Rattle.ledger_types.specs.declared.ids.AccountId.{AccountId}
+use Rattle.ledger_types.specs.declared.asset.Asset.{Asset}
 use Rattle.ledger_types.specs.declared.data_entry.DataEntry.{DataEntry}
 use Rattle.ledger_types.specs.declared.account.AccountEntry.{AccountEntry}
 use Rattle.ledger_types.specs.declared.entry.LedgerEntry.{LedgerEntry}
@@ -18,6 +19,7 @@ use Rattle.entry_map.specs.EntryMap.{EntryMap, put, erase}
 use Rattle.entry_slots.specs.Accounts.{account_at, HasAccount}
 use Rattle.entry_slots.specs.DataEntries.{data_in, data_of, data_at, with_data, with_data_in, with_data_of}
 use Rattle.entry_slots.specs.EntrySponsor.{sponsor_of}
+use Rattle.entry_sums.specs.Sums.{part}
 use Rattle.sponsor_rules.specs.declared.context.Ctx.{Ctx}
 use Rattle.sponsor_rules.specs.Adding.{map_after_adding}
 use Rattle.sponsor_rules.specs.Paying.{without_subentry}
@@ -27,6 +29,7 @@ use Rattle.legal_rules.specs.Books.{Kind, Subentries, Sponsoring, Sponsored, Vie
 use Rattle.legal_rules.specs.Legal.{view}
 use Rattle.legal_rules.specs.Owing.{weight, weighed, nothing_owed, beside_reserves, IsEntryLegal, IsLegalOwing}
 use Rattle.legal_rules.specs.Ranges.{IsDataInRange}
+use Rattle.legal_rules.specs.Supply.{held, held_in}
 use Rattle.legal_rules.proofs.Given.{sponsors_ready}
 use Rattle.legal_rules.proofs.Kept.{subentry_added_so}
 use Rattle.legal_rules.proofs.Numbers.{plus_nothing, nothing_less, kept_sum}
@@ -43,7 +46,8 @@ use Rattle.op_laws.specs.Laws.{IsLawful, AreLawful}
 use Rattle.op_laws.specs.Underway.{IsUnderway}
 use Rattle.op_laws.proofs.Charges.{subentry_kept, discharged_kept, erased_kept, put_beside}
 use Rattle.op_laws.proofs.Lawful.{KeepsLegal, lawful_still}
-use Rattle.op_laws.proofs.Standing.{IsKeyed, Leaves, none_more, keeps_both, accounts_kept, keyed_put}
+use Rattle.op_laws.proofs.Holdings.{IsKeyed, none_more, put_same}
+use Rattle.op_laws.proofs.Standing.{Leaves, keeps_both, accounts_kept, keyed_put}
 use Rattle.op_laws.proofs.Tests.{went_on, first_passed, neither, went_after_charge}
 
 -- ---- the entry of data
@@ -82,6 +86,22 @@ no_data : (m : EntryMap) (id : AccountId) (name : List ℕ) → IsKeyed m → da
     → get m (key.Data id name) ≡ None
 unfolding data_at
 no_data m id name keyed none = no_data_of (get m (key.Data id name)) id name (keyed (key.Data id name)) none
+
+-- data holds nothing
+nothing_held_in : (x : Asset) (b : LedgerEntryBody) (id : AccountId) (name : List ℕ) → key_of_body b ≡ key.Data id name
+    → held_in x b ≡ pos 0
+nothing_held_in x (body.Data d) id name own = refl
+nothing_held_in x other id name own = absurd (cc)
+
+nothing_held_of : (x : Asset) (o : Option LedgerEntry) (id : AccountId) (name : List ℕ)
+    → ((e : LedgerEntry) → o ≡ Some e → key_of e ≡ key.Data id name) → part (held x) o ≡ pos 0
+nothing_held_of x None id name own = refl
+nothing_held_of x (Some e) id name own = nothing_held_in x e.body id name (own e refl)
+
+nothing_held : (m : EntryMap) (id : AccountId) (name : List ℕ) → IsKeyed m → (x : Asset)
+    → part (held x) (get m (key.Data id name)) ≡ pos 0
+nothing_held m id name keyed x =
+    nothing_held_of x (get m (key.Data id name)) id name (keyed (key.Data id name))
 
 -- data counts in no book beside its reserve
 data_settled : (v : View) (e : LedgerEntry) (d : DataEntry) (kind : Kind) (k : LedgerKey)
@@ -135,7 +155,7 @@ module _ (ctx : Ctx) (m : EntryMap) (under : IsUnderway ctx m) (stands : HasAcco
       subst (IsLawful ctx m) same (lawful_still ctx m under (answer manage.Success) went.0
       (added_legal value went.0 none went.1)
       (subentry_kept ctx m src 1 (new_data ctx name value) went.0 under.settled.legal.keyed (λ id at. absurd (cc))
-      went.1))
+      (λ x. refl) (nothing_held m src name under.settled.legal.keyed) went.1))
 
   -- ---- another value
 
@@ -188,8 +208,9 @@ module _ (ctx : Ctx) (m : EntryMap) (under : IsUnderway ctx m) (stands : HasAcco
       let put_so = with_data_is value d found.0 found.1 in
       subst (IsLawful ctx m) same (lawful_still ctx m under (answer manage.Success) new
       (subst (KeepsLegal ctx.id_pool m) (sym put_so) (valued_legal value d found.0 found.1))
-      (subst (Leaves ctx.base_reserve none_more m) (sym put_so) (accounts_kept ctx.base_reserve m (put m e1)
-      (keyed_put m e1 under.settled.legal.keyed) (put_beside m e1 (λ id same. absurd (cc))))))
+      (subst (Leaves ctx.base_reserve none_more m) (sym put_so) (accounts_kept ctx.base_reserve none_more m (put m e1)
+      (keyed_put m e1 under.settled.legal.keyed) (put_beside m e1 (λ id same. absurd (cc)))
+      (put_same m e1 (λ x. sym (nothing_held m d.account_id d.data_name under.settled.legal.keyed x))))))
 
 -- ---- removing
 
@@ -230,7 +251,7 @@ module _ (id_pool base : ℕ) (m : EntryMap) (id : AccountId) (name : List ℕ) 
         let first = discharged_kept base 1 d.account_id s m legal.keyed (had_one v sum legal)
         (without_subentry 1 s) (λ a next. next) in
         keeps_both base m now (erase now its_key) first
-        (erased_kept base now its_key first.keyed (λ other same. absurd (cc)))
+        (erased_kept base now its_key first.keyed (λ other same. absurd (cc)) (nothing_held now id name first.keyed))
 
 removed_lawful : (ctx : Ctx) (m : EntryMap) → IsUnderway ctx m → (name : List ℕ) (done : Done)
     → removed ctx name m ≡ Ok done → IsLawful ctx m done

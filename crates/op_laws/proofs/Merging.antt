@@ -11,6 +11,7 @@ use Rattle.std.specs.Prelude.{ℤ, pos, neg_ℤ, int_le, ◌+ℤ◌, ◌≤ℤ�
 use Rattle.std.specs.List.{list_any}
 use Rattle.std.specs.Ordering.{is_eq}
 use Rattle.ledger_types.specs.declared.ids.AccountId.{AccountId}
+use Rattle.ledger_types.specs.declared.asset.Asset.{Asset}
 use Rattle.ledger_types.specs.declared.asset.Asset.TheVariants as asset
 use Rattle.ledger_types.specs.declared.account.AccountEntry.{AccountEntry}
 use Rattle.ledger_types.specs.declared.key.LedgerKey.TheVariants as key
@@ -22,6 +23,7 @@ use Rattle.entry_slots.specs.Accounts.{account_of as account_in_entry, account_a
 use Rattle.entry_slots.specs.AccountExtensions.{num_sponsoring, signer_sponsor}
 use Rattle.entry_slots.specs.EntrySponsor.{sponsor_of}
 use Rattle.entry_slots.specs.Tests.{Tests}
+use Rattle.entry_sums.specs.Sums.{part}
 use Rattle.entry_sums.proofs.Lookups.{erase_there}
 use Rattle.sponsor_rules.specs.declared.context.Ctx.{Ctx}
 use Rattle.sponsor_rules.specs.declared.context.Sponsorship.{Sponsorship}
@@ -40,7 +42,7 @@ use Rattle.legal_rules.specs.Books.{View}
 use Rattle.legal_rules.specs.Legal.{view}
 use Rattle.legal_rules.specs.Owing.{nothing_owed, IsLegalOwing}
 use Rattle.legal_rules.specs.Sponsorships.{AreSponsorshipsSound}
-use Rattle.legal_rules.specs.Supply.{lumens_of}
+use Rattle.legal_rules.specs.Supply.{held, held_in, lumens_of}
 use Rattle.legal_rules.proofs.Bounded.{account_legal}
 use Rattle.legal_rules.proofs.Merging.{removed_account}
 use Rattle.legal_rules.proofs.PaidFor.{nothing_settled}
@@ -59,17 +61,17 @@ use Rattle.op_form.specs.Sequences.{first_seq}
 use Rattle.op_form.specs.Sponsorships.{is_open_sponsor}
 use Rattle.op_form.specs.Steps.{unless_refused}
 use Rattle.op_laws.specs.Laws.{IsLawful, AreLawful}
-use Rattle.op_laws.specs.Moves.{lumens_in, lumens_at}
 use Rattle.op_laws.specs.Underway.{IsUnderway}
 use Rattle.op_laws.proofs.Charges.{releasing_kept, erase_beside}
 use Rattle.op_laws.proofs.Lawful.{KeepsLegal, AreEachAfter, terms_kept, lawful_by}
-use Rattle.op_laws.proofs.Lumens.{lumens_move, lumens_gained, none_issued}
+use Rattle.op_laws.proofs.Lumens.{lumens_move, lumens_told, none_issued}
 use Rattle.op_laws.proofs.Paying.{IsTaken, taken, taken_legal, taken_left}
 use Rattle.op_laws.proofs.Reserves.{pays_less}
 use Rattle.op_laws.proofs.Signers.{signer_kept, without_means}
 use Rattle.op_laws.proofs.SetOptions.{is_its_key}
-use Rattle.op_laws.proofs.Standing.{IsKeyed, IsAfter, Leaves, for_one, none_more, leaves_itself, leaves_both}
-use Rattle.op_laws.proofs.Standing.{keeps_both}
+use Rattle.op_laws.proofs.Holdings.{IsKeyed, none_more, both_more, for_one, HoldsMore, none_before, holds_both}
+use Rattle.op_laws.proofs.Holdings.{holds_as, still_holds, erase_holds, cancelled}
+use Rattle.op_laws.proofs.Standing.{IsAfter, Leaves, leaves_itself, leaves_both, keeps_both}
 use Rattle.op_laws.proofs.Tests.{went_on, first_passed, neither, went_after_some}
 
 -- ---- an account without its first signer
@@ -218,31 +220,41 @@ module _ (v : View) (id_pool base : ℕ) (sum : ℤ) (src : AccountId) where
 
 -- ---- the account is removed
 
--- accounts after one of them is removed
-record IsGone (base : ℕ) (src : AccountId) (m new : EntryMap) : Type 0 where
+-- accounts after one of them, which had a balance, is removed
+record IsGone (base : ℕ) (src : AccountId) (balance : ℤ) (m new : EntryMap) : Type 0 where
   gone : account_at new src ≡ None
   now : EntryMap
   leaves : Leaves base none_more m now
   others : (id : AccountId) → id ≢ src → account_at new id ≡ account_at now id
+  holds : HoldsMore (for_one src (neg_ℤ balance)) m new
 
 nobody : (m : EntryMap) (id : AccountId) → account_at (erase m (key.Account id)) id ≡ None
 unfolding account_at
 nobody m id = ap account_in_entry (erase_there m (key.Account id))
 
 removed_gone : (base : ℕ) (src : AccountId) (m : EntryMap) → IsKeyed m → (a : AccountEntry) → account_at m src ≡ Some a
-    → IsGone base src m (map_after_removing (key.Account src) m)
+    → IsGone base src a.balance m (map_after_removing (key.Account src) m)
 removed_gone base src m keyed a stands =
     let found = account_entry m src a stands in
     let s = sponsor_of found.0 in
     let now = map_after_releasing 2 s m in
-    subst (IsGone base src m)
+    let kept = releasing_kept base 2 s m keyed in
+    let less = λ (x : Asset). lumens_of x (neg_ℤ a.balance) in
+    subst (IsGone base src a.balance m)
     (ap (λ b. erase (map_without_charge (charge_of b) s m) (key.Account src)) (sym found.1.is)
     ∙ ap (map_after_removing_entry (key.Account src) m) (sym found.1.there))
     (record {
       gone = nobody now src;
       now = now;
-      leaves = releasing_kept base 2 s m keyed;
+      leaves = kept;
       others = λ id apart. erase_beside now (key.Account src) id (λ same. apart (cc));
+      holds = holds_as (both_more none_more (for_one src (neg_ℤ a.balance))) (for_one src (neg_ℤ a.balance)) m
+          (erase now (key.Account src))
+          (holds_both none_more (for_one src (neg_ℤ a.balance)) m now (erase now (key.Account src)) kept.holds
+          (erase_holds now (key.Account src) less (λ x. ap (λ n. n +ℤ less x)
+          (still_holds m now kept.holds (key.Account src) x ∙ ap (part (held x)) found.1.there
+          ∙ ap (held_in x) found.1.is) ∙ cancelled (is_eq (asset_cmp x asset.Native)) a.balance)))
+          (λ k x. none_before (for_one src (neg_ℤ a.balance) k x));
     })
 
 -- ---- the operation
@@ -263,14 +275,8 @@ no_sponsor : (ctx : Ctx) (id : AccountId) → is_open_sponsor ctx id ≡ false
 unfolding is_open_sponsor
 no_sponsor ctx id is = none_passes (λ s. is_same_account s.sponsor id) ctx.sponsorships is
 
-sum_of_three : (x y : ℤ) → ((x +ℤ pos 0) +ℤ pos 0) ≡ x
-sum_of_three x y = omega (arith, ints)
-
-plus_none : (x : ℤ) → x ≡ (x +ℤ pos 0)
-plus_none x = omega (arith, ints)
-
-all_given : (o n d : ℤ) → o ≡ n → d ≡ pos 0 → pos 0 ≡ (o +ℤ (d +ℤ neg_ℤ n))
-all_given o n d is none = omega (arith, ints)
+none_between : (d e : ℤ) → ((d +ℤ pos 0) +ℤ e) ≡ (d +ℤ e)
+none_between d e = omega (arith, ints)
 
 module _ (ctx : Ctx) (op : AccountMergeOp) (m : EntryMap) (done : Done) (under : IsUnderway ctx m) (a : AccountEntry)
     (stands : account_at m ctx.op_source ≡ Some a) (apart : account_of op.destination ≢ ctx.op_source)
@@ -308,7 +314,7 @@ module _ (ctx : Ctx) (op : AccountMergeOp) (m : EntryMap) (done : Done) (under :
     abbrev new : EntryMap
     new = map_without_account src a paid
 
-    gone : IsGone base src unsigned new
+    gone : IsGone base src bared.account.balance unsigned new
     gone = removed_gone base src unsigned bared.leaves.keyed bared.account bared.stands
 
     merged_legal : KeepsLegal ctx.id_pool m new
@@ -321,38 +327,29 @@ module _ (ctx : Ctx) (op : AccountMergeOp) (m : EntryMap) (done : Done) (under :
         (given_up (is_eq (asset_cmp v.asset asset.Native)) sum bared.account.balance a.balance bared.same)
 
     -- what stands before the account goes
-    before : Leaves base (λ id. (for_one dest a.balance id +ℤ pos 0) +ℤ pos 0) m gone.now
-    before = leaves_both base _ none_more m unsigned gone.now
+    before : Leaves base (both_more (both_more (for_one dest a.balance) none_more) none_more) m gone.now
+    before = leaves_both base (both_more (for_one dest a.balance) none_more) none_more m unsigned gone.now
         (leaves_both base (for_one dest a.balance) none_more m paid unsigned first bared.leaves) gone.leaves
 
-    merged_each : AreEachAfter base (λ id. for_one dest a.balance id +ℤ for_one src (neg_ℤ a.balance) id) m new
+    merged_holds : HoldsMore (both_more (for_one dest a.balance) (for_one src (neg_ℤ a.balance))) m new
+    merged_holds =
+        let to = for_one dest a.balance in
+        let less = for_one src (neg_ℤ bared.account.balance) in
+        holds_as (both_more (both_more to none_more) less) (both_more to (for_one src (neg_ℤ a.balance))) m new
+        (holds_both (both_more to none_more) less m unsigned new
+        (holds_both to none_more m paid unsigned first.holds bared.leaves.holds) gone.holds)
+        (λ k x. none_between (to k x) (less k x) ∙ (λ i. to k x +ℤ for_one src (neg_ℤ (bared.same i)) k x))
+
+    merged_each : AreEachAfter base m new
     merged_each id = elim (is_same_account src id) as (λ b. is_same_account src id ≡ b
-        → IsAfter base (for_one dest a.balance id +ℤ (if b then neg_ℤ a.balance else pos 0)) (account_at m id)
-        (account_at new id)) [
+        → IsAfter base (account_at m id) (account_at new id)) [
           | true ↦ λ tied.
-              let same = same_account src id tied in
-              let none : account_at new id ≡ None = ap (account_at new) (sym same) ∙ gone.gone in
-              let was : lumens_at m id ≡ a.balance = ap (lumens_at m) (sym same) ∙ ap lumens_in stands in
-              let no_destination : for_one dest a.balance id ≡ pos 0 = ap (λ t. if t then a.balance else pos 0)
-              (ap (is_same_account dest) (sym same) ∙ not_same dest src apart) in
-              subst (λ o. IsAfter base (for_one dest a.balance id +ℤ neg_ℤ a.balance) (account_at m id) o) (sym none)
-              (record {
-                lumens = all_given (lumens_at m id) a.balance (for_one dest a.balance id) was no_destination;
-                covered = λ b is. absurd (cc);
-              })
+              let none : account_at new id ≡ None = ap (account_at new) (sym (same_account src id tied)) ∙ gone.gone in
+              subst (λ o. IsAfter base (account_at m id) o) (sym none) (record { covered = λ b is. absurd (cc) })
           | false ↦ λ differ.
               let other = apart_accounts src id differ in
-              subst (λ o. IsAfter base (for_one dest a.balance id +ℤ pos 0) (account_at m id) o)
-              (sym (gone.others id (λ same. other (sym same))))
-              (subst (λ n. IsAfter base n (account_at m id) (account_at gone.now id))
-              (sum_of_three (for_one dest a.balance id) (pos 0) ∙ plus_none (for_one dest a.balance id))
-              (before.each id))
-        ] refl
-      where
-        not_same : (x y : AccountId) → x ≢ y → is_same_account x y ≡ false
-        not_same x y differ = elim (is_same_account x y) as (λ b. is_same_account x y ≡ b → b ≡ false) [
-          | true ↦ λ tied. absurd (differ (same_account x y tied))
-          | false ↦ λ h. refl
+              subst (λ o. IsAfter base (account_at m id) o) (sym (gone.others id (λ same. other (sym same))))
+              (before.each id)
         ] refl
 
     merged_sound : AreSponsorshipsSound ctx new
@@ -378,8 +375,10 @@ module _ (ctx : Ctx) (op : AccountMergeOp) (m : EntryMap) (done : Done) (under :
         moves = lumens_move src dest a.balance ∷ [];
       } in
       let same : made ≡ done = cc in
-      subst (IsLawful ctx m) same (lawful_by ctx m under _ made (merged_legal paid h) (merged_each paid h)
-      (lumens_gained src dest a.balance) (none_issued src dest a.balance) (terms_kept ctx) refl (merged_sound paid h))
+      subst (IsLawful ctx m) same (lawful_by ctx m under
+      (both_more (for_one dest a.balance) (for_one src (neg_ℤ a.balance))) made (merged_legal paid h)
+      (merged_each paid h) (merged_holds paid h) (lumens_told src dest a.balance) (none_issued src dest a.balance)
+      (terms_kept ctx) refl (merged_sound paid h))
 
 not_not : (b : Bool) → not b ≡ false → b ≡ true
 not_not true h = refl

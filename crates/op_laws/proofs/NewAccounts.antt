@@ -2,15 +2,16 @@
 use Rattle.std.proofs.Common.{◌≡◌, ◌≢◌, refl, sym, ap, subst, ◌∙◌, ℕ, ◌+◌, ◌*◌, ◌^◌, ◌<◌, true, false, ◌||◌}
 use Rattle.std.proofs.Common.{is_some, [], ◌∷◌, Option, Some, None, Ok, inl, arith}
 use Rattle.std.proofs.lemmas.Int.{ints}
-use Rattle.std.specs.Prelude.{ℤ, pos, neg_ℤ, int_lt, ◌+ℤ◌, ◌-ℤ◌, ◌*ℤ◌, ◌≤ℤ◌, if◌then◌else◌}
+use Rattle.std.specs.Prelude.{ℤ, pos, neg_ℤ, int_lt, ◌+ℤ◌, ◌-ℤ◌, ◌*ℤ◌, ◌≤ℤ◌}
 use Rattle.std.specs.FinMap.{get}
 use Rattle.std.specs.Ordering.{is_eq, is_lt, int_cmp}
 use Rattle.ledger_types.specs.declared.ids.AccountId.{AccountId}
+use Rattle.ledger_types.specs.declared.asset.Asset.{Asset}
 use Rattle.ledger_types.specs.declared.asset.Asset.TheVariants as asset
 use Rattle.ledger_types.specs.declared.account.AccountEntry.{AccountEntry}
 use Rattle.ledger_types.specs.declared.price.Liabilities.{Liabilities}
 use Rattle.valid_values.specs.Texts.{is_valid_text}
-use Rattle.entry_sums.specs.Sums.{total}
+use Rattle.entry_sums.specs.Sums.{total, part}
 use Rattle.legal_rules.specs.Ranges.{has_flag}
 use Rattle.ledger_types.specs.declared.entry.LedgerEntry.{LedgerEntry}
 use Rattle.ledger_types.specs.declared.entry.LedgerEntryBody.{LedgerEntryBody}
@@ -34,7 +35,7 @@ use Rattle.sponsor_rules.proofs.Ids.{same_account, apart_accounts}
 use Rattle.legal_rules.specs.Legal.{view}
 use Rattle.legal_rules.specs.Owing.{nothing_owed, IsEntryLegal}
 use Rattle.legal_rules.specs.Sponsorships.{IsSponsorReady}
-use Rattle.legal_rules.specs.Supply.{held, lumens_of}
+use Rattle.legal_rules.specs.Supply.{held, held_in, lumens_of}
 use Rattle.legal_rules.proofs.Bounded.{account_legal}
 use Rattle.legal_rules.proofs.Covered.{not_above_balance}
 use Rattle.legal_rules.proofs.Given.{sponsors_ready}
@@ -53,13 +54,13 @@ use Rattle.op_laws.specs.Laws.{IsLawful, AreLawful}
 use Rattle.op_laws.specs.Underway.{IsUnderway}
 use Rattle.op_laws.proofs.Charges.{payers_had, charging_kept, IsChargedFrom, charged_at}
 use Rattle.op_laws.proofs.Lawful.{KeepsLegal, lawful_here}
-use Rattle.op_laws.proofs.Lumens.{lumens_move, lumens_gained, none_issued}
+use Rattle.op_laws.proofs.Lumens.{lumens_move, lumens_told, none_issued}
 use Rattle.op_laws.proofs.Numbers.{still_available}
 use Rattle.op_laws.proofs.Paying.{IsGiven, not_less, given, given_legal, given_left, given_back}
 use Rattle.op_laws.proofs.Reserves.{reserves_of, pays_more, paid_more}
-use Rattle.op_laws.proofs.Standing.{IsKeyed, IsAfter, Leaves, for_one, none_more, is_itself_after, leaves_both}
-use Rattle.op_laws.proofs.Standing.{leaves_as}
-use Rattle.op_laws.proofs.Standing.{keyed_put}
+use Rattle.op_laws.proofs.Holdings.{IsKeyed, none_more, both_more, under_key, for_one, HoldsMore, none_before}
+use Rattle.op_laws.proofs.Holdings.{put_holds}
+use Rattle.op_laws.proofs.Standing.{IsAfter, Leaves, is_itself_after, leaves_both, leaves_as, keyed_put}
 use Rattle.op_laws.proofs.Tests.{passed, went_on, first_passed, neither, went_after_some, went_after_charge}
 
 -- ---- where no account stands
@@ -84,12 +85,8 @@ nobody_at m id none = ap account_of none
 
 -- ---- a new account is put
 
-plus_balance : (n : ℤ) → n ≡ (pos 0 +ℤ n)
-plus_balance n = omega (arith, ints)
-
-new_after : (base : ℕ) (a : AccountEntry) → pos 0 ≤ℤ available a base → IsAfter base a.balance None (Some a)
+new_after : (base : ℕ) (a : AccountEntry) → pos 0 ≤ℤ available a base → IsAfter base None (Some a)
 new_after base a covered = record {
-  lumens = plus_balance a.balance;
   covered = λ b is. let same : a ≡ b = cc in inl (subst (λ x. pos 0 ≤ℤ available x base) same covered);
 }
 
@@ -112,17 +109,26 @@ module _ (base : ℕ) (m : EntryMap) (keyed : IsKeyed m) (e : LedgerEntry) (a : 
       let keys : key.Account id ≡ key.Account a.account_id = same ∙ its_key in
       apart (cc)))
 
+  new_held : (x : Asset) → part (held x) (get m (key_of e)) ≡ pos 0
+  new_held x = ap (part (held x)) (ap (get m) its_key ∙ absent_at m a.account_id keyed none)
+
+  new_holds : HoldsMore (for_one a.account_id a.balance) m now
+  new_holds = subst (λ q. HoldsMore (under_key q (λ x. lumens_of x a.balance)) m now) its_key
+      (put_holds m e (λ x. lumens_of x a.balance) (λ x. ap (held_in x) is
+      ∙ sym (ap (λ n. n +ℤ lumens_of x a.balance) (new_held x) ∙ none_before (lumens_of x a.balance))))
+
   pub new_account_left : Leaves base (for_one a.account_id a.balance) m now
   new_account_left = record {
     each = λ id. elim (is_same_account a.account_id id) as (λ b. is_same_account a.account_id id ≡ b
-        → IsAfter base (if b then a.balance else pos 0) (account_at m id) (account_at now id)) [
-          | true ↦ λ tied. subst (λ x. IsAfter base a.balance (account_at m x) (account_at now x))
+        → IsAfter base (account_at m id) (account_at now id)) [
+          | true ↦ λ tied. subst (λ x. IsAfter base (account_at m x) (account_at now x))
               (same_account a.account_id id tied)
-              (subst (λ o. IsAfter base a.balance o (account_at now a.account_id)) (sym none)
-              (subst (λ o. IsAfter base a.balance None o) (sym here) (new_after base a covered)))
-          | false ↦ λ apart. subst (λ o. IsAfter base (pos 0) (account_at m id) o)
+              (subst (λ o. IsAfter base o (account_at now a.account_id)) (sym none)
+              (subst (λ o. IsAfter base None o) (sym here) (new_after base a covered)))
+          | false ↦ λ apart. subst (λ o. IsAfter base (account_at m id) o)
               (sym (beside id (apart_accounts a.account_id id apart))) (is_itself_after base (account_at m id))
         ] refl;
+    holds = new_holds;
     stand = λ id stands. elim (is_same_account a.account_id id) as (λ b. is_same_account a.account_id id ≡ b
         → HasAccount now id) [
           | true ↦ λ tied. (a, ap (account_at now) (sym (same_account a.account_id id tied)) ∙ here)
@@ -184,9 +190,6 @@ record IsAdded (ctx : Ctx) (op : CreateAccountOp) (m new : EntryMap) : Type 0 wh
   others : (id : AccountId) (b : AccountEntry) → op.destination ≢ id → account_at new id ≡ Some b
       → IsChargedFrom ctx.base_reserve m id b
 
-plus_for_one : (n : ℤ) → (pos 0 +ℤ n) ≡ n
-plus_for_one n = omega (arith, ints)
-
 module _ (ctx : Ctx) (op : CreateAccountOp) (m : EntryMap) (keyed : IsKeyed m) (low : pos 0 ≤ℤ op.starting_balance)
     (none : account_at m op.destination ≡ None) where
   abbrev entry : LedgerEntry
@@ -219,11 +222,12 @@ module _ (ctx : Ctx) (op : CreateAccountOp) (m : EntryMap) (keyed : IsKeyed m) (
       (pays_more 2 stands.0).means.id (key.Account op.destination) (absent_at m op.destination keyed none)) in
       let gone : account_at now b.account_id ≡ None = ap (account_at now) h.means.id ∙ still in
       subst (IsAdded ctx op m) test.1 (record {
-        leaves = leaves_as ctx.base_reserve _ (for_one op.destination op.starting_balance) m (put now e)
+        leaves = leaves_as ctx.base_reserve (both_more none_more (for_one b.account_id b.balance))
+            (for_one op.destination op.starting_balance) m (put now e)
             (leaves_both ctx.base_reserve none_more (for_one b.account_id b.balance) m now (put now e) first
             (new_account_left ctx.base_reserve now first.keyed e b refl gone covered))
-            (λ id. plus_for_one (for_one b.account_id b.balance id)
-            ∙ (λ i. for_one (h.means.id i) (h.means.balance i) id));
+            (λ k x. none_before (for_one b.account_id b.balance k x)
+            ∙ (λ i. for_one (h.means.id i) (h.means.balance i) k x));
         others = λ id c apart there. charged_at ctx.base_reserve 2 (Some x) m keyed id c
             (sym (beside ctx.base_reserve now first.keyed e b refl gone covered id
             (λ same. apart (sym h.means.id ∙ same))) ∙ there);
@@ -369,12 +373,13 @@ module _ (ctx : Ctx) (op : CreateAccountOp) (m : EntryMap) (done : Done) (under 
         moves = lumens_move src dest amount ∷ [];
       } in
       let same : made ≡ done = cc in
+      let more = both_more (for_one dest amount) (for_one src (neg_ℤ amount)) in
       subst (IsLawful ctx m) same
-      (lawful_here ctx m under _ (answer create.Success) new (lumens_move src dest amount ∷ [])
+      (lawful_here ctx m under more (answer create.Success) new (lumens_move src dest amount ∷ [])
       (created_legal added new first.1 h (amount_fits added new left h))
-      (leaves_both ctx.base_reserve _ _ m added new left.leaves
+      (leaves_both ctx.base_reserve (for_one dest amount) (for_one src (neg_ℤ amount)) m added new left.leaves
       (given_left ctx.base_reserve src amount added new h left.leaves.keyed))
-      (lumens_gained src dest amount) (none_issued src dest amount))
+      (lumens_told src dest amount) (none_issued src dest amount))
 
 pub create_account_is_lawful : AreLawful create_account
 create_account_is_lawful ctx op m done under stands is =

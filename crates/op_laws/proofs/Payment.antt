@@ -26,13 +26,15 @@ use Rattle.op_payment.specs.Payment.{answer, credit_result, debit_result, destin
 use Rattle.op_payment.specs.Payment.{payment}
 use Rattle.op_payment.specs.Payment.{payment_move, payment_tests, taken_and_given}
 use Rattle.op_laws.specs.Laws.{IsLawful, AreLawful}
-use Rattle.op_laws.specs.Moves.{gained, issued}
+use Rattle.op_laws.specs.Moves.{issued}
 use Rattle.op_laws.specs.Underway.{IsUnderway}
-use Rattle.op_laws.proofs.Amounts.{lumens_more, unless_issuer, shifts_as, shifts_both, amount_taken, amount_given}
+use Rattle.op_laws.proofs.Amounts.{unless_issuer, shifts_as, shifts_both, amount_taken, amount_given}
 use Rattle.op_laws.proofs.IssuedMoves.{same_issuer, issued_so, issued_by_move}
 use Rattle.op_laws.proofs.Lawful.{lawful_here, lawful_with, shifted_after}
-use Rattle.op_laws.proofs.Lumens.{lumens_move, lumens_gained, nothing_gained, none_issued}
-use Rattle.op_laws.proofs.Standing.{none_more, leaves_itself, leaves_both}
+use Rattle.op_laws.proofs.Lumens.{lumens_move, itself_told, none_issued}
+use Rattle.op_laws.proofs.Holdings.{none_more}
+use Rattle.op_laws.proofs.Standing.{leaves_itself, leaves_both}
+use Rattle.op_laws.proofs.Told.{more_for, account_place, moved, move_tells}
 use Rattle.op_laws.proofs.Tests.{went_on, first_passed, neither, went_after_step}
 
 pub above : (n : ℤ) → int_le n (pos 0) ≡ false → pos 0 ≤ℤ n
@@ -43,14 +45,6 @@ above n h = grind (arith, ints)
 -- an account pays another one an amount of an asset
 abbrev pub asset_move : (from to : AccountId) → Asset → ℤ → Move
 asset_move from to held n = record { from = OfAccount from; to = OfAccount to; asset = held; amount = n }
-
-paid_lumens : (from to : AccountId) (held : Asset) (n : ℤ) (id : AccountId)
-    → (lumens_more held to n id +ℤ lumens_more held from (neg_ℤ n) id)
-    ≡ gained asset.Native id (asset_move from to held n ∷ [])
-unfolding gained
-paid_lumens from to asset.Native n id = lumens_gained from to n id
-paid_lumens from to (asset.Alphanum4 code issuer) n id = refl
-paid_lumens from to (asset.Alphanum12 code issuer) n id = refl
 
 paid_of : (b f t : Bool) (n : ℤ)
     → ((if t then pos 0 else (if b then n else pos 0)) +ℤ (if f then pos 0 else (if b then neg_ℤ n else pos 0)))
@@ -111,7 +105,7 @@ module _ (ctx : Ctx) (op : PaymentOp) (m : EntryMap) (done : Done) (under : IsUn
       (record { result = answer pay.Success; entries = m; ctx = ctx; moves = x ∷ [] })) (sym its_move)
       (lawful_here ctx m under none_more (answer pay.Success) m (lumens_move from to op.amount ∷ [])
       (λ v sum legal. legal) (leaves_itself ctx.base_reserve m under.settled.legal.keyed)
-      (nothing_gained from to op.amount same) (none_issued from to op.amount)))
+      (itself_told from to op.amount same) (none_issued from to op.amount)))
 
   taken_given : taken_and_given ctx op m ≡ Ok done → IsLawful ctx m done
   taken_given is =
@@ -122,14 +116,17 @@ module _ (ctx : Ctx) (op : PaymentOp) (m : EntryMap) (done : Done) (under : IsUn
       one.shifts
       in
       let two = amount_given ctx ctx.id_pool first.0 now_legal from op.amount low second.0 op.asset second.1 in
-      made second.0 second.2 (lawful_with ctx m under _ (answer pay.Success) second.0 (payment_move ctx op ∷ [])
+      let more = moved op.asset (OfAccount from) (OfAccount to) op.amount in
+      made second.0 second.2 (lawful_with ctx m under more (answer pay.Success) second.0 (payment_move ctx op ∷ [])
       (shifts_as ctx.id_pool
       (λ x. unless_issuer x op.asset to op.amount +ℤ unless_issuer x op.asset from (neg_ℤ op.amount))
       (λ x. issued x (payment_move ctx op ∷ [])) m second.0 (λ x. paid_issued x op.asset from to op.amount)
       (shifts_both ctx.id_pool (λ x. unless_issuer x op.asset to op.amount)
       (λ x. unless_issuer x op.asset from (neg_ℤ op.amount)) m first.0 second.0 one.shifts two.shifts))
-      (leaves_both ctx.base_reserve _ _ m first.0 second.0 one.left two.left)
-      (paid_lumens from to op.asset op.amount))
+      (leaves_both ctx.base_reserve (more_for op.asset (OfAccount to) op.amount)
+      (more_for op.asset (OfAccount from) (neg_ℤ op.amount)) m first.0 second.0 one.left two.left)
+      (move_tells op.asset (OfAccount from) (OfAccount to) op.amount (account_place op.asset from)
+      (account_place op.asset to)))
 
   by_destination : (b : Bool) → is_to_itself ctx op ≡ b
       → (if b then paid ctx op m else unless_refused (destination_tests op m) (taken_and_given ctx op m)) ≡ Ok done

@@ -1,5 +1,5 @@
 -- Lumens that are paid, and sequence numbers: what they leave settled.
-use Rattle.std.proofs.Common.{◌≡◌, ◌≢◌, refl, sym, ◌∙◌, ℕ, Some, arith}
+use Rattle.std.proofs.Common.{◌≡◌, ◌≢◌, refl, sym, ◌∙◌, ℕ, [], Some, arith}
 use Rattle.std.proofs.lemmas.Int.{ints}
 use Rattle.std.specs.Prelude.{ℤ, pos, ◌+ℤ◌, ◌-ℤ◌, ◌≤ℤ◌}
 use Rattle.ledger_types.specs.declared.ids.AccountId.{AccountId}
@@ -23,8 +23,10 @@ use Rattle.legal_rules.proofs.Legality.{view_of}
 use Rattle.legal_rules.proofs.Paid.{debit_legal}
 use Rattle.legal_rules.proofs.Steps.{legal_as}
 use Rattle.op_laws.specs.Steps.{FeesSettle, SeqNumsSettle}
+use Rattle.op_laws.proofs.Holdings.{none_more, account_same}
 use Rattle.op_laws.proofs.Issued.{none_moved}
 use Rattle.op_laws.proofs.Settled.{entries_legal, owing_of}
+use Rattle.op_laws.proofs.Told.{told_by, tells_nothing}
 
 -- ---- fees
 
@@ -97,4 +99,6 @@ seq_nums_settle id_pool m id a n settled stands more is =
         legal = entries_legal (view m) id_pool _ _ (legal asset.Native);
       };
       supply = λ x. (legal x).supply ∙ sym (none_moved x (total (held x) m));
+      told = told_by none_more m (with_seq_num id n m) []
+          (account_same m settled.legal.keyed id (numbered n) a stands refl refl) tells_nothing;
     }

@@ -42,7 +42,8 @@ use Rattle.op_laws.proofs.Charges.{exchanged_kept, exchange_kept, payers_had, ne
 use Rattle.op_laws.proofs.Charges.{sponsor_kept}
 use Rattle.op_laws.proofs.Lawful.{lawful_still}
 use Rattle.op_laws.proofs.Reserves.{next_edited}
-use Rattle.op_laws.proofs.Standing.{IsKeyed, IsNext, Leaves, none_more, leaves_itself, keeps_both}
+use Rattle.op_laws.proofs.Holdings.{IsKeyed, none_more}
+use Rattle.op_laws.proofs.Standing.{IsNext, Leaves, leaves_itself, keeps_both}
 use Rattle.op_laws.proofs.Tests.{passed, went_on, went_after_some, went_after_charge}
 
 module _ (ctx : Ctx) (m new : EntryMap) (keyed : IsKeyed m) where

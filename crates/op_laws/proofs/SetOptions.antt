@@ -71,7 +71,8 @@ use Rattle.op_laws.proofs.Reserves.{pays_more, subentry_charged, next_edited}
 use Rattle.op_laws.proofs.Signers.{without_means}
 use Rattle.op_laws.proofs.Signers.{signer_kept}
 use Rattle.op_laws.proofs.SignerWeights.{weighed_legal, weighed_left}
-use Rattle.op_laws.proofs.Standing.{IsKeyed, IsNext, Leaves, none_more, leaves_itself, keeps_both, account_kept}
+use Rattle.op_laws.proofs.Holdings.{IsKeyed, none_more}
+use Rattle.op_laws.proofs.Standing.{IsNext, Leaves, leaves_itself, keeps_both, account_kept}
 use Rattle.op_laws.proofs.Tests.{passed, went_on, first_passed, neither, went_after, went_after_some, went_after_charge}
 
 -- ---- keys of signers

@@ -1,5 +1,5 @@
 -- Signers that are removed: what they leave of accounts, and settled.
-use Rattle.std.proofs.Common.{◌≡◌, refl, sym, subst, ◌∙◌, ℕ, ◌≤◌, List, Option, Some}
+use Rattle.std.proofs.Common.{◌≡◌, refl, sym, subst, ◌∙◌, ℕ, ◌≤◌, List, [], Option, Some}
 use Rattle.std.proofs.Common.{None}
 use Rattle.std.specs.Prelude.{ℤ, pos}
 use Rattle.std.specs.List.{remove}
@@ -31,7 +31,9 @@ use Rattle.op_laws.proofs.Charges.{discharged_kept}
 use Rattle.op_laws.proofs.Reserves.{no_subentry_means, next_edited}
 use Rattle.op_laws.proofs.Issued.{none_moved}
 use Rattle.op_laws.proofs.Settled.{entries_legal, owing_of}
-use Rattle.op_laws.proofs.Standing.{IsNext, Leaves, none_more, leaves_itself}
+use Rattle.op_laws.proofs.Told.{told_by, tells_nothing}
+use Rattle.op_laws.proofs.Holdings.{none_more}
+use Rattle.op_laws.proofs.Standing.{IsNext, Leaves, leaves_itself}
 
 -- the next account without a signer
 unsigned_next : (base place : ℕ) (s : Option AccountId) (a : AccountEntry)
@@ -86,4 +88,6 @@ preauths_settle id_pool m id hash settled =
         legal = entries_legal (view m) id_pool sum new (legal asset.Native);
       };
       supply = λ x. (legal x).supply ∙ sym (none_moved x (total (held x) m));
+      told = told_by none_more m new []
+          (signer_kept (view m) id_pool sum m settled.legal 0 id (PreAuthTx hash)).holds tells_nothing;
     }

@@ -27,8 +27,10 @@ use Rattle.op_sponsor.specs.EndSponsoringFutureReserves as ends
 use Rattle.op_laws.specs.Laws.{IsLawful, AreLawful}
 use Rattle.op_laws.specs.Underway.{IsUnderway}
 use Rattle.op_laws.proofs.Lawful.{lawful_by}
-use Rattle.op_laws.proofs.Lumens.{no_moves, nothing_issued}
-use Rattle.op_laws.proofs.Standing.{none_more, is_itself_after}
+use Rattle.op_laws.proofs.Lumens.{nothing_issued}
+use Rattle.op_laws.proofs.Holdings.{none_more, holds_itself}
+use Rattle.op_laws.proofs.Standing.{is_itself_after}
+use Rattle.op_laws.proofs.Told.{tells_nothing}
 use Rattle.op_laws.proofs.Tests.{went_on, first_passed, went_after_some}
 
 -- ---- other sponsorships
@@ -48,7 +50,8 @@ opened_so ctx m under result opened sound =
       entries = m;
       ctx = record ctx { sponsorships = opened };
       moves = [];
-    }) (λ v sum legal. legal) (λ id. is_itself_after ctx.base_reserve (account_at m id)) no_moves nothing_issued
+    }) (λ v sum legal. legal) (λ id. is_itself_after ctx.base_reserve (account_at m id)) (holds_itself m) tells_nothing
+    nothing_issued
     (record {
       seq = refl;
       version = refl;

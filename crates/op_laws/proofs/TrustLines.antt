@@ -28,6 +28,7 @@ use Rattle.entry_slots.specs.Accounts.{account_at, HasAccount}
 use Rattle.entry_slots.specs.EntrySponsor.{sponsor_of}
 use Rattle.entry_slots.specs.LineExtensions.{line_liabilities, use_count}
 use Rattle.entry_slots.specs.Lines.{line_in, line_of, line_at, with_line}
+use Rattle.entry_sums.specs.Sums.{part}
 use Rattle.reserve_rules.specs.Reserve.{greatest_i64}
 use Rattle.sponsor_rules.specs.declared.context.Ctx.{Ctx}
 use Rattle.sponsor_rules.specs.Adding.{map_after_adding}
@@ -41,7 +42,7 @@ use Rattle.legal_rules.specs.Books.{View}
 use Rattle.legal_rules.specs.Legal.{view}
 use Rattle.legal_rules.specs.Owing.{weighed, nothing_owed, beside_reserves, IsEntryLegal}
 use Rattle.legal_rules.specs.Ranges.{IsHeldIn, AreLineFlags, IsTrustLineInRange}
-use Rattle.legal_rules.specs.Supply.{of_asset, of_line}
+use Rattle.legal_rules.specs.Supply.{of_asset, of_line, held as held_of}
 use Rattle.legal_rules.proofs.Given.{sponsors_ready}
 use Rattle.legal_rules.proofs.Kept.{subentry_added_so}
 use Rattle.legal_rules.proofs.Numbers.{plus_nothing}
@@ -61,9 +62,11 @@ use Rattle.op_laws.specs.Underway.{IsUnderway}
 use Rattle.op_laws.proofs.Amounts.{shifts_as}
 use Rattle.op_laws.proofs.Charges.{subentry_kept, discharged_kept, erased_kept}
 use Rattle.op_laws.proofs.Lawful.{KeepsLegal, lawful_still, lawful_with}
-use Rattle.op_laws.proofs.LineChanges.{line_legal, line_shifted, line_left}
-use Rattle.op_laws.proofs.Lumens.{no_moves, nothing_issued}
-use Rattle.op_laws.proofs.Standing.{IsKeyed, Leaves, none_more, keeps_both}
+use Rattle.op_laws.proofs.LineChanges.{line_legal, line_shifted, line_kept}
+use Rattle.op_laws.proofs.Lumens.{nothing_issued}
+use Rattle.op_laws.proofs.Holdings.{IsKeyed, none_more, still_holds}
+use Rattle.op_laws.proofs.Standing.{Leaves, keeps_both}
+use Rattle.op_laws.proofs.Told.{tells_nothing}
 use Rattle.op_laws.proofs.Tests.{went_on, first_passed, neither, went_after_some, went_after_charge}
 
 -- ---- keys
@@ -274,7 +277,8 @@ module _ (ctx : Ctx) (m : EntryMap) (under : IsUnderway ctx m) (stands : HasAcco
         subst (IsLawful ctx m) same (lawful_still ctx m under (spec.answer trust.Success) went.0
         (added_legal went.0 none went.1)
         (subentry_kept ctx m src (line_multiplicity its) entry went.0 under.settled.legal.keyed
-        (λ id at. absurd (cc)) went.1))
+        (λ id at. absurd (cc)) (λ x. nothing_held x its)
+        (λ x. ap (part (held_of x)) (no_line m src its under.settled.legal.keyed none)) went.1))
 
   -- ---- another limit
 
@@ -310,8 +314,9 @@ module _ (ctx : Ctx) (m : EntryMap) (under : IsUnderway ctx m) (stands : HasAcco
           flags = was.range.flags;
           uses = was.range.uses;
         }) was.bound))
-        (line_left ctx.id_pool m src held issued_asset (spec.with_limit limit) t there ctx.base_reserve
-        under.settled.legal.keyed) no_moves)
+        (line_kept ctx.id_pool m src held issued_asset (spec.with_limit limit) t there
+        (record { id = refl; asset = refl; liabilities = refl; uses = refl }) ctx.base_reserve under.settled.legal.keyed
+        refl) tells_nothing)
 
     -- ---- removing
 
@@ -372,7 +377,9 @@ module _ (ctx : Ctx) (m : EntryMap) (under : IsUnderway ctx m) (stands : HasAcco
             let first = discharged_kept ctx.base_reserve times t.account_id s m under.settled.legal.keyed had
             (without_subentry times s) (λ a next. next) in
             keeps_both ctx.base_reserve m now (erase now its_key) first
-            (erased_kept ctx.base_reserve now its_key first.keyed (λ id same. absurd (cc)))
+            (erased_kept ctx.base_reserve now its_key first.keyed (λ id same. absurd (cc))
+            (λ x. still_holds m now first.holds its_key x ∙ ap (part (held_of x)) at
+            ∙ ap (of_line x t.asset) its_balance ∙ nothing_held x t.asset))
 
     removed_lawful : (done : Done) → int_eq limit (pos 0) ≡ true → spec.removed ctx held t m ≡ Ok done
         → IsLawful ctx m done

@@ -1,5 +1,5 @@
--- The laws of operations: that each leaves a legal state, moves what its moves say, makes no amount, and leaves each
--- account what it needs.
+-- The laws of operations: that each leaves a legal state, moves what its moves say and nothing else, makes and destroys
+-- an amount where its issuer gives or takes it alone, and leaves each account at least 0 available, or what it had.
 use Rattle.std.specs.Prelude.{◌≡◌, ◌≤◌, pos, ◌+ℤ◌, ◌≤ℤ◌, ◌⊎◌, length, Some, Ok}
 use Rattle.ledger_types.specs.declared.ids.AccountId.{AccountId}
 use Rattle.ledger_types.specs.declared.account.AccountEntry.{AccountEntry}
@@ -19,7 +19,8 @@ use Rattle.legal_rules.specs.Supply.{held}
 use Rattle.op_form.specs.Done.{Done, Attempt}
 use Rattle.op_laws.specs.AnyOperation.{any_operation}
 use Rattle.op_laws.specs.Underway.{IsUnderway, AreDrawn, KeepsTerms}
-use Rattle.op_laws.specs.Moves.{gained, issued, lumens_at}
+use Rattle.op_form.specs.Done.{OfAccount}
+use Rattle.op_laws.specs.Moves.{gained, issued, lumens_at, AreTold}
 
 -- an account's available balance is at least 0, or at least what it was
 abbrev pub IsCovered : Ctx → EntryMap → AccountEntry → Type 0
@@ -35,7 +36,10 @@ pub record IsLawful (ctx : Ctx) (m : EntryMap) (done : Done) : Type 0 where
   pub terms : KeepsTerms ctx done.ctx
   pub ids : AreDrawn 1 ctx.id_pool done.ctx.id_pool
   -- each account has what it had and what the moves give it
-  pub lumens : (id : AccountId) → lumens_at done.entries id ≡ lumens_at m id +ℤ gained asset.Native id done.moves
+  pub lumens : (id : AccountId)
+      → lumens_at done.entries id ≡ lumens_at m id +ℤ gained asset.Native (OfAccount id) done.moves
+  -- and so has each holder of each asset
+  pub told : AreTold m done.entries done.moves
   -- the supply changes by what is issued and redeemed
   pub supply : (x : Asset) → total (held x) done.entries ≡ total (held x) m +ℤ issued x done.moves
   pub reserves : (id : AccountId) (account : AccountEntry) → account_at done.entries id ≡ Some account

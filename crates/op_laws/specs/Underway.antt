@@ -11,7 +11,7 @@ use Rattle.legal_rules.specs.Sponsorships.{AreSponsorshipsSound}
 use Rattle.legal_rules.specs.Supply.{held}
 use Rattle.op_form.specs.Sequences.{last_seq}
 use Rattle.op_form.specs.Done.{Move}
-use Rattle.op_laws.specs.Moves.{issued}
+use Rattle.op_laws.specs.Moves.{issued, AreTold}
 
 -- The entries are those of a legal state, but that nothing is said of the header. Offers have ids up to `id_pool`.
 abbrev pub AreEntriesLegal : (id_pool : ℕ) → EntryMap → Type 0
@@ -21,10 +21,12 @@ AreEntriesLegal id_pool m = IsLegalOwing (view m) id_pool nothing_owed (total (h
 pub record IsSettled (id_pool : ℕ) (m : EntryMap) : Type 0 where
   pub legal : AreEntriesLegal id_pool m
 
--- what a part of a transaction leaves: settled entries, whose supply of each asset these moves changed
+-- what a part of a transaction leaves: settled entries, whose supply of each asset, and what each holder has of it,
+-- these moves changed
 pub record LeavesSettled (id_pool : ℕ) (old new : EntryMap) (moves : List Move) : Type 0 where
   pub settled : IsSettled id_pool new
   pub supply : (x : Asset) → total (held x) new ≡ total (held x) old +ℤ issued x moves
+  pub told : AreTold old new moves
 
 -- what holds before every operation of a transaction
 pub record IsUnderway (ctx : Ctx) (m : EntryMap) : Type 0 where

@@ -1,5 +1,6 @@
-//! Laws of operations, over their definitions: each leaves a legal state, moves what its moves say, makes no amount,
-//! and leaves each account what it needs.
+//! Laws of operations, over their definitions: each leaves a legal state, moves what its moves say and nothing else,
+//! changes the supply of an asset where its issuer gives or takes it alone, and leaves each account at least 0
+//! available, or what it had.
 #![tactic(auto)]
 
 pub mod operations;

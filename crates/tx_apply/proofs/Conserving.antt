@@ -21,13 +21,14 @@ use Rattle.op_laws.proofs.Lawful.{none_drawn}
 use Rattle.op_laws.proofs.Issued.{lumens_not_issued}
 use Rattle.tx_apply.specs.Built.{operations_of}
 use Rattle.tx_apply.specs.Laws.{operation_total, AreFit, AreAllFit, AreLawful, CanClose, TransactionsConserve}
+use Rattle.tx_apply.specs.Laws.{Turn, turns, turns_of, IsTurnConserved, TurnsConserve}
 use Rattle.tx_apply.specs.Laws.{IsConserved, SetsConserve}
 use Rattle.tx_apply.specs.Laws.{OperationsAreLawful}
 use Rattle.tx_apply.specs.Places.{envelopes_at}
 use Rattle.tx_apply.specs.Running.{Step}
 use Rattle.tx_apply.specs.Set.{Closing, envelope_applied, SetApplied, none_applied, all_applied, envelopes_in_order}
-use Rattle.tx_apply.specs.Set.{fees_taken_of, set_applied}
-use Rattle.tx_apply.proofs.TakenFees.{AreTaken, all_taken}
+use Rattle.tx_apply.specs.Set.{fees_taken_of, set_applied, fee_pool_after}
+use Rattle.tx_apply.proofs.TakenFees.{AreTaken, all_taken, told_all, all_told_twice}
 use Rattle.tx_apply.proofs.Settling.{leaves_itself, leaves_twice, no_steps, drawn_twice}
 use Rattle.tx_apply.proofs.Sound.{envelope_sound}
 
@@ -71,6 +72,9 @@ none_sound count id_pool m settled = record {
   steps = no_steps;
 }
 
+none_added : (after before moved : ℤ) → after ≡ (before +ℤ moved) → moved ≡ pos 0 → after ≡ before
+none_added after before moved is none = omega (arith, ints)
+
 module _ (laws : TransactionLaws) (closing : Closing) (seq : closing.header.ledger_seq < 2147483647) where
   pub all_sound : (id_pool : ℕ) (envelopes : List TransactionEnvelope) (fees : List ℤ) (m : EntryMap)
       → IsSettled id_pool m → AreAllFit envelopes
@@ -93,6 +97,24 @@ module _ (laws : TransactionLaws) (closing : Closing) (seq : closing.header.ledg
             sound.steps rest.steps;
       }
 
+  -- ---- each transaction
+
+  pub turns_conserved : (id_pool : ℕ) (envelopes : List TransactionEnvelope) (m : EntryMap) → IsSettled id_pool m
+      → AreAllFit envelopes → All (λ (turn : Turn). IsTurnConserved closing turn) (turns closing id_pool envelopes m)
+  unfolding turns
+  turns_conserved id_pool [] m settled fit = All-nil (λ (turn : Turn). IsTurnConserved closing turn)
+  turns_conserved id_pool (whole ∷ others) m settled fit =
+      let P = λ (w : TransactionEnvelope). AreFit (operations_of w) in
+      let first = envelope_applied closing id_pool whole m in
+      let sound = envelope_sound laws closing id_pool whole m settled seq (first_of P whole others fit) in
+      All-cons (λ (turn : Turn). IsTurnConserved closing turn)
+      (record { whole = whole; id_pool = id_pool; entries = m }) (turns closing first.id_pool others first.entries)
+      (record {
+        lumens = none_added _ _ _ (sound.left.supply asset.Native) (lumens_not_issued first.moves);
+        leaves = sound.left;
+      })
+      (turns_conserved first.id_pool others first.entries sound.left.settled (rest_of P whole others fit))
+
 pub transactions_conserve : TransactionLaws → TransactionsConserve
 transactions_conserve laws closing id_pool whole m settled seq fit =
     (envelope_sound laws closing id_pool whole m settled seq fit).left
@@ -110,11 +132,14 @@ module _ (laws : TransactionLaws) (settles : LegalSettles) (closing : Closing) (
       m
       (settles closing.header m can.legal)
 
+  set_fit : AreAllFit (envelopes_in_order set)
+  set_fit = all_at (λ (w : TransactionEnvelope). AreFit (operations_of w)) set.txs (apply_order_of set) can.fit
+
   sound : AreSound (operation_total (envelopes_in_order set)) closing.header.id_pool
       (fees_taken_of closing set m).entries (set_applied closing set m)
   sound = all_sound laws closing can.seq closing.header.id_pool (envelopes_in_order set)
       (fees_taken_of closing set m).fees (fees_taken_of closing set m).entries fees_sound.settled
-      (all_at (λ (w : TransactionEnvelope). AreFit (operations_of w)) set.txs (apply_order_of set) can.fit)
+      set_fit
 
   pub set_conserved : IsConserved closing set m
   set_conserved = record {
@@ -125,13 +150,27 @@ module _ (laws : TransactionLaws) (settles : LegalSettles) (closing : Closing) (
         (owing_nothing closing.header m can.legal).supply;
     supply = λ x apart. sound.left.supply x
         ∙ ap (λ (n : ℤ). n +ℤ issued x (set_applied closing set m).moves) (fees_sound.others x apart);
+    told =
+        let fees = fees_taken_of closing set m in
+        let applied = set_applied closing set m in
+        let pool = fee_pool_after closing set m in
+        all_told_twice closing.header.fee_pool m pool fees.entries pool applied.entries fees.moves applied.moves
+        (fees_sound.told closing.header.fee_pool)
+        (told_all pool fees.entries applied.entries applied.moves sound.left.told);
   }
+
+  pub turns_are_conserved : All (λ (turn : Turn). IsTurnConserved closing turn) (turns_of closing set m)
+  turns_are_conserved = turns_conserved laws closing can.seq closing.header.id_pool (envelopes_in_order set)
+      (fees_taken_of closing set m).entries fees_sound.settled set_fit
 
   pub set_lawful : AreLawful (set_applied closing set m).steps
   set_lawful = sound.steps
 
 pub sets_conserve : TransactionLaws → LegalSettles → SetsConserve
 sets_conserve laws settles closing set m can = set_conserved laws settles closing set m can
+
+pub turns_conserve : TransactionLaws → LegalSettles → TurnsConserve
+turns_conserve laws settles closing set m can = turns_are_conserved laws settles closing set m can
 
 pub operations_are_lawful : TransactionLaws → LegalSettles → OperationsAreLawful
 operations_are_lawful laws settles closing set m can = set_lawful laws settles closing set m can

@@ -75,7 +75,7 @@ pub record GoesOn (count first : ℕ) (m : EntryMap) (ran : Ran) : Type 0 where
 -- what a lawful operation leaves
 left_by : (ctx : Ctx) (m : EntryMap) (done : Done) → IsLawful ctx m done
     → LeavesSettled done.ctx.id_pool m done.entries done.moves
-left_by ctx m done lawful = record { settled = lawful.legal.settled; supply = lawful.supply }
+left_by ctx m done lawful = record { settled = lawful.legal.settled; supply = lawful.supply; told = lawful.told }
 
 pub goes_on : AllLawful → (ctx : Ctx) (source : AccountId) (place : ℕ) (operations : List Operation) (m : EntryMap)
     → AreFit operations → IsUnderway ctx m

@@ -14,12 +14,14 @@ use Rattle.op_laws.specs.Moves.{issued}
 use Rattle.op_laws.specs.Underway.{IsSettled, LeavesSettled, AreDrawn}
 use Rattle.op_laws.proofs.Lawful.{none_drawn}
 use Rattle.op_laws.proofs.Issued.{none_moved, issued_behind, plus_assoc}
+use Rattle.op_laws.proofs.Told.{told_itself, told_twice}
 use Rattle.tx_apply.specs.Laws.{AreLawful}
 use Rattle.tx_apply.specs.Running.{Step}
 use Rattle.tx_apply.specs.Transaction.{Applied, undone, ended}
 
 pub leaves_itself : (id_pool : ℕ) (m : EntryMap) → IsSettled id_pool m → LeavesSettled id_pool m m []
-leaves_itself id_pool m settled = record { settled = settled; supply = λ x. sym (none_moved x (total (held x) m)) }
+leaves_itself id_pool m settled =
+    record { settled = settled; supply = λ x. sym (none_moved x (total (held x) m)); told = told_itself m }
 
 -- one behind the other
 pub leaves_twice : (between id_pool : ℕ) (a b c : EntryMap) (moves more : List Move) → LeavesSettled between a b moves
@@ -29,6 +31,7 @@ leaves_twice between id_pool a b c moves more first next = record {
   supply = λ x. next.supply x ∙ ap (λ n. n +ℤ issued x more) (first.supply x)
       ∙ plus_assoc (total (held x) a) (issued x moves) (issued x more)
       ∙ ap (λ n. total (held x) a +ℤ n) (sym (issued_behind x moves more));
+  told = told_twice a b c moves more first.told next.told;
 }
 
 -- what holds of a transaction, or of a part of it

@@ -1,11 +1,12 @@
 -- Fees that are taken: what they leave, and which are left.
-use Rattle.std.proofs.Common.{◌≡◌, ◌≢◌, ℕ, suc, ◌+◌, ◌<◌, ◌≤◌, ℤ, pos, negsuc, neg_ℤ, ◌+ℤ◌, ◌≤ℤ◌, List, [], ◌∷◌, ◌++◌}
-use Rattle.std.proofs.Common.{length}
+use Rattle.std.proofs.Common.{◌≡◌, ◌≢◌, ℕ, suc, ◌+◌, ◌<◌, ◌≤◌, ℤ, pos, negsuc, neg_ℤ, ◌+ℤ◌, ◌-ℤ◌, ◌≤ℤ◌, Bool, true}
+use Rattle.std.proofs.Common.{false, ◌&&◌, if◌then◌else◌, List, [], ◌∷◌, ◌++◌, length}
 use Rattle.std.proofs.Common.{get_or, drop, min, unsigned_abs, Option, Some, None, refl, sym, ap, subst, ◌∙◌}
 use Rattle.std.proofs.Common.{append_assoc, arith}
 use Rattle.std.proofs.lemmas.Int.{ints}
 use Rattle.std.proofs.lemmas.List.{append-nil, drop_all}
 use Rattle.std.specs.FinMap.{get}
+use Rattle.std.specs.Ordering.{is_eq}
 use Rattle.ledger_types.specs.declared.ids.AccountId.{AccountId}
 use Rattle.ledger_types.specs.declared.asset.Asset.{Asset}
 use Rattle.ledger_types.specs.declared.asset.Asset.TheVariants as asset
@@ -15,6 +16,7 @@ use Rattle.ledger_types.specs.declared.entry.LedgerEntryBody.{LedgerEntryBody}
 use Rattle.ledger_types.specs.declared.entry.LedgerEntryBody.TheVariants as body
 use Rattle.ledger_types.specs.declared.header.LedgerHeader.{LedgerHeader}
 use Rattle.ledger_types.specs.declared.key.LedgerKey.TheVariants as key
+use Rattle.ledger_types.specs.KeyOrder.{asset_cmp}
 use Rattle.op_types.specs.declared.transaction.TransactionEnvelope.{TransactionEnvelope}
 use Rattle.entry_map.specs.EntryMap.{EntryMap}
 use Rattle.entry_map.specs.Undo.{Undo, with_current}
@@ -26,11 +28,16 @@ use Rattle.fee_rules.specs.Fees.{fee_charged}
 use Rattle.reserve_rules.specs.Reserve.{greatest_i64}
 use Rattle.legal_rules.specs.Payments.{paid, with_paid}
 use Rattle.legal_rules.specs.Supply.{held, lumens_of}
-use Rattle.op_laws.specs.Moves.{lumens_in}
+use Rattle.op_form.specs.Done.{Holder, OfAccount, FeePool, Move}
+use Rattle.op_laws.specs.Moves.{is_holder, gained, holding, is_issuer, lumens_in, place_of, AreTold}
 use Rattle.op_laws.specs.Steps.{TransactionLaws}
 use Rattle.op_laws.specs.Underway.{IsSettled}
-use Rattle.tx_apply.specs.Fees.{fee_of, map_after_fee, FeesTaken, behind_fee, fees_taken, sum_of}
-use Rattle.tx_apply.specs.Laws.{FeesConserve}
+use Rattle.op_laws.proofs.Holdings.{none_more, for_one, HoldsMore, holds_itself, holds_as, no_lumens_more}
+use Rattle.op_laws.proofs.Holdings.{account_holds}
+use Rattle.op_laws.proofs.Issued.{plus_assoc}
+use Rattle.op_laws.proofs.Told.{more_at, told_at, told_itself, gained_twice, account_place, end_tells}
+use Rattle.tx_apply.specs.Fees.{fee_of, map_after_fee, fee_move, FeesTaken, behind_fee, fees_taken, sum_of}
+use Rattle.tx_apply.specs.Laws.{holding_with, AreAllTold, FeesConserve}
 use Rattle.tx_apply.specs.Places.{envelopes_at}
 use Rattle.tx_apply.proofs.Placed.{first_left}
 
@@ -70,11 +77,12 @@ most balance n low h =
     let same : pos (not_below_0 balance) ≡ balance = not_above balance low in
     subst (λ (b : ℤ). pos n ≤ℤ b) same (grind (arith, ints, h))
 
--- a fee leaves settled entries, of which it takes so many lumens and nothing else
-pub record Keeps (id_pool : ℕ) (m after : EntryMap) (fee : ℤ) : Type 0 where
+-- a fee leaves settled entries, of which it takes so many lumens from an account and nothing else
+pub record Keeps (id_pool : ℕ) (id : AccountId) (m after : EntryMap) (fee : ℤ) : Type 0 where
   pub settled : IsSettled id_pool after
   pub lumens : total (held asset.Native) after ≡ total (held asset.Native) m +ℤ neg_ℤ fee
   pub others : (x : Asset) → x ≢ asset.Native → total (held x) after ≡ total (held x) m
+  pub holds : HoldsMore (for_one id (neg_ℤ fee)) m after
 
 no_fee : (x : ℤ) → x ≡ x +ℤ neg_ℤ (pos 0)
 no_fee x = grind (arith, ints)
@@ -95,7 +103,7 @@ least_of_none n = ap (λ (k : ℕ). pos k) (none n)
 
 keeps_by : TransactionLaws → (id_pool base : ℕ) (envelope : TransactionEnvelope) (m : EntryMap)
     (source : Option AccountEntry) → IsSettled id_pool m → account_at m (fee_source_of envelope) ≡ source
-    → Keeps id_pool m
+    → Keeps id_pool (fee_source_of envelope) m
     (with_paid (fee_source_of envelope) (neg_ℤ (pos (fee_charged base envelope (lumens_in source)))) m)
     (pos (fee_charged base envelope (lumens_in source)))
 keeps_by laws id_pool base envelope m None settled e =
@@ -106,6 +114,11 @@ keeps_by laws id_pool base envelope m None settled e =
       lumens = ap (total (held asset.Native)) same ∙ no_fee (total (held asset.Native) m)
           ∙ ap (λ (c : ℤ). total (held asset.Native) m +ℤ neg_ℤ c) (sym nothing);
       others = λ x apart. ap (total (held x)) same;
+      holds = subst (λ n. HoldsMore (for_one (fee_source_of envelope) (neg_ℤ (pos (fee_charged base envelope (pos 0)))))
+          m n) (sym same)
+          (subst (λ (c : ℤ). HoldsMore (for_one (fee_source_of envelope) (neg_ℤ c)) m m) (sym nothing)
+          (holds_as none_more (for_one (fee_source_of envelope) (pos 0)) m m (holds_itself m)
+          (λ k x. sym (no_lumens_more (fee_source_of envelope) k x))));
     }
 keeps_by laws id_pool base envelope m (Some a) settled e =
     let fee = fee_charged base envelope a.balance in
@@ -119,27 +132,88 @@ keeps_by laws id_pool base envelope m (Some a) settled e =
       lumens = both.1 asset.Native;
       others = λ x apart. both.1 x ∙ ap (λ (n : ℤ). total (held x) m +ℤ n) (no_lumens x (neg_ℤ (pos fee)) apart)
           ∙ nothing_more (total (held x) m);
+      holds = account_holds m settled.legal.keyed (fee_source_of envelope) (paid (neg_ℤ (pos fee))) a e
+          (neg_ℤ (pos fee)) refl refl;
     }
 
 pub keeps : TransactionLaws → (id_pool base : ℕ) (envelope : TransactionEnvelope) (m : EntryMap) → IsSettled id_pool m
-    → Keeps id_pool m (map_after_fee base envelope m) (fee_of base envelope m)
+    → Keeps id_pool (fee_source_of envelope) m (map_after_fee base envelope m) (fee_of base envelope m)
 keeps laws id_pool base envelope m settled =
     keeps_by laws id_pool base envelope m (account_at m (fee_source_of envelope)) settled refl
 
 given_back : (after m fee : ℤ) → after ≡ m +ℤ neg_ℤ fee → after +ℤ fee ≡ m
 given_back after m fee is = grind (arith, ints, is)
 
+-- ---- what the move of a fee tells
+
+taken_alone : (t f : Bool) (n : ℤ) → t ≡ false
+    → (if f then neg_ℤ n else pos 0) ≡ (((if t then n else pos 0) -ℤ (if f then n else pos 0)) +ℤ pos 0)
+taken_alone true f n not_here = absurd (cc)
+taken_alone false true n not_here = omega (arith, ints)
+taken_alone false false n not_here = refl
+
+-- of all but the lumens of the fee pool
+fee_tells : (whole : TransactionEnvelope) (fee : ℤ) (x : Asset) (holder : Holder) → is_issuer x holder ≡ false
+    → (is_eq (asset_cmp x asset.Native) && is_holder holder FeePool) ≡ false
+    → more_at (for_one (fee_source_of whole) (neg_ℤ fee)) x (place_of x holder)
+    ≡ gained x holder (fee_move whole fee ∷ [])
+unfolding gained
+fee_tells whole fee x holder other not_pool =
+    let id = fee_source_of whole in
+    let same = is_eq (asset_cmp x asset.Native) in
+    end_tells x asset.Native holder (OfAccount id) (account_place asset.Native id) (neg_ℤ fee) other
+    ∙ taken_alone (same && is_holder holder FeePool) (same && is_holder holder (OfAccount id)) fee not_pool
+
+pool_gains : (whole : TransactionEnvelope) (pool fee : ℤ)
+    → (pool +ℤ fee) ≡ (pool +ℤ gained asset.Native FeePool (fee_move whole fee ∷ []))
+unfolding gained
+pool_gains whole pool fee = ap (λ (n : ℤ). pool +ℤ n) (alone fee)
+  where
+    alone : (n : ℤ) → n ≡ ((n -ℤ pos 0) +ℤ pos 0)
+    alone n = omega (arith, ints)
+
+fee_told : (whole : TransactionEnvelope) (m after : EntryMap) (fee : ℤ)
+    → HoldsMore (for_one (fee_source_of whole) (neg_ℤ fee)) m after → (pool : ℤ)
+    → AreAllTold pool m (pool +ℤ fee) after (fee_move whole fee ∷ [])
+fee_told whole m after fee holds pool asset.Native FeePool other = pool_gains whole pool fee
+fee_told whole m after fee holds pool x holder other =
+    told_at (for_one (fee_source_of whole) (neg_ℤ fee)) m after holds x (place_of x holder)
+    ∙ ap (λ (n : ℤ). holding x holder m +ℤ n) (fee_tells whole fee x holder other refl)
+
 pub fees_conserve : TransactionLaws → FeesConserve
 fees_conserve laws id_pool base envelope m settled =
     let kept = keeps laws id_pool base envelope m settled in
-    record { settled = kept.settled; lumens = given_back _ _ _ kept.lumens; others = kept.others }
+    record {
+      settled = kept.settled;
+      lumens = given_back _ _ _ kept.lumens;
+      others = kept.others;
+      told = fee_told envelope m (map_after_fee base envelope m) (fee_of base envelope m) kept.holds;
+    }
 
 -- ---- all fees
+
+pool_still : (n : ℤ) (pool : ℤ) → pos 0 ≡ (pos 0 +ℤ n) → pool ≡ (pool +ℤ n)
+pool_still n pool none = omega (arith, ints)
+
+-- moves that tell nothing of the fee pool leave that
+pub told_all : (pool : ℤ) (old new : EntryMap) (moves : List Move) → AreTold old new moves
+    → AreAllTold pool old pool new moves
+told_all pool old new moves told asset.Native FeePool other =
+    pool_still (gained asset.Native FeePool moves) pool (told asset.Native FeePool other)
+told_all pool old new moves told x holder other = told x holder other
+
+-- one behind the other
+pub all_told_twice : (p : ℤ) (a : EntryMap) (q : ℤ) (b : EntryMap) (r : ℤ) (c : EntryMap) (moves more : List Move)
+    → AreAllTold p a q b moves → AreAllTold q b r c more → AreAllTold p a r c (moves ++ more)
+all_told_twice p a q b r c moves more first next x holder other =
+    gained_twice x holder moves more (holding_with p x holder a) (holding_with q x holder b) (holding_with r x holder c)
+    (first x holder other) (next x holder other)
 
 pub record AreTaken (id_pool : ℕ) (m : EntryMap) (done : FeesTaken) : Type 0 where
   pub settled : IsSettled id_pool done.entries
   pub lumens : (total (held asset.Native) done.entries +ℤ sum_of done.fees) ≡ total (held asset.Native) m
   pub others : (x : Asset) → x ≢ asset.Native → total (held x) done.entries ≡ total (held x) m
+  pub told : (pool : ℤ) → AreAllTold pool m (pool +ℤ sum_of done.fees) done.entries done.moves
 
 sum_up : (last sum fee between first : ℤ) → last +ℤ sum ≡ between → between ≡ first +ℤ neg_ℤ fee
     → last +ℤ (fee +ℤ sum) ≡ first
@@ -148,8 +222,13 @@ sum_up last sum fee between first e h = omega (arith, ints)
 pub all_taken : TransactionLaws → (id_pool base : ℕ) (envelopes : List TransactionEnvelope) (m : EntryMap)
     → IsSettled id_pool m → AreTaken id_pool m (fees_taken base envelopes m)
 unfolding fees_taken sum_of
-all_taken laws id_pool base [] m settled =
-    record { settled = settled; lumens = nothing_more (total (held asset.Native) m); others = λ x apart. refl }
+all_taken laws id_pool base [] m settled = record {
+  settled = settled;
+  lumens = nothing_more (total (held asset.Native) m);
+  others = λ x apart. refl;
+  told = λ pool. subst (λ (n : ℤ). AreAllTold pool m n m []) (sym (nothing_more pool))
+      (told_all pool m m [] (told_itself m));
+}
 all_taken laws id_pool base (envelope ∷ envelopes) m settled =
     let kept = keeps laws id_pool base envelope m settled in
     let rest = all_taken laws id_pool base envelopes (map_after_fee base envelope m) kept.settled in
@@ -157,6 +236,15 @@ all_taken laws id_pool base (envelope ∷ envelopes) m settled =
       settled = rest.settled;
       lumens = sum_up _ _ (fee_of base envelope m) _ _ rest.lumens kept.lumens;
       others = λ x apart. rest.others x apart ∙ kept.others x apart;
+      told = λ pool.
+          let fee = fee_of base envelope m in
+          let between = map_after_fee base envelope m in
+          let after = fees_taken base envelopes between in
+          let last = fee_move envelope fee ∷ after.moves in
+          subst (λ (n : ℤ). AreAllTold pool m n after.entries last) (plus_assoc pool fee (sum_of after.fees))
+          (all_told_twice pool m (pool +ℤ fee) between ((pool +ℤ fee) +ℤ sum_of after.fees) after.entries
+          (fee_move envelope fee ∷ []) after.moves (fee_told envelope m between fee kept.holds pool)
+          (rest.told (pool +ℤ fee)));
     }
 
 -- as many as there are envelopes
@@ -186,7 +274,7 @@ pub record SoFar (base : ℕ) (header : LedgerHeader) (envelopes : List Transact
 
 behind : (base : ℕ) (envelope : TransactionEnvelope) (left : List TransactionEnvelope) (m : EntryMap)
     → fees_taken base (envelope ∷ left) m
-    ≡ behind_fee (fee_of base envelope m) (fees_taken base left (map_after_fee base envelope m))
+    ≡ behind_fee envelope (fee_of base envelope m) (fees_taken base left (map_after_fee base envelope m))
 unfolding fees_taken
 behind base envelope left m = refl
 
@@ -195,7 +283,7 @@ one_left : (base : ℕ) (envelopes : List TransactionEnvelope) (order : List ℕ
     (m : EntryMap) → i < length order → get_or order i 0 < length envelopes
     → envelope ≡ get_or envelopes (get_or order i 0) envelope
     → fees_taken base (envelopes_at envelopes (drop i order)) m
-    ≡ behind_fee (fee_of base envelope m)
+    ≡ behind_fee envelope (fee_of base envelope m)
     (fees_taken base (envelopes_at envelopes (drop (i + 1) order)) (map_after_fee base envelope m))
 one_left base envelopes order i envelope m within there e =
     ap (λ (left : List TransactionEnvelope). fees_taken base left m)
@@ -206,9 +294,6 @@ one_left base envelopes order i envelope m within there e =
 sum_more : (fee : ℤ) (fees : List ℤ) → sum_of (fee ∷ fees) ≡ fee +ℤ sum_of fees
 unfolding sum_of
 sum_more fee fees = refl
-
-plus_assoc : (a b c : ℤ) → (a +ℤ b) +ℤ c ≡ a +ℤ (b +ℤ c)
-plus_assoc a b c = omega (arith, ints)
 
 balanced : (before pool fee coins after : ℤ) → (before +ℤ pool) ≡ coins → after ≡ (before +ℤ neg_ℤ fee)
     → (after +ℤ (pool +ℤ fee)) ≡ coins
@@ -238,10 +323,10 @@ step laws base header envelopes order first fees old now fee_pool i envelope aft
     left : FeesTaken
     left = fees_taken base (envelopes_at envelopes (drop (i + 1) order)) m
 
-    one : fees_taken base (envelopes_at envelopes (drop i order)) now.current ≡ behind_fee fee left
+    one : fees_taken base (envelopes_at envelopes (drop i order)) now.current ≡ behind_fee envelope fee left
     one = one_left base envelopes order i envelope now.current within there e
 
-    kept : Keeps header.id_pool now.current m fee
+    kept : Keeps header.id_pool (fee_source_of envelope) now.current m fee
     kept = keeps laws header.id_pool base envelope now.current so_far.settled
 
     made : SoFar base header envelopes order first (fees ++ fee ∷ []) old (with_current now m)
@@ -314,7 +399,7 @@ counted new first base envelopes m n is none many =
 -- nothing is left behind the last place
 nothing_left : (base : ℕ) (envelopes : List TransactionEnvelope) (order : List ℕ) (i : ℕ) (m : EntryMap)
     → length order ≤ i
-    → fees_taken base (envelopes_at envelopes (drop i order)) m ≡ record { fees = []; entries = m }
+    → fees_taken base (envelopes_at envelopes (drop i order)) m ≡ record { fees = []; moves = []; entries = m }
 unfolding fees_taken envelopes_at
 nothing_left base envelopes order i m past =
     ap (λ (places : List ℕ). fees_taken base (envelopes_at envelopes places) m) (drop_all i order past)

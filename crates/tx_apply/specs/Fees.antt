@@ -4,7 +4,9 @@ use Rattle.op_types.specs.declared.transaction.TransactionEnvelope.{TransactionE
 use Rattle.entry_map.specs.EntryMap.{EntryMap}
 use Rattle.fee_rules.specs.Envelopes.{fee_source_of}
 use Rattle.fee_rules.specs.Fees.{fee_charged}
+use Rattle.ledger_types.specs.declared.asset.Asset.TheVariants.{Native}
 use Rattle.legal_rules.specs.Payments.{with_paid}
+use Rattle.op_form.specs.Done.{OfAccount, FeePool, Move}
 use Rattle.op_laws.specs.Moves.{lumens_at}
 
 -- the fee of a transaction, of what its fee source has
@@ -15,19 +17,26 @@ abbrev pub map_after_fee : (base_fee : ℕ) → TransactionEnvelope → EntryMap
 map_after_fee base_fee envelope m =
     with_paid (fee_source_of envelope) (neg_ℤ (fee_of base_fee envelope m)) m
 
--- the fees of transactions, and the entries behind them
+-- a fee goes to the fee pool
+abbrev pub fee_move : TransactionEnvelope → ℤ → Move
+fee_move envelope fee =
+    record { from = OfAccount (fee_source_of envelope); to = FeePool; asset = Native; amount = fee }
+
+-- the fees of transactions, what they move, and the entries behind them
 pub record FeesTaken : Type 0 where
   pub fees : List ℤ
+  pub moves : List Move
   pub entries : EntryMap
 
-abbrev pub behind_fee : ℤ → FeesTaken → FeesTaken
-behind_fee fee rest = record { fees = fee ∷ rest.fees; entries = rest.entries }
+abbrev pub behind_fee : TransactionEnvelope → ℤ → FeesTaken → FeesTaken
+behind_fee envelope fee rest =
+    record { fees = fee ∷ rest.fees; moves = fee_move envelope fee ∷ rest.moves; entries = rest.entries }
 
 -- each in turn
 unfoldable pub fees_taken : (base_fee : ℕ) → List TransactionEnvelope → EntryMap → FeesTaken
-fees_taken base_fee [] m = record { fees = []; entries = m }
+fees_taken base_fee [] m = record { fees = []; moves = []; entries = m }
 fees_taken base_fee (envelope ∷ envelopes) m =
-    behind_fee (fee_of base_fee envelope m)
+    behind_fee envelope (fee_of base_fee envelope m)
     (fees_taken base_fee envelopes (map_after_fee base_fee envelope m))
 
 -- what fees come to

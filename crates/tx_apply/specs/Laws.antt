@@ -1,6 +1,7 @@
 -- The laws of whole sets: what they leave is settled, lumens are conserved, the supply of each other asset changes by
--- what is issued and redeemed alone, and each operation leaves each account what it needs.
-use Rattle.std.specs.Prelude.{◌≡◌, ◌≢◌, ℕ, ◌+◌, ℤ, ◌<◌, ◌+ℤ◌, All, List, [], ◌∷◌, length}
+-- what is issued and redeemed alone, each holder has what it had and what the moves give it, and each operation leaves
+-- each account at least 0 available, or what it had.
+use Rattle.std.specs.Prelude.{◌≡◌, ◌≢◌, ℕ, ◌+◌, ℤ, ◌<◌, ◌+ℤ◌, false, All, List, [], ◌∷◌, ◌++◌, length}
 use Rattle.ledger_types.specs.declared.asset.Asset.{Asset}
 use Rattle.ledger_types.specs.declared.asset.Asset.TheVariants as asset
 use Rattle.op_types.specs.declared.operation.Operation.{Operation}
@@ -12,12 +13,15 @@ use Rattle.legal_rules.specs.Legal.{IsLegal}
 use Rattle.legal_rules.specs.Supply.{held}
 use Rattle.op_form.specs.Sequences.{last_seq}
 use Rattle.op_laws.specs.Laws.{IsFit, IsLawful}
-use Rattle.op_laws.specs.Moves.{issued}
+use Rattle.op_form.specs.Done.{Holder, FeePool, Move}
+use Rattle.op_laws.specs.Moves.{gained, holding, is_issuer, issued}
 use Rattle.op_laws.specs.Underway.{IsSettled, LeavesSettled, AreDrawn}
 use Rattle.tx_apply.specs.Built.{operations_of}
-use Rattle.tx_apply.specs.Fees.{fee_of, map_after_fee}
+use Rattle.tx_apply.specs.Fees.{fee_of, fee_move, map_after_fee}
 use Rattle.tx_apply.specs.Running.{Step}
 use Rattle.tx_apply.specs.Set.{Closing, envelope_applied, envelopes_in_order, set_applied, fee_pool_after}
+use Rattle.tx_apply.specs.Set.{fees_taken_of}
+use Rattle.tx_apply.specs.Transaction.{Applied}
 
 -- ---- what sets are applied to
 
@@ -34,17 +38,30 @@ pub record CanClose (closing : Closing) (set : TransactionSet) (m : EntryMap) : 
   pub seq : closing.header.ledger_seq < last_seq
   pub fit : AreAllFit set.txs
 
+-- ---- what holders have
+
+-- what a holder has of an asset, where the fee pool has so much
+abbrev pub holding_with : (fee_pool : ℤ) → Asset → Holder → EntryMap → ℤ
+holding_with fee_pool asset.Native FeePool m = fee_pool
+holding_with fee_pool x holder m = holding x holder m
+
+-- Each holder, the fee pool among them, has what it had and what the moves give it; an asset's issuer apart.
+abbrev pub AreAllTold : (pool : ℤ) → (old : EntryMap) → (pool_after : ℤ) → (new : EntryMap) → List Move → Type 0
+AreAllTold pool old pool_after new moves = (x : Asset) (holder : Holder) → is_issuer x holder ≡ false
+    → holding_with pool_after x holder new ≡ (holding_with pool x holder old +ℤ gained x holder moves)
+
 -- ---- the laws
 
 -- a fee is moved to the fee pool, and nothing else is moved
-pub record IsTaken (id_pool : ℕ) (m after : EntryMap) (fee : ℤ) : Type 0 where
+pub record IsTaken (id_pool : ℕ) (whole : TransactionEnvelope) (m after : EntryMap) (fee : ℤ) : Type 0 where
   pub settled : IsSettled id_pool after
   pub lumens : (total (held asset.Native) after +ℤ fee) ≡ total (held asset.Native) m
   pub others : (x : Asset) → x ≢ asset.Native → total (held x) after ≡ total (held x) m
+  pub told : (pool : ℤ) → AreAllTold pool m (pool +ℤ fee) after (fee_move whole fee ∷ [])
 
 abbrev pub FeesConserve : Type 0
 FeesConserve = (id_pool base_fee : ℕ) (whole : TransactionEnvelope) (m : EntryMap) → IsSettled id_pool m
-    → IsTaken id_pool m (map_after_fee base_fee whole m) (fee_of base_fee whole m)
+    → IsTaken id_pool whole m (map_after_fee base_fee whole m) (fee_of base_fee whole m)
 
 -- behind its fee a transaction moves what its moves say, and no lumens are made or lost
 abbrev pub TransactionsConserve : Type 0
@@ -53,10 +70,51 @@ TransactionsConserve = (closing : Closing) (id_pool : ℕ) (whole : TransactionE
     → LeavesSettled (envelope_applied closing id_pool whole m).id_pool m
     (envelope_applied closing id_pool whole m).entries (envelope_applied closing id_pool whole m).moves
 
+-- ---- each transaction of a set
+
+-- a transaction, and what those before it left
+pub record Turn : Type 0 where
+  pub whole : TransactionEnvelope
+  pub id_pool : ℕ
+  pub entries : EntryMap
+
+-- what the transaction of a turn does
+abbrev pub turn_applied : Closing → Turn → Applied
+turn_applied closing turn = envelope_applied closing turn.id_pool turn.whole turn.entries
+
+unfoldable pub turns : Closing → (id_pool : ℕ) → List TransactionEnvelope → EntryMap → List Turn
+turns closing id_pool [] m = []
+turns closing id_pool (whole ∷ others) m =
+    record { whole = whole; id_pool = id_pool; entries = m }
+    ∷ turns closing (envelope_applied closing id_pool whole m).id_pool others
+    (envelope_applied closing id_pool whole m).entries
+
+-- the transactions of a set in the order in which they are applied, behind all fees
+abbrev pub turns_of : Closing → TransactionSet → EntryMap → List Turn
+turns_of closing set m =
+    turns closing closing.header.id_pool (envelopes_in_order set) (fees_taken_of closing set m).entries
+
+-- a transaction conserves lumens behind its fee, and moves what its moves say of all else
+pub record IsTurnConserved (closing : Closing) (turn : Turn) : Type 0 where
+  pub lumens : total (held asset.Native) (turn_applied closing turn).entries ≡ total (held asset.Native) turn.entries
+  pub leaves : LeavesSettled (turn_applied closing turn).id_pool turn.entries (turn_applied closing turn).entries
+      (turn_applied closing turn).moves
+
+-- each transaction of a set that is accepted
+abbrev pub TurnsConserve : Type 0
+TurnsConserve = (closing : Closing) (set : TransactionSet) (m : EntryMap) → CanClose closing set m
+    → All (λ turn. IsTurnConserved closing turn) (turns_of closing set m)
+
+-- ---- whole sets
+
 -- the operations of all transactions
 unfoldable pub operation_total : List TransactionEnvelope → ℕ
 operation_total [] = 0
 operation_total (whole ∷ others) = length (operations_of whole) + operation_total others
+
+-- all that a set moves: the fees first
+abbrev pub moves_of : Closing → TransactionSet → EntryMap → List Move
+moves_of closing set m = (fees_taken_of closing set m).moves ++ (set_applied closing set m).moves
 
 -- what a set leaves
 pub record IsConserved (closing : Closing) (set : TransactionSet) (m : EntryMap) : Type 0 where
@@ -67,6 +125,8 @@ pub record IsConserved (closing : Closing) (set : TransactionSet) (m : EntryMap)
       ≡ closing.header.total_coins
   pub supply : (x : Asset) → x ≢ asset.Native → total (held x) (set_applied closing set m).entries
       ≡ total (held x) m +ℤ issued x (set_applied closing set m).moves
+  pub told : AreAllTold closing.header.fee_pool m (fee_pool_after closing set m) (set_applied closing set m).entries
+      (moves_of closing set m)
 
 abbrev pub SetsConserve : Type 0
 SetsConserve = (closing : Closing) (set : TransactionSet) (m : EntryMap) → CanClose closing set m

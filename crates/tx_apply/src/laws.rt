@@ -11,16 +11,25 @@ pub fn fees_conserve()
     transaction_laws();
 }
 
-/// Behind its fee a transaction makes and loses no lumens, and the supply of each asset changes by what is issued and
-/// redeemed.
+/// Behind its fee a transaction makes and loses no lumens, the supply of each asset changes by what is issued and
+/// redeemed, and each holder has what it had and what the moves give it.
 pub fn transactions_conserve()
     ensures { spec.TransactionsConserve }
 {
     transaction_laws();
 }
 
+/// Each transaction of a set that closes over a legal state conserves lumens behind its fee, and moves what its moves
+/// say.
+pub fn turns_conserve()
+    ensures { spec.TurnsConserve }
+{
+    legal_settles();
+    transaction_laws();
+}
+
 /// A set that closes over a legal state makes and loses no lumens, the supply of each other asset changes by what is
-/// issued and redeemed, and what it leaves is settled.
+/// issued and redeemed, each holder has what it had and what the moves give it, and what it leaves is settled.
 pub fn sets_conserve()
     ensures { spec.SetsConserve }
 {

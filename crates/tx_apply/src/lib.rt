@@ -21,5 +21,7 @@ mod success;
 mod transaction;
 
 pub use fault::SetFault;
-pub use laws::{fees_conserve, operations_are_lawful, sets_conserve, transactions_conserve};
+pub use laws::{
+    fees_conserve, operations_are_lawful, sets_conserve, transactions_conserve, turns_conserve,
+};
 pub use set::{SetDone, apply_set, apply_set_in_order};

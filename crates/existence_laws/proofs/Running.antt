@@ -3,7 +3,7 @@ use Rattle.std.proofs.Common.{◌≡◌, ℕ, zero, suc, ◌+◌, ◌≤◌, Lis
 use Rattle.std.proofs.Common.{arith}
 use Rattle.std.proofs.lemmas.List.{length-append}
 use Rattle.xdr_core.specs.declared.fault.XdrFault.{XdrFault}
-use Rattle.xdr_core.specs.Format.{IsBytes, Spells}
+use Rattle.xdr_core.specs.Format.{IsBytes}
 use Rattle.xdr_core.specs.Leaves.{mark}
 use Rattle.xdr_core.specs.Place.{Place, Reading}
 use Rattle.xdr_core.proofs.FormatLaws.{mark_laws}

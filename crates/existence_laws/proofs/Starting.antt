@@ -1,5 +1,5 @@
 -- It can't be that an input has no outcome.
-use Rattle.std.proofs.Common.{◌≡◌, ℕ, List, [], ◌∷◌, Option, Some, None, Result, Ok, Err, refl, sym, subst}
+use Rattle.std.proofs.Common.{◌≡◌, ℕ, List, [], ◌∷◌, Option, Some, Result, Ok, Err, refl, sym, subst}
 use Rattle.ledger_types.specs.declared.ids.Hash.{Hash}
 use Rattle.ledger_types.specs.declared.header.LedgerHeader.{LedgerHeader}
 use Rattle.xdr_core.specs.declared.fault.XdrFault.{XdrFault}

@@ -1,0 +1,10 @@
+pub mod Classical
+pub mod Maps
+pub mod Steps
+pub mod Standing
+pub mod Changes
+pub mod Refusing
+pub mod Closing
+pub mod Judging
+pub mod Running
+pub mod Starting

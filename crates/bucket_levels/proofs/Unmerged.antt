@@ -73,7 +73,8 @@ merged_at i seq fresh new pairs above stays is =
 -- a level that doesn't spill has it merged onto its curr
 pub merged_below : (level seq : ℕ) (fresh new : Contents) (pairs : List Pair) → 1 ≤ level
     → spills (level - 1) seq ≡ true → spills level seq ≡ false
-    → IsMerge level (pair_at pairs level).curr (pair_at pairs (level - 1)).snap new → IsCurrAfter seq fresh pairs level new
+    → IsMerge level (pair_at pairs level).curr (pair_at pairs (level - 1)).snap new
+    → IsCurrAfter seq fresh pairs level new
 merged_below level seq fresh new pairs low above stays is =
     let same : suc (level - 1) ≡ level = omega (arith, low) in
     subst (λ (n : ℕ). IsCurrAfter seq fresh pairs n new) same

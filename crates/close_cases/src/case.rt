@@ -28,7 +28,12 @@ fn first_line(text: &[u8]) -> (&[u8], &[u8]) {
 }
 
 /// A case whose output has so many bytes of those behind its head.
-fn with_rest(alloc: Global, mut case: Case, count: usize, rest: &[u8]) -> Result<Option<Case>, AllocError> {
+fn with_rest(
+    alloc: Global,
+    mut case: Case,
+    count: usize,
+    rest: &[u8],
+) -> Result<Option<Case>, AllocError> {
     if rest.len() < count {
         return Ok(None);
     }

@@ -1,5 +1,6 @@
-//! Runs the cases in a folder. `names` has their names, one a line, each of which says what the case shows; `NAME.case` has
-//! a head of lines, an empty line, what the program must write, and then its input. A line of the head is one of
+//! Runs the cases in a folder. `names` has their names, one a line, each of which says what the case shows;
+//! `NAME.case` has a head of lines, an empty line, what the program must write, and then its input. A line of the head
+//! is one of
 //!
 //! - `word WORD`, a word of the command line;
 //! - `status N`, the exit status that it must answer;

@@ -40,8 +40,8 @@ use Rattle.tx_apply.specs.Checks as checks
 use Rattle.tx_apply.specs.FeeBump as bump
 use Rattle.tx_apply.specs.Fees.{fee_of, map_after_fee, fees_taken}
 use Rattle.tx_apply.specs.Running.{placed, done_by, done_at, Ran, run}
-use Rattle.tx_apply.specs.Set.{Closing, ctx_in, all_held, envelope_applied, all_applied, envelopes_in_order}
-use Rattle.tx_apply.specs.Set.{fees_taken_of, set_applied}
+use Rattle.tx_apply.specs.Set.{Setting, ctx_in, all_held, envelope_applied, all_applied, envelopes_in_order}
+use Rattle.tx_apply.specs.Set.{fees_taken_of, set_done}
 use Rattle.tx_apply.specs.Signing.{Auth, source_by, source_of, auth_of, are_used}
 use Rattle.tx_apply.specs.Transaction as spec
 use Rattle.tx_apply.proofs.Conserving.{all_at}
@@ -211,39 +211,39 @@ module _ (base_fee : ℕ) (ctx : Ctx) (signed : bump.BumpSigned) (tx : FeeBumpTr
 
 -- ---- envelopes
 
-none_open : (closing : Closing) (id_pool : ℕ) (whole : TransactionEnvelope) → AreSponsors (ctx_in closing id_pool whole)
-none_open closing id_pool whole = record { all = All-nil IsOpener }
+none_open : (setting : Setting) (id_pool : ℕ) (whole : TransactionEnvelope) → AreSponsors (ctx_in setting id_pool whole)
+none_open setting id_pool whole = record { all = All-nil IsOpener }
 
-envelope_bytes : (closing : Closing) (id_pool : ℕ) (whole : TransactionEnvelope) (m : EntryMap)
-    → IsSpelled transaction_envelope whole → AreBytes m → AreBytes (envelope_applied closing id_pool whole m).entries
+envelope_bytes : (setting : Setting) (id_pool : ℕ) (whole : TransactionEnvelope) (m : EntryMap)
+    → IsSpelled transaction_envelope whole → AreBytes m → AreBytes (envelope_applied setting id_pool whole m).entries
 unfolding envelope_applied transaction_envelope fee_bump_envelope fee_bump_transaction
-envelope_bytes closing id_pool (envelope.V0 signed) m spelled each =
-    without_used (signed_hash_of closing.network (envelope.V0 signed))
+envelope_bytes setting id_pool (envelope.V0 signed) m spelled each =
+    without_used (signed_hash_of setting.network (envelope.V0 signed))
     (record { 0 = signed.tx.source_account_ed25519 }) signed.tx.operations m each
-envelope_bytes closing id_pool (envelope.V1 signed) m spelled each =
-    transaction_bytes true closing.header.base_fee (ctx_in closing id_pool (envelope.V1 signed))
-    (signed_hash_of closing.network (envelope.V1 signed)) (all_held signed.signatures) signed.tx m
+envelope_bytes setting id_pool (envelope.V1 signed) m spelled each =
+    transaction_bytes true setting.header.base_fee (ctx_in setting id_pool (envelope.V1 signed))
+    (signed_hash_of setting.network (envelope.V1 signed)) (all_held signed.signatures) signed.tx m
     (v1_spelled signed (record { within = spelled.within; sized = spelled.sized }))
-    (none_open closing id_pool (envelope.V1 signed)) each
-envelope_bytes closing id_pool (envelope.FeeBump signed) m spelled each =
-    bump_bytes closing.header.base_fee (ctx_in closing id_pool (envelope.FeeBump signed))
-    (bump.signed_by (signed_hash_of closing.network (envelope.FeeBump signed)) (all_held signed.signatures)
-    (transaction_hash_of closing.network signed.tx.inner_tx.tx) (all_held signed.tx.inner_tx.signatures)) signed.tx
+    (none_open setting id_pool (envelope.V1 signed)) each
+envelope_bytes setting id_pool (envelope.FeeBump signed) m spelled each =
+    bump_bytes setting.header.base_fee (ctx_in setting id_pool (envelope.FeeBump signed))
+    (bump.signed_by (signed_hash_of setting.network (envelope.FeeBump signed)) (all_held signed.signatures)
+    (transaction_hash_of setting.network signed.tx.inner_tx.tx) (all_held signed.tx.inner_tx.signatures)) signed.tx
     (v1_spelled signed.tx.inner_tx
     (record { within = spelled.within.0.1.1.0.1; sized = spelled.sized.0.1.1.0.1 }))
-    (none_open closing id_pool (envelope.FeeBump signed)) m each
+    (none_open setting id_pool (envelope.FeeBump signed)) m each
 
-all_bytes : (closing : Closing) (id_pool : ℕ) (envelopes : List TransactionEnvelope) (fees : List ℤ) (m : EntryMap)
+all_bytes : (setting : Setting) (id_pool : ℕ) (envelopes : List TransactionEnvelope) (fees : List ℤ) (m : EntryMap)
     → All (IsSpelled transaction_envelope) envelopes → AreBytes m
-    → AreBytes (all_applied closing id_pool envelopes fees m).entries
+    → AreBytes (all_applied setting id_pool envelopes fees m).entries
 unfolding all_applied
-all_bytes closing id_pool [] fees m spelled each = each
-all_bytes closing id_pool (whole ∷ others) [] m spelled each = each
-all_bytes closing id_pool (whole ∷ others) (fee ∷ fees) m spelled each =
-    let first = envelope_applied closing id_pool whole m in
-    all_bytes closing first.id_pool others fees first.entries
+all_bytes setting id_pool [] fees m spelled each = each
+all_bytes setting id_pool (whole ∷ others) [] m spelled each = each
+all_bytes setting id_pool (whole ∷ others) (fee ∷ fees) m spelled each =
+    let first = envelope_applied setting id_pool whole m in
+    all_bytes setting first.id_pool others fees first.entries
     (All-tail (IsSpelled transaction_envelope) whole others spelled)
-    (envelope_bytes closing id_pool whole m (All-head (IsSpelled transaction_envelope) whole others spelled) each)
+    (envelope_bytes setting id_pool whole m (All-head (IsSpelled transaction_envelope) whole others spelled) each)
 
 -- ---- fees
 
@@ -265,10 +265,10 @@ fees_bytes base (whole ∷ others) m each =
 
 -- ---- sets
 
-pub set_bytes : (closing : Closing) (set : TransactionSet) (m : EntryMap) → IsSpelled transaction_set set → AreBytes m
-    → AreBytes (set_applied closing set m).entries
-set_bytes closing set m spelled each =
-    all_bytes closing closing.header.id_pool (envelopes_in_order set) (fees_taken_of closing set m).fees
-    (fees_taken_of closing set m).entries
+pub set_bytes : (setting : Setting) (set : TransactionSet) (m : EntryMap) → IsSpelled transaction_set set → AreBytes m
+    → AreBytes (set_done setting set m).entries
+set_bytes setting set m spelled each =
+    all_bytes setting setting.header.id_pool (envelopes_in_order set) (fees_taken_of setting set m).fees
+    (fees_taken_of setting set m).entries
     (all_at (IsSpelled transaction_envelope) set.txs (apply_order_of set) (envelopes_spelled set spelled))
-    (fees_bytes (set_base_fee closing.header set.txs) (envelopes_in_order set) m each)
+    (fees_bytes (set_base_fee setting.header set.txs) (envelopes_in_order set) m each)

@@ -23,7 +23,7 @@ use Rattle.value_hashes.specs.Hashes.{signed_hash_of, transaction_hash_of}
 use Rattle.tx_apply.specs.Checks as checks
 use Rattle.tx_apply.specs.FeeBump as bump
 use Rattle.tx_apply.specs.Running.{placed, done_by, done_at, Ran, run}
-use Rattle.tx_apply.specs.Set.{Closing, ctx_in, all_held, envelope_applied, all_applied}
+use Rattle.tx_apply.specs.Set.{Setting, ctx_in, all_held, envelope_applied, all_applied}
 use Rattle.tx_apply.specs.Signing.{Auth, source_of, auth_of, are_used}
 use Rattle.tx_apply.specs.Transaction as spec
 use Rattle.close_laws.proofs.OperationAnswers.{any_answers}
@@ -104,24 +104,24 @@ module _ (base_fee : ℕ) (ctx : Ctx) (signed : bump.BumpSigned) (tx : FeeBumpTr
 
 -- ---- sets
 
-envelope_ids : (closing : Closing) (id_pool : ℕ) (whole : TransactionEnvelope) (m : EntryMap)
-    → Keeps id_pool (envelope_applied closing id_pool whole m)
+envelope_ids : (setting : Setting) (id_pool : ℕ) (whole : TransactionEnvelope) (m : EntryMap)
+    → Keeps id_pool (envelope_applied setting id_pool whole m)
 unfolding envelope_applied
-envelope_ids closing id_pool (envelope.V0 signed) m = refl
-envelope_ids closing id_pool (envelope.V1 signed) m =
-    transaction_ids true closing.header.base_fee (ctx_in closing id_pool (envelope.V1 signed))
-    (signed_hash_of closing.network (envelope.V1 signed)) (all_held signed.signatures) signed.tx m
-envelope_ids closing id_pool (envelope.FeeBump signed) m =
-    bump_ids closing.header.base_fee (ctx_in closing id_pool (envelope.FeeBump signed))
-    (bump.signed_by (signed_hash_of closing.network (envelope.FeeBump signed)) (all_held signed.signatures)
-    (transaction_hash_of closing.network signed.tx.inner_tx.tx) (all_held signed.tx.inner_tx.signatures)) signed.tx m
+envelope_ids setting id_pool (envelope.V0 signed) m = refl
+envelope_ids setting id_pool (envelope.V1 signed) m =
+    transaction_ids true setting.header.base_fee (ctx_in setting id_pool (envelope.V1 signed))
+    (signed_hash_of setting.network (envelope.V1 signed)) (all_held signed.signatures) signed.tx m
+envelope_ids setting id_pool (envelope.FeeBump signed) m =
+    bump_ids setting.header.base_fee (ctx_in setting id_pool (envelope.FeeBump signed))
+    (bump.signed_by (signed_hash_of setting.network (envelope.FeeBump signed)) (all_held signed.signatures)
+    (transaction_hash_of setting.network signed.tx.inner_tx.tx) (all_held signed.tx.inner_tx.signatures)) signed.tx m
 
 -- the transactions of a set draw no id
-pub all_ids : (closing : Closing) (id_pool : ℕ) (envelopes : List TransactionEnvelope) (fees : List ℤ) (m : EntryMap)
-    → (all_applied closing id_pool envelopes fees m).id_pool ≡ id_pool
+pub all_ids : (setting : Setting) (id_pool : ℕ) (envelopes : List TransactionEnvelope) (fees : List ℤ) (m : EntryMap)
+    → (all_applied setting id_pool envelopes fees m).id_pool ≡ id_pool
 unfolding all_applied
-all_ids closing id_pool [] fees m = refl
-all_ids closing id_pool (whole ∷ others) [] m = refl
-all_ids closing id_pool (whole ∷ others) (fee ∷ fees) m =
-    let first = envelope_applied closing id_pool whole m in
-    all_ids closing first.id_pool others fees first.entries ∙ envelope_ids closing id_pool whole m
+all_ids setting id_pool [] fees m = refl
+all_ids setting id_pool (whole ∷ others) [] m = refl
+all_ids setting id_pool (whole ∷ others) (fee ∷ fees) m =
+    let first = envelope_applied setting id_pool whole m in
+    all_ids setting first.id_pool others fees first.entries ∙ envelope_ids setting id_pool whole m

@@ -52,7 +52,7 @@ use Rattle.entry_changes.specs.Spellable.{AreSpellable}
 use Rattle.header_chain.specs.SkipList.{finished}
 use Rattle.tx_apply.specs.Laws.{SetsConserve}
 use Rattle.close_rules.specs.State.{ClosingState, IsSpelled, IsBuiltLine, IsBuiltBody, AreBuilt}
-use Rattle.close_rules.specs.Close.{closing_in, applied_in, upgraded_header}
+use Rattle.close_rules.specs.Close.{setting_in, applied_in, upgraded_header}
 use Rattle.close_laws.specs.Legal.{IsClosable, AreClosed, EntriesStaySpellable}
 use Rattle.close_laws.proofs.Unmarked.{AreMapsAlike, next_alike, stood}
 use Rattle.close_laws.proofs.Spelled.{each_spelled}
@@ -366,7 +366,7 @@ module _ (legal : SettledLegal) (conserve : SetsConserve) (ready : SettledReady)
   next_bytes =
       alike_bytes (applied_in s closing).entries after
       (next_alike (s.header.ledger_seq + 1) s.entries (applied_in s closing).entries after closed)
-      (set_bytes (closing_in s closing) closing.tx_set s.entries (set_spelled closing can.spelled)
+      (set_bytes (setting_in s closing) closing.tx_set s.entries (set_spelled closing can.spelled)
       (map_bytes s.entries can.state.entries can.state.built))
 
   next_seq : (k : LedgerKey) (e : LedgerEntry) → get after k ≡ Some e → e.last_modified_ledger_seq < 4294967296

@@ -18,7 +18,7 @@ use Rattle.tx_apply.specs.Fees.{map_after_fee, fees_taken, sum_of}
 use Rattle.tx_apply.specs.Set.{envelopes_in_order, fees_taken_of}
 use Rattle.close_rules.specs.State.{ClosingState}
 use Rattle.close_rules.specs.Refusals.{record_fault}
-use Rattle.close_rules.specs.Close.{closing_in, applied_in, filled_header, upgraded_header}
+use Rattle.close_rules.specs.Close.{setting_in, applied_in, filled_header, upgraded_header}
 use Rattle.close_laws.proofs.Drawn.{all_ids}
 use Rattle.close_laws.proofs.Unrefused.{IsGood, IsGoodRead, upgrades_good}
 
@@ -170,9 +170,9 @@ filled_range s closing range seq = record {
   total_coins = range.total_coins;
   fee_pool = pool_low s.header.fee_pool _ range.fee_pool (fees_low _ _ s.entries);
   id_pool = ids_few s.header.ledger_seq s.header.id_pool (applied_in s closing).id_pool range.id_pool
-      (all_ids (closing_in s closing) s.header.id_pool (envelopes_in_order closing.tx_set)
-      (fees_taken_of (closing_in s closing) closing.tx_set s.entries).fees
-      (fees_taken_of (closing_in s closing) closing.tx_set s.entries).entries);
+      (all_ids (setting_in s closing) s.header.id_pool (envelopes_in_order closing.tx_set)
+      (fees_taken_of (setting_in s closing) closing.tx_set s.entries).fees
+      (fees_taken_of (setting_in s closing) closing.tx_set s.entries).entries);
   flags = range.flags;
 }
 

@@ -12,7 +12,7 @@ use Rattle.op_laws.specs.Underway.{IsSettled}
 use Rattle.header_chain.specs.SkipList.{finished}
 use Rattle.tx_apply.specs.Laws.{CanClose, IsConserved, SetsConserve}
 use Rattle.close_rules.specs.State.{ClosingState}
-use Rattle.close_rules.specs.Close.{closing_in, applied_in, filled_header, upgraded_header}
+use Rattle.close_rules.specs.Close.{setting_in, applied_in, filled_header, upgraded_header}
 use Rattle.close_laws.specs.Legal.{IsClosable, AreClosed, NextIsLegal}
 use Rattle.close_laws.proofs.Unmarked.{next_alike, total_alike}
 use Rattle.close_laws.proofs.AlikeLegal.{settled_alike}
@@ -21,7 +21,7 @@ use Rattle.close_laws.proofs.Unrefused.{seq_below}
 use Rattle.close_laws.proofs.NextHeader.{IsUpgradedFrom, next_range}
 
 pub can_close : (s : ClosingState) (closing : CloseRecord) → IsClosable s closing
-    → CanClose (closing_in s closing) closing.tx_set s.entries
+    → CanClose (setting_in s closing) closing.tx_set s.entries
 can_close s closing can = record {
   legal = can.state.legal;
   seq = seq_below s closing can.unrefused can.state.legal.header.seq_high;
@@ -29,8 +29,8 @@ can_close s closing can = record {
 }
 
 module _ (conserve : SetsConserve) (s : ClosingState) (closing : CloseRecord) (can : IsClosable s closing) where
-  pub conserved : IsConserved (closing_in s closing) closing.tx_set s.entries
-  conserved = conserve (closing_in s closing) closing.tx_set s.entries (can_close s closing can)
+  pub conserved : IsConserved (setting_in s closing) closing.tx_set s.entries
+  conserved = conserve (setting_in s closing) closing.tx_set s.entries (can_close s closing can)
 
   pub upgraded_from : (list_hash : Hash)
       → IsUpgradedFrom (filled_header s closing) (finished (upgraded_header s closing) list_hash)

@@ -24,7 +24,7 @@ use Rattle.close_rules.specs.declared.close_fault.CloseFault.{CloseFault}
 use Rattle.close_rules.specs.declared.close_fault.CloseFault.TheVariants as fault
 use Rattle.close_rules.specs.State.{ClosingState, max_file_total}
 use Rattle.close_rules.specs.Refusals.{record_in, record_fault}
-use Rattle.close_rules.specs.Close.{Closed, upgraded_header, applied_in, IsClosed, IsClose}
+use Rattle.close_rules.specs.Close.{PreparedClose, upgraded_header, applied_in, IsClosed, IsClose}
 use Rattle.close_laws.specs.Closes.{ClosesAreOne}
 
 -- ---- entries
@@ -116,7 +116,8 @@ levels_one seq fresh old m n a b = same_lists m n (a.count ∙ sym b.count)
 
 -- ---- closes
 
-closed_one : (s : ClosingState) (closing : CloseRecord) (a b : Closed) → IsClosed s closing a → IsClosed s closing b
+closed_one : (s : ClosingState) (closing : CloseRecord) (a b : PreparedClose) → IsClosed s closing a
+    → IsClosed s closing b
     → a ≡ b
 closed_one s closing a b x y =
     let seq = s.header.ledger_seq + 1 in
@@ -139,17 +140,17 @@ closed_one s closing a b x y =
 -- ---- answers
 
 -- which of the four kinds an answer is of
-pub data Said (s : ClosingState) (bytes : List ℕ) : Result Closed CloseFault → Type 0 where
+pub data Said (s : ClosingState) (bytes : List ℕ) : Result PreparedClose CloseFault → Type 0 where
   Unread : (wrong : XdrFault) → record_in bytes ≡ Err wrong → Said s bytes (Err (fault.BadXdr wrong.at wrong.kind))
   Refused : (closing : CloseRecord) (wrong : CloseFault) → record_in bytes ≡ Ok closing
       → record_fault s closing ≡ Some wrong → Said s bytes (Err wrong)
-  Fits : (closing : CloseRecord) (closed : Closed) → record_in bytes ≡ Ok closing → record_fault s closing ≡ None
+  Fits : (closing : CloseRecord) (closed : PreparedClose) → record_in bytes ≡ Ok closing → record_fault s closing ≡ None
       → IsClosed s closing closed → file_total closed.state.levels ≤ max_file_total → Said s bytes (Ok closed)
-  Full : (closing : CloseRecord) (closed : Closed) (total : ℕ) → record_in bytes ≡ Ok closing
+  Full : (closing : CloseRecord) (closed : PreparedClose) (total : ℕ) → record_in bytes ≡ Ok closing
       → record_fault s closing ≡ None → IsClosed s closing closed → total ≡ file_total closed.state.levels
       → max_file_total < total → Said s bytes (Err (fault.LedgerFull total))
 
-said : (s : ClosingState) (bytes : List ℕ) (a : Result Closed CloseFault) → IsClose s bytes a → Said s bytes a
+said : (s : ClosingState) (bytes : List ℕ) (a : Result PreparedClose CloseFault) → IsClose s bytes a → Said s bytes a
 said s bytes (Ok closed) h =
     let taken = h.1.taken in
     Fits taken.closing closed taken.reads taken.unrefused h.1.closes
@@ -186,20 +187,22 @@ not_refused wrong h = absurd (cc)
 fault_is : (a b : CloseFault) → Some a ≡ Some b → a ≡ b
 fault_is a b h = cc
 
-same_closed : (s : ClosingState) (c d : CloseRecord) (a b : Closed) → c ≡ d → IsClosed s c a → IsClosed s d b → a ≡ b
+same_closed : (s : ClosingState) (c d : CloseRecord) (a b : PreparedClose) → c ≡ d → IsClosed s c a → IsClosed s d b
+    → a ≡ b
 same_closed s c d a b same x y =
     closed_one s d a b (subst (λ (closing : CloseRecord). IsClosed s closing a) same x) y
 
-not_full : {A : Type 0} (a b : Closed) (total : ℕ) → a ≡ b → file_total a.state.levels ≤ max_file_total
+not_full : {A : Type 0} (a b : PreparedClose) (total : ℕ) → a ≡ b → file_total a.state.levels ≤ max_file_total
     → total ≡ file_total b.state.levels → max_file_total < total → A
 not_full a b total same fits is more =
     absurd (too_many (file_total a.state.levels) (file_total b.state.levels)
-    (ap (λ (closed : Closed). file_total closed.state.levels) same) fits is more)
+    (ap (λ (closed : PreparedClose). file_total closed.state.levels) same) fits is more)
   where
     too_many : (m n : ℕ) → m ≡ n → m ≤ max_file_total → total ≡ n → max_file_total < total → ⊥
     too_many m n e le h lt = omega arith
 
-one_answer : (s : ClosingState) (bytes : List ℕ) (a b : Result Closed CloseFault) → Said s bytes a → Said s bytes b
+one_answer : (s : ClosingState) (bytes : List ℕ) (a b : Result PreparedClose CloseFault) → Said s bytes a
+    → Said s bytes b
     → a ≡ b
 one_answer s bytes a b (Unread v e) (Unread w f) =
     ap (λ (x : XdrFault). Err (fault.BadXdr x.at x.kind)) (err_is (sym e ∙ f))
@@ -220,7 +223,7 @@ one_answer s bytes a b (Fits c x e m g le) (Unread w f) = not_both bytes w c f e
 one_answer s bytes a b (Fits c x e m g le) (Refused d w f h) =
     not_refused w (same_fault s d c (Some w) None (same_record bytes d c f e) h m)
 one_answer s bytes a b (Fits c x e m g le) (Fits d y f n h less) =
-    ap (λ (closed : Closed). Ok closed) (same_closed s c d x y (same_record bytes c d e f) g h)
+    ap (λ (closed : PreparedClose). Ok closed) (same_closed s c d x y (same_record bytes c d e f) g h)
 one_answer s bytes a b (Fits c x e m g le) (Full d y t f n h is more) =
     not_full x y t (same_closed s c d x y (same_record bytes c d e f) g h) le is more
 one_answer s bytes a b (Full c x t e m g is more) (Unread w f) = not_both bytes w c f e
@@ -230,7 +233,7 @@ one_answer s bytes a b (Full c x t e m g is more) (Fits d y f n h le) =
     not_full y x t (same_closed s d c y x (same_record bytes d c f e) h g) le is more
 one_answer s bytes a b (Full c x t e m g is more) (Full d y u f n h same most) =
     ap (λ (n : ℕ). Err (fault.LedgerFull n))
-    (is ∙ ap (λ (closed : Closed). file_total closed.state.levels)
+    (is ∙ ap (λ (closed : PreparedClose). file_total closed.state.levels)
     (same_closed s c d x y (same_record bytes c d e f) g h) ∙ sym same)
 
 pub closes_are_one : ClosesAreOne

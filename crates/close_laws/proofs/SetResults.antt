@@ -51,7 +51,7 @@ use Rattle.tx_apply.specs.FeeBump as bump
 use Rattle.op_types.specs.InnerOutcome.{inner_outcome}
 use Rattle.tx_apply.specs.InnerResult.{inner_pair, bump_outcome}
 use Rattle.tx_apply.specs.Running.{placed, done_by, done_at, Ran, run}
-use Rattle.tx_apply.specs.Set.{Closing, ctx_in, all_held, envelope_applied, result_pair, all_applied}
+use Rattle.tx_apply.specs.Set.{Setting, ctx_in, all_held, envelope_applied, result_pair, all_applied}
 use Rattle.tx_apply.specs.Set.{envelopes_in_order}
 use Rattle.tx_apply.specs.Set.{fees_taken_of}
 use Rattle.tx_apply.specs.Signing.{Auth, Auths, source_of, auth_of, auths_of, auth_result, auth_results, are_used}
@@ -59,7 +59,7 @@ use Rattle.tx_apply.specs.Transaction as spec
 use Rattle.tx_apply.proofs.Conserving.{all_at}
 use Rattle.tx_apply.proofs.Placed.{as_many}
 use Rattle.close_rules.specs.State.{IsSpelled}
-use Rattle.close_rules.specs.Close.{closing_in}
+use Rattle.close_rules.specs.Close.{setting_in}
 use Rattle.close_laws.specs.Results.{ResultsAreSpelled}
 use Rattle.close_laws.proofs.Spelled.{few_spelled}
 use Rattle.close_laws.proofs.SpelledSets.{set_spelled, envelopes_spelled, envelopes_few, all_operations_spelled}
@@ -383,17 +383,17 @@ module _ (base_fee : ℕ) (ctx : Ctx) (signed : bump.BumpSigned) (tx : FeeBumpTr
 
 -- ---- envelopes
 
-envelope_answers : (closing : Closing) (id_pool : ℕ) (whole : TransactionEnvelope) (m : EntryMap)
-    → length (operations_of whole) ≤ 100 → IsOutcome (envelope_applied closing id_pool whole m).outcome
+envelope_answers : (setting : Setting) (id_pool : ℕ) (whole : TransactionEnvelope) (m : EntryMap)
+    → length (operations_of whole) ≤ 100 → IsOutcome (envelope_applied setting id_pool whole m).outcome
 unfolding envelope_applied
-envelope_answers closing id_pool (envelope.V0 signed) m few = plain_outcome outcome.NotSupported not_supported
-envelope_answers closing id_pool (envelope.V1 signed) m few =
-    plain_outcome _ (transaction_plain true closing.header.base_fee (ctx_in closing id_pool (envelope.V1 signed))
-    (signed_hash_of closing.network (envelope.V1 signed)) (all_held signed.signatures) signed.tx m few)
-envelope_answers closing id_pool (envelope.FeeBump signed) m few =
-    bump_answers closing.header.base_fee (ctx_in closing id_pool (envelope.FeeBump signed))
-    (bump.signed_by (signed_hash_of closing.network (envelope.FeeBump signed)) (all_held signed.signatures)
-    (transaction_hash_of closing.network signed.tx.inner_tx.tx) (all_held signed.tx.inner_tx.signatures)) signed.tx
+envelope_answers setting id_pool (envelope.V0 signed) m few = plain_outcome outcome.NotSupported not_supported
+envelope_answers setting id_pool (envelope.V1 signed) m few =
+    plain_outcome _ (transaction_plain true setting.header.base_fee (ctx_in setting id_pool (envelope.V1 signed))
+    (signed_hash_of setting.network (envelope.V1 signed)) (all_held signed.signatures) signed.tx m few)
+envelope_answers setting id_pool (envelope.FeeBump signed) m few =
+    bump_answers setting.header.base_fee (ctx_in setting id_pool (envelope.FeeBump signed))
+    (bump.signed_by (signed_hash_of setting.network (envelope.FeeBump signed)) (all_held signed.signatures)
+    (transaction_hash_of setting.network signed.tx.inner_tx.tx) (all_held signed.tx.inner_tx.signatures)) signed.tx
     (hash_len _) few m
 
 signed_hash_len : (network : Hash) (whole : TransactionEnvelope) → hash.within (signed_hash_of network whole)
@@ -401,11 +401,11 @@ signed_hash_len network (envelope.V0 signed) = hash_len _
 signed_hash_len network (envelope.V1 signed) = hash_len _
 signed_hash_len network (envelope.FeeBump signed) = hash_len _
 
-result_within : (closing : Closing) (whole : TransactionEnvelope) (fee : ℤ) (end : TransactionOutcome) → IsOutcome end
-    → transaction_result_pair.within (result_pair closing whole fee end)
+result_within : (setting : Setting) (whole : TransactionEnvelope) (fee : ℤ) (end : TransactionOutcome) → IsOutcome end
+    → transaction_result_pair.within (result_pair setting whole fee end)
 unfolding transaction_result_pair transaction_result i64 constant
-result_within closing whole fee end within =
-    (signed_hash_len closing.network whole, (tt, (within.within, tt)))
+result_within setting whole fee end within =
+    (signed_hash_len setting.network whole, (tt, (within.within, tt)))
 
 -- results that can be written, no more than there are envelopes
 record AreResults (most : ℕ) (results : List TransactionResultPair) : Type 0 where
@@ -415,19 +415,19 @@ record AreResults (most : ℕ) (results : List TransactionResultPair) : Type 0 w
 abbrev HasFew : TransactionEnvelope → Type 0
 HasFew whole = length (operations_of whole) ≤ 100
 
-all_results : (closing : Closing) (id_pool : ℕ) (envelopes : List TransactionEnvelope) (fees : List ℤ) (m : EntryMap)
-    → All HasFew envelopes → AreResults (length envelopes) (all_applied closing id_pool envelopes fees m).results
+all_results : (setting : Setting) (id_pool : ℕ) (envelopes : List TransactionEnvelope) (fees : List ℤ) (m : EntryMap)
+    → All HasFew envelopes → AreResults (length envelopes) (all_applied setting id_pool envelopes fees m).results
 unfolding all_applied
-all_results closing id_pool [] fees m few = record { few = omega arith; all = tt }
-all_results closing id_pool (whole ∷ others) [] m few = record { few = omega arith; all = tt }
-all_results closing id_pool (whole ∷ others) (fee ∷ fees) m few =
-    let first = envelope_applied closing id_pool whole m in
-    let rest = all_results closing first.id_pool others fees first.entries (All-tail HasFew whole others few) in
+all_results setting id_pool [] fees m few = record { few = omega arith; all = tt }
+all_results setting id_pool (whole ∷ others) [] m few = record { few = omega arith; all = tt }
+all_results setting id_pool (whole ∷ others) (fee ∷ fees) m few =
+    let first = envelope_applied setting id_pool whole m in
+    let rest = all_results setting first.id_pool others fees first.entries (All-tail HasFew whole others few) in
     record {
       few = one_more rest.few;
       all = (
-        result_within closing whole fee first.outcome
-            (envelope_answers closing id_pool whole m (All-head HasFew whole others few)),
+        result_within setting whole fee first.outcome
+            (envelope_answers setting id_pool whole m (All-head HasFew whole others few)),
         rest.all,
       );
     }
@@ -480,9 +480,9 @@ unfolding transaction_result_set list
 results_are_spelled s closing can =
     let set = closing.tx_set in
     let spelled = set_spelled closing can.spelled in
-    let results = all_results (closing_in s closing) s.header.id_pool (envelopes_in_order set)
-    (fees_taken_of (closing_in s closing) set s.entries).fees
-    (fees_taken_of (closing_in s closing) set s.entries).entries
+    let results = all_results (setting_in s closing) s.header.id_pool (envelopes_in_order set)
+    (fees_taken_of (setting_in s closing) set s.entries).fees
+    (fees_taken_of (setting_in s closing) set s.entries).entries
     (all_at HasFew set.txs (apply_order_of set) (set_few set spelled)) in
     (few_enough results.few (envelopes_len set) (envelopes_few set spelled), results.all)
   where

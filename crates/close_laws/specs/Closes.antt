@@ -4,7 +4,7 @@ use Rattle.xdr_header.specs.declared.record.CloseRecord.{CloseRecord}
 use Rattle.close_rules.specs.declared.close_fault.CloseFault.{CloseFault}
 use Rattle.bucket_levels.specs.Size.{file_total}
 use Rattle.close_rules.specs.State.{ClosingState, IsClosingState, max_file_total}
-use Rattle.close_rules.specs.Close.{Closed, IsClosed, IsTaken, IsClose}
+use Rattle.close_rules.specs.Close.{PreparedClose, IsClosed, IsTaken, IsClose}
 use Rattle.close_laws.specs.Legal.{IsClosable}
 
 -- bytes that are taken are a record that closes a ledger
@@ -14,10 +14,10 @@ TakenIsClosable = (s : ClosingState) (bytes : List ℕ) (taken : IsTaken s bytes
 
 -- what bytes do to a state is one thing
 abbrev pub ClosesAreOne : Type 0
-ClosesAreOne = (s : ClosingState) (bytes : List ℕ) (a b : Result Closed CloseFault) → IsClose s bytes a
+ClosesAreOne = (s : ClosingState) (bytes : List ℕ) (a b : Result PreparedClose CloseFault) → IsClose s bytes a
     → IsClose s bytes b → a ≡ b
 
 -- the next ledger closes from what a close leaves
 abbrev pub NextIsClosing : Type 0
-NextIsClosing = (s : ClosingState) (closing : CloseRecord) (closed : Closed) → IsClosable s closing
+NextIsClosing = (s : ClosingState) (closing : CloseRecord) (closed : PreparedClose) → IsClosable s closing
     → IsClosed s closing closed → file_total closed.state.levels ≤ max_file_total → IsClosingState closed.state

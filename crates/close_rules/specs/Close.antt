@@ -13,7 +13,7 @@ use Rattle.bucket_levels.specs.Step.{IsStep}
 use Rattle.bucket_levels.specs.Hash.{list_hash}
 use Rattle.header_chain.specs.Upgrades.{upgrade_in, all_upgraded}
 use Rattle.header_chain.specs.SkipList.{finished}
-use Rattle.tx_apply.specs.Set.{Closing, closing_of, SetApplied, set_applied, fee_pool_after}
+use Rattle.tx_apply.specs.Set.{Setting, setting_of, DoneSet, set_done, fee_pool_after}
 use Rattle.close_rules.specs.declared.close_fault.CloseFault.{CloseFault}
 use Rattle.close_rules.specs.declared.close_fault.CloseFault.TheVariants as fault
 use Rattle.bucket_levels.specs.Size.{file_total}
@@ -21,18 +21,18 @@ use Rattle.close_rules.specs.State.{ClosingState, max_file_total}
 use Rattle.close_rules.specs.Refusals.{record_in, record_fault}
 
 -- the results of a set, in the order in which its transactions were applied, and the state behind the close
-pub record Closed : Type 0 where
+pub record PreparedClose : Type 0 where
   pub results : List TransactionResultPair
   pub state : ClosingState
 
 -- ---- the set
 
-abbrev pub closing_in : ClosingState → CloseRecord → Closing
-closing_in s closing = closing_of s.network s.header closing.scp_value.close_time
+abbrev pub setting_in : ClosingState → CloseRecord → Setting
+setting_in s closing = setting_of s.network s.header closing.scp_value.close_time
 
 -- what the set of a record does to the entries of a state
-abbrev pub applied_in : ClosingState → CloseRecord → SetApplied
-applied_in s closing = set_applied (closing_in s closing) closing.tx_set s.entries
+abbrev pub applied_in : ClosingState → CloseRecord → DoneSet
+applied_in s closing = set_done (setting_in s closing) closing.tx_set s.entries
 
 abbrev pub result_set : List TransactionResultPair → TransactionResultSet
 result_set results = record { results = results }
@@ -46,7 +46,7 @@ filled_header s closing = record s.header {
   scp_value = closing.scp_value;
   ledger_seq = s.header.ledger_seq + 1;
   tx_set_result_hash = results_hash_of (result_set (applied_in s closing).results);
-  fee_pool = fee_pool_after (closing_in s closing) closing.tx_set s.entries;
+  fee_pool = fee_pool_after (setting_in s closing) closing.tx_set s.entries;
   id_pool = (applied_in s closing).id_pool;
 }
 
@@ -61,7 +61,7 @@ pub record IsFreshOf (version : ℕ) (s : ClosingState) (next : ClosingState) (f
   pub meta : version_of fresh ≡ Some version
   pub changes : IsFresh s.entries next.entries fresh
 
-pub record IsClosed (s : ClosingState) (closing : CloseRecord) (closed : Closed) : Type 0 where
+pub record IsClosed (s : ClosingState) (closing : CloseRecord) (closed : PreparedClose) : Type 0 where
   pub results : closed.results ≡ (applied_in s closing).results
   pub network : closed.state.network ≡ s.network
   pub entries : AreNextEntries (s.header.ledger_seq + 1) s.entries (applied_in s closing).entries closed.state.entries
@@ -82,7 +82,7 @@ pub record IsTaken (s : ClosingState) (bytes : List ℕ) : Type 0 where
   pub unrefused : record_fault s closing ≡ None
 
 -- the record closes the ledger, or would, with files of so many bytes
-pub record ClosesWith (s : ClosingState) (bytes : List ℕ) (closed : Closed) (total : ℕ) : Type 0 where
+pub record ClosesWith (s : ClosingState) (bytes : List ℕ) (closed : PreparedClose) (total : ℕ) : Type 0 where
   pub taken : IsTaken s bytes
   pub closes : IsClosed s taken.closing closed
   pub files : total ≡ file_total closed.state.levels
@@ -93,10 +93,10 @@ IsRefused s bytes wrong =
     (closing : CloseRecord) × (record_in bytes ≡ Ok closing) × (record_fault s closing ≡ Some wrong)
 
 -- Bytes that are no record are told first, then what a record is refused for, and last levels that are too long.
-abbrev pub IsClose : ClosingState → List ℕ → Result Closed CloseFault → Type 0
+abbrev pub IsClose : ClosingState → List ℕ → Result PreparedClose CloseFault → Type 0
 IsClose s bytes (Ok closed) = (total : ℕ) × ClosesWith s bytes closed total × (total ≤ max_file_total)
 IsClose s bytes (Err (fault.BadXdr at kind)) = record_in bytes ≡ Err (record { at = at; kind = kind })
 IsClose s bytes (Err (fault.LedgerFull total)) =
-    (closed : Closed) × ClosesWith s bytes closed total × (max_file_total < total)
+    (closed : PreparedClose) × ClosesWith s bytes closed total × (max_file_total < total)
 IsClose s bytes (Err fault.NoMemory) = ⊥
 IsClose s bytes (Err wrong) = IsRefused s bytes wrong

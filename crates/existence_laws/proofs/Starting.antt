@@ -51,7 +51,7 @@ judged_state : (network : Hash) (image : StartImage) (s : ClosingState) → IsBy
 judged_state network image s text (h, levels, m, has, built, kept, is) =
     let whole : IsWhole image h levels m = record {
       header = (has.files.header, header_spelled image.header h text has.files.header.reads);
-      files = record { are = has.files.files.files; few = has.files.files.few };
+      files = record { are = has.files.files.files; fit = has.files.files.fit };
       stands = record { marks = has.marks; standing = has.standing };
       judged = (has.hash, built, kept);
     } in
@@ -83,7 +83,8 @@ by_reading runs images network input text (Err wrong) reads = there_is (silent (
 by_reading runs images network input text (Ok (image, q)) reads =
     let spelled = start_image_laws.lawful.takes (start_of input) q image text reads in
     and_then (images network image)
-    (λ found. let begun = by_judgement runs network image q (header_bytes image spelled.sized) spelled.taken.rest found.0
+    (λ found. let begun = by_judgement runs network image q (header_bytes image spelled.sized) spelled.taken.rest
+    found.0
     found.1 in there_is (begun.0, (found.0, found.1, begun.1)))
 
 pub each_outcome : EachRun → EachImage → EachOutcome

@@ -23,9 +23,7 @@ fn is_number_in_range(ledger_seq: u32, id_pool: u64) -> bool
     ensures { IsTrue result ↔
         ((1 ≤ ledger_seq) × (ledger_seq ≤ last_seq) × (id_pool ≤ ledger_seq * 2 ^ 32)) }
 {
-    1 <= ledger_seq
-        && ledger_seq <= LAST_SEQ
-        && id_pool <= u64::from(ledger_seq) * 4_294_967_296
+    1 <= ledger_seq && ledger_seq <= LAST_SEQ && id_pool <= u64::from(ledger_seq) * 4_294_967_296
 }
 
 /// Whether what is paid with and what it counts in are in their ranges.

@@ -25,7 +25,7 @@ use Rattle.close_rules.specs.declared.close_fault.CloseFault.{CloseFault}
 use Rattle.close_rules.specs.declared.close_fault.CloseFault.TheVariants as fault
 use Rattle.close_rules.specs.State.{ClosingState}
 use Rattle.close_rules.specs.Refusals.{record_in, term_fault, upgrade_fault}
-use Rattle.close_rules.specs.Close.{Closed, IsClosed, applied_in, result_set, filled_header, upgraded_header}
+use Rattle.close_rules.specs.Close.{PreparedClose, IsClosed, applied_in, result_set, filled_header, upgraded_header}
 use Rattle.close_laws.specs.Legal.{IsClosable}
 use Rattle.close_laws.specs.Results.{ResultsAreSpelled}
 use Rattle.close_laws.specs.Header.{NextHeaderIsSpelled}
@@ -148,7 +148,7 @@ seq_by_terms s closing none le =
 
 -- ---- bytes
 
-pub answered : (s : ClosingState) (bytes : List ℕ) (closing : CloseRecord) (answer : Result Closed CloseFault)
+pub answered : (s : ClosingState) (bytes : List ℕ) (closing : CloseRecord) (answer : Result PreparedClose CloseFault)
     → IsBytes bytes → record_in bytes ≡ Ok closing → IsClosedBy s closing answer → Answers s bytes answer
 answered s bytes closing (Ok closed) text reads is = (
   file_total closed.state.levels,
@@ -182,5 +182,5 @@ answered s bytes closing (Err fault.NoMemory) text reads is = tt
 
 -- ---- the whole
 
-abbrev pub closed_with : List TransactionResultPair → Hash → LedgerHeader → EntryMap → List Pair → Closed
+abbrev pub closed_with : List TransactionResultPair → Hash → LedgerHeader → EntryMap → List Pair → PreparedClose
 closed_with results network h m levels = record { results = results; state = state_of network h levels m }

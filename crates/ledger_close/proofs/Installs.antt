@@ -6,13 +6,13 @@ use Rattle.bucket_levels.specs.Hash.{list_hash}
 use Rattle.xdr_header.specs.declared.record.CloseRecord.{CloseRecord}
 use Rattle.close_rules.specs.State.{ClosingState, IsClosingState}
 use Rattle.close_rules.specs.Refusals.{record_fault}
-use Rattle.close_rules.specs.Close.{Closed, IsClosed, IsClose}
+use Rattle.close_rules.specs.Close.{PreparedClose, IsClosed, IsClose}
 use Rattle.close_laws.specs.Closes.{TakenIsClosable, NextIsClosing}
 use Rattle.close_laws.proofs.NextHeader.{next_range}
 use Rattle.close_laws.proofs.Unrefused.{seq_below}
 
 -- the number of the next ledger
-pub next_number : (s : ClosingState) (closing : CloseRecord) (closed : Closed) → IsClosingState s
+pub next_number : (s : ClosingState) (closing : CloseRecord) (closed : PreparedClose) → IsClosingState s
     → record_fault s closing ≡ None → IsClosed s closing closed
     → closed.state.header.ledger_seq ≡ s.header.ledger_seq + 1
 next_number s closing closed state none closes =
@@ -21,17 +21,17 @@ next_number s closing closed state none closes =
     (seq_below s closing none range.seq_high) in
     ap (λ h. h.ledger_seq) closes.header ∙ of_next.counts.ledger_seq
 
-pub installed_number : (s : ClosingState) (closed : Closed) → IsClosingState s
+pub installed_number : (s : ClosingState) (closed : PreparedClose) → IsClosingState s
     → (bytes : List ℕ) × IsClose s bytes (Ok closed) → closed.state.header.ledger_seq ≡ s.header.ledger_seq + 1
 installed_number s closed state by =
     let closes = by.1.1 in
     next_number s closes.taken.closing closed state closes.taken.unrefused closes.closes
 
-pub installed_step : (s : ClosingState) (closed : Closed) → (bytes : List ℕ) × IsClose s bytes (Ok closed)
+pub installed_step : (s : ClosingState) (closed : PreparedClose) → (bytes : List ℕ) × IsClose s bytes (Ok closed)
     → (fresh : Contents) × IsStep (s.header.ledger_seq + 1) fresh s.levels closed.state.levels
 installed_step s closed by = (by.1.1.closes.fresh, by.1.1.closes.levels)
 
-pub installed_state : TakenIsClosable → NextIsClosing → (s : ClosingState) (closed : Closed) → IsClosingState s
+pub installed_state : TakenIsClosable → NextIsClosing → (s : ClosingState) (closed : PreparedClose) → IsClosingState s
     → (bytes : List ℕ) × IsClose s bytes (Ok closed) → IsClosingState closed.state
 installed_state closable next s closed state by =
     let closes = by.1.1 in

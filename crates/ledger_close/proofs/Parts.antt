@@ -25,7 +25,7 @@ use Rattle.ledger_close.specs.declared.heading.Given.{Given}
 use Rattle.ledger_close.specs.Heading.{filled}
 use Rattle.ledger_close.specs.Answers.{FaultIs, terms_of, IsUpgradedIn, IsUpgradedBy}
 use Rattle.ledger_close.specs.Closing.{IsFinished, IsClosedBy}
-use Rattle.close_rules.specs.Close.{Closed}
+use Rattle.close_rules.specs.Close.{PreparedClose}
 
 -- ---- the header
 
@@ -184,7 +184,7 @@ by_set_refused s closing f none is =
     by_cause s closing f (λ g. set_fault s closing ≡ Some g) is (λ g e. by_set s closing (Some g) none e)
 
 -- a record that isn't refused for what it is goes on
-pub goes_on : (s : ClosingState) (closing : CloseRecord) (answer : Result Closed CloseFault)
+pub goes_on : (s : ClosingState) (closing : CloseRecord) (answer : Result PreparedClose CloseFault)
     → record_fault s closing ≡ None → IsFinished s closing answer → IsClosedBy s closing answer
 goes_on s closing (Ok closed) none is = (none, is)
 goes_on s closing (Err (fault.BadXdr at kind)) none is = absurd is

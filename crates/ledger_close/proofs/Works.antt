@@ -13,11 +13,11 @@ use Rattle.entry_sums.specs.Sums.{EachEntry}
 use Rattle.tx_apply.specs.declared.set.SetDone.{SetDone}
 use Rattle.tx_apply.specs.declared.fault.SetFault.{SetFault}
 use Rattle.tx_apply.specs.declared.fault.SetFault.TheVariants as set
-use Rattle.tx_apply.specs.Set.{IsAnswer, set_applied, fee_pool_after, missing_place}
+use Rattle.tx_apply.specs.Set.{IsAnswer, set_done, fee_pool_after, missing_place}
 use Rattle.tx_apply.specs.Laws.{IsConserved}
 use Rattle.close_rules.specs.State.{ClosingState}
 use Rattle.close_rules.specs.Refusals.{set_fault}
-use Rattle.close_rules.specs.Close.{applied_in, closing_in}
+use Rattle.close_rules.specs.Close.{applied_in, setting_in}
 use Rattle.ledger_close.specs.Answers.{FaultIs, fault_of_set}
 use Rattle.ledger_close.specs.Heading.{IsDone}
 
@@ -29,7 +29,7 @@ keyed_by m each k = at (get m k) refl
     at (Some e) is = each k e is
 
 pub refused_set : (s : ClosingState) (closing : CloseRecord) (old new : Undo) (f : SetFault) → old ≡ started s.entries
-    → IsAnswer (closing_in s closing) closing.tx_set old new (Err f)
+    → IsAnswer (setting_in s closing) closing.tx_set old new (Err f)
     → FaultIs (fault_of_set f) (λ g. set_fault s closing ≡ Some g)
 unfolding set_fault
 refused_set s closing old new (set.NotBuilt index) begun answer = rw answer.0 refl
@@ -40,7 +40,7 @@ refused_set s closing old new (set.FeeSourceMissing index) begun answer =
 refused_set s closing old new set.NoMemory begun answer = tt
 
 pub applied_set : (s : ClosingState) (closing : CloseRecord) (old new : Undo) (done : SetDone) → old ≡ started s.entries
-    → IsAnswer (closing_in s closing) closing.tx_set old new (Ok done) → set_fault s closing ≡ None
+    → IsAnswer (setting_in s closing) closing.tx_set old new (Ok done) → set_fault s closing ≡ None
 unfolding set_fault
 applied_set s closing old new done begun answer =
     let payable : missing_place s.entries closing.tx_set ≡ None =
@@ -49,27 +49,27 @@ applied_set s closing old new done begun answer =
 
 pub applied_done : (s : ClosingState) (closing : CloseRecord) (old new : Undo) (done : SetDone)
     → old ≡ started s.entries
-    → IsAnswer (closing_in s closing) closing.tx_set old new (Ok done) → IsDone s closing done
+    → IsAnswer (setting_in s closing) closing.tx_set old new (Ok done) → IsDone s closing done
 applied_done s closing old new done begun answer = record {
   results = answer.1.results
-      ∙ ap (λ (u : Undo). (set_applied (closing_in s closing) closing.tx_set u.current).results) begun;
+      ∙ ap (λ (u : Undo). (set_done (setting_in s closing) closing.tx_set u.current).results) begun;
   fee_pool = answer.1.fee_pool
-      ∙ ap (λ (u : Undo). fee_pool_after (closing_in s closing) closing.tx_set u.current) begun;
+      ∙ ap (λ (u : Undo). fee_pool_after (setting_in s closing) closing.tx_set u.current) begun;
   id_pool = answer.1.id_pool
-      ∙ ap (λ (u : Undo). (set_applied (closing_in s closing) closing.tx_set u.current).id_pool) begun;
+      ∙ ap (λ (u : Undo). (set_done (setting_in s closing) closing.tx_set u.current).id_pool) begun;
 }
 
 pub applied_keyed : (s : ClosingState) (closing : CloseRecord) (old : Undo) → old ≡ started s.entries
-    → IsConserved (closing_in s closing) closing.tx_set old.current → IsKeyed (applied_in s closing).entries
+    → IsConserved (setting_in s closing) closing.tx_set old.current → IsKeyed (applied_in s closing).entries
 applied_keyed s closing old begun conserved =
-    let settled = subst (λ (u : Undo). IsConserved (closing_in s closing) closing.tx_set u.current) begun conserved in
+    let settled = subst (λ (u : Undo). IsConserved (setting_in s closing) closing.tx_set u.current) begun conserved in
     keyed_by (applied_in s closing).entries settled.settled.legal.keyed
 
 pub applied_batch : (s : ClosingState) (closing : CloseRecord) (old new : Undo) (done : SetDone) (batch : Batch)
-    → old ≡ started s.entries → IsAnswer (closing_in s closing) closing.tx_set old new (Ok done)
+    → old ≡ started s.entries → IsAnswer (setting_in s closing) closing.tx_set old new (Ok done)
     → IsBatch new.base new.current batch → IsBatch s.entries (applied_in s closing).entries batch
 applied_batch s closing old new done batch begun answer told =
     let behind = subst (λ (u : Undo). IsBatch u.base u.current batch) answer.1.entries told in
-    subst (λ (u : Undo). IsBatch u.base (set_applied (closing_in s closing) closing.tx_set u.current).entries batch)
+    subst (λ (u : Undo). IsBatch u.base (set_done (setting_in s closing) closing.tx_set u.current).entries batch)
     begun
     behind

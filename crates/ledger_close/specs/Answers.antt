@@ -16,7 +16,7 @@ use Rattle.close_rules.specs.declared.image_fault.ImageFault.{ImageFault}
 use Rattle.close_rules.specs.declared.image_fault.ImageFault.TheVariants as image
 use Rattle.close_rules.specs.State.{ClosingState, IsSpelled}
 use Rattle.close_rules.specs.Refusals.{record_in, term_fault, upgrade_fault}
-use Rattle.close_rules.specs.Close.{Closed, IsClose}
+use Rattle.close_rules.specs.Close.{PreparedClose, IsClose}
 use Rattle.close_rules.specs.Images.{IsJudged}
 use Rattle.fee_rules.specs.Turns.{apply_order_of}
 use Rattle.ledger_close.specs.declared.refusals.Judged.{Judged}
@@ -66,7 +66,7 @@ fault_of_set (set.FeeSourceMissing index) = fault.FeeSourceMissing index
 fault_of_set set.NoMemory = fault.NoMemory
 
 -- the answer of a whole close
-abbrev pub Answers : ClosingState → List ℕ → Result Closed CloseFault → Type 0
+abbrev pub Answers : ClosingState → List ℕ → Result PreparedClose CloseFault → Type 0
 Answers s bytes (Ok closed) = IsClose s bytes (Ok closed)
 Answers s bytes (Err wrong) = FaultIs wrong (λ f. IsClose s bytes (Err f))
 

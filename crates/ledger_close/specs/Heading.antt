@@ -5,7 +5,7 @@ use Rattle.xdr_header.specs.declared.record.CloseRecord.{CloseRecord}
 use Rattle.tx_apply.specs.declared.set.SetDone.{SetDone}
 use Rattle.tx_apply.specs.Set.{fee_pool_after}
 use Rattle.close_rules.specs.State.{ClosingState}
-use Rattle.close_rules.specs.Close.{applied_in, closing_in}
+use Rattle.close_rules.specs.Close.{applied_in, setting_in}
 use Rattle.ledger_close.specs.declared.heading.Given.{Given}
 
 -- a header with what a close gives
@@ -22,5 +22,5 @@ filled given h = record h {
 -- what the set of a record leaves beside the entries
 pub record IsDone (s : ClosingState) (closing : CloseRecord) (done : SetDone) : Type 0 where
   pub results : done.results.results ≡ (applied_in s closing).results
-  pub fee_pool : done.fee_pool ≡ fee_pool_after (closing_in s closing) closing.tx_set s.entries
+  pub fee_pool : done.fee_pool ≡ fee_pool_after (setting_in s closing) closing.tx_set s.entries
   pub id_pool : done.id_pool ≡ (applied_in s closing).id_pool

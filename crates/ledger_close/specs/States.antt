@@ -13,7 +13,7 @@ use Rattle.entry_map.specs.Undo.{map_code}
 use Rattle.bucket_levels.specs.Pairs.{Pair, pair_code}
 use Rattle.bucket_levels.specs.Levels.{LevelsAt}
 use Rattle.close_rules.specs.State.{ClosingState, IsClosingState}
-use Rattle.close_rules.specs.Close.{Closed}
+use Rattle.close_rules.specs.Close.{PreparedClose}
 use Rattle.close_rules.specs.Images.{state_of}
 
 -- how states and closes are told apart
@@ -24,7 +24,7 @@ state_code =
     (λ s. (s.network, (s.header, (s.entries, s.levels))))
     (λ (network, (h, (m, levels))). state_of network h levels m) (λ _. refl)
 
-abbrev pub closed_code : Coded Closed
+abbrev pub closed_code : Coded PreparedClose
 closed_code =
     code_by (List TransactionResultPair × ClosingState) (coded× (coded_list pair.the_row.coded) state_code)
     (λ c. (c.results, c.state)) (λ (results, state). record { results = results; state = state }) (λ _. refl)

@@ -22,11 +22,11 @@ pub struct Prepared {
 }
 
 impl Model for Prepared {
-    ghost use Rattle.close_rules.specs.Close.{Closed};
+    ghost use Rattle.close_rules.specs.Close.{PreparedClose};
     ghost use Rattle.close_rules.specs.Images.{state_of};
     ghost use Rattle.ledger_close.specs.States.{closed_code, IsReady};
 
-    ghost Value = { Closed };
+    ghost Value = { PreparedClose };
 
     ghost coded = { closed_code };
 

@@ -8,7 +8,7 @@ use Rattle.xdr_core.specs.declared.fault.XdrFault.{XdrFault}
 use Rattle.xdr_core.specs.Place.{Place, Reading}
 use Rattle.close_rules.specs.declared.close_fault.CloseFault.{CloseFault}
 use Rattle.close_rules.specs.State.{ClosingState}
-use Rattle.close_rules.specs.Close.{Closed, IsClose}
+use Rattle.close_rules.specs.Close.{PreparedClose, IsClose}
 use Rattle.close_rules.specs.Close.{filled_header}
 use Rattle.header_chain.specs.Upgrades.{upgrade_in, upgraded_if, all_upgraded}
 use Rattle.ledger_types.specs.declared.header.LedgerHeader.{LedgerHeader}
@@ -25,10 +25,10 @@ use Rattle.replay.proofs.Marking.{read_mark, framed_is_read, framed_above}
 
 -- ---- closes
 
-abbrev answer : Result Closed CloseFault → Result Closed CloseFault
+abbrev answer : Result PreparedClose CloseFault → Result PreparedClose CloseFault
 answer r = r
 
-same_close : (s : ClosingState) (bytes : List ℕ) (a b : Closed) → IsClose s bytes (Ok a) → IsClose s bytes (Ok b)
+same_close : (s : ClosingState) (bytes : List ℕ) (a b : PreparedClose) → IsClose s bytes (Ok a) → IsClose s bytes (Ok b)
     → a ≡ b
 same_close s bytes a b h i = let e : answer (Ok a) ≡ Ok b = closes_are_one s bytes (Ok a) (Ok b) h i in cc
 
@@ -37,7 +37,7 @@ same_refusal : (s : ClosingState) (bytes : List ℕ) (a b : CloseFault) → IsCl
     → a ≡ b
 same_refusal s bytes a b h i = let e : answer (Err a) ≡ Err b = closes_are_one s bytes (Err a) (Err b) h i in cc
 
-not_both : (s : ClosingState) (bytes : List ℕ) (a : Closed) (b : CloseFault) → IsClose s bytes (Ok a)
+not_both : (s : ClosingState) (bytes : List ℕ) (a : PreparedClose) (b : CloseFault) → IsClose s bytes (Ok a)
     → IsClose s bytes (Err b) → ⊥
 not_both s bytes a b h i = let e : answer (Ok a) ≡ Err b = closes_are_one s bytes (Ok a) (Err b) h i in absurd cc
 
@@ -145,7 +145,7 @@ ended_run s at text last h = record {
 abbrev pub Later : (s : ClosingState) (at : ℕ) (rest lines : List ℕ) (o : Outcome) → Type 0
 Later s at rest lines o = (later : Outcome) × IsRun s (record { at = at; rest = rest }) later × (o ≡ behind lines later)
 
-peeled_by : (s : ClosingState) (bytes : List ℕ) (c : Closed) (at : ℕ) (others : List ℕ) (o : Outcome)
+peeled_by : (s : ClosingState) (bytes : List ℕ) (c : PreparedClose) (at : ℕ) (others : List ℕ) (o : Outcome)
     (records : List (List ℕ)) (rest lines : List ℕ) (state : ClosingState) (last : Outcome)
     → length bytes ≤ max_record_len → IsClose s bytes (Ok c) → framed bytes ++ others ≡ frames records ++ rest
     → AreShort records → AreClosed s records lines state → IsEnd state (at + length (frames records)) rest last
@@ -164,7 +164,7 @@ peeled_by s bytes c at others o (w ∷ ws) rest lines state last fits closes cut
     omega (arith, sizes, length-append (framed w) (frames ws)) in
     let text : (lines_of closed.0 ++ closed.1) ++ last.text ≡ lines_of c ++ (closed.1 ++ last.text) =
     append_assoc (lines_of closed.0) closed.1 last.text
-    ∙ ap (λ (x : Closed). lines_of x ++ (closed.1 ++ last.text)) same in (
+    ∙ ap (λ (x : PreparedClose). lines_of x ++ (closed.1 ++ last.text)) same in (
       behind closed.1 last,
       record {
         records = ws;
@@ -173,7 +173,7 @@ peeled_by s bytes c at others o (w ∷ ws) rest lines state last fits closes cut
         short = All-tail P w ws short;
         lines = closed.1;
         state = state;
-        closed = subst (λ (x : Closed). AreClosed x.state ws closed.1 state) same closed.3;
+        closed = subst (λ (x : PreparedClose). AreClosed x.state ws closed.1 state) same closed.3;
         last = last;
         ends = subst (λ (a : ℕ). IsEnd state a rest last) place ends;
         is = refl;
@@ -182,7 +182,7 @@ peeled_by s bytes c at others o (w ∷ ws) rest lines state last fits closes cut
           ∙ ap (λ (t : List ℕ). outcome last.status t) text,
     )
 
-pub peeled : (s : ClosingState) (bytes : List ℕ) (c : Closed) (at : ℕ) (others : List ℕ) (o : Outcome)
+pub peeled : (s : ClosingState) (bytes : List ℕ) (c : PreparedClose) (at : ℕ) (others : List ℕ) (o : Outcome)
     → length bytes ≤ max_record_len → IsClose s bytes (Ok c)
     → IsRun s (record { at = at; rest = framed bytes ++ others }) o
     → Later c.state (at + length (framed bytes)) others (lines_of c) o
@@ -190,7 +190,7 @@ peeled s bytes c at others o fits closes run =
     peeled_by s bytes c at others o run.records run.rest run.lines run.state run.last fits closes run.cut run.short
     run.closed run.ends run.is
 
-pub prepended : (s : ClosingState) (bytes : List ℕ) (c : Closed) (at : ℕ) (others : List ℕ) (o : Outcome)
+pub prepended : (s : ClosingState) (bytes : List ℕ) (c : PreparedClose) (at : ℕ) (others : List ℕ) (o : Outcome)
     → length bytes ≤ max_record_len → IsClose s bytes (Ok c)
     → IsRun c.state (record { at = at + length (framed bytes); rest = others }) o
     → IsRun s (record { at = at; rest = framed bytes ++ others }) (behind (lines_of c) o)
@@ -226,7 +226,7 @@ no_records s p = record {
   closed = (refl, refl);
 }
 
-pub one_more : (s : ClosingState) (bytes : List ℕ) (c : Closed) (at next : ℕ) (others lines : List ℕ)
+pub one_more : (s : ClosingState) (bytes : List ℕ) (c : PreparedClose) (at next : ℕ) (others lines : List ℕ)
     → length bytes ≤ max_record_len → IsClose s bytes (Ok c)
     → AreClosedAhead c.state (record { at = next; rest = others }) lines
     → AreClosedAhead s (record { at = at; rest = framed bytes ++ others }) (lines_of c ++ lines)
@@ -242,7 +242,7 @@ one_more s bytes c at next others lines fits closes a = record {
 pub empty_front : (s : ClosingState) (p : Place) → IsRunFront s p []
 empty_front s p = inl ([], no_records s p, nothing_front [])
 
-pub later_front : (s : ClosingState) (bytes : List ℕ) (c : Closed) (at : ℕ) (others front : List ℕ)
+pub later_front : (s : ClosingState) (bytes : List ℕ) (c : PreparedClose) (at : ℕ) (others front : List ℕ)
     → length bytes ≤ max_record_len → IsClose s bytes (Ok c)
     → IsRunFront c.state (record { at = at + length (framed bytes); rest = others }) front
     → IsRunFront s (record { at = at; rest = framed bytes ++ others }) (lines_of c ++ front)
@@ -275,7 +275,7 @@ all_upgraded_seq (one ∷ asked) header =
     all_upgraded_seq asked (upgraded_if header one) ∙ upgraded_seq header one
 
 -- the next ledger's number is one more
-pub next_seq : (s : ClosingState) (bytes : List ℕ) (c : Closed) → IsClose s bytes (Ok c)
+pub next_seq : (s : ClosingState) (bytes : List ℕ) (c : PreparedClose) → IsClose s bytes (Ok c)
     → c.state.header.ledger_seq ≡ s.header.ledger_seq + 1
 next_seq s bytes c h =
     let closing = h.1.taken.closing in

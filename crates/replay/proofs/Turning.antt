@@ -24,7 +24,7 @@ use Rattle.xdr_core.specs.Place.{Reading, start_of}
 use Rattle.xdr_core.specs.Format.{IsBytes}
 use Rattle.close_rules.specs.declared.close_fault.CloseFault.{CloseFault}
 use Rattle.close_rules.specs.State.{ClosingState}
-use Rattle.close_rules.specs.Close.{Closed, IsClose}
+use Rattle.close_rules.specs.Close.{PreparedClose, IsClose}
 use Rattle.run_outcome.specs.declared.status.Status.{Status}
 use Rattle.run_outcome.specs.declared.status.Status.TheVariants as status
 use Rattle.run_outcome.specs.Statuses.{IsCutShort}
@@ -54,7 +54,7 @@ joined first second = over first.before second.now first.faults_before second.fa
 
 -- ---- a record, and then the rest of the run
 
-answered_behind : (s : ClosingState) (bytes : List ℕ) (c : Closed) (at : ℕ) (others : List ℕ) (out : Seen)
+answered_behind : (s : ClosingState) (bytes : List ℕ) (c : PreparedClose) (at : ℕ) (others : List ℕ) (out : Seen)
     (later : Option (List ℕ)) (faults : ℕ) (end : Status) → length bytes ≤ max_record_len → IsClose s bytes (Ok c)
     → Received out (lines_of c)
     → AnsweredFrom c.state (at + length (framed bytes)) others (over out.now later out.faults_now faults) end
@@ -400,7 +400,8 @@ record_stops s at ahead new rest bytes input out end grown cut fits (inr (inr (e
 
 -- ---- the answers of the parts
 
-pub closes_of : (s : ClosingState) (bytes : List ℕ) (c : Closed) (next : ClosingState) (out : Seen) (r : Option Status)
+pub closes_of : (s : ClosingState) (bytes : List ℕ) (c : PreparedClose) (next : ClosingState) (out : Seen)
+    (r : Option Status)
     → IsClose s bytes (Ok c) → next ≡ c.state → WroteOn out (lines_of c) r → Closes s bytes next out r
 closes_of s bytes c next out None closes same w = (c, closes, same, w)
 closes_of s bytes c next out (Some end) closes same (inl (e, failed, front)) = inl (c, closes, e, failed, front)

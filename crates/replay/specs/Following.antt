@@ -10,7 +10,7 @@ use Rattle.op_form.specs.Sequences.{last_seq}
 use Rattle.close_rules.specs.declared.close_fault.CloseFault.{CloseFault}
 use Rattle.close_rules.specs.declared.close_fault.CloseFault.TheVariants as close
 use Rattle.close_rules.specs.State.{ClosingState}
-use Rattle.close_rules.specs.Close.{Closed, IsClose}
+use Rattle.close_rules.specs.Close.{PreparedClose, IsClose}
 use Rattle.run_outcome.specs.declared.status.Status.{Status}
 use Rattle.run_outcome.specs.declared.status.Status.TheVariants as status
 use Rattle.run_outcome.specs.Lines.{end_line, refused_line}
@@ -71,7 +71,7 @@ FollowedFrom p input out end = Followed p.state p.at p.ahead input out end
 pub record Goes (old new : Standing) (input out : Seen) : Type 0 where
   pub bytes : List ℕ
   pub short : length bytes ≤ max_record_len
-  pub closed : Closed
+  pub closed : PreparedClose
   pub closes : IsClose old.state bytes (Ok closed)
   pub state : new.state ≡ closed.state
   pub given : List ℕ
@@ -93,7 +93,7 @@ Turned old new input out (Some end) = FollowedFrom old input out end
 -- where a record ends the run: its lines weren't taken whole, or it is refused, or memory was
 abbrev pub Stops : (s : ClosingState) (bytes : List ℕ) (out : Seen) (end : Status) → Type 0
 Stops s bytes out end =
-    ((closed : Closed) × IsClose s bytes (Ok closed) × (end ≡ status.WriteFault) × Failed out
+    ((closed : PreparedClose) × IsClose s bytes (Ok closed) × (end ≡ status.WriteFault) × Failed out
     × ReceivedPrefix out (lines_of closed))
     ⊎ ((wrong : CloseFault) × IsClose s bytes (Err wrong)
     × Wrote out (refused_line s.header wrong) status.Refused end)
@@ -107,7 +107,7 @@ Refuses header out wrong end = Wrote out (refused_line header wrong) status.Refu
 -- what a record came to
 abbrev pub Closes : (s : ClosingState) (bytes : List ℕ) (next : ClosingState) (out : Seen) → Option Status → Type 0
 Closes s bytes next out None =
-    (closed : Closed) × IsClose s bytes (Ok closed) × (next ≡ closed.state) × Received out (lines_of closed)
+    (closed : PreparedClose) × IsClose s bytes (Ok closed) × (next ≡ closed.state) × Received out (lines_of closed)
 Closes s bytes next out (Some end) = Stops s bytes out end
 
 -- what the record at the front of what is ahead came to

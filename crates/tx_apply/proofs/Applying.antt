@@ -10,151 +10,151 @@ use Rattle.entry_map.specs.Undo.{Undo, with_current}
 use Rattle.op_laws.specs.Underway.{IsSettled}
 use Rattle.tx_apply.specs.Places.{envelopes_at}
 use Rattle.tx_apply.specs.Transaction.{Applied}
-use Rattle.tx_apply.specs.Set.{Closing, envelope_applied, result_pair, SetApplied, none_applied, behind_transaction}
+use Rattle.tx_apply.specs.Set.{Setting, envelope_applied, result_pair, DoneSet, none_applied, behind_transaction}
 use Rattle.tx_apply.specs.Set.{all_applied}
 use Rattle.tx_apply.proofs.Placed.{first_left}
 
 -- so far: the results and those that are left make the whole, and so do the entries and the ids
-pub record SoFar (closing : Closing) (first_id : ℕ) (envelopes : List TransactionEnvelope) (order : List ℕ)
+pub record SoFar (setting : Setting) (first_id : ℕ) (envelopes : List TransactionEnvelope) (order : List ℕ)
     (fees : List ℤ) (first told : List TransactionResultPair) (old now : Undo) (id_pool : ℕ) (i : ℕ)
     : Type 0 where
   pub results : told
-      ++ (all_applied closing id_pool (envelopes_at envelopes (drop i order)) (drop i fees) now.current).results
-      ≡ first ++ (all_applied closing first_id (envelopes_at envelopes order) fees old.current).results
-  pub entries : (all_applied closing id_pool (envelopes_at envelopes (drop i order)) (drop i fees)
+      ++ (all_applied setting id_pool (envelopes_at envelopes (drop i order)) (drop i fees) now.current).results
+      ≡ first ++ (all_applied setting first_id (envelopes_at envelopes order) fees old.current).results
+  pub entries : (all_applied setting id_pool (envelopes_at envelopes (drop i order)) (drop i fees)
       now.current).entries
-      ≡ (all_applied closing first_id (envelopes_at envelopes order) fees old.current).entries
-  pub ids : (all_applied closing id_pool (envelopes_at envelopes (drop i order)) (drop i fees)
+      ≡ (all_applied setting first_id (envelopes_at envelopes order) fees old.current).entries
+  pub ids : (all_applied setting id_pool (envelopes_at envelopes (drop i order)) (drop i fees)
       now.current).id_pool
-      ≡ (all_applied closing first_id (envelopes_at envelopes order) fees old.current).id_pool
+      ≡ (all_applied setting first_id (envelopes_at envelopes order) fees old.current).id_pool
   pub undo : now ≡ with_current old now.current
   pub settled : IsSettled id_pool now.current
 
-behind : (closing : Closing) (id_pool : ℕ) (envelope : TransactionEnvelope) (fee : ℤ)
+behind : (setting : Setting) (id_pool : ℕ) (envelope : TransactionEnvelope) (fee : ℤ)
     (left : List TransactionEnvelope) (fees : List ℤ) (m : EntryMap)
-    → all_applied closing id_pool (envelope ∷ left) (fee ∷ fees) m
-    ≡ behind_transaction (result_pair closing envelope fee (envelope_applied closing id_pool envelope m).outcome)
-    (envelope_applied closing id_pool envelope m)
-    (all_applied closing (envelope_applied closing id_pool envelope m).id_pool left fees
-    (envelope_applied closing id_pool envelope m).entries)
+    → all_applied setting id_pool (envelope ∷ left) (fee ∷ fees) m
+    ≡ behind_transaction (result_pair setting envelope fee (envelope_applied setting id_pool envelope m).outcome)
+    (envelope_applied setting id_pool envelope m)
+    (all_applied setting (envelope_applied setting id_pool envelope m).id_pool left fees
+    (envelope_applied setting id_pool envelope m).entries)
 unfolding all_applied
-behind closing id_pool envelope fee left fees m = refl
+behind setting id_pool envelope fee left fees m = refl
 
 -- what is left begins with one transaction
-one_left : (closing : Closing) (id_pool : ℕ) (envelopes : List TransactionEnvelope) (order : List ℕ)
+one_left : (setting : Setting) (id_pool : ℕ) (envelopes : List TransactionEnvelope) (order : List ℕ)
     (fees : List ℤ) (i : ℕ) (envelope : TransactionEnvelope) (fee : ℤ) (m : EntryMap) → i < length order
     → i < length fees → get_or order i 0 < length envelopes
     → envelope ≡ get_or envelopes (get_or order i 0) envelope → fee ≡ get_or fees i fee
-    → all_applied closing id_pool (envelopes_at envelopes (drop i order)) (drop i fees) m
-    ≡ behind_transaction (result_pair closing envelope fee (envelope_applied closing id_pool envelope m).outcome)
-    (envelope_applied closing id_pool envelope m)
-    (all_applied closing (envelope_applied closing id_pool envelope m).id_pool
+    → all_applied setting id_pool (envelopes_at envelopes (drop i order)) (drop i fees) m
+    ≡ behind_transaction (result_pair setting envelope fee (envelope_applied setting id_pool envelope m).outcome)
+    (envelope_applied setting id_pool envelope m)
+    (all_applied setting (envelope_applied setting id_pool envelope m).id_pool
     (envelopes_at envelopes (drop (i + 1) order)) (drop (i + 1) fees)
-    (envelope_applied closing id_pool envelope m).entries)
-one_left closing id_pool envelopes order fees i envelope fee m within inside there e at =
-    ap (λ (left : List TransactionEnvelope). all_applied closing id_pool left (drop i fees) m)
+    (envelope_applied setting id_pool envelope m).entries)
+one_left setting id_pool envelopes order fees i envelope fee m within inside there e at =
+    ap (λ (left : List TransactionEnvelope). all_applied setting id_pool left (drop i fees) m)
     (first_left envelopes order i envelope within there
     ∙ ap (λ (x : TransactionEnvelope). x ∷ envelopes_at envelopes (drop (i + 1) order)) (sym e))
-    ∙ ap (λ (cs : List ℤ). all_applied closing id_pool
+    ∙ ap (λ (cs : List ℤ). all_applied setting id_pool
     (envelope ∷ envelopes_at envelopes (drop (i + 1) order)) cs m)
     (drop_more fees i fee inside ∙ ap (λ (c : ℤ). c ∷ drop (i + 1) fees) (sym at))
-    ∙ behind closing id_pool envelope fee (envelopes_at envelopes (drop (i + 1) order)) (drop (i + 1) fees) m
+    ∙ behind setting id_pool envelope fee (envelopes_at envelopes (drop (i + 1) order)) (drop (i + 1) fees) m
 
 -- one transaction more
-pub step : (closing : Closing) (first_id : ℕ) (envelopes : List TransactionEnvelope) (order : List ℕ)
+pub step : (setting : Setting) (first_id : ℕ) (envelopes : List TransactionEnvelope) (order : List ℕ)
     (fees : List ℤ) (first results : List TransactionResultPair) (old now : Undo) (id_pool : ℕ) (i : ℕ)
     (envelope : TransactionEnvelope) (fee : ℤ) (after : Undo)
-    → SoFar closing first_id envelopes order fees first results old now id_pool i → i < length order
+    → SoFar setting first_id envelopes order fees first results old now id_pool i → i < length order
     → i < length fees → get_or order i 0 < length envelopes
     → envelope ≡ get_or envelopes (get_or order i 0) envelope → fee ≡ get_or fees i fee
-    → after ≡ with_current now (envelope_applied closing id_pool envelope now.current).entries
-    → IsSettled (envelope_applied closing id_pool envelope now.current).id_pool
-    (envelope_applied closing id_pool envelope now.current).entries
-    → SoFar closing first_id envelopes order fees first
-    (results ++ result_pair closing envelope fee
-    (envelope_applied closing id_pool envelope now.current).outcome ∷ []) old after
-    (envelope_applied closing id_pool envelope now.current).id_pool (i + 1)
-step closing first_id envelopes order fees first results old now id_pool i envelope fee after so_far within inside
+    → after ≡ with_current now (envelope_applied setting id_pool envelope now.current).entries
+    → IsSettled (envelope_applied setting id_pool envelope now.current).id_pool
+    (envelope_applied setting id_pool envelope now.current).entries
+    → SoFar setting first_id envelopes order fees first
+    (results ++ result_pair setting envelope fee
+    (envelope_applied setting id_pool envelope now.current).outcome ∷ []) old after
+    (envelope_applied setting id_pool envelope now.current).id_pool (i + 1)
+step setting first_id envelopes order fees first results old now id_pool i envelope fee after so_far within inside
     there e at is settled = record {
       results = append_assoc results (pair ∷ []) (left after.current).results
-          ∙ ap (λ (s : SetApplied). results ++ s.results) (sym one_after) ∙ so_far.results;
-      entries = ap (λ (s : SetApplied). s.entries) (sym one_after) ∙ so_far.entries;
-      ids = ap (λ (s : SetApplied). s.id_pool) (sym one_after) ∙ so_far.ids;
+          ∙ ap (λ (s : DoneSet). results ++ s.results) (sym one_after) ∙ so_far.results;
+      entries = ap (λ (s : DoneSet). s.entries) (sym one_after) ∙ so_far.entries;
+      ids = ap (λ (s : DoneSet). s.id_pool) (sym one_after) ∙ so_far.ids;
       undo = is ∙ ap (λ (u : Undo). with_current u done.entries) so_far.undo
           ∙ ap (λ (m : EntryMap). with_current old m) (sym same);
       settled = subst (IsSettled done.id_pool) (sym same) settled;
     }
   where
     done : Applied
-    done = envelope_applied closing id_pool envelope now.current
+    done = envelope_applied setting id_pool envelope now.current
 
     pair : TransactionResultPair
-    pair = result_pair closing envelope fee done.outcome
+    pair = result_pair setting envelope fee done.outcome
 
-    left : EntryMap → SetApplied
-    left m = all_applied closing done.id_pool (envelopes_at envelopes (drop (i + 1) order))
+    left : EntryMap → DoneSet
+    left m = all_applied setting done.id_pool (envelopes_at envelopes (drop (i + 1) order))
         (drop (i + 1) fees) m
 
     same : after.current ≡ done.entries
     same = ap (λ (u : Undo). u.current) is
 
-    one_after : all_applied closing id_pool (envelopes_at envelopes (drop i order)) (drop i fees) now.current
+    one_after : all_applied setting id_pool (envelopes_at envelopes (drop i order)) (drop i fees) now.current
         ≡ behind_transaction pair done (left after.current)
-    one_after = one_left closing id_pool envelopes order fees i envelope fee now.current within inside there e at
+    one_after = one_left setting id_pool envelopes order fees i envelope fee now.current within inside there e at
         ∙ ap (λ (m : EntryMap). behind_transaction pair done (left m)) (sym same)
 
 -- the same, by what the transaction left
-pub step_to : (closing : Closing) (first_id : ℕ) (envelopes : List TransactionEnvelope) (order : List ℕ)
+pub step_to : (setting : Setting) (first_id : ℕ) (envelopes : List TransactionEnvelope) (order : List ℕ)
     (fees : List ℤ) (first told : List TransactionResultPair) (old now : Undo) (id_pool : ℕ) (i : ℕ)
     (envelope : TransactionEnvelope) (fee : ℤ) (after : Undo) (told_after : List TransactionResultPair)
-    (id_pool_after : ℕ) → SoFar closing first_id envelopes order fees first told old now id_pool i
+    (id_pool_after : ℕ) → SoFar setting first_id envelopes order fees first told old now id_pool i
     → i < length order → i < length fees → get_or order i 0 < length envelopes
     → envelope ≡ get_or envelopes (get_or order i 0) envelope → fee ≡ get_or fees i fee
-    → after ≡ with_current now (envelope_applied closing id_pool envelope now.current).entries
-    → told_after ≡ told ++ result_pair closing envelope fee
-    (envelope_applied closing id_pool envelope now.current).outcome ∷ []
-    → id_pool_after ≡ (envelope_applied closing id_pool envelope now.current).id_pool
-    → IsSettled (envelope_applied closing id_pool envelope now.current).id_pool
-    (envelope_applied closing id_pool envelope now.current).entries
-    → SoFar closing first_id envelopes order fees first told_after old after id_pool_after (i + 1)
-step_to closing first_id envelopes order fees first told old now id_pool i envelope fee after told_after
+    → after ≡ with_current now (envelope_applied setting id_pool envelope now.current).entries
+    → told_after ≡ told ++ result_pair setting envelope fee
+    (envelope_applied setting id_pool envelope now.current).outcome ∷ []
+    → id_pool_after ≡ (envelope_applied setting id_pool envelope now.current).id_pool
+    → IsSettled (envelope_applied setting id_pool envelope now.current).id_pool
+    (envelope_applied setting id_pool envelope now.current).entries
+    → SoFar setting first_id envelopes order fees first told_after old after id_pool_after (i + 1)
+step_to setting first_id envelopes order fees first told old now id_pool i envelope fee after told_after
     id_pool_after so_far within inside there e at is listed drawn settled =
-    let done = envelope_applied closing id_pool envelope now.current in
-    let pair = result_pair closing envelope fee done.outcome in
-    subst (λ (ps : List TransactionResultPair). SoFar closing first_id envelopes order fees first ps old after
+    let done = envelope_applied setting id_pool envelope now.current in
+    let pair = result_pair setting envelope fee done.outcome in
+    subst (λ (ps : List TransactionResultPair). SoFar setting first_id envelopes order fees first ps old after
     id_pool_after (i + 1)) (sym listed)
-    (subst (λ (n : ℕ). SoFar closing first_id envelopes order fees first (told ++ pair ∷ []) old after n (i + 1))
+    (subst (λ (n : ℕ). SoFar setting first_id envelopes order fees first (told ++ pair ∷ []) old after n (i + 1))
     (sym drawn)
-    (step closing first_id envelopes order fees first told old now id_pool i envelope fee after so_far within
+    (step setting first_id envelopes order fees first told old now id_pool i envelope fee after so_far within
     inside there e at is settled))
 
 -- nothing is left behind the last place
-nothing_left : (closing : Closing) (id_pool : ℕ) (envelopes : List TransactionEnvelope) (order : List ℕ)
+nothing_left : (setting : Setting) (id_pool : ℕ) (envelopes : List TransactionEnvelope) (order : List ℕ)
     (fees : List ℤ) (i : ℕ) (m : EntryMap) → length order ≤ i
-    → all_applied closing id_pool (envelopes_at envelopes (drop i order)) fees m ≡ none_applied id_pool m
+    → all_applied setting id_pool (envelopes_at envelopes (drop i order)) fees m ≡ none_applied id_pool m
 unfolding all_applied envelopes_at
-nothing_left closing id_pool envelopes order fees i m past =
-    ap (λ (places : List ℕ). all_applied closing id_pool (envelopes_at envelopes places) fees m)
+nothing_left setting id_pool envelopes order fees i m past =
+    ap (λ (places : List ℕ). all_applied setting id_pool (envelopes_at envelopes places) fees m)
     (drop_all i order past)
 
 -- all are applied
-pub record IsFinished (closing : Closing) (envelopes : List TransactionEnvelope) (order : List ℕ) (fees : List ℤ)
+pub record IsFinished (setting : Setting) (envelopes : List TransactionEnvelope) (order : List ℕ) (fees : List ℤ)
     (first_id : ℕ) (first told : List TransactionResultPair) (old now : Undo) (id_pool : ℕ) : Type 0 where
   pub results : told
-      ≡ first ++ (all_applied closing first_id (envelopes_at envelopes order) fees old.current).results
+      ≡ first ++ (all_applied setting first_id (envelopes_at envelopes order) fees old.current).results
   pub entries : now
-      ≡ with_current old (all_applied closing first_id (envelopes_at envelopes order) fees old.current).entries
-  pub ids : id_pool ≡ (all_applied closing first_id (envelopes_at envelopes order) fees old.current).id_pool
+      ≡ with_current old (all_applied setting first_id (envelopes_at envelopes order) fees old.current).entries
+  pub ids : id_pool ≡ (all_applied setting first_id (envelopes_at envelopes order) fees old.current).id_pool
 
-pub finished : (closing : Closing) (first_id : ℕ) (envelopes : List TransactionEnvelope) (order : List ℕ)
+pub finished : (setting : Setting) (first_id : ℕ) (envelopes : List TransactionEnvelope) (order : List ℕ)
     (fees : List ℤ) (first told : List TransactionResultPair) (old now : Undo) (id_pool : ℕ) (i : ℕ)
-    → SoFar closing first_id envelopes order fees first told old now id_pool i → length order ≤ i
-    → IsFinished closing envelopes order fees first_id first told old now id_pool
-finished closing first_id envelopes order fees first told old now id_pool i so_far past =
-    let none = nothing_left closing id_pool envelopes order (drop i fees) i now.current past in
+    → SoFar setting first_id envelopes order fees first told old now id_pool i → length order ≤ i
+    → IsFinished setting envelopes order fees first_id first told old now id_pool
+finished setting first_id envelopes order fees first told old now id_pool i so_far past =
+    let none = nothing_left setting id_pool envelopes order (drop i fees) i now.current past in
     record {
-      results = sym (append-nil told) ∙ ap (λ (s : SetApplied). told ++ s.results) (sym none) ∙ so_far.results;
+      results = sym (append-nil told) ∙ ap (λ (s : DoneSet). told ++ s.results) (sym none) ∙ so_far.results;
       entries = so_far.undo ∙ ap (λ (m : EntryMap). with_current old m)
-          (ap (λ (s : SetApplied). s.entries) (sym none) ∙ so_far.entries);
-      ids = ap (λ (s : SetApplied). s.id_pool) (sym none) ∙ so_far.ids;
+          (ap (λ (s : DoneSet). s.entries) (sym none) ∙ so_far.entries);
+      ids = ap (λ (s : DoneSet). s.id_pool) (sym none) ∙ so_far.ids;
     }

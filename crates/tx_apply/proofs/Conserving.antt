@@ -26,8 +26,8 @@ use Rattle.tx_apply.specs.Laws.{IsConserved, SetsConserve}
 use Rattle.tx_apply.specs.Laws.{OperationsAreLawful}
 use Rattle.tx_apply.specs.Places.{envelopes_at}
 use Rattle.tx_apply.specs.Running.{Step}
-use Rattle.tx_apply.specs.Set.{Closing, envelope_applied, SetApplied, none_applied, all_applied, envelopes_in_order}
-use Rattle.tx_apply.specs.Set.{fees_taken_of, set_applied, fee_pool_after}
+use Rattle.tx_apply.specs.Set.{Setting, envelope_applied, DoneSet, none_applied, all_applied, envelopes_in_order}
+use Rattle.tx_apply.specs.Set.{fees_taken_of, set_done, fee_pool_after}
 use Rattle.tx_apply.proofs.TakenFees.{AreTaken, all_taken, told_all, all_told_twice}
 use Rattle.tx_apply.proofs.Settling.{leaves_itself, leaves_twice, no_steps, drawn_twice}
 use Rattle.tx_apply.proofs.Sound.{envelope_sound}
@@ -59,7 +59,7 @@ rest_of : (P : TransactionEnvelope → Type 0) (whole : TransactionEnvelope) (ot
     → All P (whole ∷ others) → All P others
 rest_of P whole others all = λ k d within. all (suc k) d (let h = within in omega (arith, h))
 
-pub record AreSound (count first : ℕ) (m : EntryMap) (done : SetApplied) : Type 0 where
+pub record AreSound (count first : ℕ) (m : EntryMap) (done : DoneSet) : Type 0 where
   pub ids : AreDrawn count first done.id_pool
   pub left : LeavesSettled done.id_pool m done.entries done.moves
   pub steps : AreLawful done.steps
@@ -75,19 +75,19 @@ none_sound count id_pool m settled = record {
 none_added : (after before moved : ℤ) → after ≡ (before +ℤ moved) → moved ≡ pos 0 → after ≡ before
 none_added after before moved is none = omega (arith, ints)
 
-module _ (laws : TransactionLaws) (closing : Closing) (seq : closing.header.ledger_seq < 2147483647) where
+module _ (laws : TransactionLaws) (setting : Setting) (seq : setting.header.ledger_seq < 2147483647) where
   pub all_sound : (id_pool : ℕ) (envelopes : List TransactionEnvelope) (fees : List ℤ) (m : EntryMap)
       → IsSettled id_pool m → AreAllFit envelopes
-      → AreSound (operation_total envelopes) id_pool m (all_applied closing id_pool envelopes fees m)
+      → AreSound (operation_total envelopes) id_pool m (all_applied setting id_pool envelopes fees m)
   unfolding all_applied operation_total
   all_sound id_pool [] fees m settled fit = none_sound 0 id_pool m settled
   all_sound id_pool (whole ∷ others) [] m settled fit = none_sound _ id_pool m settled
   all_sound id_pool (whole ∷ others) (fee ∷ fees) m settled fit =
       let P = λ (w : TransactionEnvelope). AreFit (operations_of w) in
-      let first = envelope_applied closing id_pool whole m in
-      let sound = envelope_sound laws closing id_pool whole m settled seq (first_of P whole others fit) in
+      let first = envelope_applied setting id_pool whole m in
+      let sound = envelope_sound laws setting id_pool whole m settled seq (first_of P whole others fit) in
       let rest = all_sound first.id_pool others fees first.entries sound.left.settled (rest_of P whole others fit) in
-      let after = all_applied closing first.id_pool others fees first.entries in
+      let after = all_applied setting first.id_pool others fees first.entries in
       record {
         ids = drawn_twice (length (operations_of whole)) (operation_total others) id_pool first.id_pool after.id_pool
             sound.ids rest.ids;
@@ -100,15 +100,15 @@ module _ (laws : TransactionLaws) (closing : Closing) (seq : closing.header.ledg
   -- ---- each transaction
 
   pub turns_conserved : (id_pool : ℕ) (envelopes : List TransactionEnvelope) (m : EntryMap) → IsSettled id_pool m
-      → AreAllFit envelopes → All (λ (turn : Turn). IsTurnConserved closing turn) (turns closing id_pool envelopes m)
+      → AreAllFit envelopes → All (λ (turn : Turn). IsTurnConserved setting turn) (turns setting id_pool envelopes m)
   unfolding turns
-  turns_conserved id_pool [] m settled fit = All-nil (λ (turn : Turn). IsTurnConserved closing turn)
+  turns_conserved id_pool [] m settled fit = All-nil (λ (turn : Turn). IsTurnConserved setting turn)
   turns_conserved id_pool (whole ∷ others) m settled fit =
       let P = λ (w : TransactionEnvelope). AreFit (operations_of w) in
-      let first = envelope_applied closing id_pool whole m in
-      let sound = envelope_sound laws closing id_pool whole m settled seq (first_of P whole others fit) in
-      All-cons (λ (turn : Turn). IsTurnConserved closing turn)
-      (record { whole = whole; id_pool = id_pool; entries = m }) (turns closing first.id_pool others first.entries)
+      let first = envelope_applied setting id_pool whole m in
+      let sound = envelope_sound laws setting id_pool whole m settled seq (first_of P whole others fit) in
+      All-cons (λ (turn : Turn). IsTurnConserved setting turn)
+      (record { whole = whole; id_pool = id_pool; entries = m }) (turns setting first.id_pool others first.entries)
       (record {
         lumens = none_added _ _ _ (sound.left.supply asset.Native) (lumens_not_issued first.moves);
         leaves = sound.left;
@@ -116,8 +116,8 @@ module _ (laws : TransactionLaws) (closing : Closing) (seq : closing.header.ledg
       (turns_conserved first.id_pool others first.entries sound.left.settled (rest_of P whole others fit))
 
 pub transactions_conserve : TransactionLaws → TransactionsConserve
-transactions_conserve laws closing id_pool whole m settled seq fit =
-    (envelope_sound laws closing id_pool whole m settled seq fit).left
+transactions_conserve laws setting id_pool whole m settled seq fit =
+    (envelope_sound laws setting id_pool whole m settled seq fit).left
 
 -- ---- the set
 
@@ -125,52 +125,52 @@ all_lumens : (last between none first pool sum coins : ℤ) → last ≡ (betwee
     → (between +ℤ sum) ≡ first → first ≡ (coins -ℤ pool) → (last +ℤ (pool +ℤ sum)) ≡ coins
 all_lumens last between none first pool sum coins e nothing h g = omega (arith, ints)
 
-module _ (laws : TransactionLaws) (settles : LegalSettles) (closing : Closing) (set : TransactionSet) (m : EntryMap)
-    (can : CanClose closing set m) where
-  fees_sound : AreTaken closing.header.id_pool m (fees_taken_of closing set m)
-  fees_sound = all_taken laws closing.header.id_pool (set_base_fee closing.header set.txs) (envelopes_in_order set)
+module _ (laws : TransactionLaws) (settles : LegalSettles) (setting : Setting) (set : TransactionSet) (m : EntryMap)
+    (can : CanClose setting set m) where
+  fees_sound : AreTaken setting.header.id_pool m (fees_taken_of setting set m)
+  fees_sound = all_taken laws setting.header.id_pool (set_base_fee setting.header set.txs) (envelopes_in_order set)
       m
-      (settles closing.header m can.legal)
+      (settles setting.header m can.legal)
 
   set_fit : AreAllFit (envelopes_in_order set)
   set_fit = all_at (λ (w : TransactionEnvelope). AreFit (operations_of w)) set.txs (apply_order_of set) can.fit
 
-  sound : AreSound (operation_total (envelopes_in_order set)) closing.header.id_pool
-      (fees_taken_of closing set m).entries (set_applied closing set m)
-  sound = all_sound laws closing can.seq closing.header.id_pool (envelopes_in_order set)
-      (fees_taken_of closing set m).fees (fees_taken_of closing set m).entries fees_sound.settled
+  sound : AreSound (operation_total (envelopes_in_order set)) setting.header.id_pool
+      (fees_taken_of setting set m).entries (set_done setting set m)
+  sound = all_sound laws setting can.seq setting.header.id_pool (envelopes_in_order set)
+      (fees_taken_of setting set m).fees (fees_taken_of setting set m).entries fees_sound.settled
       set_fit
 
-  pub set_conserved : IsConserved closing set m
+  pub set_conserved : IsConserved setting set m
   set_conserved = record {
     settled = sound.left.settled;
     ids = sound.ids;
     lumens = all_lumens _ _ _ _ _ _ _ (sound.left.supply asset.Native)
-        (lumens_not_issued (set_applied closing set m).moves) fees_sound.lumens
-        (owing_nothing closing.header m can.legal).supply;
+        (lumens_not_issued (set_done setting set m).moves) fees_sound.lumens
+        (owing_nothing setting.header m can.legal).supply;
     supply = λ x apart. sound.left.supply x
-        ∙ ap (λ (n : ℤ). n +ℤ issued x (set_applied closing set m).moves) (fees_sound.others x apart);
+        ∙ ap (λ (n : ℤ). n +ℤ issued x (set_done setting set m).moves) (fees_sound.others x apart);
     told =
-        let fees = fees_taken_of closing set m in
-        let applied = set_applied closing set m in
-        let pool = fee_pool_after closing set m in
-        all_told_twice closing.header.fee_pool m pool fees.entries pool applied.entries fees.moves applied.moves
-        (fees_sound.told closing.header.fee_pool)
+        let fees = fees_taken_of setting set m in
+        let applied = set_done setting set m in
+        let pool = fee_pool_after setting set m in
+        all_told_twice setting.header.fee_pool m pool fees.entries pool applied.entries fees.moves applied.moves
+        (fees_sound.told setting.header.fee_pool)
         (told_all pool fees.entries applied.entries applied.moves sound.left.told);
   }
 
-  pub turns_are_conserved : All (λ (turn : Turn). IsTurnConserved closing turn) (turns_of closing set m)
-  turns_are_conserved = turns_conserved laws closing can.seq closing.header.id_pool (envelopes_in_order set)
-      (fees_taken_of closing set m).entries fees_sound.settled set_fit
+  pub turns_are_conserved : All (λ (turn : Turn). IsTurnConserved setting turn) (turns_of setting set m)
+  turns_are_conserved = turns_conserved laws setting can.seq setting.header.id_pool (envelopes_in_order set)
+      (fees_taken_of setting set m).entries fees_sound.settled set_fit
 
-  pub set_lawful : AreLawful (set_applied closing set m).steps
+  pub set_lawful : AreLawful (set_done setting set m).steps
   set_lawful = sound.steps
 
 pub sets_conserve : TransactionLaws → LegalSettles → SetsConserve
-sets_conserve laws settles closing set m can = set_conserved laws settles closing set m can
+sets_conserve laws settles setting set m can = set_conserved laws settles setting set m can
 
 pub turns_conserve : TransactionLaws → LegalSettles → TurnsConserve
-turns_conserve laws settles closing set m can = turns_are_conserved laws settles closing set m can
+turns_conserve laws settles setting set m can = turns_are_conserved laws settles setting set m can
 
 pub operations_are_lawful : TransactionLaws → LegalSettles → OperationsAreLawful
-operations_are_lawful laws settles closing set m can = set_lawful laws settles closing set m can
+operations_are_lawful laws settles setting set m can = set_lawful laws settles setting set m can

@@ -23,7 +23,7 @@ use Rattle.tx_apply.specs.Built.{operations_of}
 use Rattle.tx_apply.specs.Checks.{source_account, judged, is_poor}
 use Rattle.tx_apply.specs.FeeBump as bump
 use Rattle.tx_apply.specs.Laws.{AreFit}
-use Rattle.tx_apply.specs.Set.{Closing, ctx_in, all_held, envelope_applied}
+use Rattle.tx_apply.specs.Set.{Setting, ctx_in, all_held, envelope_applied}
 use Rattle.tx_apply.specs.Signing.{Auth, auth_of, are_used}
 use Rattle.tx_apply.specs.Transaction as spec
 use Rattle.tx_apply.proofs.Judging.{without_used, settled_judged}
@@ -113,19 +113,19 @@ module _ (laws : TransactionLaws) where
 
   -- ---- any envelope
 
-  pub envelope_sound : (closing : Closing) (id_pool : ℕ) (whole : TransactionEnvelope) (m : EntryMap)
-      → IsSettled id_pool m → closing.header.ledger_seq < 2147483647 → AreFit (operations_of whole)
-      → IsSound (length (operations_of whole)) id_pool m (envelope_applied closing id_pool whole m)
+  pub envelope_sound : (setting : Setting) (id_pool : ℕ) (whole : TransactionEnvelope) (m : EntryMap)
+      → IsSettled id_pool m → setting.header.ledger_seq < 2147483647 → AreFit (operations_of whole)
+      → IsSound (length (operations_of whole)) id_pool m (envelope_applied setting id_pool whole m)
   unfolding envelope_applied
-  envelope_sound closing id_pool (envelope.V0 signed) m settled seq fit =
-      v0_sound (ctx_in closing id_pool (envelope.V0 signed)) (signed_hash_of closing.network (envelope.V0 signed))
+  envelope_sound setting id_pool (envelope.V0 signed) m settled seq fit =
+      v0_sound (ctx_in setting id_pool (envelope.V0 signed)) (signed_hash_of setting.network (envelope.V0 signed))
       signed.tx m settled
-  envelope_sound closing id_pool (envelope.V1 signed) m settled seq fit =
-      transaction_sound true closing.header.base_fee (ctx_in closing id_pool (envelope.V1 signed))
-      (signed_hash_of closing.network (envelope.V1 signed)) (all_held signed.signatures) signed.tx m settled refl seq
+  envelope_sound setting id_pool (envelope.V1 signed) m settled seq fit =
+      transaction_sound true setting.header.base_fee (ctx_in setting id_pool (envelope.V1 signed))
+      (signed_hash_of setting.network (envelope.V1 signed)) (all_held signed.signatures) signed.tx m settled refl seq
       fit
-  envelope_sound closing id_pool (envelope.FeeBump signed) m settled seq fit =
-      bump_sound closing.header.base_fee (ctx_in closing id_pool (envelope.FeeBump signed))
-      (bump.signed_by (signed_hash_of closing.network (envelope.FeeBump signed)) (all_held signed.signatures)
-      (transaction_hash_of closing.network signed.tx.inner_tx.tx) (all_held signed.tx.inner_tx.signatures)) signed.tx
+  envelope_sound setting id_pool (envelope.FeeBump signed) m settled seq fit =
+      bump_sound setting.header.base_fee (ctx_in setting id_pool (envelope.FeeBump signed))
+      (bump.signed_by (signed_hash_of setting.network (envelope.FeeBump signed)) (all_held signed.signatures)
+      (transaction_hash_of setting.network signed.tx.inner_tx.tx) (all_held signed.tx.inner_tx.signatures)) signed.tx
       refl seq fit m settled

@@ -19,7 +19,7 @@ use Rattle.op_laws.specs.Underway.{IsSettled, LeavesSettled, AreDrawn}
 use Rattle.tx_apply.specs.Built.{operations_of}
 use Rattle.tx_apply.specs.Fees.{fee_of, fee_move, map_after_fee}
 use Rattle.tx_apply.specs.Running.{Step}
-use Rattle.tx_apply.specs.Set.{Closing, envelope_applied, envelopes_in_order, set_applied, fee_pool_after}
+use Rattle.tx_apply.specs.Set.{Setting, envelope_applied, envelopes_in_order, set_done, fee_pool_after}
 use Rattle.tx_apply.specs.Set.{fees_taken_of}
 use Rattle.tx_apply.specs.Transaction.{Applied}
 
@@ -33,9 +33,9 @@ abbrev pub AreAllFit : List TransactionEnvelope → Type 0
 AreAllFit envelopes = All (λ whole. AreFit (operations_of whole)) envelopes
 
 -- a legal state and a set, between which and the ledger after the header's nothing stands but the rules
-pub record CanClose (closing : Closing) (set : TransactionSet) (m : EntryMap) : Type 0 where
-  pub legal : IsLegal closing.header m
-  pub seq : closing.header.ledger_seq < last_seq
+pub record CanClose (setting : Setting) (set : TransactionSet) (m : EntryMap) : Type 0 where
+  pub legal : IsLegal setting.header m
+  pub seq : setting.header.ledger_seq < last_seq
   pub fit : AreAllFit set.txs
 
 -- ---- what holders have
@@ -65,10 +65,10 @@ FeesConserve = (id_pool base_fee : ℕ) (whole : TransactionEnvelope) (m : Entry
 
 -- behind its fee a transaction moves what its moves say, and no lumens are made or lost
 abbrev pub TransactionsConserve : Type 0
-TransactionsConserve = (closing : Closing) (id_pool : ℕ) (whole : TransactionEnvelope) (m : EntryMap)
-    → IsSettled id_pool m → closing.header.ledger_seq < last_seq → AreFit (operations_of whole)
-    → LeavesSettled (envelope_applied closing id_pool whole m).id_pool m
-    (envelope_applied closing id_pool whole m).entries (envelope_applied closing id_pool whole m).moves
+TransactionsConserve = (setting : Setting) (id_pool : ℕ) (whole : TransactionEnvelope) (m : EntryMap)
+    → IsSettled id_pool m → setting.header.ledger_seq < last_seq → AreFit (operations_of whole)
+    → LeavesSettled (envelope_applied setting id_pool whole m).id_pool m
+    (envelope_applied setting id_pool whole m).entries (envelope_applied setting id_pool whole m).moves
 
 -- ---- each transaction of a set
 
@@ -79,31 +79,31 @@ pub record Turn : Type 0 where
   pub entries : EntryMap
 
 -- what the transaction of a turn does
-abbrev pub turn_applied : Closing → Turn → Applied
-turn_applied closing turn = envelope_applied closing turn.id_pool turn.whole turn.entries
+abbrev pub turn_applied : Setting → Turn → Applied
+turn_applied setting turn = envelope_applied setting turn.id_pool turn.whole turn.entries
 
-unfoldable pub turns : Closing → (id_pool : ℕ) → List TransactionEnvelope → EntryMap → List Turn
-turns closing id_pool [] m = []
-turns closing id_pool (whole ∷ others) m =
+unfoldable pub turns : Setting → (id_pool : ℕ) → List TransactionEnvelope → EntryMap → List Turn
+turns setting id_pool [] m = []
+turns setting id_pool (whole ∷ others) m =
     record { whole = whole; id_pool = id_pool; entries = m }
-    ∷ turns closing (envelope_applied closing id_pool whole m).id_pool others
-    (envelope_applied closing id_pool whole m).entries
+    ∷ turns setting (envelope_applied setting id_pool whole m).id_pool others
+    (envelope_applied setting id_pool whole m).entries
 
 -- the transactions of a set in the order in which they are applied, behind all fees
-abbrev pub turns_of : Closing → TransactionSet → EntryMap → List Turn
-turns_of closing set m =
-    turns closing closing.header.id_pool (envelopes_in_order set) (fees_taken_of closing set m).entries
+abbrev pub turns_of : Setting → TransactionSet → EntryMap → List Turn
+turns_of setting set m =
+    turns setting setting.header.id_pool (envelopes_in_order set) (fees_taken_of setting set m).entries
 
 -- a transaction conserves lumens behind its fee, and moves what its moves say of all else
-pub record IsTurnConserved (closing : Closing) (turn : Turn) : Type 0 where
-  pub lumens : total (held asset.Native) (turn_applied closing turn).entries ≡ total (held asset.Native) turn.entries
-  pub leaves : LeavesSettled (turn_applied closing turn).id_pool turn.entries (turn_applied closing turn).entries
-      (turn_applied closing turn).moves
+pub record IsTurnConserved (setting : Setting) (turn : Turn) : Type 0 where
+  pub lumens : total (held asset.Native) (turn_applied setting turn).entries ≡ total (held asset.Native) turn.entries
+  pub leaves : LeavesSettled (turn_applied setting turn).id_pool turn.entries (turn_applied setting turn).entries
+      (turn_applied setting turn).moves
 
 -- each transaction of a set that is accepted
 abbrev pub TurnsConserve : Type 0
-TurnsConserve = (closing : Closing) (set : TransactionSet) (m : EntryMap) → CanClose closing set m
-    → All (λ turn. IsTurnConserved closing turn) (turns_of closing set m)
+TurnsConserve = (setting : Setting) (set : TransactionSet) (m : EntryMap) → CanClose setting set m
+    → All (λ turn. IsTurnConserved setting turn) (turns_of setting set m)
 
 -- ---- whole sets
 
@@ -113,24 +113,24 @@ operation_total [] = 0
 operation_total (whole ∷ others) = length (operations_of whole) + operation_total others
 
 -- all that a set moves: the fees first
-abbrev pub moves_of : Closing → TransactionSet → EntryMap → List Move
-moves_of closing set m = (fees_taken_of closing set m).moves ++ (set_applied closing set m).moves
+abbrev pub moves_of : Setting → TransactionSet → EntryMap → List Move
+moves_of setting set m = (fees_taken_of setting set m).moves ++ (set_done setting set m).moves
 
 -- what a set leaves
-pub record IsConserved (closing : Closing) (set : TransactionSet) (m : EntryMap) : Type 0 where
-  pub settled : IsSettled (set_applied closing set m).id_pool (set_applied closing set m).entries
-  pub ids : AreDrawn (operation_total (envelopes_in_order set)) closing.header.id_pool
-      (set_applied closing set m).id_pool
-  pub lumens : (total (held asset.Native) (set_applied closing set m).entries +ℤ fee_pool_after closing set m)
-      ≡ closing.header.total_coins
-  pub supply : (x : Asset) → x ≢ asset.Native → total (held x) (set_applied closing set m).entries
-      ≡ total (held x) m +ℤ issued x (set_applied closing set m).moves
-  pub told : AreAllTold closing.header.fee_pool m (fee_pool_after closing set m) (set_applied closing set m).entries
-      (moves_of closing set m)
+pub record IsConserved (setting : Setting) (set : TransactionSet) (m : EntryMap) : Type 0 where
+  pub settled : IsSettled (set_done setting set m).id_pool (set_done setting set m).entries
+  pub ids : AreDrawn (operation_total (envelopes_in_order set)) setting.header.id_pool
+      (set_done setting set m).id_pool
+  pub lumens : (total (held asset.Native) (set_done setting set m).entries +ℤ fee_pool_after setting set m)
+      ≡ setting.header.total_coins
+  pub supply : (x : Asset) → x ≢ asset.Native → total (held x) (set_done setting set m).entries
+      ≡ total (held x) m +ℤ issued x (set_done setting set m).moves
+  pub told : AreAllTold setting.header.fee_pool m (fee_pool_after setting set m) (set_done setting set m).entries
+      (moves_of setting set m)
 
 abbrev pub SetsConserve : Type 0
-SetsConserve = (closing : Closing) (set : TransactionSet) (m : EntryMap) → CanClose closing set m
-    → IsConserved closing set m
+SetsConserve = (setting : Setting) (set : TransactionSet) (m : EntryMap) → CanClose setting set m
+    → IsConserved setting set m
 
 -- Each operation that is run leaves each account an available balance of at least 0, or of what it had; also one whose
 -- transaction is undone.
@@ -138,5 +138,5 @@ abbrev pub AreLawful : List Step → Type 0
 AreLawful steps = All (λ step. IsLawful step.ctx step.entries step.done) steps
 
 abbrev pub OperationsAreLawful : Type 0
-OperationsAreLawful = (closing : Closing) (set : TransactionSet) (m : EntryMap) → CanClose closing set m
-    → AreLawful (set_applied closing set m).steps
+OperationsAreLawful = (setting : Setting) (set : TransactionSet) (m : EntryMap) → CanClose setting set m
+    → AreLawful (set_done setting set m).steps

@@ -38,17 +38,17 @@ use Rattle.tx_apply.specs.Built.{unbuilt_place}
 -- ---- what a set closes over
 
 -- the network, the header of the ledger before, and the time at which the set closes
-pub record Closing : Type 0 where
+pub record Setting : Type 0 where
   pub network : Hash
   pub header : LedgerHeader
   pub close_time : ℕ
 
-abbrev pub closing_of : Hash → LedgerHeader → ℕ → Closing
-closing_of network header close_time = record { network = network; header = header; close_time = close_time }
+abbrev pub setting_of : Hash → LedgerHeader → ℕ → Setting
+setting_of network header close_time = record { network = network; header = header; close_time = close_time }
 
 -- the context of a transaction before its operations
-abbrev pub ctx_in : Closing → (id_pool : ℕ) → TransactionEnvelope → Ctx
-ctx_in closing id_pool whole = ctx_of closing.header closing.close_time id_pool (source_of whole) (seq_num_of whole)
+abbrev pub ctx_in : Setting → (id_pool : ℕ) → TransactionEnvelope → Ctx
+ctx_in setting id_pool whole = ctx_of setting.header setting.close_time id_pool (source_of whole) (seq_num_of whole)
 
 -- ---- one envelope
 
@@ -74,10 +74,10 @@ envelope_by network base_fee ctx hash (envelope.V1 signed) m = v1_applied base_f
 envelope_by network base_fee ctx hash (envelope.FeeBump signed) m = fee_bump_applied network base_fee ctx hash signed m
 
 -- one transaction, over the entries and ids that those before it left
-unfoldable pub envelope_applied : Closing → (id_pool : ℕ) → TransactionEnvelope → EntryMap → Applied
-envelope_applied closing id_pool whole m =
-    envelope_by closing.network closing.header.base_fee (ctx_in closing id_pool whole)
-    (signed_hash_of closing.network whole) whole m
+unfoldable pub envelope_applied : Setting → (id_pool : ℕ) → TransactionEnvelope → EntryMap → Applied
+envelope_applied setting id_pool whole m =
+    envelope_by setting.network setting.header.base_fee (ctx_in setting id_pool whole)
+    (signed_hash_of setting.network whole) whole m
 
 -- ---- all of them
 
@@ -85,21 +85,21 @@ abbrev pub pair_of : Hash → (fee : ℤ) → TransactionOutcome → Transaction
 pair_of hash fee end =
     record { transaction_hash = hash; result = record { fee_charged = fee; outcome = end } }
 
-abbrev pub result_pair : Closing → TransactionEnvelope → (fee : ℤ) → TransactionOutcome → TransactionResultPair
-result_pair closing whole fee end = pair_of (signed_hash_of closing.network whole) fee end
+abbrev pub result_pair : Setting → TransactionEnvelope → (fee : ℤ) → TransactionOutcome → TransactionResultPair
+result_pair setting whole fee end = pair_of (signed_hash_of setting.network whole) fee end
 
 -- what a set does: the results, the entries and the ids that it leaves, what it moves, and the operations that were run
-pub record SetApplied : Type 0 where
+pub record DoneSet : Type 0 where
   pub results : List TransactionResultPair
   pub entries : EntryMap
   pub id_pool : ℕ
   pub moves : List Move
   pub steps : List Step
 
-abbrev pub none_applied : (id_pool : ℕ) → EntryMap → SetApplied
+abbrev pub none_applied : (id_pool : ℕ) → EntryMap → DoneSet
 none_applied id_pool m = record { results = []; entries = m; id_pool = id_pool; moves = []; steps = [] }
 
-abbrev pub behind_transaction : TransactionResultPair → Applied → SetApplied → SetApplied
+abbrev pub behind_transaction : TransactionResultPair → Applied → DoneSet → DoneSet
 behind_transaction pair first rest =
     record {
       results = pair ∷ rest.results;
@@ -110,14 +110,14 @@ behind_transaction pair first rest =
     }
 
 -- each in turn, with its fee
-unfoldable pub all_applied : Closing → (id_pool : ℕ) → List TransactionEnvelope → (fees : List ℤ) → EntryMap
-    → SetApplied
-all_applied closing id_pool [] fees m = none_applied id_pool m
-all_applied closing id_pool (whole ∷ others) [] m = none_applied id_pool m
-all_applied closing id_pool (whole ∷ others) (fee ∷ fees) m =
-    let first = envelope_applied closing id_pool whole m in
-    behind_transaction (result_pair closing whole fee first.outcome) first
-    (all_applied closing first.id_pool others fees first.entries)
+unfoldable pub all_applied : Setting → (id_pool : ℕ) → List TransactionEnvelope → (fees : List ℤ) → EntryMap
+    → DoneSet
+all_applied setting id_pool [] fees m = none_applied id_pool m
+all_applied setting id_pool (whole ∷ others) [] m = none_applied id_pool m
+all_applied setting id_pool (whole ∷ others) (fee ∷ fees) m =
+    let first = envelope_applied setting id_pool whole m in
+    behind_transaction (result_pair setting whole fee first.outcome) first
+    (all_applied setting first.id_pool others fees first.entries)
 
 -- ---- the set
 
@@ -125,17 +125,17 @@ all_applied closing id_pool (whole ∷ others) (fee ∷ fees) m =
 abbrev pub envelopes_in_order : TransactionSet → List TransactionEnvelope
 envelopes_in_order set = envelopes_at set.txs (apply_order_of set)
 
-abbrev pub fees_taken_of : Closing → TransactionSet → EntryMap → FeesTaken
-fees_taken_of closing set m = fees_taken (set_base_fee closing.header set.txs) (envelopes_in_order set) m
+abbrev pub fees_taken_of : Setting → TransactionSet → EntryMap → FeesTaken
+fees_taken_of setting set m = fees_taken (set_base_fee setting.header set.txs) (envelopes_in_order set) m
 
-abbrev pub set_applied : Closing → TransactionSet → EntryMap → SetApplied
-set_applied closing set m =
-    all_applied closing closing.header.id_pool (envelopes_in_order set) (fees_taken_of closing set m).fees
-    (fees_taken_of closing set m).entries
+abbrev pub set_done : Setting → TransactionSet → EntryMap → DoneSet
+set_done setting set m =
+    all_applied setting setting.header.id_pool (envelopes_in_order set) (fees_taken_of setting set m).fees
+    (fees_taken_of setting set m).entries
 
 -- the fee pool behind the set, in stroops
-abbrev pub fee_pool_after : Closing → TransactionSet → EntryMap → ℤ
-fee_pool_after closing set m = closing.header.fee_pool +ℤ sum_of (fees_taken_of closing set m).fees
+abbrev pub fee_pool_after : Setting → TransactionSet → EntryMap → ℤ
+fee_pool_after setting set m = setting.header.fee_pool +ℤ sum_of (fees_taken_of setting set m).fees
 
 -- ---- sets that can't be applied
 
@@ -153,11 +153,11 @@ missing_place m set = missing_among m set.txs (apply_order_of set)
 -- ---- what a call answers
 
 -- the set was applied
-pub record IsApplied (closing : Closing) (set : TransactionSet) (old new : Undo) (done : SetDone) : Type 0 where
-  pub results : done.results.results ≡ (set_applied closing set old.current).results
-  pub entries : new ≡ with_current old (set_applied closing set old.current).entries
-  pub fee_pool : done.fee_pool ≡ fee_pool_after closing set old.current
-  pub id_pool : done.id_pool ≡ (set_applied closing set old.current).id_pool
+pub record IsApplied (setting : Setting) (set : TransactionSet) (old new : Undo) (done : SetDone) : Type 0 where
+  pub results : done.results.results ≡ (set_done setting set old.current).results
+  pub entries : new ≡ with_current old (set_done setting set old.current).entries
+  pub fee_pool : done.fee_pool ≡ fee_pool_after setting set old.current
+  pub id_pool : done.id_pool ≡ (set_done setting set old.current).id_pool
 
 -- every operation of the set can be applied, and every fee source has an account
 pub record IsApplicable (set : TransactionSet) (m : EntryMap) : Type 0 where
@@ -165,9 +165,9 @@ pub record IsApplicable (set : TransactionSet) (m : EntryMap) : Type 0 where
   pub payable : missing_place m set ≡ None
 
 -- Want of memory is the one free answer. A set that is refused leaves the entries.
-abbrev pub IsAnswer : Closing → TransactionSet → (old new : Undo) → Result SetDone SetFault → Type 0
-IsAnswer closing set old new (Ok done) = IsApplicable set old.current × IsApplied closing set old new done
-IsAnswer closing set old new (Err (fault.NotBuilt index)) = (unbuilt_place set.txs ≡ Some index) × (new ≡ old)
-IsAnswer closing set old new (Err (fault.FeeSourceMissing index)) =
+abbrev pub IsAnswer : Setting → TransactionSet → (old new : Undo) → Result SetDone SetFault → Type 0
+IsAnswer setting set old new (Ok done) = IsApplicable set old.current × IsApplied setting set old new done
+IsAnswer setting set old new (Err (fault.NotBuilt index)) = (unbuilt_place set.txs ≡ Some index) × (new ≡ old)
+IsAnswer setting set old new (Err (fault.FeeSourceMissing index)) =
     (unbuilt_place set.txs ≡ None) × (missing_place old.current set ≡ Some index) × (new ≡ old)
-IsAnswer closing set old new (Err fault.NoMemory) = Unit {0}
+IsAnswer setting set old new (Err fault.NoMemory) = Unit {0}

@@ -172,12 +172,12 @@ pub(crate) fn apply_one<B: Base>(
     requires within { xdr.transaction_envelope.within envelope.now }
     requires fit { AreFit (operations_of envelope.now) }
     ensures results { OnOk result (results.new ≡ results.old ++ spec.result_pair
-        (spec.closing_of network.now header.now close_time) envelope.now fee (spec.envelope_applied
-        (spec.closing_of network.now header.now close_time) id_pool envelope.now entries.old.current).outcome ∷ []) }
+        (spec.setting_of network.now header.now close_time) envelope.now fee (spec.envelope_applied
+        (spec.setting_of network.now header.now close_time) id_pool envelope.now entries.old.current).outcome ∷ []) }
     ensures entries { OnOk result (entries.new ≡ with_current entries.old (spec.envelope_applied
-        (spec.closing_of network.now header.now close_time) id_pool envelope.now entries.old.current).entries) }
+        (spec.setting_of network.now header.now close_time) id_pool envelope.now entries.old.current).entries) }
     ensures id_pool { IfOk result (λ after. after ≡ (spec.envelope_applied
-        (spec.closing_of network.now header.now close_time) id_pool envelope.now entries.old.current).id_pool) }
+        (spec.setting_of network.now header.now close_time) id_pool envelope.now entries.old.current).id_pool) }
 {
     let alloc = results.allocator();
     let hash = signed_hash(alloc, network, envelope)?;

@@ -77,13 +77,13 @@ fn apply_all<B: Base>(
     requires fit { laws.AreAllFit envelopes.now }
     requires fees { length fees.now ≡ length order.now }
     ensures results { OnOk result (results.new ≡ results.old ++ (spec.all_applied
-        (spec.closing_of network.now header.now close_time) header.now.id_pool
+        (spec.setting_of network.now header.now close_time) header.now.id_pool
         (envelopes_at envelopes.now order.now) fees.now entries.old.current).results) }
     ensures entries { OnOk result (entries.new ≡ with_current entries.old (spec.all_applied
-        (spec.closing_of network.now header.now close_time) header.now.id_pool
+        (spec.setting_of network.now header.now close_time) header.now.id_pool
         (envelopes_at envelopes.now order.now) fees.now entries.old.current).entries) }
     ensures id_pool { IfOk result (λ after. after ≡ (spec.all_applied
-        (spec.closing_of network.now header.now close_time) header.now.id_pool
+        (spec.setting_of network.now header.now close_time) header.now.id_pool
         (envelopes_at envelopes.now order.now) fees.now entries.old.current).id_pool) }
 {
     let mut id_pool = header.id_pool;
@@ -116,7 +116,7 @@ fn apply_in_order<B: Base>(
     requires fit { laws.AreAllFit set.now.txs }
     requires order { order.now ≡ apply_order_of set.now }
     requires places { All (λ place. place < length set.now.txs) order.now }
-    ensures { IfOk result (λ done. spec.IsApplied (spec.closing_of network.now header.now close_time) set.now
+    ensures { IfOk result (λ done. spec.IsApplied (spec.setting_of network.now header.now close_time) set.now
         entries.old entries.new done) }
 {
     let alloc = set.txs.allocator();
@@ -158,12 +158,12 @@ pub fn apply_set_in_order<B: Base>(
     requires seq { header.now.ledger_seq < last_seq }
     requires within { xdr.transaction_set.within set.now }
     requires order { order.now ≡ apply_order_of set.now }
-    ensures answer { spec.IsAnswer (spec.closing_of network.now header.now close_time) set.now entries.old entries.new
+    ensures answer { spec.IsAnswer (spec.setting_of network.now header.now close_time) set.now entries.old entries.new
         result }
     ensures conserved { OnOk result (
-        laws.IsConserved (spec.closing_of network.now header.now close_time) set.now entries.old.current) }
+        laws.IsConserved (spec.setting_of network.now header.now close_time) set.now entries.old.current) }
     ensures lawful { OnOk result (
-        laws.AreLawful (spec.set_applied (spec.closing_of network.now header.now close_time) set.now
+        laws.AreLawful (spec.set_done (spec.setting_of network.now header.now close_time) set.now
         entries.old.current).steps) }
 {
     legal_settles();
@@ -192,12 +192,12 @@ pub fn apply_set<B: Base>(
     requires legal { IsLegal header.now entries.old.current }
     requires seq { header.now.ledger_seq < last_seq }
     requires within { xdr.transaction_set.within set.now }
-    ensures answer { spec.IsAnswer (spec.closing_of network.now header.now close_time) set.now entries.old entries.new
+    ensures answer { spec.IsAnswer (spec.setting_of network.now header.now close_time) set.now entries.old entries.new
         result }
     ensures conserved { OnOk result (
-        laws.IsConserved (spec.closing_of network.now header.now close_time) set.now entries.old.current) }
+        laws.IsConserved (spec.setting_of network.now header.now close_time) set.now entries.old.current) }
     ensures lawful { OnOk result (
-        laws.AreLawful (spec.set_applied (spec.closing_of network.now header.now close_time) set.now
+        laws.AreLawful (spec.set_done (spec.setting_of network.now header.now close_time) set.now
         entries.old.current).steps) }
 {
     let order = apply_order(set.txs.allocator(), set)?;

@@ -3,7 +3,7 @@ use Rattle.std.proofs.lemmas.Int.{to_z-of_z}
 use Rattle.op_types.specs.declared.transaction.TransactionEnvelope.{TransactionEnvelope}
 use Rattle.tx_apply.specs.Built.{operations_of}
 use Rattle.tx_apply.specs.Laws.{AreFit}
-use Rattle.tx_apply.specs.Set.{closing_of}
+use Rattle.tx_apply.specs.Set.{setting_of}
 use Rattle.tx_apply.proofs.Applying.{step_to, finished}
 use Rattle.tx_apply.proofs.Placed.{same_inside}
 use Rattle.tx_apply.proofs.Sound.{envelope_sound}
@@ -18,15 +18,15 @@ loop-i-preserved g c =
     let fit : AreFit (operations_of c.index-envelopes-order.result) =
     subst (λ (whole : TransactionEnvelope). AreFit (operations_of whole)) (sym c.index-envelopes-order.is)
     (c.requires.fit (get_or c.args.order.now c.loop-i.i 0) c.index-envelopes-order.result there) in
-    let closing = closing_of c.args.network.now c.args.header.now c.args.close_time in
+    let setting = setting_of c.args.network.now c.args.header.now c.args.close_time in
     let told = c.in_ok-id_pool.ensures.results in (
-      step_to closing c.args.header.now.id_pool c.args.envelopes.now c.args.order.now c.args.fees.now
+      step_to setting c.args.header.now.id_pool c.args.envelopes.now c.args.order.now c.args.fees.now
           c.args.results.now c.loop-i.results c.args.entries.now c.loop-i.entries c.loop-i.id_pool c.loop-i.i
           c.index-envelopes-order.result fee c.apply_one.new.entries c.apply_one.new.results c.in_ok-id_pool.id_pool
           c.loop-i.invariant.0 c.loop-i-test.true inside there c.index-envelopes-order.is
           (same_inside c.args.fees.now c.loop-i.i (pos 0) fee inside) c.in_ok-id_pool.ensures.entries
           (rw (sym (to_z-of_z w64 fee fits)) told) c.in_ok-id_pool.ensures.id_pool
-          (envelope_sound c.requires.laws closing c.loop-i.id_pool c.index-envelopes-order.result
+          (envelope_sound c.requires.laws setting c.loop-i.id_pool c.index-envelopes-order.result
           c.loop-i.entries.current
           c.loop-i.invariant.0.settled c.requires.seq fit).left.settled,
       search rules,
@@ -34,18 +34,18 @@ loop-i-preserved g c =
 
 pub returns-clause-results : goal.returns-clause-results
 returns-clause-results g c =
-    (finished (closing_of c.args.network.now c.args.header.now c.args.close_time) c.args.header.now.id_pool
+    (finished (setting_of c.args.network.now c.args.header.now c.args.close_time) c.args.header.now.id_pool
     c.args.envelopes.now c.args.order.now c.args.fees.now c.args.results.now c.loop-i.results c.args.entries.now
     c.loop-i.entries c.loop-i.id_pool c.loop-i.i c.loop-i.invariant.0 (search rules)).results
 
 pub returns-clause-entries : goal.returns-clause-entries
 returns-clause-entries g c =
-    (finished (closing_of c.args.network.now c.args.header.now c.args.close_time) c.args.header.now.id_pool
+    (finished (setting_of c.args.network.now c.args.header.now c.args.close_time) c.args.header.now.id_pool
     c.args.envelopes.now c.args.order.now c.args.fees.now c.args.results.now c.loop-i.results c.args.entries.now
     c.loop-i.entries c.loop-i.id_pool c.loop-i.i c.loop-i.invariant.0 (search rules)).entries
 
 pub returns-clause-id_pool : goal.returns-clause-id_pool
 returns-clause-id_pool g c =
-    (finished (closing_of c.args.network.now c.args.header.now c.args.close_time) c.args.header.now.id_pool
+    (finished (setting_of c.args.network.now c.args.header.now c.args.close_time) c.args.header.now.id_pool
     c.args.envelopes.now c.args.order.now c.args.fees.now c.args.results.now c.loop-i.results c.args.entries.now
     c.loop-i.entries c.loop-i.id_pool c.loop-i.i c.loop-i.invariant.0 (search rules)).ids

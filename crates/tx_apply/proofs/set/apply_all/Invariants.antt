@@ -1,11 +1,11 @@
 use Rattle.std.proofs.Common.{◌≤◌, ◌-◌, length}
-use Rattle.tx_apply.specs.Set.{closing_of}
+use Rattle.tx_apply.specs.Set.{setting_of}
 use Rattle.tx_apply.proofs.Applying.{SoFar}
 use Rattle.tx_apply.proofs.set.apply_all.Given as goal
 
 abbrev pub invariant-loop-i : goal.invariant-loop-i
 invariant-loop-i g l =
-    SoFar (closing_of l.network l.header l.close_time) l.header.id_pool l.envelopes l.order l.fees l.fn.results
+    SoFar (setting_of l.network l.header l.close_time) l.header.id_pool l.envelopes l.order l.fees l.fn.results
     l.results l.fn.entries l.entries l.id_pool l.i × (l.i ≤ length l.order)
 
 abbrev pub decreases-loop-i : goal.decreases-loop-i

@@ -1,7 +1,7 @@
 use Rattle.std.proofs.Common.{All, length, sym, ap, subst, ◌∙◌, rules}
 use Rattle.xdr_tx.specs.Transactions.{transaction_envelope}
 use Rattle.fee_rules.proofs.Spelled.{envelopes_few, envelopes_within}
-use Rattle.tx_apply.specs.Set.{closing_of}
+use Rattle.tx_apply.specs.Set.{setting_of}
 use Rattle.tx_apply.proofs.Unbuilt.{unbuilt_within}
 use Rattle.tx_apply.proofs.Conserving.{set_conserved, set_lawful}
 use Rattle.fee_rules.proofs.Ordered.{places_stand}
@@ -35,11 +35,11 @@ apply_in_order-requires-clause-places g c =
 pub returns-clause-conserved : goal.returns-clause-conserved
 returns-clause-conserved g c =
     set_conserved c.transaction_laws.ensures c.legal_settles.ensures
-    (closing_of c.args.network.now c.args.header.now c.args.close_time) c.args.set.now c.args.entries.now.current
+    (setting_of c.args.network.now c.args.header.now c.args.close_time) c.args.set.now c.args.entries.now.current
     (record { legal = c.requires.legal; seq = c.requires.seq; fit = search rules })
 
 pub returns-clause-lawful : goal.returns-clause-lawful
 returns-clause-lawful g c =
     set_lawful c.transaction_laws.ensures c.legal_settles.ensures
-    (closing_of c.args.network.now c.args.header.now c.args.close_time) c.args.set.now c.args.entries.now.current
+    (setting_of c.args.network.now c.args.header.now c.args.close_time) c.args.set.now c.args.entries.now.current
     (record { legal = c.requires.legal; seq = c.requires.seq; fit = search rules })

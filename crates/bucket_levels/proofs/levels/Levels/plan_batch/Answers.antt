@@ -8,12 +8,14 @@ use Rattle.bucket_levels.proofs.levels.Levels.plan_batch.Goals as goal
 pub returns-in_err-pair_after-clause-most : goal.returns-in_err-pair_after-clause-most
 returns-in_err-pair_after-clause-most g c =
     work_stays_within c.args.seq c.args.fresh.value c.args.self.now.pairs c.loop-level.level c.args.steps.now
-    c.loop-level.steps c.pair_after.new.steps c.loop-level-test.true c.loop-level.invariant.most c.pair_after.ensures.most
+    c.loop-level.steps c.pair_after.new.steps c.loop-level-test.true c.loop-level.invariant.most
+    c.pair_after.ensures.most
 
 pub returns-in_err-push-clause-most : goal.returns-in_err-push-clause-most
 returns-in_err-push-clause-most g c =
     work_stays_within c.args.seq c.args.fresh.value c.args.self.now.pairs c.loop-level.level c.args.steps.now
-    c.loop-level.steps c.pair_after.new.steps c.loop-level-test.true c.loop-level.invariant.most c.pair_after.ensures.most
+    c.loop-level.steps c.pair_after.new.steps c.loop-level-test.true c.loop-level.invariant.most
+    c.pair_after.ensures.most
 
 pub loop-level-preserved : goal.loop-level-preserved
 loop-level-preserved g c =

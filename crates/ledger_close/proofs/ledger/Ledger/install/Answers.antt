@@ -2,25 +2,25 @@ use Rattle.std.proofs.Common.{◌≡◌, ℕ, ◌+◌, List, Ok, sym, ap, ◌∙
 use Rattle.bucket_levels.specs.Levels.{LevelsAt}
 use Rattle.bucket_levels.specs.Step.{IsStep}
 use Rattle.close_rules.specs.State.{ClosingState}
-use Rattle.close_rules.specs.Close.{Closed, IsClose}
+use Rattle.close_rules.specs.Close.{PreparedClose, IsClose}
 use Rattle.close_rules.specs.Images.{state_of}
 use Rattle.ledger_close.specs.States.{IsKept}
 use Rattle.ledger_close.proofs.Installs.{installed_number, installed_step, installed_state}
 use Rattle.ledger_close.proofs.ledger.Ledger.install.Goals as goal
 
 -- what is installed is a close of what is kept
-kept_close : (s now : ClosingState) (closed given : Closed) → s ≡ now → closed ≡ given
+kept_close : (s now : ClosingState) (closed given : PreparedClose) → s ≡ now → closed ≡ given
     → (bytes : List ℕ) × IsClose now bytes (Ok given) → (bytes : List ℕ) × IsClose s bytes (Ok closed)
 kept_close s now closed given is_state is_closed by =
     subst (λ (x : ClosingState). (bytes : List ℕ) × IsClose x bytes (Ok closed)) (sym is_state)
-    (subst (λ (y : Closed). (bytes : List ℕ) × IsClose now bytes (Ok y)) (sym is_closed) by)
+    (subst (λ (y : PreparedClose). (bytes : List ℕ) × IsClose now bytes (Ok y)) (sym is_closed) by)
 
 pub take_step-requires-clause-next : goal.take_step-requires-clause-next
 take_step-requires-clause-next c =
     let l = c.self.inside in
     let p = c.prepared.inside in
     let s = state_of l.network l.header l.levels.pairs l.entries in
-    let closed : Closed =
+    let closed : PreparedClose =
     record { results = p.results.results; state = state_of p.network p.header p.step.pairs p.entries } in
     let by = kept_close s c.args.self.now closed c.args.prepared c.self.view_is c.prepared.view_is c.requires in
     c.prepared.invariant.number ∙ installed_number s closed c.self.invariant.state by
@@ -31,7 +31,7 @@ take_step-requires-clause-planned c =
     let l = c.self.inside in
     let p = c.prepared.inside in
     let s = state_of l.network l.header l.levels.pairs l.entries in
-    let closed : Closed =
+    let closed : PreparedClose =
     record { results = p.results.results; state = state_of p.network p.header p.step.pairs p.entries } in
     let by = kept_close s c.args.self.now closed c.args.prepared c.self.view_is c.prepared.view_is c.requires in
     let step = installed_step s closed by in (
@@ -45,7 +45,7 @@ invariant_of-self c =
     let l = c.self.inside in
     let p = c.prepared.inside in
     let s = state_of l.network l.header l.levels.pairs l.entries in
-    let closed : Closed =
+    let closed : PreparedClose =
     record { results = p.results.results; state = state_of p.network p.header p.step.pairs p.entries } in
     let by = kept_close s c.args.self.now closed c.args.prepared c.self.view_is c.prepared.view_is c.requires in
     subst (λ (x : LevelsAt). IsKept p.network p.digest p.header p.entries x) (sym c.take_step.ensures) record {

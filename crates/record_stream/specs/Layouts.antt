@@ -1,5 +1,6 @@
 -- Where the parts of a start image stand in its text, and what it is to take them from there.
-use Rattle.std.specs.Prelude.{◌≡◌, ℕ, ◌+◌, ◌≤◌, List, take, drop, length, map, All, Result, Ok, Err}
+use Rattle.std.specs.Prelude.{◌≡◌, ℕ, ◌+◌, ◌<◌, ◌≤◌, List, take, drop, length, map, slice_index_or, All}
+use Rattle.std.specs.Prelude.{Result, Ok, Err}
 use Rattle.xdr_core.specs.declared.fault.XdrFault.{XdrFault}
 use Rattle.xdr_core.specs.Format.{IsBytes}
 use Rattle.xdr_core.specs.Place.{Place, start_of}
@@ -19,6 +20,13 @@ IsWithin text span = span.start + span.len ≤ length text
 
 abbrev pub AreWithin : List ℕ → List Span → Type 0
 AreWithin text spans = All (IsWithin text) spans
+
+-- how long the piece at a place is, and that no other one is longer
+abbrev pub len_at : List Span → ℕ → ℕ
+len_at spans place = (slice_index_or spans place (record { start = 0; len = 0 })).len
+
+abbrev pub IsLongest : List Span → ℕ → Type 0
+IsLongest spans place = (k : ℕ) → k < length spans → len_at spans k ≤ len_at spans place
 
 -- the image whose parts stand so in a text
 abbrev pub image_in : List ℕ → Layout → StartImage

@@ -16,7 +16,8 @@ use xdr_header::StartImage;
 /// The place of a file that no other one is longer than.
 fn longest(files: &[Span]) -> usize
     requires { 0 < length files.now }
-    ensures { result < length files.now }
+    ensures within { result < length files.now }
+    ensures longest { spec.IsLongest files.now result }
 {
     let mut longest = 0;
     for place in 1..files.len() {
@@ -86,12 +87,12 @@ pub fn take_image(alloc: Global, ahead: &mut Vec<u8>) -> Result<StartImage, Allo
     };
     let place = longest(&layout.files);
     let file = layout.files[place];
+    // the longest file stays where it is, and nothing is copied in its place
     layout.files[place] = NOTHING;
     let mut image = image_of(alloc, ahead.as_slice(), &layout)?;
     let rest = without_front(alloc, ahead.as_slice(), layout.end)?;
     let bytes = mem::replace(ahead, rest);
-    image
-        .files
-        .set(place, ItemList::from_vec(only(bytes, file)));
+    let left = ItemList::from_vec(only(bytes, file));
+    image.files.set(place, left);
     Ok(image)
 }

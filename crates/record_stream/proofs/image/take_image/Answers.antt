@@ -17,10 +17,10 @@ returns-clause-taken c =
       end = layout.end;
     } in
     taken c.args.ahead.now.items c.replace-bytes.new.dest.items layout place none c.in_ok-image.image
-    c.from_vec.result c.set.new.self
-    (subst (λ (t : List ℕ). IsLayout t layout) c.as_slice.ensures.value c.in-Ok.ensures) c.longest-place.ensures
+    c.from_vec-left.result c.set.new.self
+    (subst (λ (t : List ℕ). IsLayout t layout) c.as_slice.ensures.value c.in-Ok.ensures) c.longest-place.ensures.within
     (c.in_ok-image.ensures ∙ ap (λ (t : List ℕ). image_in t left) c.as_slice-2.ensures.value)
-    (c.from_vec.ensures ∙ c.only.ensures
+    (c.from_vec-left.ensures ∙ c.only.ensures
     ∙ ap (λ v. piece v.items (get_or layout.files place none)) c.replace-bytes.ensures.value)
     c.set.ensures
     (ap (λ v. v.items) c.replace-bytes.ensures.after ∙ c.in_ok-rest.ensures

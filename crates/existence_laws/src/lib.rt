@@ -1,0 +1,7 @@
+//! Laws that there is an answer, over the definitions of closes, images and runs. That there is only one is told by
+//! `close_laws` and `replay`.
+#![tactic(auto)]
+
+pub mod closes;
+pub mod images;
+pub mod outcomes;

@@ -1,0 +1,86 @@
+-- What a record is refused for, of what it is, is told as that.
+use Rattle.std.proofs.Common.{ℕ, true, false, List, [], ◌∷◌, map, Option, Some, None, IfSome, Err, option_map, subst}
+use Rattle.std.proofs.Common.{if◌then◌else◌}
+use Rattle.std.specs.Prelude.{slice_get}
+use Rattle.std.specs.List.{AllByRecursion}
+use Rattle.std.specs.Option.{option_or}
+use Rattle.xdr_header.specs.declared.record.CloseRecord.{CloseRecord}
+use Rattle.entry_slots.specs.Tests.{Tests, first_fault}
+use Rattle.header_chain.specs.Upgrades.{upgrade_in, first_place, is_bad_at, is_out_of_profile}
+use Rattle.tx_apply.specs.Built.{unbuilt_place}
+use Rattle.tx_apply.specs.Set.{missing_place}
+use Rattle.close_rules.specs.declared.close_fault.CloseFault.{CloseFault}
+use Rattle.close_rules.specs.declared.close_fault.CloseFault.TheVariants as fault
+use Rattle.close_rules.specs.State.{ClosingState}
+use Rattle.close_rules.specs.Refusals.{term_tests, term_fault, upgrade_fault, set_fault, record_fault}
+use Rattle.close_rules.specs.Close.{IsRefused, IsClose}
+
+-- a fault of a record that was read, and not of what it leads to
+abbrev IsOfRecord : CloseFault → Type 0
+IsOfRecord (fault.BadXdr at kind) = ⊥
+IsOfRecord (fault.LedgerFull total) = ⊥
+IsOfRecord fault.NoMemory = ⊥
+IsOfRecord other = Unit {0}
+
+-- ---- which faults are told
+
+abbrev IfAny : Option CloseFault → Type 0
+IfAny found = IfSome found IsOfRecord
+
+either : (a b : Option CloseFault) → IfAny a → IfAny b → IfAny (option_or a b)
+either None b own_a own_b = own_b
+either (Some wrong) b own_a own_b = own_a
+
+mapped : (f : ℕ → CloseFault) → ((n : ℕ) → IsOfRecord (f n)) → (o : Option ℕ) → IfAny (option_map f o)
+mapped f own None = tt
+mapped f own (Some n) = own n
+
+first : (tests : Tests CloseFault) → AllByRecursion (λ test. IsOfRecord test.1) tests → IfAny (first_fault tests)
+first [] own = tt
+first (test ∷ tests) own =
+    elim (test.0) as (λ b. IfAny (if b then Some test.1 else first_fault tests)) [
+      | true ↦ own.0
+      | false ↦ first tests own.1
+    ]
+
+of_terms : (s : ClosingState) (closing : CloseRecord) → IfAny (term_fault s closing)
+unfolding term_fault
+of_terms s closing = first (term_tests s closing) (tt, (tt, (tt, (tt, (tt, tt)))))
+
+of_places : (f g : ℕ → CloseFault) → ((n : ℕ) → IsOfRecord (f n)) → ((n : ℕ) → IsOfRecord (g n)) → (a b : Option ℕ)
+    → IfAny (option_or (option_map f a) (option_map g b))
+of_places f g own_f own_g a b = either (option_map f a) (option_map g b) (mapped f own_f a) (mapped g own_g b)
+
+of_upgrades : (s : ClosingState) (closing : CloseRecord) → IfAny (upgrade_fault s closing)
+unfolding upgrade_fault
+of_upgrades s closing =
+    let asked = map upgrade_in closing.scp_value.upgrades in
+    of_places fault.BadUpgrade fault.UpgradeOutOfProfile (λ n. tt) (λ n. tt) (first_place (is_bad_at asked) asked)
+    (first_place (λ i. is_out_of_profile s.header (slice_get asked i)) asked)
+
+of_set : (s : ClosingState) (closing : CloseRecord) → IfAny (set_fault s closing)
+unfolding set_fault
+of_set s closing =
+    of_places fault.NotBuilt fault.FeeSourceMissing (λ n. tt) (λ n. tt) (unbuilt_place closing.tx_set.txs)
+    (missing_place s.entries closing.tx_set)
+
+of_record : (s : ClosingState) (closing : CloseRecord) → IfAny (record_fault s closing)
+unfolding record_fault
+of_record s closing =
+    either (term_fault s closing) (option_or (upgrade_fault s closing) (set_fault s closing)) (of_terms s closing)
+    (either (upgrade_fault s closing) (set_fault s closing) (of_upgrades s closing) (of_set s closing))
+
+-- ---- how they are told
+
+told : (s : ClosingState) (bytes : List ℕ) (wrong : CloseFault) → IsOfRecord wrong → IsRefused s bytes wrong
+    → IsClose s bytes (Err wrong)
+told s bytes (fault.BadXdr at kind) own refused = absurd own
+told s bytes (fault.LedgerFull total) own refused = absurd own
+told s bytes fault.NoMemory own refused = absurd own
+told s bytes wrong own refused = refused
+
+pub refusal : (s : ClosingState) (bytes : List ℕ) (wrong : CloseFault) → IsRefused s bytes wrong
+    → IsClose s bytes (Err wrong)
+refusal s bytes wrong refused =
+    let own = subst IfAny refused.2 (of_record s refused.0) in
+    told s bytes wrong own refused

@@ -1,0 +1,109 @@
+-- The bytes behind a state come to something.
+use Rattle.std.proofs.Common.{◌≡◌, ℕ, zero, suc, ◌+◌, ◌≤◌, List, [], ◌∷◌, ◌++◌, length, Result, Ok, Err, refl, sym}
+use Rattle.std.proofs.Common.{ap, subst, arith}
+use Rattle.std.proofs.lemmas.List.{length-append}
+use Rattle.xdr_core.specs.declared.fault.XdrFault.{XdrFault}
+use Rattle.xdr_core.specs.Format.{IsBytes}
+use Rattle.xdr_core.specs.Leaves.{mark}
+use Rattle.xdr_core.specs.Place.{Place, Reading}
+use Rattle.xdr_core.proofs.FormatLaws.{mark_laws}
+use Rattle.close_rules.specs.declared.close_fault.CloseFault.{CloseFault}
+use Rattle.close_rules.specs.State.{ClosingState, IsClosingState}
+use Rattle.close_rules.specs.Close.{Closed, IsClose}
+use Rattle.close_laws.specs.Closes.{TakenIsClosable, NextIsClosing}
+use Rattle.ledger_close.proofs.Installs.{installed_state}
+use Rattle.run_outcome.specs.declared.status.Status.TheVariants as status
+use Rattle.run_outcome.specs.Lines.{end_line, refused_line}
+use Rattle.run_outcome.specs.Outcome.{Outcome, silent, behind, max_record_len, framed, lines_of, IsStopped, IsRun}
+use Rattle.replay.proofs.Marking.{read_mark, framed_above}
+use Rattle.replay.proofs.Runs.{ended_run, prepended}
+use Rattle.existence_laws.specs.Existence.{EachClose, EachRun}
+
+abbrev place : ℕ → List ℕ → Place
+place at text = record { at = at; rest = text }
+
+abbrev SomeRun : ClosingState → ℕ → List ℕ → Type 0
+SomeRun s at text = (o : Outcome) × IsRun s (place at text) o
+
+-- ---- a record at the front
+
+mark_fits : (bytes : List ℕ) → (mark max_record_len).within bytes → length bytes ≤ max_record_len
+unfolding mark
+mark_fits bytes fits = fits
+
+mark_bytes : (bytes : List ℕ) → (mark max_record_len).sized bytes → IsBytes bytes
+unfolding mark
+mark_bytes bytes are = are
+
+-- a record that was read, and the bytes behind it
+record Ahead (text bytes rest : List ℕ) : Type 0 where
+  pub short : length bytes ≤ max_record_len
+  pub are : IsBytes bytes
+  pub parts : text ≡ framed bytes ++ rest
+  pub others : IsBytes rest
+
+ahead : (at : ℕ) (text bytes : List ℕ) (q : Place) → IsBytes text → read_mark (place at text) ≡ Ok (bytes, q)
+    → Ahead text bytes q.rest
+ahead at text bytes q fits reads =
+    let spelled = (mark_laws max_record_len (omega arith)).lawful.takes (place at text) q bytes fits reads in
+    record {
+      short = mark_fits bytes spelled.within;
+      are = mark_bytes bytes spelled.sized;
+      parts = spelled.taken.parts;
+      others = spelled.taken.rest;
+    }
+
+nearer : (text bytes rest : List ℕ) (n : ℕ) → length text ≤ suc n → text ≡ framed bytes ++ rest → length rest ≤ n
+nearer text bytes rest n le parts =
+    omega (arith, ap length parts, length-append (framed bytes) rest, framed_above bytes)
+
+-- ---- all records
+
+module _ (each : EachClose) (closable : TakenIsClosable) (next : NextIsClosing) where
+  -- what comes of any text that isn't longer
+  abbrev Within : ℕ → Type 0
+  Within n = (s : ClosingState) (at : ℕ) (text : List ℕ) → length text ≤ n → IsClosingState s → IsBytes text
+      → SomeRun s at text
+
+  by_answer : (s : ClosingState) (at byte : ℕ) (more bytes : List ℕ) (q : Place) → IsClosingState s
+      → read_mark (place at (byte ∷ more)) ≡ Ok (bytes, q) → Ahead (byte ∷ more) bytes q.rest
+      → ((t : ClosingState) → IsClosingState t → SomeRun t (at + length (framed bytes)) q.rest)
+      → (answer : Result Closed CloseFault) → IsClose s bytes answer → SomeRun s at (byte ∷ more)
+  by_answer s at byte more bytes q state reads here later (Err wrong) close =
+      let last : Outcome = record { status = status.Refused; text = refused_line s.header wrong } in
+      let stopped = subst (λ (r : Reading XdrFault (List ℕ)). IsStopped s r last) (sym reads) (wrong, close, refl) in
+      (last, ended_run s at (byte ∷ more) last stopped)
+  by_answer s at byte more bytes q state reads here later (Ok closed) close =
+      let rest = later closed.state (installed_state closable next s closed state (bytes, close)) in
+      let o = behind (lines_of closed) rest.0 in (
+        o,
+        subst (λ (t : List ℕ). IsRun s (place at t) o) (sym here.parts)
+            (prepended s bytes closed at q.rest rest.0 here.short close rest.1),
+      )
+
+  by_mark : (n : ℕ) → Within n → (s : ClosingState) (at byte : ℕ) (more : List ℕ) → length (byte ∷ more) ≤ suc n
+      → IsClosingState s → IsBytes (byte ∷ more) → (r : Reading XdrFault (List ℕ))
+      → read_mark (place at (byte ∷ more)) ≡ r → SomeRun s at (byte ∷ more)
+  by_mark n within s at byte more le state text (Err wrong) reads =
+      let last = silent (status.BadInput wrong.at) in
+      let stopped = subst (λ (r : Reading XdrFault (List ℕ)). IsStopped s r last) (sym reads) refl in
+      (last, ended_run s at (byte ∷ more) last stopped)
+  by_mark n within s at byte more le state text (Ok (bytes, q)) reads =
+      let here = ahead at (byte ∷ more) bytes q text reads in
+      let answer = each s bytes state here.are in
+      by_answer s at byte more bytes q state reads here
+      (λ t closing. within t (at + length (framed bytes)) q.rest (nearer (byte ∷ more) bytes q.rest n le here.parts)
+      closing here.others)
+      answer.0 answer.1
+
+  runs_within : (n : ℕ) → Within n
+  runs_within n s at [] le state text =
+      let last : Outcome = record { status = status.Done; text = end_line s.header } in
+      (last, ended_run s at [] last refl)
+  runs_within zero s at (byte ∷ more) le state text = absurd (omega arith)
+  runs_within (suc n) s at (byte ∷ more) le state text =
+      by_mark n (λ t place rest within closing bytes. runs_within n t place rest within closing bytes) s at byte more le
+      state text (read_mark (place at (byte ∷ more))) refl
+
+  pub each_run : EachRun
+  each_run s p state text = runs_within (length p.rest) s p.at p.rest (omega arith) state text

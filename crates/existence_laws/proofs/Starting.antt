@@ -1,0 +1,101 @@
+-- An input has an outcome.
+use Rattle.std.proofs.Common.{◌≡◌, ℕ, zero, suc, ◌-◌, List, [], ◌∷◌, length, All, Some, Result, Ok, Err, refl, sym}
+use Rattle.std.proofs.Common.{subst}
+use Rattle.std.proofs.lemmas.List.Elements.{All-nil, All-cons}
+use Rattle.ledger_types.specs.declared.ids.Hash.{Hash}
+use Rattle.ledger_types.specs.declared.header.LedgerHeader.{LedgerHeader}
+use Rattle.xdr_core.specs.declared.fault.XdrFault.{XdrFault}
+use Rattle.xdr_core.specs.Format.{IsBytes}
+use Rattle.xdr_core.specs.Leaves.{mark}
+use Rattle.xdr_core.specs.Place.{Place, Reading, start_of}
+use Rattle.xdr_header.specs.declared.image.StartImage.{StartImage}
+use Rattle.xdr_header.specs.Header.{ledger_header}
+use Rattle.xdr_header.specs.Image.{file, files, start_image}
+use Rattle.xdr_header.proofs.HeaderLaws.{ledger_header_laws}
+use Rattle.xdr_header.proofs.ImageLaws.{start_image_laws}
+use Rattle.hash_ids.specs.Ids.{network_id_of}
+use Rattle.value_hashes.specs.Hashes.{ledger_hash_of}
+use Rattle.close_rules.specs.declared.image_fault.ImageFault.{ImageFault}
+use Rattle.close_rules.specs.declared.image_fault.ImageFault.TheVariants as fault
+use Rattle.close_rules.specs.State.{ClosingState, IsClosingState, IsSpelled}
+use Rattle.close_rules.specs.Images.{header_in, if_whole, read_whole, IsJudged}
+use Rattle.ledger_close.proofs.Judged.{IsWhole, is_kept}
+use Rattle.run_outcome.specs.declared.status.Status.TheVariants as status
+use Rattle.run_outcome.specs.Outcome.{Outcome, silent, IsStarted, IsOutcomeOf}
+use Rattle.existence_laws.proofs.Maps.{value_is}
+use Rattle.existence_laws.specs.Existence.{EachRun, EachImage, EachOutcome}
+
+-- ---- the state of an image
+
+whole_is : (found h : LedgerHeader) (rest : List ℕ) → if_whole found rest ≡ Some h → found ≡ h
+whole_is found h [] is = value_is found h is
+whole_is found h (byte ∷ rest) is = absurd (cc (is))
+
+read_spelled : (bytes : List ℕ) (h : LedgerHeader) (r : Reading XdrFault LedgerHeader) → IsBytes bytes
+    → ledger_header.read (start_of bytes) ≡ r → read_whole r ≡ Some h → IsSpelled ledger_header h
+read_spelled bytes h (Err wrong) text reads is = absurd (cc (is))
+read_spelled bytes h (Ok x) text reads is =
+    let spelled = ledger_header_laws.lawful.takes (start_of bytes) x.1 x.0 text reads in
+    subst (IsSpelled ledger_header) (whole_is x.0 h x.1.rest is)
+    (record { within = spelled.within; sized = spelled.sized })
+
+-- a header that was read can be written
+header_spelled : (bytes : List ℕ) (h : LedgerHeader) → IsBytes bytes → header_in bytes ≡ Some h
+    → IsSpelled ledger_header h
+unfolding header_in
+header_spelled bytes h text is = read_spelled bytes h (ledger_header.read (start_of bytes)) text refl is
+
+judged_state : (network : Hash) (image : StartImage) (s : ClosingState) → IsBytes image.header
+    → IsJudged network image (Ok s) → IsClosingState s
+judged_state network image s text (h, levels, m, has, built, kept, is) =
+    let whole : IsWhole image h levels m = record {
+      header = (has.files.header, header_spelled image.header h text has.files.header.reads);
+      files = record { are = has.files.files.files; few = has.files.files.few };
+      stands = record { marks = has.marks; standing = has.standing };
+      judged = (has.hash, built, kept);
+    } in
+    subst IsClosingState (sym is)
+    (is_kept network (ledger_hash_of h) image h m (record { pairs = levels; seq = h.ledger_seq }) whole refl refl).state
+
+-- ---- an input
+
+header_bytes : (image : StartImage) → start_image.sized image → IsBytes image.header
+unfolding start_image mark
+header_bytes image sized = sized.1.0
+
+bytes_of_files : (n left : ℕ) (vs : List (List ℕ)) → (files n left).within vs → (files n left).sized vs → All IsBytes vs
+unfolding files file
+bytes_of_files zero left vs within sized = subst (All IsBytes) (sym within) (All-nil IsBytes)
+bytes_of_files (suc n) left [] within sized = absurd within
+bytes_of_files (suc n) left (v ∷ vs) within sized =
+    All-cons IsBytes v vs sized.0 (bytes_of_files n (left - length v) vs within.1 sized.1)
+
+files_bytes : (image : StartImage) → start_image.within image → start_image.sized image → All IsBytes image.files
+unfolding start_image
+files_bytes image within sized = bytes_of_files 22 536870912 image.files within.1.1 sized.1.1
+
+abbrev SomeOutcome : Hash → Reading XdrFault StartImage → Type 0
+SomeOutcome network r = (o : Outcome) × IsOutcomeOf network r o
+
+by_judgement : EachRun → (network : Hash) (image : StartImage) (q : Place) → IsBytes image.header → IsBytes q.rest
+    → (judged : Result ClosingState ImageFault) → IsJudged network image judged
+    → (o : Outcome) × IsStarted judged q o
+by_judgement runs network image q header rest (Ok s) judged =
+    runs s q (judged_state network image s header judged) rest
+by_judgement runs network image q header rest (Err (fault.BadImage rule)) judged =
+    (silent (status.BadImage rule), refl)
+by_judgement runs network image q header rest (Err fault.NotBuilt) judged = (silent status.ImageNotBuilt, refl)
+by_judgement runs network image q header rest (Err fault.NoMemory) judged = absurd judged
+
+by_reading : EachRun → EachImage → (network : Hash) (input : List ℕ) → IsBytes input
+    → (r : Reading XdrFault StartImage) → start_image.read (start_of input) ≡ r → SomeOutcome network r
+by_reading runs images network input text (Err wrong) reads = (silent (status.BadInput wrong.at), refl)
+by_reading runs images network input text (Ok (image, q)) reads =
+    let spelled = start_image_laws.lawful.takes (start_of input) q image text reads in
+    let found = images network image (files_bytes image spelled.within spelled.sized) in
+    let begun = by_judgement runs network image q (header_bytes image spelled.sized) spelled.taken.rest found.0 found.1
+    in (begun.0, (found.0, found.1, begun.1))
+
+pub each_outcome : EachRun → EachImage → EachOutcome
+each_outcome runs images passphrase input text =
+    by_reading runs images (network_id_of passphrase) input text (start_image.read (start_of input)) refl

@@ -11,7 +11,7 @@ use Rattle.entry_changes.specs.Next.{stamped, IsNextAt, AreNextEntries}
 use Rattle.entry_table.proofs.Batches.{same_parts}
 use Rattle.bucket_core.specs.Bucket.{Change, Init, Live, Dead, Contents, version_of}
 use Rattle.bucket_levels.specs.Fresh.{BecameOf, IsFresh}
-use Rattle.existence_laws.proofs.Maps.{map_over}
+use Rattle.existence_laws.proofs.Maps.{value_is, map_over}
 
 -- whether two entries are the same but for the ledgers of their last changes
 abbrev Told : LedgerEntry → LedgerEntry → Type 0
@@ -66,15 +66,6 @@ became None (Some e) = Some (Init e)
 became (Some was) None = Some Dead
 became (Some was) (Some e) = changed_if was e (same_parts was e)
 
-abbrev some : Change → Option Change
-some change = Some change
-
-change_is : (x y : Change) → some x ≡ Some y → x ≡ y
-change_is x y e = cc
-
-entry_is : (x y : LedgerEntry) → Some x ≡ Some y → x ≡ y
-entry_is x y e = cc
-
 abbrev AreKeyed : EntryMap → Type 0
 AreKeyed m = EachEntry (λ k e. key_of e ≡ k) m
 
@@ -85,17 +76,17 @@ told_became : (before after : EntryMap) → AreKeyed after → (k : LedgerKey) (
 told_became before after keyed k change None None was is told = absurd (cc (told))
 told_became before after keyed k change None (Some e) was is told =
     let own = keyed k e is in
-    subst (BecameOf before after k) (change_is (Init e) change told)
+    subst (BecameOf before after k) (value_is (Init e) change told)
     (own, (ap (get after) own ∙ is, ap (get before) own ∙ was))
 told_became before after keyed k change (Some old) None was is told =
-    subst (BecameOf before after k) (change_is Dead change told) ((λ none. cc (was, none)), is)
+    subst (BecameOf before after k) (value_is Dead change told) ((λ none. cc (was, none)), is)
 told_became before after keyed k change (Some old) (Some e) was is told = by_parts (same_parts old e) told
   where
     by_parts : (parts : Told old e) → changed_if old e parts ≡ Some change → BecameOf before after k change
     by_parts (inl same) told = absurd (cc (told))
     by_parts (inr other) told =
         let own = keyed k e is in
-        subst (BecameOf before after k) (change_is (Live e) change told)
+        subst (BecameOf before after k) (value_is (Live e) change told)
         (own, (ap (get after) own ∙ is, (old, ap (get before) own ∙ was, other)))
 
 gone_is_told : (b : Option LedgerEntry) → b ≢ None → became b None ≡ Some Dead
@@ -133,7 +124,7 @@ untold_stays seq (Some was) w None next none = absurd (cc (none))
 untold_stays seq (Some was) None (Some e) next none = absurd (cc (next))
 untold_stays seq (Some was) (Some x) (Some e) (inl same) none = same.1
 untold_stays seq (Some was) (Some x) (Some e) (inr other) none =
-    absurd (other.0 (unchanged was e (same_parts was e) none ∙ ap parts_of (entry_is e (stamped seq x) other.1)))
+    absurd (other.0 (unchanged was e (same_parts was e) none ∙ ap parts_of (value_is e (stamped seq x) other.1)))
 
 pub some_fresh : (seq version : ℕ) (before worked after : EntryMap) → AreNextEntries seq before worked after
     → AreKeyed after → (fresh : Contents) × (version_of fresh ≡ Some version) × IsFresh before after fresh

@@ -1,52 +1,68 @@
--- It can't be that an image isn't judged.
-use Rattle.std.proofs.Common.{◌≡◌, List, [], ◌∷◌, Option, Some, None, Result, Ok, Err, IfSome, inl, inr, refl}
-use Rattle.std.specs.List.{AllByRecursion}
+-- An image is judged.
+use Rattle.std.proofs.Common.{◌≡◌, inl, inr, ◌*◌, ◌^◌, pos, List, Option, Some, None, Result, Ok, Err, All, refl}
+use Rattle.ledger_types.specs.contracts.ids.Hash as hash
 use Rattle.ledger_types.specs.declared.ids.Hash.{Hash}
 use Rattle.ledger_types.specs.declared.header.LedgerHeader.{LedgerHeader}
+use Rattle.ledger_types.specs.declared.asset.TrustLineAsset.{TrustLineAsset}
+use Rattle.ledger_types.specs.declared.asset.TrustLineAsset.TheVariants as line
+use Rattle.ledger_types.specs.declared.entry.LedgerEntryBody.{LedgerEntryBody}
+use Rattle.ledger_types.specs.declared.entry.LedgerEntryBody.TheVariants as body
+use Rattle.xdr_core.specs.Format.{IsBytes}
 use Rattle.xdr_header.specs.declared.image.StartImage.{StartImage}
 use Rattle.entry_map.specs.EntryMap.{EntryMap}
+use Rattle.legal_rules.specs.Headers.{header_flags}
 use Rattle.bucket_levels.specs.Pairs.{Pair}
-use Rattle.bucket_levels.specs.Meaning.{AreWellMarked}
 use Rattle.bucket_levels.specs.Hash.{list_hash}
 use Rattle.close_rules.specs.declared.image_fault.ImageFault.{ImageFault}
 use Rattle.close_rules.specs.declared.image_fault.ImageFault.TheVariants as fault
 use Rattle.close_rules.specs.declared.image_fault.ImageRule.{ImageRule}
 use Rattle.close_rules.specs.declared.image_fault.ImageRule.TheVariants as rule
-use Rattle.close_rules.specs.State.{ClosingState, AreBuilt}
-use Rattle.close_rules.specs.EntryRules.{Keeps, entry_rules, IsFirstBroken}
-use Rattle.close_rules.specs.Images.{header_in, AreFieldsInRange, HasHeader, HasFiles, HasLevels, HasEntries, state_of}
+use Rattle.close_rules.specs.State.{ClosingState, IsBuiltLine, IsBuiltBody, AreBuilt}
+use Rattle.close_rules.specs.EntryRules.{entry_rules}
+use Rattle.close_rules.specs.Images.{header_in, AreFieldsInRange, HasHeader, HasLevels, HasEntries, state_of}
 use Rattle.close_rules.specs.Images.{BreaksEntries, IsJudged}
-use Rattle.existence_laws.specs.Existence.{CannotLack, EachImage}
-use Rattle.existence_laws.proofs.Classical.{there_is, and_then, by_cases}
+use Rattle.existence_laws.specs.Existence.{EachImage}
+use Rattle.existence_laws.proofs.Decided.{Decided, decided_as, both, below, below_int, same_number, same_value}
+use Rattle.existence_laws.proofs.Entries.{each_entry}
+use Rattle.existence_laws.proofs.FilesOfLevels.{some_files}
+use Rattle.existence_laws.proofs.Marks.{well_marked, are_keyed}
+use Rattle.existence_laws.proofs.Rules.{IsOfEntries, FirstOf, first_of}
 use Rattle.existence_laws.proofs.Standing.{some_entries}
 
--- ---- the first rule that is broken
+-- ---- the first rules
 
-abbrev IsOfEntries : ImageRule → Type 0
-IsOfEntries rule.Header = ⊥
-IsOfEntries rule.Version = ⊥
-IsOfEntries rule.Fields = ⊥
-IsOfEntries rule.Bucket = ⊥
-IsOfEntries rule.Marks = ⊥
-IsOfEntries rule.ListHash = ⊥
-IsOfEntries other = Unit {0}
+fields_in_range : (h : LedgerHeader) → Decided (AreFieldsInRange h)
+fields_in_range h =
+    decided_as (λ f. record {
+      seq_low = f.0;
+      seq_high = f.1.0;
+      base_fee = f.1.1.0;
+      base_reserve = f.1.1.1.0;
+      total_coins = f.1.1.1.1.0;
+      fee_pool = f.1.1.1.1.1.0;
+      id_pool = f.1.1.1.1.1.1.0;
+      flags = f.1.1.1.1.1.1.1;
+    })
+    (λ r.
+    (r.seq_low, (r.seq_high, (r.base_fee, (r.base_reserve, (r.total_coins, (r.fee_pool, (r.id_pool, r.flags))))))))
+    (both (below 1 h.ledger_seq) (both (below h.ledger_seq 2147483647) (both (below 1 h.base_fee)
+    (both (below 1 h.base_reserve) (both (below_int (pos 0) h.total_coins) (both (below_int (pos 0) h.fee_pool)
+    (both (below h.id_pool (h.ledger_seq * 2 ^ 32)) (below (header_flags h) 7))))))))
 
--- which one it is, or that there is none
-abbrev FirstOf : LedgerHeader → EntryMap → List ImageRule → Type 0
-FirstOf h m rules = (broken : Option ImageRule) × IsFirstBroken h m rules broken × IfSome broken IsOfEntries
+built_line : (asset : TrustLineAsset) → Decided (IsBuiltLine asset)
+built_line (line.PoolShare pool) = inr (λ h. h)
+built_line other = inl tt
 
-behind_kept : (h : LedgerHeader) (m : EntryMap) (first : ImageRule) (rules : List ImageRule) → Keeps h m first
-    → FirstOf h m rules → FirstOf h m (first ∷ rules)
-behind_kept h m first rules kept (None, is, own) = (None, (kept, is), own)
-behind_kept h m first rules kept (Some broken, is, own) = (Some broken, inr (kept, is), own)
+built_body : (b : LedgerEntryBody) → Decided (IsBuiltBody b)
+built_body (body.Account account) = inl tt
+built_body (body.TrustLine held) = built_line held.asset
+built_body (body.Offer offer) = inr (λ h. h)
+built_body (body.Data entry) = inl tt
+built_body (body.ClaimableBalance balance) = inl tt
+built_body (body.LiquidityPool pool) = inr (λ h. h)
 
-first_of : (h : LedgerHeader) (m : EntryMap) (rules : List ImageRule) → AllByRecursion IsOfEntries rules
-    → CannotLack (FirstOf h m rules)
-first_of h m [] own = there_is (None, refl, tt)
-first_of h m (first ∷ rules) own =
-    by_cases (Keeps h m first)
-    (λ kept. and_then (first_of h m rules own.1) (λ found. there_is (behind_kept h m first rules kept found)))
-    (λ fails. there_is (Some first, inl (fails, refl), own.0))
+are_built : (m : EntryMap) → Decided (AreBuilt m)
+are_built m = each_entry (λ k e. IsBuiltBody e.body) m (λ k e there. built_body e.body)
 
 -- ---- an image, rule by rule
 
@@ -63,7 +79,7 @@ broken_rule network image rule.Marks own breaks = absurd own
 broken_rule network image rule.ListHash own breaks = absurd own
 broken_rule network image broken own breaks = (Err (fault.BadImage broken), breaks)
 
-module _ (network : Hash) (image : StartImage) (h : LedgerHeader) where
+module _ (network : Hash) (image : StartImage) (text : All IsBytes image.files) (h : LedgerHeader) where
   by_first : (levels : List Pair) (m : EntryMap) → HasEntries image h levels m → AreBuilt m → FirstOf h m entry_rules
       → Verdict network image
   by_first levels m has built (None, kept, own) =
@@ -71,40 +87,48 @@ module _ (network : Hash) (image : StartImage) (h : LedgerHeader) where
   by_first levels m has built (Some broken, breaks, own) =
       broken_rule network image broken own (h, levels, m, has, built, breaks)
 
-  by_entries : (levels : List Pair) (m : EntryMap) → HasEntries image h levels m → CannotLack (Verdict network image)
+  by_entries : (levels : List Pair) (m : EntryMap) → HasEntries image h levels m → Verdict network image
   by_entries levels m has =
-      by_cases (AreBuilt m)
-      (λ built. and_then (first_of h m entry_rules (tt, (tt, (tt, (tt, (tt, (tt, (tt, tt))))))))
-      (λ found. there_is (by_first levels m has built found)))
-      (λ fails. there_is (Err fault.NotBuilt, (h, levels, m, has, fails)))
+      elim (are_built m) [
+        | inl built ↦
+            let keyed = are_keyed levels m has.files.files.files.have has.standing in
+            by_first levels m has built (first_of h m keyed built)
+        | inr fails ↦ (Err fault.NotBuilt, (h, levels, m, has, fails))
+      ]
 
-  by_levels : (levels : List Pair) → HasLevels image h levels → CannotLack (Verdict network image)
+  by_levels : (levels : List Pair) → HasLevels image h levels → Verdict network image
   by_levels levels has =
-      by_cases (AreWellMarked levels)
-      (λ marks. by_cases (list_hash levels ≡ h.bucket_list_hash)
-      (λ hash. let m = some_entries levels in
-      by_entries levels m.0 (record { files = has; marks = marks; hash = hash; standing = m.1 }))
-      (λ fails. there_is (Err (fault.BadImage rule.ListHash), (h, levels, has, marks, fails))))
-      (λ fails. there_is (Err (fault.BadImage rule.Marks), (h, levels, has, fails)))
+      elim (well_marked levels) [
+        | inl marks ↦ elim (same_value hash.the_row.coded (list_hash levels) h.bucket_list_hash) [
+          | inl same ↦
+              let m = some_entries levels in
+              by_entries levels m.0 (record { files = has; marks = marks; hash = same; standing = m.1 })
+          | inr fails ↦ (Err (fault.BadImage rule.ListHash), (h, levels, has, marks, fails))
+        ]
+        | inr fails ↦ (Err (fault.BadImage rule.Marks), (h, levels, has, fails))
+      ]
 
-  by_files : HasHeader image h → CannotLack (Verdict network image)
+  by_files : HasHeader image h → Verdict network image
   by_files has =
-      by_cases ((levels : List Pair) × HasFiles image levels)
-      (λ found. by_levels found.0 (record { header = has; files = found.1 }))
-      (λ fails. there_is (Err (fault.BadImage rule.Bucket), (h, has, λ levels files. fails (levels, files))))
+      elim (some_files image text) [
+        | inl found ↦ by_levels found.0 (record { header = has; files = found.1 })
+        | inr fails ↦ (Err (fault.BadImage rule.Bucket), (h, has, λ levels files. fails (levels, files)))
+      ]
 
-  by_header : header_in image.header ≡ Some h → CannotLack (Verdict network image)
+  by_header : header_in image.header ≡ Some h → Verdict network image
   by_header reads =
-      by_cases (h.ledger_version ≡ 18)
-      (λ version. by_cases (AreFieldsInRange h)
-      (λ fields. by_files (record { reads = reads; version = version; fields = fields }))
-      (λ fails. there_is (Err (fault.BadImage rule.Fields), (h, reads, version, fails))))
-      (λ fails. there_is (Err (fault.BadImage rule.Version), (h, reads, fails)))
+      elim (same_number h.ledger_version 18) [
+        | inl version ↦ elim (fields_in_range h) [
+          | inl fields ↦ by_files (record { reads = reads; version = version; fields = fields })
+          | inr fails ↦ (Err (fault.BadImage rule.Fields), (h, reads, version, fails))
+        ]
+        | inr fails ↦ (Err (fault.BadImage rule.Version), (h, reads, fails))
+      ]
 
-by_bytes : (network : Hash) (image : StartImage) (read : Option LedgerHeader) → header_in image.header ≡ read
-    → CannotLack (Verdict network image)
-by_bytes network image None reads = there_is (Err (fault.BadImage rule.Header), reads)
-by_bytes network image (Some h) reads = by_header network image h reads
+by_bytes : (network : Hash) (image : StartImage) → All IsBytes image.files → (read : Option LedgerHeader)
+    → header_in image.header ≡ read → Verdict network image
+by_bytes network image text None reads = (Err (fault.BadImage rule.Header), reads)
+by_bytes network image text (Some h) reads = by_header network image text h reads
 
 pub each_image : EachImage
-each_image network image = by_bytes network image (header_in image.header) refl
+each_image network image text = by_bytes network image text (header_in image.header) refl

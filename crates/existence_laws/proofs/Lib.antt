@@ -1,10 +1,15 @@
-pub mod Classical
 pub mod Maps
+pub mod Decided
+pub mod Entries
 pub mod Steps
-pub mod Standing
 pub mod Changes
 pub mod Refusing
 pub mod Closing
+pub mod Standing
+pub mod FilesOfLevels
+pub mod Marks
+pub mod Ranges
+pub mod Rules
 pub mod Judging
 pub mod Running
 pub mod Starting

@@ -1,6 +1,6 @@
 -- Finite maps that have a function's values.
-use Rattle.std.proofs.Common.{◌≡◌, Bool, true, false, cond, ◌||◌, List, [], ◌∷◌, ◌++◌, Option, Some, None}
-use Rattle.std.proofs.Common.{refl, sym, ap, ◌∙◌}
+use Rattle.std.proofs.Common.{◌≡◌, Bool, true, false, cond, ◌||◌, List, [], ◌∷◌, ◌++◌, Option, Some, None, refl, sym}
+use Rattle.std.proofs.Common.{ap, ◌∙◌}
 use Rattle.std.specs.Option.{is_some}
 use Rattle.std.specs.List.{list_any}
 use Rattle.std.specs.Ordering.{eq_by_cmp}
@@ -11,6 +11,10 @@ use Rattle.ledger_types.specs.KeyOrder.{key_cmp}
 use Rattle.ledger_types.proofs.KeyOrdering.{keys_total}
 use Rattle.entry_map.specs.KeyMaps.{KeyedMap}
 use Rattle.entry_map.proofs.KeyMaps.{same_keys}
+
+-- what stands in two equal options
+pub value_is : {V : Type 0} (x y : V) → Some x ≡ Some y → x ≡ y
+value_is x y e = cc
 
 -- a map that has a function's values
 abbrev pub MapOf : {V : Type 0} → (LedgerKey → Option V) → Type 0
@@ -64,11 +68,11 @@ nothing_there : {V : Type 0} (o : Option V) → is_some o ≡ false → o ≡ No
 nothing_there None h = refl
 nothing_there (Some v) h = absurd (cc)
 
-no_value : {V : Type 0} (m : KeyedMap V) (k : LedgerKey) → list_any (eq_by_cmp key_cmp k) (keys m) ≡ false
+pub no_value : {V : Type 0} (m : KeyedMap V) (k : LedgerKey) → list_any (eq_by_cmp key_cmp k) (keys m) ≡ false
     → get m k ≡ None
 no_value m k none = nothing_there (get m k) (contains_key-keys m k ∙ none)
 
-neither : (a b : Bool) → (a || b) ≡ false → (a ≡ false) × (b ≡ false)
+pub neither : (a b : Bool) → (a || b) ≡ false → (a ≡ false) × (b ≡ false)
 neither true b h = absurd (cc)
 neither false b h = (refl, h)
 

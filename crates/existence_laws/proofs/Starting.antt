@@ -1,5 +1,7 @@
--- It can't be that an input has no outcome.
-use Rattle.std.proofs.Common.{◌≡◌, ℕ, List, [], ◌∷◌, Option, Some, Result, Ok, Err, refl, sym, subst}
+-- An input has an outcome.
+use Rattle.std.proofs.Common.{◌≡◌, ℕ, zero, suc, ◌-◌, List, [], ◌∷◌, length, All, Some, Result, Ok, Err, refl, sym}
+use Rattle.std.proofs.Common.{subst}
+use Rattle.std.proofs.lemmas.List.Elements.{All-nil, All-cons}
 use Rattle.ledger_types.specs.declared.ids.Hash.{Hash}
 use Rattle.ledger_types.specs.declared.header.LedgerHeader.{LedgerHeader}
 use Rattle.xdr_core.specs.declared.fault.XdrFault.{XdrFault}
@@ -8,7 +10,7 @@ use Rattle.xdr_core.specs.Leaves.{mark}
 use Rattle.xdr_core.specs.Place.{Place, Reading, start_of}
 use Rattle.xdr_header.specs.declared.image.StartImage.{StartImage}
 use Rattle.xdr_header.specs.Header.{ledger_header}
-use Rattle.xdr_header.specs.Image.{start_image}
+use Rattle.xdr_header.specs.Image.{file, files, start_image}
 use Rattle.xdr_header.proofs.HeaderLaws.{ledger_header_laws}
 use Rattle.xdr_header.proofs.ImageLaws.{start_image_laws}
 use Rattle.hash_ids.specs.Ids.{network_id_of}
@@ -20,16 +22,13 @@ use Rattle.close_rules.specs.Images.{header_in, if_whole, read_whole, IsJudged}
 use Rattle.ledger_close.proofs.Judged.{IsWhole, is_kept}
 use Rattle.run_outcome.specs.declared.status.Status.TheVariants as status
 use Rattle.run_outcome.specs.Outcome.{Outcome, silent, IsStarted, IsOutcomeOf}
-use Rattle.existence_laws.specs.Existence.{CannotLack, EachRun, EachImage, EachOutcome}
-use Rattle.existence_laws.proofs.Classical.{there_is, and_then}
+use Rattle.existence_laws.proofs.Maps.{value_is}
+use Rattle.existence_laws.specs.Existence.{EachRun, EachImage, EachOutcome}
 
 -- ---- the state of an image
 
-abbrev some : LedgerHeader → Option LedgerHeader
-some h = Some h
-
 whole_is : (found h : LedgerHeader) (rest : List ℕ) → if_whole found rest ≡ Some h → found ≡ h
-whole_is found h [] is = let same : some found ≡ Some h = is in cc
+whole_is found h [] is = value_is found h is
 whole_is found h (byte ∷ rest) is = absurd (cc (is))
 
 read_spelled : (bytes : List ℕ) (h : LedgerHeader) (r : Reading XdrFault LedgerHeader) → IsBytes bytes
@@ -51,7 +50,7 @@ judged_state : (network : Hash) (image : StartImage) (s : ClosingState) → IsBy
 judged_state network image s text (h, levels, m, has, built, kept, is) =
     let whole : IsWhole image h levels m = record {
       header = (has.files.header, header_spelled image.header h text has.files.header.reads);
-      files = record { are = has.files.files.files; fit = has.files.files.fit };
+      files = record { are = has.files.files.files; few = has.files.files.few };
       stands = record { marks = has.marks; standing = has.standing };
       judged = (has.hash, built, kept);
     } in
@@ -63,6 +62,17 @@ judged_state network image s text (h, levels, m, has, built, kept, is) =
 header_bytes : (image : StartImage) → start_image.sized image → IsBytes image.header
 unfolding start_image mark
 header_bytes image sized = sized.1.0
+
+bytes_of_files : (n left : ℕ) (vs : List (List ℕ)) → (files n left).within vs → (files n left).sized vs → All IsBytes vs
+unfolding files file
+bytes_of_files zero left vs within sized = subst (All IsBytes) (sym within) (All-nil IsBytes)
+bytes_of_files (suc n) left [] within sized = absurd within
+bytes_of_files (suc n) left (v ∷ vs) within sized =
+    All-cons IsBytes v vs sized.0 (bytes_of_files n (left - length v) vs within.1 sized.1)
+
+files_bytes : (image : StartImage) → start_image.within image → start_image.sized image → All IsBytes image.files
+unfolding start_image
+files_bytes image within sized = bytes_of_files 22 536870912 image.files within.1.1 sized.1.1
 
 abbrev SomeOutcome : Hash → Reading XdrFault StartImage → Type 0
 SomeOutcome network r = (o : Outcome) × IsOutcomeOf network r o
@@ -78,14 +88,13 @@ by_judgement runs network image q header rest (Err fault.NotBuilt) judged = (sil
 by_judgement runs network image q header rest (Err fault.NoMemory) judged = absurd judged
 
 by_reading : EachRun → EachImage → (network : Hash) (input : List ℕ) → IsBytes input
-    → (r : Reading XdrFault StartImage) → start_image.read (start_of input) ≡ r → CannotLack (SomeOutcome network r)
-by_reading runs images network input text (Err wrong) reads = there_is (silent (status.BadInput wrong.at), refl)
+    → (r : Reading XdrFault StartImage) → start_image.read (start_of input) ≡ r → SomeOutcome network r
+by_reading runs images network input text (Err wrong) reads = (silent (status.BadInput wrong.at), refl)
 by_reading runs images network input text (Ok (image, q)) reads =
     let spelled = start_image_laws.lawful.takes (start_of input) q image text reads in
-    and_then (images network image)
-    (λ found. let begun = by_judgement runs network image q (header_bytes image spelled.sized) spelled.taken.rest
-    found.0
-    found.1 in there_is (begun.0, (found.0, found.1, begun.1)))
+    let found = images network image (files_bytes image spelled.within spelled.sized) in
+    let begun = by_judgement runs network image q (header_bytes image spelled.sized) spelled.taken.rest found.0 found.1
+    in (begun.0, (found.0, found.1, begun.1))
 
 pub each_outcome : EachRun → EachImage → EachOutcome
 each_outcome runs images passphrase input text =

@@ -1,5 +1,5 @@
 -- That a close, an image and an input have an answer.
-use Rattle.std.specs.Prelude.{ℕ, List, Result}
+use Rattle.std.specs.Prelude.{ℕ, List, All, Result}
 use Rattle.ledger_types.specs.declared.ids.Hash.{Hash}
 use Rattle.xdr_core.specs.Format.{IsBytes}
 use Rattle.xdr_core.specs.Place.{Place}
@@ -7,30 +7,24 @@ use Rattle.xdr_header.specs.declared.image.StartImage.{StartImage}
 use Rattle.close_rules.specs.declared.close_fault.CloseFault.{CloseFault}
 use Rattle.close_rules.specs.declared.image_fault.ImageFault.{ImageFault}
 use Rattle.close_rules.specs.State.{ClosingState, IsClosingState}
-use Rattle.close_rules.specs.Close.{PreparedClose, IsClose}
+use Rattle.close_rules.specs.Close.{Closed, IsClose}
 use Rattle.close_rules.specs.Images.{IsJudged}
 use Rattle.run_outcome.specs.Outcome.{Outcome, IsRun, IsOutcome}
 
 -- bytes do something to each state from which a ledger closes
 abbrev pub EachClose : Type 0
 EachClose = (s : ClosingState) (bytes : List ℕ) → IsClosingState s → IsBytes bytes
-    → (answer : Result PreparedClose CloseFault) × IsClose s bytes answer
+    → (answer : Result Closed CloseFault) × IsClose s bytes answer
 
 -- the bytes behind such a state come to something
 abbrev pub EachRun : Type 0
 EachRun = (s : ClosingState) (p : Place) → IsClosingState s → IsBytes p.rest → (o : Outcome) × IsRun s p o
 
--- It can't be that there is none. To a reader who takes each claim to be true or false, this says that there is one; it
--- doesn't say how one is found.
-abbrev pub CannotLack : Type 0 → Type 0
-CannotLack A = (A → ⊥) → ⊥
-
--- an image stands for a state, or there is a reason why it stands for none
+-- an image, of which the files are bytes, stands for a state, or there is a reason why it stands for none
 abbrev pub EachImage : Type 0
-EachImage = (network : Hash) (image : StartImage)
-    → CannotLack ((judged : Result ClosingState ImageFault) × IsJudged network image judged)
+EachImage = (network : Hash) (image : StartImage) → All IsBytes image.files
+    → (judged : Result ClosingState ImageFault) × IsJudged network image judged
 
 -- an input has an outcome on each network
 abbrev pub EachOutcome : Type 0
-EachOutcome =
-    (passphrase input : List ℕ) → IsBytes input → CannotLack ((o : Outcome) × IsOutcome passphrase input o)
+EachOutcome = (passphrase input : List ℕ) → IsBytes input → (o : Outcome) × IsOutcome passphrase input o

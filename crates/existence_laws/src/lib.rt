@@ -1,5 +1,5 @@
-//! Laws that there is an answer, over the definitions of closes, images and outcomes. Laws that there is only one stand
-//! with those definitions.
+//! Laws that there is an answer, over the definitions of closes, images and runs. That there is only one is told by
+//! `close_laws` and `replay`.
 #![tactic(auto)]
 
 pub mod closes;

@@ -1,8 +1,8 @@
 mod Listed
 mod Counting
 mod Naming
-mod Booked
-mod Bounded
+pub mod Booked
+pub mod Bounded
 mod Rising
 mod Apart
 mod Judged

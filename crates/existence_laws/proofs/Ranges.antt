@@ -1,0 +1,185 @@
+-- Whether an entry is in its ranges.
+use Rattle.std.proofs.Common.{◌≡◌, ◌≢◌, inl, inr, ℕ, ◌%◌, ◌≤◌, pos, length, Option, Some, None, true, refl}
+use Rattle.std.specs.Coded.{coded_option}
+use Rattle.std.specs.declared.cmp.Ordering.{Ordering}
+use Rattle.std.specs.declared.cmp.Ordering.TheVariants.{Less, Equal, Greater}
+use Rattle.ledger_types.specs.contracts.ids.AccountId as account_id
+use Rattle.ledger_types.specs.contracts.signer.SignerKey as signer_key
+use Rattle.ledger_types.specs.declared.ids.AccountId.{AccountId}
+use Rattle.ledger_types.specs.declared.asset.TrustLineAsset.{TrustLineAsset}
+use Rattle.ledger_types.specs.declared.asset.TrustLineAsset.TheVariants as line
+use Rattle.ledger_types.specs.declared.signer.Signer.{Signer}
+use Rattle.ledger_types.specs.declared.signer.SignerKey.TheVariants as signer
+use Rattle.ledger_types.specs.declared.account.AccountEntry.{AccountEntry}
+use Rattle.ledger_types.specs.declared.trust_line.TrustLineEntry.{TrustLineEntry}
+use Rattle.ledger_types.specs.declared.data_entry.DataEntry.{DataEntry}
+use Rattle.ledger_types.specs.declared.claimable_balance.Claimant.{Claimant}
+use Rattle.ledger_types.specs.declared.claimable_balance.ClaimableBalanceEntry.{ClaimableBalanceEntry}
+use Rattle.ledger_types.specs.declared.entry.LedgerEntry.{LedgerEntry}
+use Rattle.ledger_types.specs.declared.entry.LedgerEntryBody.{LedgerEntryBody}
+use Rattle.ledger_types.specs.declared.entry.LedgerEntryBody.TheVariants as body
+use Rattle.ledger_types.specs.KeyOrder.{signer_key_cmp}
+use Rattle.valid_values.specs.Texts.{is_valid_text}
+use Rattle.valid_values.specs.Assets.{is_valid_code, is_valid_asset}
+use Rattle.valid_values.specs.Predicates.{is_valid_stored_predicate}
+use Rattle.entry_slots.specs.AccountExtensions.{account_liabilities, sponsorship_of}
+use Rattle.entry_slots.specs.LineExtensions.{line_liabilities, use_count}
+use Rattle.entry_slots.specs.EntrySponsor.{sponsor_of}
+use Rattle.reserve_rules.specs.Reserve.{greatest_i64, IsInRange, IsLineInRange}
+use Rattle.sponsor_rules.specs.Charge.{owner_of}
+use Rattle.legal_rules.specs.Ranges.{has_flag, AreAccountFlags, AreSignersInRange, IsAccountInRange, IsHeldIn}
+use Rattle.legal_rules.specs.Ranges.{AreLineFlags, IsTrustLineInRange, IsDataInRange, balance_flags}
+use Rattle.legal_rules.specs.Ranges.{AreClaimantsInRange, IsBalanceInRange, IsBodyInRange, IsPaidRightly, IsEntryInRange}
+use Rattle.close_rules.specs.State.{IsBuiltBody}
+use Rattle.existence_laws.proofs.Decided.{Decided, decided_as, both, implied, opposite, below, same_number, is_true}
+use Rattle.existence_laws.proofs.Decided.{below_int, same_value, each, each_pair}
+
+same_account : (a b : AccountId) → Decided (a ≡ b)
+same_account a b = same_value account_id.the_row.coded a b
+
+same_sponsor : (a b : Option AccountId) → Decided (a ≡ b)
+same_sponsor a b = same_value (coded_option account_id.the_row.coded) a b
+
+less : (o : Ordering) → Decided (o ≡ Less)
+less Less = inl refl
+less Equal = inr (λ e. cc)
+less Greater = inr (λ e. cc)
+
+-- ---- accounts
+
+balance_in_range : (a : AccountEntry) → Decided (IsInRange a)
+balance_in_range a =
+    let zero = below_int (pos 0) in
+    decided_as (λ h. record { balance = h.0; buying = h.1.0; selling = h.1.1.0; fits = h.1.1.1 })
+    (λ r. (r.balance, (r.buying, (r.selling, r.fits))))
+    (both (zero a.balance) (both (zero (account_liabilities a).buying) (both (zero (account_liabilities a).selling)
+    (below_int _ greatest_i64))))
+
+account_flags : (flags : ℕ) → Decided (AreAccountFlags flags)
+account_flags flags =
+    decided_as (λ h. record { known = h.0; clawback = h.1 }) (λ r. (r.known, r.clawback))
+    (both (below flags 15) (implied (is_true (has_flag flags 8)) (is_true (has_flag flags 2))))
+
+abbrev IsWeight : Signer → Type 0
+IsWeight s = (1 ≤ s.weight) × (s.weight ≤ 255)
+
+signers_in_range : (a : AccountEntry)
+    → Decided (AreSignersInRange a.account_id a.signers (sponsorship_of a).signer_sponsoring_ids)
+signers_in_range a =
+    let id = a.account_id in
+    let signers = a.signers in
+    let sponsors = (sponsorship_of a).signer_sponsoring_ids in
+    decided_as (λ h. record {
+      few = h.0;
+      rising = h.1.0;
+      weights = h.1.1.0;
+      others = h.1.1.1.0;
+      items = h.1.1.1.1.0;
+      paid_by_others = h.1.1.1.1.1;
+    })
+    (λ r. (r.few, (r.rising, (r.weights, (r.others, (r.items, r.paid_by_others))))))
+    (both (below (length signers) 20)
+    (both (each_pair (λ (x y : Signer). signer_key_cmp x.key y.key ≡ Less) signers
+    (λ x y. less (signer_key_cmp x.key y.key)))
+    (both (each IsWeight signers (λ s. both (below 1 s.weight) (below s.weight 255)))
+    (both (each (λ (s : Signer). s.key ≢ signer.Ed25519 id.0) signers
+    (λ s. opposite (same_value signer_key.the_row.coded s.key (signer.Ed25519 id.0))))
+    (both (same_number (length sponsors) (length signers))
+    (each (λ (s : Option AccountId). s ≢ Some id) sponsors (λ s. opposite (same_sponsor s (Some id)))))))))
+
+account_in_range : (a : AccountEntry) → Decided (IsAccountInRange a)
+account_in_range a =
+    decided_as (λ h. record {
+      range = h.0;
+      seq_num = h.1.0;
+      greatest_seq_num = h.1.1.0;
+      flags = h.1.1.1.0;
+      home_domain = h.1.1.1.1.0;
+      signers = h.1.1.1.1.1;
+    })
+    (λ r. (r.range, (r.seq_num, (r.greatest_seq_num, (r.flags, (r.home_domain, r.signers))))))
+    (both (balance_in_range a) (both (below_int (pos 0) a.seq_num) (both (below_int a.seq_num greatest_i64)
+    (both (account_flags a.flags) (both (is_true (is_valid_text a.home_domain)) (signers_in_range a))))))
+
+-- ---- trust lines and data
+
+line_range : (t : TrustLineEntry) → Decided (IsLineInRange t)
+line_range t =
+    decided_as
+    (λ h. record { balance = h.0; buying = h.1.0; selling = h.1.1.0; covered = h.1.1.1.0; fits = h.1.1.1.1 })
+    (λ r. (r.balance, (r.buying, (r.selling, (r.covered, r.fits)))))
+    (both (below_int (pos 0) t.balance) (both (below_int (pos 0) (line_liabilities t).buying)
+    (both (below_int (pos 0) (line_liabilities t).selling) (both (below_int (line_liabilities t).selling t.balance)
+    (below_int _ t.limit)))))
+
+held_in : (id : AccountId) (asset : TrustLineAsset) → Decided (IsHeldIn id asset)
+held_in id line.Native = inr (λ h. h)
+held_in id (line.Alphanum4 code issuer) =
+    both (is_true (is_valid_code 1 code)) (opposite (same_account issuer id))
+held_in id (line.Alphanum12 code issuer) =
+    both (is_true (is_valid_code 5 code)) (opposite (same_account issuer id))
+held_in id (line.PoolShare pool) = inl tt
+
+line_flags : (asset : TrustLineAsset) (flags : ℕ) → Decided (AreLineFlags asset flags)
+line_flags (line.PoolShare pool) flags = same_number flags 0
+line_flags other flags = both (below flags 7) (opposite (same_number (flags % 4) 3))
+
+line_in_range : (t : TrustLineEntry) → Decided (IsTrustLineInRange t)
+line_in_range t =
+    decided_as (λ h. record {
+      range = h.0;
+      limit = h.1.0;
+      greatest = h.1.1.0;
+      held = h.1.1.1.0;
+      flags = h.1.1.1.1.0;
+      uses = h.1.1.1.1.1;
+    })
+    (λ r. (r.range, (r.limit, (r.greatest, (r.held, (r.flags, r.uses))))))
+    (both (line_range t) (both (below_int (pos 1) t.limit) (both (below_int t.limit greatest_i64)
+    (both (held_in t.account_id t.asset) (both (line_flags t.asset t.flags) (below_int (pos 0) (use_count t)))))))
+
+data_in_range : (entry : DataEntry) → Decided (IsDataInRange entry)
+data_in_range entry =
+    decided_as (λ h. record { some = h.0; name = h.1 }) (λ r. (r.some, r.name))
+    (both (below 1 (length entry.data_name)) (is_true (is_valid_text entry.data_name)))
+
+-- ---- claimable balances
+
+claimants_in_range : (balance : ClaimableBalanceEntry) → Decided (AreClaimantsInRange balance.claimants)
+claimants_in_range balance =
+    let claimants = balance.claimants in
+    decided_as (λ h. record { some = h.0; few = h.1.0; apart = h.1.1.0; predicates = h.1.1.1 })
+    (λ r. (r.some, (r.few, (r.apart, r.predicates))))
+    (both (below 1 (length claimants)) (both (below (length claimants) 10)
+    (both (each_pair (λ (x y : Claimant). x.destination ≢ y.destination) claimants
+    (λ x y. opposite (same_account x.destination y.destination)))
+    (each (λ (c : Claimant). is_valid_stored_predicate c.predicate ≡ true) claimants
+    (λ c. is_true (is_valid_stored_predicate c.predicate))))))
+
+balance_stands : (balance : ClaimableBalanceEntry) → Decided (IsBalanceInRange balance)
+balance_stands balance =
+    decided_as (λ h. record { amount = h.0; asset = h.1.0; flags = h.1.1.0; claimants = h.1.1.1 })
+    (λ r. (r.amount, (r.asset, (r.flags, r.claimants))))
+    (both (below_int (pos 1) balance.amount) (both (is_true (is_valid_asset balance.asset))
+    (both (below (balance_flags balance.ext) 1) (claimants_in_range balance))))
+
+-- ---- entries that are built
+
+body_in_range : (id_pool : ℕ) (b : LedgerEntryBody) → IsBuiltBody b → Decided (IsBodyInRange id_pool b)
+body_in_range id_pool (body.Account account) built = account_in_range account
+body_in_range id_pool (body.TrustLine line) built = line_in_range line
+body_in_range id_pool (body.Offer offer) built = absurd built
+body_in_range id_pool (body.Data entry) built = data_in_range entry
+body_in_range id_pool (body.ClaimableBalance balance) built = balance_stands balance
+body_in_range id_pool (body.LiquidityPool pool) built = absurd built
+
+paid_rightly : (b : LedgerEntryBody) (sponsor : Option AccountId) → Decided (IsPaidRightly b sponsor)
+paid_rightly (body.ClaimableBalance balance) sponsor = opposite (same_sponsor sponsor None)
+paid_rightly (body.LiquidityPool pool) sponsor = same_sponsor sponsor None
+paid_rightly other sponsor =
+    implied (opposite (same_sponsor sponsor None)) (opposite (same_sponsor sponsor (owner_of other)))
+
+pub in_range : (id_pool : ℕ) (e : LedgerEntry) → IsBuiltBody e.body → Decided (IsEntryInRange id_pool e)
+in_range id_pool e built =
+    decided_as (λ h. record { body = h.0; paid = h.1 }) (λ r. (r.body, r.paid))
+    (both (body_in_range id_pool e.body built) (paid_rightly e.body (sponsor_of e)))

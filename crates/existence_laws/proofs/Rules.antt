@@ -1,0 +1,151 @@
+-- The first rule of entries that is broken, where all entries are built.
+use Rattle.std.proofs.Common.{◌≢◌, inl, inr, pos, List, [], ◌∷◌, Option, Some, None, All, IfSome, refl, sym, ap, ◌∙◌}
+use Rattle.std.proofs.Common.{◌+◌}
+use Rattle.std.specs.Prelude.{◌+ℤ◌}
+use Rattle.std.specs.FinMap.{get}
+use Rattle.ledger_types.specs.declared.asset.Asset.TheVariants as asset
+use Rattle.ledger_types.specs.declared.header.LedgerHeader.{LedgerHeader}
+use Rattle.ledger_types.specs.declared.entry.LedgerEntryBody.{LedgerEntryBody}
+use Rattle.ledger_types.specs.declared.entry.LedgerEntryBody.TheVariants as body
+use Rattle.ledger_types.specs.Keys.{key_of}
+use Rattle.entry_map.specs.EntryMap.{EntryMap, IsKeyed}
+use Rattle.entry_slots.specs.AccountExtensions.{num_sponsoring}
+use Rattle.entry_sums.specs.Sums.{total}
+use Rattle.legal_rules.specs.Books.{Selling, Buying, Uses, counted, stated, stated_at}
+use Rattle.legal_rules.specs.Bounds.{AreSubentriesFew, DoReservesFit}
+use Rattle.legal_rules.specs.Legal.{view, pools_in, IsBooked}
+use Rattle.legal_rules.specs.Needs.{needed_keys}
+use Rattle.legal_rules.specs.Ranges.{IsEntryInRange}
+use Rattle.legal_rules.specs.Supply.{held}
+use Rattle.close_rules.specs.declared.image_fault.ImageRule.{ImageRule}
+use Rattle.close_rules.specs.declared.image_fault.ImageRule.TheVariants as rule
+use Rattle.close_rules.specs.State.{AreBuilt}
+use Rattle.close_rules.specs.EntryRules.{AreInRange, AreOwned, AreLiable, AreSubentriesCounted, AreSponsorsCounted}
+use Rattle.close_rules.specs.EntryRules.{ArePoolsCounted, AreLumensCounted, Keeps, entry_rules, IsFirstBroken}
+use Rattle.image_rules.specs.declared.books.AccountBook.{AccountBook}
+use Rattle.image_rules.specs.declared.books.AccountBook.TheVariants as book
+use Rattle.image_rules.specs.AccountBooks.{kind_of}
+use Rattle.image_rules.specs.EntryTests.{IsUnbound, IsUnused}
+use Rattle.image_rules.proofs.Booked.{IsRight, keyed_each, booked_of_right}
+use Rattle.image_rules.proofs.Bounded.{liable_of, unbound_of, pools_counted, unused_of, offers_apart, in_range_of}
+use Rattle.existence_laws.proofs.Decided.{Decided, decided_as, both, below, same_int, each}
+use Rattle.existence_laws.proofs.Entries.{each_entry, stands}
+use Rattle.existence_laws.proofs.Ranges.{in_range}
+
+-- ---- entries by themselves
+
+few : (b : LedgerEntryBody) → Decided (AreSubentriesFew b)
+few (body.Account account) = below account.num_sub_entries 1000
+few other = inl tt
+
+fitting : (b : LedgerEntryBody) → Decided (DoReservesFit b)
+fitting (body.Account account) = below (account.num_sub_entries + num_sponsoring account) 4294967295
+fitting other = inl tt
+
+unbound : (b : LedgerEntryBody) → Decided (IsUnbound b)
+unbound b =
+    decided_as (λ h. record { selling = h.0; buying = h.1 }) (λ r. (r.selling, r.buying))
+    (both (same_int (stated Selling b) (pos 0)) (same_int (stated Buying b) (pos 0)))
+
+-- ---- each rule, where all entries are built
+
+module _ (h : LedgerHeader) (m : EntryMap) (keyed : IsKeyed m) (built : AreBuilt m) where
+  entries_in_range : Decided (AreInRange h m)
+  entries_in_range =
+      decided_as (λ entries. in_range_of m built h entries) (λ r. r.entries)
+      (each_entry (λ k e. IsEntryInRange h.id_pool e) m (λ k e there. in_range h.id_pool e (built k e there)))
+
+  owned : Decided (AreOwned m)
+  owned =
+      decided_as (λ standing. record { standing = standing; offers = offers_apart m built }) (λ r. r.standing)
+      (each_entry (λ k e. All (λ q. get m q ≢ None) (needed_keys (pools_in m) e)) m
+      (λ k e there. each (λ q. get m q ≢ None) (needed_keys (pools_in m) e) (λ q. stands m q)))
+
+  liable : Decided (AreLiable m)
+  liable =
+      decided_as (λ each. liable_of m built each) (λ r. unbound_of m built r)
+      (each_entry (λ k e. IsUnbound e.body) m (λ k e there. unbound e.body))
+
+  -- where owners and sponsors stand, books are decided by the entries that state them
+  booked : AreOwned m → (which : AccountBook) → Decided (IsBooked (kind_of which) m)
+  booked stand which =
+      decided_as (λ right. booked_of_right which m stand (λ k e there. (keyed, right k e there)))
+      (λ (all : IsBooked (kind_of which) m) k e there.
+      sym (ap (stated_at (kind_of which)) (ap (get m) (keyed_each m keyed k e there) ∙ there)) ∙ all (key_of e))
+      (each_entry (λ k e. IsRight which m e) m
+      (λ k e there. same_int (stated (kind_of which) e.body)
+      (total (counted (view m) (kind_of which) (key_of e)) m)))
+
+  subentries : AreOwned m → Decided (AreSubentriesCounted m)
+  subentries stand =
+      decided_as (λ h. record { booked = h.0; few = h.1 }) (λ r. (r.booked, r.few))
+      (both (booked stand book.Subentries)
+      (each_entry (λ k e. AreSubentriesFew e.body) m (λ k e there. few e.body)))
+
+  sponsors : AreOwned m → Decided (AreSponsorsCounted m)
+  sponsors stand =
+      decided_as (λ h. record { sponsoring = h.0; sponsored = h.1.0; fits = h.1.1 })
+      (λ r. (r.sponsoring, (r.sponsored, r.fits)))
+      (both (booked stand book.Sponsoring) (both (booked stand book.Sponsored)
+      (each_entry (λ k e. DoReservesFit e.body) m (λ k e there. fitting e.body))))
+
+  pools : Decided (ArePoolsCounted m)
+  pools =
+      decided_as (λ each. pools_counted m built each) (λ r. unused_of m built r)
+      (each_entry (λ k e. IsUnused e.body) m (λ k e there. same_int (stated Uses e.body) (pos 0)))
+
+  lumens : Decided (AreLumensCounted h m)
+  lumens = same_int (total (held asset.Native) m +ℤ h.fee_pool) h.total_coins
+
+-- ---- the first that is broken
+
+abbrev pub IsOfEntries : ImageRule → Type 0
+IsOfEntries rule.Header = ⊥
+IsOfEntries rule.Version = ⊥
+IsOfEntries rule.Fields = ⊥
+IsOfEntries rule.Bucket = ⊥
+IsOfEntries rule.Marks = ⊥
+IsOfEntries rule.ListHash = ⊥
+IsOfEntries other = Unit {0}
+
+-- which one it is, or that there is none
+abbrev pub FirstOf : LedgerHeader → EntryMap → List ImageRule → Type 0
+FirstOf h m rules = (broken : Option ImageRule) × IsFirstBroken h m rules broken × IfSome broken IsOfEntries
+
+behind_kept : (h : LedgerHeader) (m : EntryMap) (first : ImageRule) (rules : List ImageRule) → Keeps h m first
+    → FirstOf h m rules → FirstOf h m (first ∷ rules)
+behind_kept h m first rules kept (None, is, own) = (None, (kept, is), own)
+behind_kept h m first rules kept (Some broken, is, own) = (Some broken, inr (kept, is), own)
+
+first_or : (h : LedgerHeader) (m : EntryMap) (first : ImageRule) (rules : List ImageRule) → IsOfEntries first
+    → Decided (Keeps h m first) → (Keeps h m first → FirstOf h m rules) → FirstOf h m (first ∷ rules)
+first_or h m first rules own (inl kept) later = behind_kept h m first rules kept (later kept)
+first_or h m first rules own (inr fails) later = (Some first, inl (fails, refl), own)
+
+abbrev from_lumens : List ImageRule
+from_lumens = rule.Lumens ∷ []
+
+abbrev from_pools : List ImageRule
+from_pools = rule.Pools ∷ from_lumens
+
+abbrev from_sponsorship : List ImageRule
+from_sponsorship = rule.Sponsorship ∷ from_pools
+
+abbrev from_subentries : List ImageRule
+from_subentries = rule.Subentries ∷ from_sponsorship
+
+abbrev from_liabilities : List ImageRule
+from_liabilities = rule.Liabilities ∷ from_subentries
+
+abbrev from_owner : List ImageRule
+from_owner = rule.Owner ∷ from_liabilities
+
+pub first_of : (h : LedgerHeader) (m : EntryMap) → IsKeyed m → AreBuilt m → FirstOf h m entry_rules
+first_of h m keyed built =
+    first_or h m rule.Entry from_owner tt (entries_in_range h m keyed built) (λ in_range.
+    first_or h m rule.Owner from_liabilities tt (owned h m keyed built) (λ stand.
+    first_or h m rule.Liabilities from_subentries tt (liable h m keyed built) (λ bound.
+    first_or h m rule.Subentries from_sponsorship tt (subentries h m keyed built stand) (λ few.
+    first_or h m rule.Sponsorship from_pools tt (sponsors h m keyed built stand) (λ paid.
+    first_or h m rule.Pools from_lumens tt (pools h m keyed built) (λ used.
+    first_or h m rule.Lumens [] tt (lumens h m keyed built) (λ all. (None, refl, tt))))))))

@@ -11,7 +11,7 @@ use Rattle.close_rules.specs.declared.close_fault.CloseFault.{CloseFault}
 use Rattle.close_rules.specs.declared.close_fault.CloseFault.TheVariants as fault
 use Rattle.close_rules.specs.State.{ClosingState, IsClosingState, max_file_total}
 use Rattle.close_rules.specs.Refusals.{record_in, record_fault}
-use Rattle.close_rules.specs.Close.{Closed, applied_in, upgraded_header, IsClosed, IsTaken, ClosesWith, IsClose}
+use Rattle.close_rules.specs.Close.{PreparedClose, applied_in, upgraded_header, IsClosed, IsTaken, ClosesWith, IsClose}
 use Rattle.close_laws.specs.Legal.{IsClosable, NextIsLegal}
 use Rattle.close_laws.specs.Closes.{TakenIsClosable}
 use Rattle.existence_laws.specs.Existence.{EachClose}
@@ -22,7 +22,7 @@ use Rattle.existence_laws.proofs.Refusing.{refusal}
 -- ---- a close
 
 some_closed : NextIsLegal → (s : ClosingState) (closing : CloseRecord) → IsClosable s closing
-    → (closed : Closed) × IsClosed s closing closed
+    → (closed : PreparedClose) × IsClosed s closing closed
 some_closed next_legal s closing can =
     let seq = s.header.ledger_seq + 1 in
     let worked = (applied_in s closing).entries in
@@ -54,10 +54,10 @@ some_closed next_legal s closing can =
 -- ---- an answer
 
 abbrev Answered : ClosingState → List ℕ → Type 0
-Answered s bytes = (answer : Result Closed CloseFault) × IsClose s bytes answer
+Answered s bytes = (answer : Result PreparedClose CloseFault) × IsClose s bytes answer
 
 -- a close is told where its files aren't too long
-by_length : (s : ClosingState) (bytes : List ℕ) (taken : IsTaken s bytes) (closed : Closed)
+by_length : (s : ClosingState) (bytes : List ℕ) (taken : IsTaken s bytes) (closed : PreparedClose)
     → IsClosed s taken.closing closed → Answered s bytes
 by_length s bytes taken closed closes =
     let total = file_total closed.state.levels in

@@ -9,7 +9,7 @@ use Rattle.xdr_core.specs.Place.{Place, Reading}
 use Rattle.xdr_core.proofs.FormatLaws.{mark_laws}
 use Rattle.close_rules.specs.declared.close_fault.CloseFault.{CloseFault}
 use Rattle.close_rules.specs.State.{ClosingState, IsClosingState}
-use Rattle.close_rules.specs.Close.{Closed, IsClose}
+use Rattle.close_rules.specs.Close.{PreparedClose, IsClose}
 use Rattle.close_laws.specs.Closes.{TakenIsClosable, NextIsClosing}
 use Rattle.ledger_close.proofs.Installs.{installed_state}
 use Rattle.run_outcome.specs.declared.status.Status.TheVariants as status
@@ -68,7 +68,7 @@ module _ (each : EachClose) (closable : TakenIsClosable) (next : NextIsClosing) 
   by_answer : (s : ClosingState) (at byte : ℕ) (more bytes : List ℕ) (q : Place) → IsClosingState s
       → read_mark (place at (byte ∷ more)) ≡ Ok (bytes, q) → Ahead (byte ∷ more) bytes q.rest
       → ((t : ClosingState) → IsClosingState t → SomeRun t (at + length (framed bytes)) q.rest)
-      → (answer : Result Closed CloseFault) → IsClose s bytes answer → SomeRun s at (byte ∷ more)
+      → (answer : Result PreparedClose CloseFault) → IsClose s bytes answer → SomeRun s at (byte ∷ more)
   by_answer s at byte more bytes q state reads here later (Err wrong) close =
       let last : Outcome = record { status = status.Refused; text = refused_line s.header wrong } in
       let stopped = subst (λ (r : Reading XdrFault (List ℕ)). IsStopped s r last) (sym reads) (wrong, close, refl) in

@@ -50,7 +50,7 @@ judged_state : (network : Hash) (image : StartImage) (s : ClosingState) → IsBy
 judged_state network image s text (h, levels, m, has, built, kept, is) =
     let whole : IsWhole image h levels m = record {
       header = (has.files.header, header_spelled image.header h text has.files.header.reads);
-      files = record { are = has.files.files.files; few = has.files.files.few };
+      files = record { are = has.files.files.files; fit = has.files.files.fit };
       stands = record { marks = has.marks; standing = has.standing };
       judged = (has.hash, built, kept);
     } in

@@ -7,14 +7,14 @@ use Rattle.xdr_header.specs.declared.image.StartImage.{StartImage}
 use Rattle.close_rules.specs.declared.close_fault.CloseFault.{CloseFault}
 use Rattle.close_rules.specs.declared.image_fault.ImageFault.{ImageFault}
 use Rattle.close_rules.specs.State.{ClosingState, IsClosingState}
-use Rattle.close_rules.specs.Close.{Closed, IsClose}
+use Rattle.close_rules.specs.Close.{PreparedClose, IsClose}
 use Rattle.close_rules.specs.Images.{IsJudged}
 use Rattle.run_outcome.specs.Outcome.{Outcome, IsRun, IsOutcome}
 
 -- bytes do something to each state from which a ledger closes
 abbrev pub EachClose : Type 0
 EachClose = (s : ClosingState) (bytes : List ℕ) → IsClosingState s → IsBytes bytes
-    → (answer : Result Closed CloseFault) × IsClose s bytes answer
+    → (answer : Result PreparedClose CloseFault) × IsClose s bytes answer
 
 -- the bytes behind such a state come to something
 abbrev pub EachRun : Type 0

@@ -87,9 +87,9 @@ some_files image text = by_levels (levels_of image.files text)
     of_levels : (levels : List Pair) → AreFilesOf levels image.files
         → Decided ((found : List Pair) × HasFiles image found)
     of_levels levels files =
-        decided_as (λ few. (levels, record { files = files; few = few }))
+        decided_as (λ fit. (levels, record { files = files; fit = fit }))
         (λ h. subst (λ (found : List Pair). file_total found ≤ max_file_total)
-        (levels_are_one files_tell_apart image.files h.0 levels h.1.files files) h.1.few)
+        (levels_are_one files_tell_apart image.files h.0 levels h.1.files files) h.1.fit)
         (below (file_total levels) max_file_total)
 
     by_count : (levels : List Pair) → All HasBoth levels → image.files ≡ flat_map files_in levels

@@ -29,7 +29,8 @@ use Rattle.reserve_rules.specs.Reserve.{greatest_i64, IsInRange, IsLineInRange}
 use Rattle.sponsor_rules.specs.Charge.{owner_of}
 use Rattle.legal_rules.specs.Ranges.{has_flag, AreAccountFlags, AreSignersInRange, IsAccountInRange, IsHeldIn}
 use Rattle.legal_rules.specs.Ranges.{AreLineFlags, IsTrustLineInRange, IsDataInRange, balance_flags}
-use Rattle.legal_rules.specs.Ranges.{AreClaimantsInRange, IsBalanceInRange, IsBodyInRange, IsPaidRightly, IsEntryInRange}
+use Rattle.legal_rules.specs.Ranges.{AreClaimantsInRange, IsBalanceInRange, IsBodyInRange, IsPaidRightly}
+use Rattle.legal_rules.specs.Ranges.{IsEntryInRange}
 use Rattle.close_rules.specs.State.{IsBuiltBody}
 use Rattle.existence_laws.proofs.Decided.{Decided, decided_as, both, implied, opposite, below, same_number, is_true}
 use Rattle.existence_laws.proofs.Decided.{below_int, same_value, each, each_pair}

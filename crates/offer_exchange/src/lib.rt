@@ -1,0 +1,13 @@
+//! What a trade with a resting offer moves, what an offer can really give, and what it binds (OfferExchange in
+//! stellar-core; CAP-0003). Exact for all prices and bounds; no call takes memory.
+#![tactic(auto)]
+
+mod bounds;
+mod exchange;
+mod offers;
+mod rounding;
+
+pub use bounds::Bounds;
+pub use exchange::{Exchanged, exchange};
+pub use offers::{adjust, liabilities};
+pub use rounding::Rounding;

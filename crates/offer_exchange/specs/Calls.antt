@@ -3,7 +3,7 @@ use Rattle.std.specs.Prelude.{◌≡◌, ℕ, ℤ, pos, ◌≤ℤ◌, unsigned_a
 use Rattle.ledger_types.specs.declared.price.Price.{Price}
 use Rattle.ledger_types.specs.declared.price.Liabilities.{Liabilities}
 use Rattle.offer_exchange.specs.declared.bounds.Bounds.{Bounds as BoundsOfCall}
-use Rattle.offer_exchange.specs.declared.exchange.Exchanged.{Exchanged}
+use Rattle.offer_exchange.specs.declared.trade.Exchanged.{Exchanged}
 use Rattle.offer_exchange.specs.declared.rounding.Rounding.{Rounding}
 use Rattle.offer_exchange.specs.Exchange.{Bounds, Amounts, wheat_stays, exchanged, liabilities}
 

@@ -3,11 +3,14 @@
 #![tactic(auto)]
 
 mod bounds;
-mod exchange;
 mod offers;
 mod rounding;
+mod rows;
+mod table;
+mod trade;
+mod zero_rules;
 
 pub use bounds::Bounds;
-pub use exchange::{Exchanged, exchange};
 pub use offers::{adjust, liabilities};
 pub use rounding::Rounding;
+pub use trade::{Exchanged, exchange};

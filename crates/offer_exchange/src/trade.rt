@@ -5,6 +5,7 @@ ghost use Rattle.offer_exchange.specs.Calls.{IsPriced, AreBounds, IsExchange, bo
 
 use crate::bounds::Bounds;
 use crate::rounding::Rounding;
+use crate::table::{exchanged, parts, wheat_stays};
 use ledger_types::Price;
 
 /// What a trade moves from the resting offer to the taker, and from the taker to the offer, and whether the offer has
@@ -24,5 +25,11 @@ pub fn exchange(price: Price, bounds: Bounds, rounding: Rounding) -> Exchanged
     ensures value { IsExchange rounding price bounds result }
     ensures within { AreWithin (bounds_of bounds) (amounts_of rounding price bounds) }
 {
-    unimplemented
+    let (n, d) = parts(price);
+    let moved = exchanged(rounding, n, d, bounds);
+    Exchanged {
+        wheat: moved.wheat as i64,
+        sheep: moved.sheep as i64,
+        wheat_stays: wheat_stays(n, d, bounds),
+    }
 }

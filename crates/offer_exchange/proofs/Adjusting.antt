@@ -1,8 +1,8 @@
 -- What an adjusted amount binds, and that it stays as it is.
-use Rattle.std.proofs.Common.{◌≡◌, refl, sym, ap, subst, ◌∙◌, ℕ, zero, suc, ◌+◌, ◌-◌, ◌*◌, ◌/◌, ◌≤◌, ◌<◌, Bool, true, false}
-use Rattle.std.proofs.Common.{◌||◌, arith}
+use Rattle.std.proofs.Common.{◌≡◌, refl, sym, ap, subst, ◌∙◌, ℕ, zero, suc, ◌+◌, ◌-◌, ◌*◌, ◌/◌, ◌≤◌, ◌<◌, arith}
+use Rattle.std.proofs.Common.{Bool, true, false, ◌||◌}
 use Rattle.std.proofs.Math.Nat.{min-le_left, min-le_right, min-eq_left, mul-div_cancel, mul-le-mul_right}
-use Rattle.std.proofs.Math.Nat.{mul-le-mul_left, div-mul-le_self, lt_of_mul-lt-mul_right, lt-div-mul-add, div-eq_of_lt}
+use Rattle.std.proofs.Math.Nat.{mul-le-mul_left, lt_of_mul-lt-mul_right, lt-div-mul-add, div-eq_of_lt}
 use Rattle.std.proofs.lemmas.Bool.{ltb-true, ltb-false}
 use Rattle.std.proofs.lemmas.Nat.{le-div}
 use Rattle.std.specs.Prelude.{min, nat_lt, nat_eq, if◌then◌else◌}
@@ -55,6 +55,10 @@ module _ (n d send receive : ℕ) where
 
 -- ---- what is used up is used up again by the wheat of it
 
+-- what is used up, by whether the price is above 1
+abbrev used_by : Bool → (n d v : ℕ) → Amounts
+used_by above n d v = if above then wheat_then_down n d v else sheep_then_up n d v
+
 same_quotient : (q v d : ℕ) → 1 ≤ d → q * d ≤ v → v < (q + 1) * d → v / d ≡ q
 same_quotient q v d some low high =
     both (le-div q v d some low) (lt_of_mul-lt-mul_right d (next (v / d) (whole_below v d)))
@@ -103,9 +107,7 @@ module _ (n d v room : ℕ) (some_n : 1 ≤ n) (some_d : 1 ≤ d) (fits : v ≤ 
       next x most less = omega arith
 
   again_by : (t : Bool) → nat_lt d n ≡ t
-      → (if t then wheat_then_down n d (min ((if t then wheat_then_down n d v else sheep_then_up n d v).wheat * n) (room * d))
-      else sheep_then_up n d (min ((if t then wheat_then_down n d v else sheep_then_up n d v).wheat * n) (room * d)))
-      ≡ (if t then wheat_then_down n d v else sheep_then_up n d v)
+      → used_by t n d (worth n d (used_by t n d v).wheat room) ≡ used_by t n d v
   again_by true is = ap (λ q. record { wheat = q; sheep = q * n / d }) wheat_again
   again_by false is = ap (λ q. record { wheat = ceil_div (q * d) n; sheep = q }) (sheep_again (ltb-false d n is))
 
@@ -113,8 +115,7 @@ module _ (n d v room : ℕ) (some_n : 1 ≤ n) (some_d : 1 ≤ d) (fits : v ≤ 
   used_up_again = again_by (nat_lt d n) refl
 
   -- the wheat of it is worth no more than the room, where it is no more than what there is room for
-  worth_by : (t : Bool) → nat_lt d n ≡ t → (if t then wheat_then_down n d v else sheep_then_up n d v).wheat ≤ room
-      → (if t then wheat_then_down n d v else sheep_then_up n d v).wheat * n ≤ room * d
+  worth_by : (t : Bool) → nat_lt d n ≡ t → (used_by t n d v).wheat ≤ room → (used_by t n d v).wheat * n ≤ room * d
   worth_by true is most = below (wheat * n) v (room * d) (whole_below v n) fits
   worth_by false is most =
       below (dear * n) (room * n) (room * d) (mul-le-mul_right n most) (mul-le-mul_left room (ltb-false d n is))
@@ -131,7 +132,7 @@ nothing_used n d some_n some_d = by_price (nat_lt d n)
     none_up : (v k : ℕ) → v ≡ 0 → 1 ≤ k → ceil_div v k ≡ 0
     none_up v k is some = div-eq_of_lt (omega arith)
 
-    by_price : (t : Bool) → (if t then wheat_then_down n d 0 else sheep_then_up n d 0) ≡ nothing
+    by_price : (t : Bool) → used_by t n d 0 ≡ nothing
     by_price true =
         ap (λ q. record { wheat = q; sheep = q * n / d }) (none 0 n refl some_n)
         ∙ ap (λ q. record { wheat = 0; sheep = q }) (none (0 * n) d (omega arith) some_d)

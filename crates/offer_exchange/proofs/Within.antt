@@ -4,8 +4,8 @@ use Rattle.std.proofs.Math.Nat.{min-le_left, min-le_right}
 use Rattle.std.proofs.lemmas.Bool.{ltb-true, ltb-false}
 use Rattle.std.specs.Prelude.{min, nat_lt, if◌then◌else◌}
 use Rattle.offer_exchange.specs.declared.rounding.Rounding.{Rounding}
-use Rattle.offer_exchange.specs.Exchange.{Bounds, Amounts, nothing, wheat_worth, sheep_worth, some_stays, used_up, wheat_stays}
-use Rattle.offer_exchange.specs.Exchange.{table, is_half, is_unfair, exchanged}
+use Rattle.offer_exchange.specs.Exchange.{Bounds, Amounts, nothing, wheat_worth, sheep_worth, some_stays, used_up}
+use Rattle.offer_exchange.specs.Exchange.{wheat_stays, table, is_half, is_unfair, exchanged}
 use Rattle.offer_exchange.specs.Laws.{AreWithin}
 use Rattle.offer_exchange.proofs.Below.{AreAtMost, used_up_below, some_stays_below}
 

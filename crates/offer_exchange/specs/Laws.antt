@@ -1,7 +1,6 @@
 -- Laws of exchanges that crossing stands on.
 use Rattle.std.specs.Prelude.{◌≡◌, ℕ, ◌≤◌}
-use Rattle.offer_exchange.specs.declared.rounding.Rounding.{Rounding}
-use Rattle.offer_exchange.specs.Exchange.{Bounds, Amounts, exchanged, adjusted, liabilities}
+use Rattle.offer_exchange.specs.Exchange.{Bounds, Amounts, adjusted, liabilities}
 
 -- what moves is within what each side can send and receive
 pub record AreWithin (b : Bounds) (a : Amounts) : Type 0 where

@@ -55,5 +55,8 @@ pub fn liabilities(price: Price, amount: i64) -> Liabilities
 {
     let (n, d) = parts(price);
     let bound = table(Rounding::Normal, n, d, offered(amount, UNLIMITED));
-    Liabilities { buying: bound.sheep as i64, selling: bound.wheat as i64 }
+    Liabilities {
+        buying: bound.sheep as i64,
+        selling: bound.wheat as i64,
+    }
 }

@@ -22,6 +22,7 @@ fn ceil_div(a: u128, b: u128) -> u128
     (a + (b - 1)) / b
 }
 
+/// The wheat that v is worth, and sheep for it, rounded up.
 #[tactic(auto, using(crate::proofs::Below::whole_below))]
 fn wheat_then_up(n: u128, d: u128, v: u128) -> Amounts
     requires price { AreParts n d }
@@ -29,9 +30,11 @@ fn wheat_then_up(n: u128, d: u128, v: u128) -> Amounts
     ensures { amounts result ≡ spec.wheat_then_up n d v }
 {
     let wheat = v / n;
-    Amounts { wheat, sheep: ceil_div(wheat * n, d) }
+    let sheep = ceil_div(wheat * n, d);
+    Amounts { wheat, sheep }
 }
 
+/// The wheat that v is worth, and sheep for it, rounded down.
 #[tactic(auto, using(crate::proofs::Below::whole_below))]
 fn wheat_then_down(n: u128, d: u128, v: u128) -> Amounts
     requires price { AreParts n d }
@@ -39,9 +42,11 @@ fn wheat_then_down(n: u128, d: u128, v: u128) -> Amounts
     ensures { amounts result ≡ spec.wheat_then_down n d v }
 {
     let wheat = v / n;
-    Amounts { wheat, sheep: wheat * n / d }
+    let sheep = wheat * n / d;
+    Amounts { wheat, sheep }
 }
 
+/// The sheep that v is worth, and wheat for it, rounded up.
 #[tactic(auto, using(crate::proofs::Below::whole_below))]
 fn sheep_then_up(n: u128, d: u128, v: u128) -> Amounts
     requires price { AreParts n d }
@@ -49,9 +54,11 @@ fn sheep_then_up(n: u128, d: u128, v: u128) -> Amounts
     ensures { amounts result ≡ spec.sheep_then_up n d v }
 {
     let sheep = v / d;
-    Amounts { wheat: ceil_div(sheep * d, n), sheep }
+    let wheat = ceil_div(sheep * d, n);
+    Amounts { wheat, sheep }
 }
 
+/// The sheep that v is worth, and wheat for it, rounded down.
 #[tactic(auto, using(crate::proofs::Below::whole_below))]
 fn sheep_then_down(n: u128, d: u128, v: u128) -> Amounts
     requires price { AreParts n d }
@@ -59,7 +66,8 @@ fn sheep_then_down(n: u128, d: u128, v: u128) -> Amounts
     ensures { amounts result ≡ spec.sheep_then_down n d v }
 {
     let sheep = v / d;
-    Amounts { wheat: sheep * d / n, sheep }
+    let wheat = sheep * d / n;
+    Amounts { wheat, sheep }
 }
 
 /// Where wheat stays. `most` is the sheep that can go over.
@@ -69,15 +77,13 @@ pub fn some_stays(rounding: Rounding, n: u128, d: u128, v: u128, most: u128) -> 
     ensures { amounts result ≡ spec.some_stays rounding n d v most }
 {
     match rounding {
-        Rounding::StrictSend => Amounts { wheat: v / n, sheep: most },
+        Rounding::StrictSend => Amounts {
+            wheat: v / n,
+            sheep: most,
+        },
         Rounding::StrictReceive => wheat_then_up(n, d, v),
-        Rounding::Normal => {
-            if d < n {
-                wheat_then_up(n, d, v)
-            } else {
-                sheep_then_down(n, d, v)
-            }
-        }
+        Rounding::Normal if d < n => wheat_then_up(n, d, v),
+        Rounding::Normal => sheep_then_down(n, d, v),
     }
 }
 
@@ -87,5 +93,9 @@ pub fn used_up(n: u128, d: u128, v: u128) -> Amounts
     requires small { v < 2 ^ 96 }
     ensures { amounts result ≡ spec.used_up n d v }
 {
-    if d < n { wheat_then_down(n, d, v) } else { sheep_then_up(n, d, v) }
+    if d < n {
+        wheat_then_down(n, d, v)
+    } else {
+        sheep_then_up(n, d, v)
+    }
 }

@@ -1,6 +1,6 @@
 //! Trades in numbers without a sign.
 
-ghost use Rattle.std.specs.Prelude.{◌≡◌, ◌<◌, ◌^◌, pos, ◌≤ℤ◌, unsigned_abs};
+ghost use Rattle.std.specs.Prelude.{◌≡◌, ◌<◌, ◌^◌, pos, ◌≤ℤ◌, min, unsigned_abs};
 ghost use Rattle.offer_exchange.specs.Exchange as spec;
 ghost use Rattle.offer_exchange.specs.Laws.{AreWithin};
 ghost use Rattle.offer_exchange.specs.Calls.{IsPriced, AreBounds, parts_of, bounds_of};
@@ -18,7 +18,9 @@ pub fn parts(price: Price) -> (u128, u128)
     ensures value { result ≡ parts_of price }
     ensures parts { AreParts result.0 result.1 }
 {
-    (price.n.unsigned_abs() as u128, price.d.unsigned_abs() as u128)
+    let n = price.n.unsigned_abs() as u128;
+    let d = price.d.unsigned_abs() as u128;
+    (n, d)
 }
 
 /// The worth of what one side can send, or of what the other can receive for it, whichever is less.
@@ -54,6 +56,16 @@ fn sheep_worth(n: u128, d: u128, bounds: Bounds) -> u128
     worth(d, n, bounds.sheep_send, bounds.wheat_receive)
 }
 
+/// The sheep that can go over.
+fn most_sheep(bounds: Bounds) -> u128
+    requires { AreBounds bounds }
+    ensures { result ≡ min (unsigned_abs bounds.sheep_send) (unsigned_abs bounds.sheep_receive) }
+{
+    let sent = bounds.sheep_send.unsigned_abs();
+    let received = bounds.sheep_receive.unsigned_abs();
+    sent.min(received) as u128
+}
+
 /// Whether the offer has wheat left that the taker can't take: the wheat is worth more than the sheep.
 #[tactic(auto, unfolding(crate::specs::Exchange::wheat_stays))]
 pub fn wheat_stays(n: u128, d: u128, bounds: Bounds) -> bool
@@ -72,10 +84,11 @@ pub fn table(rounding: Rounding, n: u128, d: u128, bounds: Bounds) -> Amounts
     ensures within { AreWithin (bounds_of bounds) (spec.table rounding n d (bounds_of bounds)) }
 {
     if wheat_stays(n, d, bounds) {
-        let most = bounds.sheep_send.unsigned_abs().min(bounds.sheep_receive.unsigned_abs());
-        some_stays(rounding, n, d, sheep_worth(n, d, bounds), most as u128)
+        let v = sheep_worth(n, d, bounds);
+        some_stays(rounding, n, d, v, most_sheep(bounds))
     } else {
-        used_up(n, d, wheat_worth(n, d, bounds))
+        let v = wheat_worth(n, d, bounds);
+        used_up(n, d, v)
     }
 }
 

@@ -1,5 +1,5 @@
-//! Tests of the crates of values and of RFC 4506: lists, wide numbers, exchanges, the types of ledgers, which values are
-//! valid, the wire.
+//! Tests of the crates of values and of RFC 4506: lists, wide numbers, exchanges, the types of ledgers, which values
+//! are valid, the wire.
 #![tactic(auto)]
 
 #[cfg(test)]

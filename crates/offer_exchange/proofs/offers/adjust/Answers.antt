@@ -1,7 +1,6 @@
-use Rattle.std.proofs.Common.{◌≡◌, sym, subst, ℕ, ◌≤◌, ℤ, pos, unsigned_abs, arith, rules}
+use Rattle.std.proofs.Common.{sym, subst, ℤ, unsigned_abs, arith, rules}
 use Rattle.std.proofs.lemmas.Int.{ints}
-use Rattle.std.proofs.lemmas.Grind.{common_steps}
-use Rattle.offer_exchange.specs.Exchange.{unlimited, adjusted}
+use Rattle.offer_exchange.specs.Exchange.{adjusted}
 use Rattle.offer_exchange.specs.Laws.{IsBound, StaysAdjusted}
 use Rattle.offer_exchange.proofs.Adjusting.{adjusted_bound, adjusted_again}
 use Rattle.offer_exchange.proofs.offers.adjust.Goals as goal
@@ -16,8 +15,9 @@ returns-clause-bound c =
     let d = unsigned_abs c.args.price.d in
     let send = unsigned_abs c.args.send in
     let receive = unsigned_abs c.args.receive in
-    subst (λ (amount : ℤ). IsBound n d send receive (unsigned_abs amount)) (sym (returns-clause-value c))
-    (adjusted_bound n d send receive (omega (arith, ints)) (omega (arith, ints)) (omega (arith, ints)) (omega (arith, ints)))
+    let bound = adjusted_bound n d send receive (omega (arith, ints)) (omega (arith, ints)) (omega (arith, ints))
+    (omega (arith, ints)) in
+    subst (λ (amount : ℤ). IsBound n d send receive (unsigned_abs amount)) (sym (returns-clause-value c)) bound
 
 pub returns-clause-again : goal.returns-clause-again
 returns-clause-again c =
@@ -25,5 +25,6 @@ returns-clause-again c =
     let d = unsigned_abs c.args.price.d in
     let send = unsigned_abs c.args.send in
     let receive = unsigned_abs c.args.receive in
-    subst (λ (amount : ℤ). StaysAdjusted n d receive (unsigned_abs amount)) (sym (returns-clause-value c))
-    (adjusted_again n d send receive (omega (arith, ints)) (omega (arith, ints)) (omega (arith, ints)) (omega (arith, ints)))
+    let again = adjusted_again n d send receive (omega (arith, ints)) (omega (arith, ints)) (omega (arith, ints))
+    (omega (arith, ints)) in
+    subst (λ (amount : ℤ). StaysAdjusted n d receive (unsigned_abs amount)) (sym (returns-clause-value c)) again

@@ -1,0 +1,4 @@
+pub mod Below
+pub mod Within
+pub mod Adjusting
+pub mod Evaluated

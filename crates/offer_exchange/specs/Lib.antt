@@ -1,0 +1,4 @@
+pub mod Exchange
+pub mod Laws
+pub mod Calls
+pub mod Parts

@@ -1,0 +1,62 @@
+//! What an offer can really give, and what it binds.
+
+ghost use Rattle.std.specs.Prelude.{◌≡◌, pos, ◌≤ℤ◌, unsigned_abs};
+ghost use Rattle.offer_exchange.specs.Exchange as spec;
+ghost use Rattle.offer_exchange.specs.Exchange.{adjusted};
+ghost use Rattle.offer_exchange.specs.Laws.{IsBound, StaysAdjusted};
+ghost use Rattle.offer_exchange.specs.Calls.{IsPriced, AreBounds, AreLiabilities, parts_of, bounds_of};
+
+use crate::bounds::Bounds;
+use crate::rounding::Rounding;
+use crate::table::{exchanged, parts, table};
+use ledger_types::{Liabilities, Price};
+
+/// No bound.
+const UNLIMITED: i64 = i64::MAX;
+
+/// The bounds of a trade that the offer's side alone bounds.
+fn offered(send: i64, receive: i64) -> Bounds
+    requires send { pos 0 ≤ℤ send }
+    requires receive { pos 0 ≤ℤ receive }
+    ensures value { bounds_of result ≡ spec.offered (unsigned_abs send) (unsigned_abs receive) }
+    ensures bounds { AreBounds result }
+{
+    Bounds {
+        wheat_send: send,
+        wheat_receive: UNLIMITED,
+        sheep_send: UNLIMITED,
+        sheep_receive: receive,
+    }
+}
+
+/// The wheat that an offer can really give, of which its owner can send and for which it can receive so much, each at
+/// least 0: what a trade moves that nothing else bounds.
+#[tactic(auto, unfolding(crate::specs::Exchange::adjusted))]
+pub fn adjust(price: Price, send: i64, receive: i64) -> i64
+    requires priced { IsPriced price }
+    requires send { pos 0 ≤ℤ send }
+    requires receive { pos 0 ≤ℤ receive }
+    ensures value { result ≡ pos (adjusted (parts_of price).0 (parts_of price).1 (unsigned_abs send)
+        (unsigned_abs receive)) }
+    ensures bound { IsBound (parts_of price).0 (parts_of price).1 (unsigned_abs send) (unsigned_abs receive)
+        (unsigned_abs result) }
+    ensures again { StaysAdjusted (parts_of price).0 (parts_of price).1 (unsigned_abs receive) (unsigned_abs result) }
+{
+    let (n, d) = parts(price);
+    exchanged(Rounding::Normal, n, d, offered(send, receive)).wheat as i64
+}
+
+/// What an open offer of so much wheat, at least 0, binds of what its owner has and has room for.
+#[tactic(auto, unfolding(crate::specs::Exchange::liabilities))]
+pub fn liabilities(price: Price, amount: i64) -> Liabilities
+    requires priced { IsPriced price }
+    requires amount { pos 0 ≤ℤ amount }
+    ensures { AreLiabilities price amount result }
+{
+    let (n, d) = parts(price);
+    let bound = table(Rounding::Normal, n, d, offered(amount, UNLIMITED));
+    Liabilities {
+        buying: bound.sheep as i64,
+        selling: bound.wheat as i64,
+    }
+}

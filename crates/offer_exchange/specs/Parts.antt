@@ -1,4 +1,4 @@
--- What functions without signs say of their numbers.
+-- What private functions, which work without signs, say of their numbers.
 use Rattle.std.specs.Prelude.{ℕ, ◌≤◌, ◌<◌, ◌^◌}
 use Rattle.offer_exchange.specs.declared.rows.Amounts.{Amounts as AmountsOfCall}
 use Rattle.offer_exchange.specs.Exchange.{Amounts}

@@ -1,4 +1,5 @@
-//! The rows of the table: one side of a trade by what it is worth, and the other by that side, rounded up or down.
+//! The rows of the table: one side of a trade by what v is worth, and the other by that side, rounded up or down. The
+//! price is of n sheep for d wheat.
 
 ghost use Rattle.std.specs.Prelude.{◌≡◌, ◌+◌, ◌<◌, ◌≤◌, ◌^◌};
 ghost use Rattle.offer_exchange.specs.Exchange as spec;
@@ -7,7 +8,7 @@ ghost use Rattle.offer_exchange.specs.Parts.{AreParts, amounts};
 use crate::rounding::Rounding;
 
 /// How much of either moves.
-#[derive(Clone, Copy, PartialEq, Eq)]
+#[derive(Clone, Copy)]
 pub struct Amounts {
     pub wheat: u128,
     pub sheep: u128,

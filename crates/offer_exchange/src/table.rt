@@ -1,4 +1,4 @@
-//! Trades in numbers without a sign.
+//! Trades in numbers without a sign: no product of an amount and a part of a price needs 96 bits.
 
 ghost use Rattle.std.specs.Prelude.{◌≡◌, ◌<◌, ◌^◌, pos, ◌≤ℤ◌, min, unsigned_abs};
 ghost use Rattle.offer_exchange.specs.Exchange as spec;

@@ -17,7 +17,8 @@ fn is_half(rounding: Rounding, moved: Amounts) -> bool
     }
 }
 
-/// Whether the price that results is off by more than a hundredth.
+/// Whether the price that results is off by more than a hundredth. A taker who asked for a strict amount bears it where
+/// the wheat costs more.
 fn is_unfair(rounding: Rounding, n: u128, d: u128, moved: Amounts) -> bool
     requires price { AreParts n d }
     requires small_wheat { moved.wheat < 2 ^ 64 }
@@ -42,7 +43,8 @@ pub fn unless_void(rounding: Rounding, n: u128, d: u128, moved: Amounts) -> Amou
     ensures { amounts result ≡ spec.unless_void rounding n d (amounts moved) }
 {
     if is_half(rounding, moved) || is_unfair(rounding, n, d, moved) {
-        return Amounts { wheat: 0, sheep: 0 };
+        Amounts { wheat: 0, sheep: 0 }
+    } else {
+        moved
     }
-    moved
 }

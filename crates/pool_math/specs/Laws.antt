@@ -17,8 +17,9 @@ pub record IsFairDeposit (reserve_a reserve_b total max_a max_b : ℕ) (d : Depo
   pub some_a : 1 ≤ d.shares → 1 ≤ d.a
   pub some_b : 1 ≤ d.shares → 1 ≤ d.b
 
--- a withdrawal takes no more than its part, and all with all shares
+-- a withdrawal takes no more than its part; all with all shares, and else leaves some of what there is
 pub record IsFairWithdrawal (reserve total shares taken : ℕ) : Type 0 where
   pub within : taken ≤ reserve
   pub part : taken * total ≤ shares * reserve
   pub all : 1 ≤ shares → shares ≡ total → taken ≡ reserve
+  pub some_left : shares < total → 1 ≤ reserve → taken < reserve

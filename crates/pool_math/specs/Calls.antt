@@ -1,6 +1,6 @@
 -- What calls answer, by the whole numbers that their 64 bits are.
 use Rattle.std.specs.Prelude.{◌≡◌, ℤ, pos, unsigned_abs, IfSome, Option, Some, None}
-use Rattle.pool_math.specs.declared.deposit.Deposited.{Deposited}
+use Rattle.pool_math.specs.declared.deposits.Deposited.{Deposited}
 use Rattle.pool_math.specs.Pools.{Deposit, CanDeposit, IsDeposit}
 use Rattle.pool_math.specs.Laws.{IsFairDeposit}
 

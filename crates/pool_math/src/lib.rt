@@ -2,10 +2,10 @@
 //! amounts. No call takes memory.
 #![tactic(auto)]
 
-mod deposit;
-mod swap;
-mod withdrawal;
+mod deposits;
+mod swaps;
+mod withdrawals;
 
-pub use deposit::{Deposited, deposit};
-pub use swap::{swap_in, swap_out};
-pub use withdrawal::withdraw;
+pub use deposits::{Deposited, deposit};
+pub use swaps::{swap_in, swap_out};
+pub use withdrawals::withdraw;

@@ -1,0 +1,76 @@
+-- What deposits ask for, and that it is fair.
+use Rattle.std.proofs.Common.{◌≡◌, refl, ℕ, ◌+◌, ◌-◌, ◌*◌, ◌/◌, ◌^◌, ◌<◌, ◌≤◌, min, arith}
+use Rattle.std.proofs.Math.Nat.{div-lt_iff_lt-mul, div-mul-le_self, lt-div-mul-add, mul-le-mul, mul-le-mul_right}
+use Rattle.std.proofs.Math.Nat.{one-le-mul, lt_of_not-le, min-le_left, min-le_right}
+use Rattle.std.proofs.lemmas.Nat.{le-div}
+use Rattle.pool_math.specs.Pools.{Deposit, shares_for, asked_for, later_deposit}
+use Rattle.pool_math.specs.Laws.{IsFairDeposit}
+
+-- the root of a product of two numbers of 63 bits has 63 bits
+pub root_small : (root v : ℕ) → root * root ≤ v → v < 2 ^ 126 → root < 2 ^ 63
+root_small root v root_of small = lt_of_not-le (λ (large : 2 ^ 63 ≤ root). past (mul-le-mul large large))
+  where
+    past : 2 ^ 63 * 2 ^ 63 ≤ root * root → ⊥
+    past most = omega arith
+
+-- ---- one asset
+
+-- as many shares as so much of an asset gives, or fewer
+enough_for : (reserve total most shares : ℕ) → shares ≤ shares_for reserve total most → shares * reserve ≤ total * most
+enough_for reserve total most shares enough =
+    omega (arith, mul-le-mul_right reserve enough, div-mul-le_self (total * most) reserve)
+
+pub asked_within : (reserve total most shares : ℕ) → 1 ≤ total → shares ≤ shares_for reserve total most
+    → asked_for reserve total shares ≤ most
+asked_within reserve total most shares some enough = not_past (asked_for reserve total shares)
+    ((div-lt_iff_lt-mul {k = total} {x = shares * reserve + (total - 1)} {y = most + 1} some).1
+    (next (enough_for reserve total most shares enough)))
+  where
+    next : shares * reserve ≤ total * most → shares * reserve + (total - 1) < (most + 1) * total
+    next le = omega arith
+
+    not_past : (asked : ℕ) → asked < most + 1 → asked ≤ most
+    not_past asked below = omega arith
+
+asked_part : (reserve total shares : ℕ) → 1 ≤ total → shares * reserve ≤ asked_for reserve total shares * total
+asked_part reserve total shares some =
+    reaches (asked_for reserve total shares * total)
+    (lt-div-mul-add {a = shares * reserve + (total - 1)} {b = total} some)
+  where
+    reaches : (x : ℕ) → shares * reserve + (total - 1) < x + total → shares * reserve ≤ x
+    reaches x past = omega arith
+
+asked_some : (reserve total shares : ℕ) → 1 ≤ reserve → 1 ≤ total → 1 ≤ shares → 1 ≤ asked_for reserve total shares
+asked_some reserve total shares some_reserve some some_shares =
+    le-div 1 (shares * reserve + (total - 1)) total some (omega (arith, one-le-mul some_shares some_reserve))
+
+-- ---- both assets
+
+pub later_fair : (reserve_a reserve_b total max_a max_b : ℕ) → 1 ≤ reserve_a → 1 ≤ reserve_b → 1 ≤ total
+    → IsFairDeposit reserve_a reserve_b total max_a max_b (later_deposit reserve_a reserve_b total max_a max_b)
+later_fair reserve_a reserve_b total max_a max_b some_a some_b some =
+    let of_a = shares_for reserve_a total max_a in
+    let of_b = shares_for reserve_b total max_b in
+    let shares = min of_a of_b in
+    record {
+      a = asked_within reserve_a total max_a shares some (min-le_left of_a of_b);
+      b = asked_within reserve_b total max_b shares some (min-le_right of_a of_b);
+      part_of_a = asked_part reserve_a total shares some;
+      part_of_b = asked_part reserve_b total shares some;
+      some_a = asked_some reserve_a total shares some_a some;
+      some_b = asked_some reserve_b total shares some_b some;
+    }
+
+pub first_fair : (reserve_a reserve_b total max_a max_b : ℕ) (d : Deposit) → reserve_a ≡ 0 → reserve_b ≡ 0 → 1 ≤ max_a
+    → 1 ≤ max_b → d.a ≡ max_a → d.b ≡ max_b → IsFairDeposit reserve_a reserve_b total max_a max_b d
+first_fair reserve_a reserve_b total max_a max_b d none_a none_b some_a some_b all_a all_b = record {
+  a = omega arith;
+  b = omega arith;
+  part_of_a = omega (arith, nothing reserve_a none_a);
+  part_of_b = omega (arith, nothing reserve_b none_b);
+  some_a = λ some. omega arith;
+  some_b = λ some. omega arith;
+}
+  where
+    nothing : (reserve : ℕ) → reserve ≡ 0 → d.shares * reserve ≡ 0
+    nothing reserve none = rw none refl

@@ -1,0 +1,4 @@
+pub mod SwapLaws
+pub mod DepositLaws
+pub mod WithdrawalLaws
+pub mod Evaluated

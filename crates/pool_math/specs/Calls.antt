@@ -1,0 +1,19 @@
+-- What calls answer, by the whole numbers that their 64 bits are.
+use Rattle.std.specs.Prelude.{◌≡◌, ℤ, pos, unsigned_abs, IfSome, Option, Some, None}
+use Rattle.pool_math.specs.declared.deposits.Deposited.{Deposited}
+use Rattle.pool_math.specs.Pools.{Deposit, CanDeposit, IsDeposit}
+use Rattle.pool_math.specs.Laws.{IsFairDeposit}
+
+-- the numbers of a deposit
+abbrev pub numbers_of : Deposited → Deposit
+numbers_of d = record { shares = unsigned_abs d.shares; a = unsigned_abs d.a; b = unsigned_abs d.b }
+
+-- a deposit was worked out, or it can't be
+abbrev pub AnswersDeposit : (a b total max_a max_b : ℤ) → Option Deposited → Type 0
+AnswersDeposit a b total max_a max_b None =
+    CanDeposit (unsigned_abs a) (unsigned_abs b) (unsigned_abs total) (unsigned_abs max_a) (unsigned_abs max_b) → ⊥
+AnswersDeposit a b total max_a max_b (Some d) =
+    IsDeposit (unsigned_abs a) (unsigned_abs b) (unsigned_abs total) (unsigned_abs max_a) (unsigned_abs max_b)
+    (numbers_of d)
+    × IsFairDeposit (unsigned_abs a) (unsigned_abs b) (unsigned_abs total) (unsigned_abs max_a) (unsigned_abs max_b)
+    (numbers_of d)

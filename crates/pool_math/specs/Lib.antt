@@ -1,0 +1,4 @@
+pub mod Pools
+pub mod Laws
+pub mod Calls
+pub mod Parts

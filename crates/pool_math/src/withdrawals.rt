@@ -6,8 +6,7 @@ ghost use Rattle.pool_math.specs.Pools.{withdrawn};
 ghost use Rattle.pool_math.specs.Laws.{IsFairWithdrawal};
 
 /// The same in numbers without a sign.
-#[tactic(auto, using(crate::proofs::WithdrawalLaws::withdrawn_within, crate::proofs::WithdrawalLaws::withdrawn_fair),
-    unfolding(crate::specs::Pools::withdrawn))]
+#[tactic(auto, using(crate::proofs::WithdrawalLaws::withdrawn_within, crate::proofs::WithdrawalLaws::withdrawn_fair), unfolding(crate::specs::Pools::withdrawn))]
 fn withdrawn(reserve: u64, total: u64, shares: u64) -> u64
     requires within { shares ≤ total }
     ensures value { result ≡ spec.withdrawn reserve total shares }
@@ -29,5 +28,9 @@ pub fn withdraw(reserve: i64, total: i64, shares: i64) -> i64
     ensures fair { IsFairWithdrawal (unsigned_abs reserve) (unsigned_abs total) (unsigned_abs shares)
         (unsigned_abs result) }
 {
-    withdrawn(reserve.unsigned_abs(), total.unsigned_abs(), shares.unsigned_abs()) as i64
+    withdrawn(
+        reserve.unsigned_abs(),
+        total.unsigned_abs(),
+        shares.unsigned_abs(),
+    ) as i64
 }

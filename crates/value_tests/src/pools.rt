@@ -27,10 +27,7 @@ fn first_gives(max_a: i64, max_b: i64, shares: i64) -> bool {
 }
 
 /// The deposit that may be asked for into a pool that isn't empty, as its shares and what it takes of each asset.
-fn later(
-    (a, b, total): (i64, i64, i64),
-    (max_a, max_b): (i64, i64),
-) -> Option<(i64, i64, i64)> {
+fn later((a, b, total): (i64, i64, i64), (max_a, max_b): (i64, i64)) -> Option<(i64, i64, i64)> {
     if a < 1 || b < 1 || total < 1 || max_a < 1 || max_b < 1 {
         return None;
     }
@@ -68,7 +65,13 @@ fn a_swap_gives_the_part_of_the_product_less_the_fee_rounded_down(rt: HostRuntim
 
 #[test]
 fn a_pool_without_one_of_its_assets_gives_nothing(rt: HostRuntime) {
-    for (x, y, put) in [(0, 0, 0), (0, 0, 10), (0, 5, 10), (5, 0, 10), (0, i64::MAX, i64::MAX)] {
+    for (x, y, put) in [
+        (0, 0, 0),
+        (0, 0, 10),
+        (0, 5, 10),
+        (5, 0, 10),
+        (0, i64::MAX, i64::MAX),
+    ] {
         assert!(rt; swap_gives(x, y, put, None));
     }
 }
@@ -130,12 +133,7 @@ fn a_swap_takes_the_part_of_the_product_with_the_fee_rounded_up(rt: HostRuntime)
             55_555_555_555,
             73_804_931_415,
         ),
-        (
-            1_000_000,
-            i64::MAX,
-            4_611_686_018_427_387_903,
-            1_003_010,
-        ),
+        (1_000_000, i64::MAX, 4_611_686_018_427_387_903, 1_003_010),
         (i64::MAX, i64::MAX, 0, 0),
     ] {
         assert!(rt; swap_takes(x, y, want, Some(taken)));
@@ -255,8 +253,14 @@ fn a_later_deposit_is_bounded_by_the_asset_with_less_of_it(rt: HostRuntime) {
 fn a_deposit_too_small_for_a_share_is_of_nothing(rt: HostRuntime) {
     for (pool, most) in [
         ((88, 7, 24), (1, 7)),
-        ((i64::MAX, i64::MAX, 1), (9_223_372_036_854_775_806, i64::MAX)),
-        ((i64::MAX, i64::MAX, 1), (i64::MAX, 9_223_372_036_854_775_806)),
+        (
+            (i64::MAX, i64::MAX, 1),
+            (9_223_372_036_854_775_806, i64::MAX),
+        ),
+        (
+            (i64::MAX, i64::MAX, 1),
+            (i64::MAX, 9_223_372_036_854_775_806),
+        ),
     ] {
         assert!(rt; later(pool, most) == Some((0, 0, 0)));
     }
@@ -319,7 +323,14 @@ fn no_shares_take_nothing(rt: HostRuntime) {
 
 #[test]
 fn all_shares_take_all(rt: HostRuntime) {
-    for (reserve, total) in [(400, 200), (100, 200), (88, 24), (0, 7), (i64::MAX, 1), (1, i64::MAX)] {
+    for (reserve, total) in [
+        (400, 200),
+        (100, 200),
+        (88, 24),
+        (0, 7),
+        (i64::MAX, 1),
+        (1, i64::MAX),
+    ] {
         assert!(rt; withdrawal_takes(reserve, total, total, reserve));
     }
 }

@@ -6,17 +6,20 @@ use Rattle.pool_math.proofs.deposits.deposit.Goals as goal
 pub returns-then-total-eq0 : goal.returns-then-total-eq0
 returns-then-total-eq0 c =
     let first = c.first_deposit.ensures in
+    let same_max_a = to_z-of_z w64 c.args.max_a c.ranges.max_a in
+    let same_max_b = to_z-of_z w64 c.args.max_b c.ranges.max_b in
     first_answers c.args.a c.args.b c.args.total c.args.max_a c.args.max_b c.first_deposit.result
-    (sym (to_z-of_z w64 c.args.total c.ranges.total.sfits) ∙ ap (to_z w64) c.if-total-eq0.true)
-    c.requires.max_a c.requires.max_b c.requires.whole first.shares first.a first.b
+    (sym (to_z-of_z w64 c.args.total c.ranges.total) ∙ ap (to_z w64) c.if-total-eq0.true)
+    c.requires.max_a c.requires.max_b c.requires.whole (rw (same_max_a, same_max_b) at first.shares)
+    (first.a ∙ same_max_a) (first.b ∙ same_max_b)
 
 pub returns : goal.returns
 returns c =
-    let same_a = to_z-of_z w64 c.args.a c.ranges.a.sfits in
-    let same_b = to_z-of_z w64 c.args.b c.ranges.b.sfits in
-    let same_total = to_z-of_z w64 c.args.total c.ranges.total.sfits in
-    let same_max_a = to_z-of_z w64 c.args.max_a c.ranges.max_a.sfits in
-    let same_max_b = to_z-of_z w64 c.args.max_b c.ranges.max_b.sfits in
+    let same_a = to_z-of_z w64 c.args.a c.ranges.a in
+    let same_b = to_z-of_z w64 c.args.b c.ranges.b in
+    let same_total = to_z-of_z w64 c.args.total c.ranges.total in
+    let same_max_a = to_z-of_z w64 c.args.max_a c.ranges.max_a in
+    let same_max_b = to_z-of_z w64 c.args.max_b c.ranges.max_b in
     later_answers c.args.a c.args.b c.args.total c.args.max_a c.args.max_b c.later_deposit.result (omega (arith, ints))
     (rw (c.unsigned_abs.ensures.value, c.unsigned_abs-2.ensures.value, c.unsigned_abs-3.ensures.value,
     c.unsigned_abs-4.ensures.value, c.unsigned_abs-5.ensures.value, same_a, same_b, same_total, same_max_a, same_max_b)

@@ -9,9 +9,9 @@ returns-in-Some-clause-value c =
     let x = unsigned_abs c.args.x in
     let y = unsigned_abs c.args.y in
     let put = unsigned_abs c.args.put in
-    let same_x = to_z-of_z w64 c.args.x c.ranges.x.sfits in
-    let same_y = to_z-of_z w64 c.args.y c.ranges.y.sfits in
-    let same_put = to_z-of_z w64 c.args.put c.ranges.put.sfits in
+    let same_x = to_z-of_z w64 c.args.x c.ranges.x in
+    let same_y = to_z-of_z w64 c.args.y c.ranges.y in
+    let same_put = to_z-of_z w64 c.args.put c.ranges.put in
     let quotient = rw (same_y, same_put) at c.in-Some.ensures in
     let is : c.in-Some.given ≡ pos (given_for x y put) = quotient.1 ∙ ap pos (given_as x y put
     (c.in_parts.result + c.in_parts-2.result)
@@ -29,9 +29,9 @@ returns-in-None-clause-value c =
     let x = unsigned_abs c.args.x in
     let y = unsigned_abs c.args.y in
     let put = unsigned_abs c.args.put in
-    let same_x = to_z-of_z w64 c.args.x c.ranges.x.sfits in
-    let same_y = to_z-of_z w64 c.args.y c.ranges.y.sfits in
-    let same_put = to_z-of_z w64 c.args.put c.ranges.put.sfits in
+    let same_x = to_z-of_z w64 c.args.x c.ranges.x in
+    let same_y = to_z-of_z w64 c.args.y c.ranges.y in
+    let same_put = to_z-of_z w64 c.args.put c.ranges.put in
     let small : given_for x y put < 2 ^ 63 = omega
     (arith, ints, given_left x y put (omega (arith, ints)) (omega (arith, ints))) in
     let too_large = rw (same_y, same_put) at c.in-None.ensures in

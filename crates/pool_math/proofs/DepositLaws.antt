@@ -1,17 +1,24 @@
 -- What deposits ask for, and that it is fair.
-use Rattle.std.proofs.Common.{◌≡◌, refl, ℕ, ◌+◌, ◌-◌, ◌*◌, ◌/◌, ◌^◌, ◌<◌, ◌≤◌, min, arith}
+use Rattle.std.proofs.Common.{◌≡◌, refl, sym, ap, subst, ℤ, pos, ◌≤ℤ◌, unsigned_abs, Option, Some, None, ℕ, ◌+◌, ◌-◌, ◌*◌, ◌/◌, ◌^◌, ◌<◌, ◌≤◌, min, arith}
 use Rattle.std.proofs.Math.Nat.{div-lt_iff_lt-mul, div-mul-le_self, lt-div-mul-add, mul-le-mul, mul-le-mul_right}
-use Rattle.std.proofs.Math.Nat.{one-le-mul, lt_of_not-le, min-le_left, min-le_right}
-use Rattle.std.proofs.lemmas.Nat.{le-div}
-use Rattle.pool_math.specs.Pools.{Deposit, shares_for, asked_for, later_deposit}
+use Rattle.std.proofs.Math.Nat.{one-le-mul, mul-zero, lt_of_not-le, min-le_left, min-le_right}
+use Rattle.std.proofs.lemmas.Nat.{le-div, mul-lt}
+use Rattle.std.proofs.lemmas.Int.{ints}
+use Rattle.std.specs.Option.{SomeIff}
+use Rattle.wide_math.specs.Root.{IsRoot}
+use Rattle.pool_math.specs.declared.deposits.Deposited.{Deposited}
+use Rattle.pool_math.specs.Calls.{numbers_of, AnswersDeposit}
+use Rattle.pool_math.specs.Parts.{signed}
+use Rattle.pool_math.specs.Pools.{Deposit, greatest, shares_for, asked_for, later_deposit, IsWhole}
 use Rattle.pool_math.specs.Laws.{IsFairDeposit}
 
 -- the root of a product of two numbers of 63 bits has 63 bits
-pub root_small : (root v : ℕ) → root * root ≤ v → v < 2 ^ 126 → root < 2 ^ 63
-root_small root v root_of small = lt_of_not-le (λ (large : 2 ^ 63 ≤ root). past (mul-le-mul large large))
+pub root_small : (root a b : ℕ) → a < 2 ^ 63 → b < 2 ^ 63 → root * root ≤ a * b → root < 2 ^ 63
+root_small root a b small_a small_b root_of =
+    lt_of_not-le (λ (large : 2 ^ 63 ≤ root). past (mul-le-mul large large) (mul-lt a b (2 ^ 63) (2 ^ 63) small_a small_b))
   where
-    past : 2 ^ 63 * 2 ^ 63 ≤ root * root → ⊥
-    past most = omega arith
+    past : 2 ^ 63 * 2 ^ 63 ≤ root * root → a * b < 2 ^ 63 * 2 ^ 63 → ⊥
+    past most less = omega arith
 
 -- ---- one asset
 
@@ -73,4 +80,40 @@ first_fair reserve_a reserve_b total max_a max_b d none_a none_b some_a some_b a
 }
   where
     nothing : (reserve : ℕ) → reserve ≡ 0 → d.shares * reserve ≡ 0
-    nothing reserve none = rw none refl
+    nothing reserve none = rw none (mul-zero d.shares)
+
+-- ---- what calls answer
+
+pub first_answers : (a b total max_a max_b : ℤ) (d : Deposited) → total ≡ pos 0 → pos 1 ≤ℤ max_a → pos 1 ≤ℤ max_b
+    → IsWhole (unsigned_abs a) (unsigned_abs b) (unsigned_abs total)
+    → IsRoot (unsigned_abs max_a * unsigned_abs max_b) (unsigned_abs d.shares) → d.a ≡ max_a → d.b ≡ max_b
+    → AnswersDeposit a b total max_a max_b (Some d)
+first_answers a b total max_a max_b d none some_a some_b whole root all_a all_b =
+    let no_total : unsigned_abs total ≡ 0 = ap unsigned_abs none in
+    let most_a : unsigned_abs d.a ≡ unsigned_abs max_a = ap unsigned_abs all_a in
+    let most_b : unsigned_abs d.b ≡ unsigned_abs max_b = ap unsigned_abs all_b in (
+      ((λ empty. (root, (most_a, most_b))), λ some. absurd (past no_total some)),
+      first_fair (unsigned_abs a) (unsigned_abs b) (unsigned_abs total) (unsigned_abs max_a) (unsigned_abs max_b)
+          (numbers_of d) (whole.a.1 no_total) (whole.b.1 no_total) (omega (arith, ints)) (omega (arith, ints)) most_a most_b,
+    )
+  where
+    past : unsigned_abs total ≡ 0 → 1 ≤ unsigned_abs total → ⊥
+    past is some = omega arith
+
+-- the deposit into a pool that isn't empty
+abbrev later : (a b total max_a max_b : ℤ) → Deposit
+later a b total max_a max_b =
+    later_deposit (unsigned_abs a) (unsigned_abs b) (unsigned_abs total) (unsigned_abs max_a) (unsigned_abs max_b)
+
+pub later_answers : (a b total max_a max_b : ℤ) (answer : Option Deposited) → 1 ≤ unsigned_abs total
+    → SomeIff answer ((later a b total max_a max_b).shares ≤ greatest) (signed (later a b total max_a max_b))
+    → IsFairDeposit (unsigned_abs a) (unsigned_abs b) (unsigned_abs total) (unsigned_abs max_a) (unsigned_abs max_b)
+    (later a b total max_a max_b)
+    → AnswersDeposit a b total max_a max_b answer
+later_answers a b total max_a max_b None some not fair = λ can. not (can.fits some)
+later_answers a b total max_a max_b (Some d) some is fair =
+    subst (λ (r : Deposited). AnswersDeposit a b total max_a max_b (Some r)) (sym is.1)
+    (((λ none. absurd (past none some)), λ full. refl), fair)
+  where
+    past : unsigned_abs total ≡ 0 → 1 ≤ unsigned_abs total → ⊥
+    past none full = omega arith

@@ -1,5 +1,5 @@
 -- What swaps give and take, as the code divides, and what the pool has after them.
-use Rattle.std.proofs.Common.{◌≡◌, ap, subst, sym, ◌∙◌, ℕ, ◌+◌, ◌-◌, ◌*◌, ◌/◌, ◌<◌, ◌≤◌, arith}
+use Rattle.std.proofs.Common.{◌≡◌, ap, subst, ◌∙◌, ℕ, ◌+◌, ◌-◌, ◌*◌, ◌/◌, ◌<◌, ◌≤◌, arith}
 use Rattle.std.proofs.Math.Nat.{div-lt_iff_lt-mul, div-mul-le_self, lt-div-mul-add, add-sub_of_le, one-le-mul}
 use Rattle.pool_math.specs.Pools.{given_for, taken_for, ceil_div}
 use Rattle.pool_math.specs.Laws.{IsSwapped}
@@ -12,7 +12,7 @@ given_as x y put divisor is =
     let product : y * put * 9970 ≡ 9970 * y * put = omega arith in
     ap (λ n. n / divisor) product ∙ ap (λ d. 9970 * y * put / d) is
 
-given_left : (x y put : ℕ) → 1 ≤ x → 1 ≤ y → given_for x y put < y
+pub given_left : (x y put : ℕ) → 1 ≤ x → 1 ≤ y → given_for x y put < y
 unfolding given_for
 given_left x y put some_x some_y =
     (div-lt_iff_lt-mul {k = 10000 * x + 9970 * put} {x = 9970 * y * put} {y = y} (omega arith)).1
@@ -29,14 +29,13 @@ given_product x y put given left =
     subst (λ (whole : ℕ). given * (10000 * x + 9970 * put) ≤ 9970 * whole * put → x * whole ≤ (x + put) * (y - given))
     (add-sub_of_le (omega arith)) (given_grows x put given (y - given))
 
-pub given_swapped : (x y put given : ℕ) → 1 ≤ x → 1 ≤ y → given ≡ given_for x y put → IsSwapped x y put given
+pub given_swapped : (x y put : ℕ) → 1 ≤ x → 1 ≤ y → IsSwapped x y put (given_for x y put)
 unfolding given_for
-given_swapped x y put given some_x some_y is =
-    subst (λ (n : ℕ). IsSwapped x y put n) (sym is) (record {
-      left = given_left x y put some_x some_y;
-      product = given_product x y put (given_for x y put) (given_left x y put some_x some_y)
-          (div-mul-le_self (9970 * y * put) (10000 * x + 9970 * put));
-    })
+given_swapped x y put some_x some_y = record {
+  left = given_left x y put some_x some_y;
+  product = given_product x y put (given_for x y put) (given_left x y put some_x some_y)
+      (div-mul-le_self (9970 * y * put) (10000 * x + 9970 * put));
+}
 
 -- ---- what is taken
 
@@ -60,6 +59,5 @@ taken_product x y want left =
     (taken_grows x (taken_for x y want) want (y - want) (omega arith)
     (lt-div-mul-add {a = 10000 * x * want + ((y - want) * 9970 - 1)} {b = (y - want) * 9970} (omega arith)))
 
-pub taken_swapped : (x y want taken : ℕ) → want < y → taken ≡ taken_for x y want → IsSwapped x y taken want
-taken_swapped x y want taken left is =
-    subst (λ (n : ℕ). IsSwapped x y n want) (sym is) (record { left = left; product = taken_product x y want left })
+pub taken_swapped : (x y want : ℕ) → want < y → IsSwapped x y (taken_for x y want) want
+taken_swapped x y want left = record { left = left; product = taken_product x y want left }

@@ -1,7 +1,9 @@
 -- What withdrawals take, and that it is fair.
-use Rattle.std.proofs.Common.{◌≡◌, ap, ◌∙◌, ℕ, zero, suc, ◌+◌, ◌*◌, ◌/◌, ◌<◌, ◌≤◌, arith}
+use Rattle.std.proofs.Common.{◌≡◌, refl, ap, ◌∙◌, ℕ, ◌*◌, ◌/◌, ◌<◌, ◌≤◌, true, false, arith}
 use Rattle.std.proofs.Math.Nat.{div-lt_iff_lt-mul, div-mul-le_self, div-le_of_le-mul, mul-div_cancel_left}
 use Rattle.std.proofs.Math.Nat.{mul-le-mul_right, mul-lt-mul_of_pos_right}
+use Rattle.std.proofs.lemmas.Bool.{eqb-true}
+use Rattle.std.specs.Prelude.{nat_eq, if◌then◌else◌}
 use Rattle.pool_math.specs.Pools.{withdrawn}
 use Rattle.pool_math.specs.Laws.{IsFairWithdrawal}
 
@@ -21,18 +23,25 @@ taken_left reserve total shares fewer some =
 pub withdrawn_fair : (reserve total shares : ℕ) → shares ≤ total
     → IsFairWithdrawal reserve total shares (withdrawn reserve total shares)
 unfolding withdrawn
-withdrawn_fair reserve total zero within = record {
-  within = omega arith;
-  part = omega arith;
-  all = λ some. λ is. absurd (none some);
-  some_left = λ fewer. λ some. some;
-}
+withdrawn_fair reserve total shares within =
+    elim (nat_eq shares 0) as (λ b. nat_eq shares 0 ≡ b
+    → IsFairWithdrawal reserve total shares (if b then 0 else shares * reserve / total)) [
+      | true ↦ λ is. none (eqb-true shares 0 is)
+      | false ↦ λ is. some
+    ] refl
   where
-    none : 1 ≤ 0 → ⊥
-    none some = omega arith
-withdrawn_fair reserve total (suc n) within = record {
-  within = withdrawn_within reserve total (suc n) within;
-  part = div-mul-le_self (suc n * reserve) total;
-  all = taken_all reserve total (suc n);
-  some_left = taken_left reserve total (suc n);
-}
+    none : shares ≡ 0 → IsFairWithdrawal reserve total shares 0
+    none is = record {
+      within = omega arith;
+      part = omega arith;
+      all = λ some. λ all. omega (arith, is, some);
+      some_left = λ fewer. λ some. some;
+    }
+
+    some : IsFairWithdrawal reserve total shares (shares * reserve / total)
+    some = record {
+      within = withdrawn_within reserve total shares within;
+      part = div-mul-le_self (shares * reserve) total;
+      all = taken_all reserve total shares;
+      some_left = taken_left reserve total shares;
+    }

@@ -66,8 +66,8 @@ later_deposit reserve_a reserve_b total max_a max_b =
 -- allows.
 abbrev pub IsDeposit : (reserve_a reserve_b total max_a max_b : ℕ) → Deposit → Type 0
 IsDeposit reserve_a reserve_b total max_a max_b d =
-    if nat_eq total 0 then (IsRoot (max_a * max_b) d.shares × ((d.a ≡ max_a) × (d.b ≡ max_b)))
-    else d ≡ later_deposit reserve_a reserve_b total max_a max_b
+    (total ≡ 0 → IsRoot (max_a * max_b) d.shares × ((d.a ≡ max_a) × (d.b ≡ max_b)))
+    × (1 ≤ total → d ≡ later_deposit reserve_a reserve_b total max_a max_b)
 
 -- so many shares fit 64 bits by one of the two assets at least; into an empty pool always
 pub record CanDeposit (reserve_a reserve_b total max_a max_b : ℕ) : Type 0 where

@@ -36,7 +36,6 @@ fn asked_for(reserve: u64, total: u64, shares: u64) -> u128
 }
 
 /// The deposit into an empty pool: all that may be taken.
-#[tactic(auto, using(crate::proofs::DepositLaws::root_small))]
 fn first_deposit(max_a: i64, max_b: i64) -> Deposited
     requires max_a { pos 1 ≤ℤ max_a }
     requires max_b { pos 1 ≤ℤ max_b }
@@ -80,7 +79,6 @@ fn later_deposit(a: u64, b: u64, total: u64, max_a: u64, max_b: u64) -> Option<D
 /// The deposit of at most `max_a` and `max_b`, each at least 1, into a pool that has `a` and `b` of its assets and `total`
 /// shares, either all above 0 or all 0. `None` comes exactly where there are shares, and what either asset would give
 /// exceeds the greatest i64.
-#[tactic(auto, using(crate::proofs::DepositLaws::first_fair))]
 pub fn deposit(a: i64, b: i64, total: i64, max_a: i64, max_b: i64) -> Option<Deposited>
     requires a { pos 0 ≤ℤ a }
     requires b { pos 0 ≤ℤ b }

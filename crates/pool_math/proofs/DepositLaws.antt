@@ -7,7 +7,7 @@ use Rattle.std.proofs.lemmas.Int.{ints}
 use Rattle.std.specs.Option.{SomeIff}
 use Rattle.wide_math.specs.Root.{IsRoot}
 use Rattle.pool_math.specs.declared.deposits.Deposited.{Deposited}
-use Rattle.pool_math.specs.Calls.{numbers_of, AnswersDeposit}
+use Rattle.pool_math.specs.Calls.{IsUnsigned, numbers_of, AnswersDeposit}
 use Rattle.pool_math.specs.Parts.{signed}
 use Rattle.pool_math.specs.Pools.{Deposit, greatest, shares_for, asked_for, later_deposit, IsWhole}
 use Rattle.pool_math.specs.Laws.{IsFairDeposit}
@@ -86,19 +86,23 @@ first_fair reserve_a reserve_b total max_a max_b d none_a none_b some_a some_b a
 
 pub first_answers : (a b total max_a max_b : ℤ) (d : Deposited) → total ≡ pos 0 → pos 1 ≤ℤ max_a → pos 1 ≤ℤ max_b
     → IsWhole (unsigned_abs a) (unsigned_abs b) (unsigned_abs total)
-    → IsRoot (unsigned_abs max_a * unsigned_abs max_b) (unsigned_abs d.shares) → d.a ≡ max_a → d.b ≡ max_b
-    → AnswersDeposit a b total max_a max_b (Some d)
-first_answers a b total max_a max_b d none some_a some_b whole root all_a all_b =
+    → IsRoot (unsigned_abs max_a * unsigned_abs max_b) (unsigned_abs d.shares) → pos 0 ≤ℤ d.shares → d.a ≡ max_a
+    → d.b ≡ max_b → AnswersDeposit a b total max_a max_b (Some d)
+first_answers a b total max_a max_b d none some_a some_b whole root no_debt all_a all_b =
     let no_total : unsigned_abs total ≡ 0 = ap unsigned_abs none in
     let most_a : unsigned_abs d.a ≡ unsigned_abs max_a = ap unsigned_abs all_a in
     let most_b : unsigned_abs d.b ≡ unsigned_abs max_b = ap unsigned_abs all_b in (
       ((λ empty. (root, (most_a, most_b))), λ some. absurd (past no_total some)),
       first_fair (unsigned_abs a) (unsigned_abs b) (unsigned_abs total) (unsigned_abs max_a) (unsigned_abs max_b)
           (numbers_of d) (whole.a.1 no_total) (whole.b.1 no_total) (omega (arith, ints)) (omega (arith, ints)) most_a most_b,
+      record { shares = no_debt; a = above d.a max_a all_a some_a; b = above d.b max_b all_b some_b },
     )
   where
     past : unsigned_abs total ≡ 0 → 1 ≤ unsigned_abs total → ⊥
     past is some = omega arith
+
+    above : (n most : ℤ) → n ≡ most → pos 1 ≤ℤ most → pos 0 ≤ℤ n
+    above n most is some = omega (arith, ints)
 
 -- the deposit into a pool that isn't empty
 abbrev later : (a b total max_a max_b : ℤ) → Deposit
@@ -113,7 +117,17 @@ pub later_answers : (a b total max_a max_b : ℤ) (answer : Option Deposited) �
 later_answers a b total max_a max_b None some not fair = λ can. not (can.fits some)
 later_answers a b total max_a max_b (Some d) some is fair =
     subst (λ (r : Deposited). AnswersDeposit a b total max_a max_b (Some r)) (sym is.1)
-    (((λ none. absurd (past none some)), λ full. refl), fair)
+    (((λ none. absurd (past none some)), λ full. refl), (fair, not_below))
   where
     past : unsigned_abs total ≡ 0 → 1 ≤ unsigned_abs total → ⊥
     past none full = omega arith
+
+    least : (n : ℕ) → pos 0 ≤ℤ pos n
+    least n = omega (arith, ints)
+
+    not_below : IsUnsigned (signed (later a b total max_a max_b))
+    not_below = record {
+      shares = least (later a b total max_a max_b).shares;
+      a = least (later a b total max_a max_b).a;
+      b = least (later a b total max_a max_b).b;
+    }

@@ -23,3 +23,4 @@ AnswersDeposit a b total max_a max_b (Some d) =
     (numbers_of d)
     × IsFairDeposit (unsigned_abs a) (unsigned_abs b) (unsigned_abs total) (unsigned_abs max_a) (unsigned_abs max_b)
     (numbers_of d)
+    × IsUnsigned d

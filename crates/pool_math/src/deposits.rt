@@ -1,12 +1,12 @@
 //! Deposits into a pool.
 
-ghost use Rattle.std.specs.Prelude.{◌≡◌, ◌*◌, ◌<◌, ◌≤◌, ◌^◌, pos, ◌≤ℤ◌, unsigned_abs, IfSome};
+ghost use Rattle.std.specs.Prelude.{◌≡◌, ◌*◌, ◌<◌, ◌≤◌, ◌^◌, pos, ◌≤ℤ◌, unsigned_abs};
 ghost use Rattle.std.specs.Option.{SomeIff};
 ghost use Rattle.wide_math.specs.Root.{IsRoot};
 ghost use Rattle.pool_math.specs.Pools as spec;
 ghost use Rattle.pool_math.specs.Pools.{IsWhole, greatest};
 ghost use Rattle.pool_math.specs.Laws.{IsFairDeposit};
-ghost use Rattle.pool_math.specs.Calls.{AnswersDeposit, IsUnsigned};
+ghost use Rattle.pool_math.specs.Calls.{AnswersDeposit};
 ghost use Rattle.pool_math.specs.Parts.{signed};
 
 use wide_math::isqrt;
@@ -86,8 +86,7 @@ pub fn deposit(a: i64, b: i64, total: i64, max_a: i64, max_b: i64) -> Option<Dep
     requires max_a { pos 1 ≤ℤ max_a }
     requires max_b { pos 1 ≤ℤ max_b }
     requires whole { IsWhole (unsigned_abs a) (unsigned_abs b) (unsigned_abs total) }
-    ensures value { AnswersDeposit a b total max_a max_b result }
-    ensures unsigned { IfSome result IsUnsigned }
+    ensures { AnswersDeposit a b total max_a max_b result }
 {
     if total == 0 {
         return Some(first_deposit(max_a, max_b));

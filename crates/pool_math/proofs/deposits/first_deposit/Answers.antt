@@ -21,3 +21,9 @@ returns-clause-shares c =
     )
     at c.isqrt.ensures in
     rw (to_z_pos w64 c.isqrt.result small) root
+
+pub returns-clause-unsigned : goal.returns-clause-unsigned
+returns-clause-unsigned c =
+    let small : c.isqrt.result < 2 ^ 63 = root_small c.isqrt.result c.unsigned_abs.result c.unsigned_abs-2.result
+    (omega (arith, ints)) (omega (arith, ints)) c.isqrt.ensures.0 in
+    search rules

@@ -117,7 +117,7 @@ pub later_answers : (a b total max_a max_b : ℤ) (answer : Option Deposited) �
 later_answers a b total max_a max_b None some not fair = λ can. not (can.fits some)
 later_answers a b total max_a max_b (Some d) some is fair =
     subst (λ (r : Deposited). AnswersDeposit a b total max_a max_b (Some r)) (sym is.1)
-    (((λ none. absurd (past none some)), λ full. refl), (fair, not_below))
+    (((λ none. absurd (past none some)), λ full. refl), fair, not_below)
   where
     past : unsigned_abs total ≡ 0 → 1 ≤ unsigned_abs total → ⊥
     past none full = omega arith

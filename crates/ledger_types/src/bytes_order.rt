@@ -11,17 +11,14 @@ use std::cmp::Ordering;
 pub(crate) fn bytes_order(a: &[u8; 32], b: &[u8; 32]) -> Ordering
     ensures { result ≡ bytes_cmp a.now b.now }
 {
-    let first = word_order(a, b, 0);
-    if first != Ordering::Equal {
-        return first;
+    if word_at(a, 0) != word_at(b, 0) {
+        return word_order(a, b, 0);
     }
-    let second = word_order(a, b, 8);
-    if second != Ordering::Equal {
-        return second;
+    if word_at(a, 8) != word_at(b, 8) {
+        return word_order(a, b, 8);
     }
-    let third = word_order(a, b, 16);
-    if third != Ordering::Equal {
-        return third;
+    if word_at(a, 16) != word_at(b, 16) {
+        return word_order(a, b, 16);
     }
     word_order(a, b, 24)
 }

@@ -25,7 +25,8 @@ use xdr_core::Cursor;
 #[derive(Drop)]
 pub struct Bucket {
     bytes: Vec<u8>,
-    hash: Hash,
+    /// The hash of the file, and none where the bucket was made to be merged.
+    hash: Option<Hash>,
 }
 
 impl Model for Bucket {
@@ -73,6 +74,27 @@ impl Bucket {
         Ok(bucket)
     }
 
+    /// The bucket of a file that is known to be one, made to be merged: it is hashed only as its hash is asked for.
+    pub fn of_file_to_merge(file: Vec<u8>) -> Result<Arc<Bucket>, AllocError>
+        requires { (contents : Contents) × HasFile contents × (file.items ≡ file_of contents) }
+        ensures { (contents : Contents) → HasFile contents → file.items ≡ file_of contents
+            → IfOk result (λ bucket. bucket.value ≡ contents) }
+    {
+        let alloc = *file.allocator();
+        let bucket = shared(alloc, unhashed(file))?;
+        Ok(bucket)
+    }
+
+    /// The same bucket, to be kept: with the hash of its file.
+    pub fn hashed(&self) -> Result<Arc<Bucket>, AllocError>
+        ensures { IfOk result (λ bucket. bucket.value ≡ self.now) }
+    {
+        let alloc = self.allocator();
+        let file = Vec::from_slice(alloc, self.bytes.as_slice())?;
+        let bucket = shared(alloc, bucket_of(file))?;
+        Ok(bucket)
+    }
+
     /// Where the bucket takes its memory.
     pub fn allocator(&self) -> Global {
         *self.bytes.allocator()
@@ -89,7 +111,10 @@ impl Bucket {
     pub fn hash(&self) -> Hash
         ensures { result ≡ file_hash (file_of self.now) }
     {
-        self.hash
+        match self.hash {
+            Some(hash) => hash,
+            None => hash_of_file(self.bytes.as_slice()),
+        }
     }
 
     /// The protocol version, `None` of the empty bucket alone.
@@ -120,13 +145,24 @@ impl Bucket {
     }
 }
 
-/// The bucket that keeps a file. The file is hashed here, and nowhere else.
+/// The bucket that keeps a file, hashed.
 fn bucket_of(bytes: Vec<u8>) -> Bucket
     requires { IsFile bytes.items }
     ensures { result ≡ contents_of bytes.items }
 {
     let hash = hash_of_file(bytes.as_slice());
-    Bucket { bytes, hash }
+    Bucket {
+        bytes,
+        hash: Some(hash),
+    }
+}
+
+/// The bucket that keeps a file, not hashed yet.
+fn unhashed(bytes: Vec<u8>) -> Bucket
+    requires { IsFile bytes.items }
+    ensures { result ≡ contents_of bytes.items }
+{
+    Bucket { bytes, hash: None }
 }
 
 /// A bucket that has several owners.

@@ -83,7 +83,7 @@ impl Levels {
     }
 
     /// The curr of level 0 behind a step. Where the level spills, the fresh bucket is merged onto nothing, and stays as
-    /// it is.
+    /// it is; else its hash is never asked for.
     #[tactic(auto, using(crate::proofs::Unmerged::spilled_first))]
     fn first_curr<L: Ledger>(
         &self,
@@ -95,7 +95,7 @@ impl Levels {
         ensures most { steps.new ≤ steps.old + work_at seq fresh.now.value self.now.pairs 0 }
     {
         if spills(0, seq) {
-            return fresh.clone();
+            return fresh.hashed();
         }
         merge_fresh(&self.pair(0).curr, fresh, steps)
     }

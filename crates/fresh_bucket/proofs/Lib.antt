@@ -1,4 +1,5 @@
 pub mod Listed
+pub mod Revalued
 pub mod Told
 pub mod Spelled
 pub mod Nothing

@@ -23,6 +23,7 @@ use Rattle.bucket_core.specs.Bucket.{Change, Init, Live, Dead, change_at}
 use Rattle.bucket_levels.specs.Fresh.{BecameOf, IsFresh}
 use Rattle.fresh_bucket.specs.Items.{IsItemRow, told, bucket_of, made, changed, gone}
 use Rattle.fresh_bucket.proofs.Listed.{there, source, nowhere}
+use Rattle.fresh_bucket.proofs.Revalued.{sorted, found}
 
 -- ---- keys of keys
 
@@ -35,26 +36,12 @@ themselves (k ∷ ks) = ap (λ r. k ∷ r) (themselves ks)
 abbrev pub changes_of : List (LedgerKey × BucketEntry) → List (LedgerKey × Change)
 changes_of row = map (λ x. (x.0, told x.1)) row
 
-changes_above : (k : LedgerKey) (row : List (LedgerKey × BucketEntry)) → Above k row → Above k (changes_of row)
-changes_above k [] h = tt
-changes_above k (x ∷ xs) h =
-    both (is_lt (key_cmp k x.0)) (below_all key_cmp k (changes_of xs)) (first _ _ h) (changes_above k xs (second _ _ h))
-
 pub changes_sorted : (row : List (LedgerKey × BucketEntry)) → Sorted row → Sorted (changes_of row)
-changes_sorted [] h = tt
-changes_sorted (x ∷ xs) h = both (below_all key_cmp x.0 (changes_of xs)) (is_sorted key_cmp (changes_of xs))
-    (changes_above x.0 xs (first _ _ h)) (changes_sorted xs (second _ _ h))
-
-find-changes : (k : LedgerKey) (row : List (LedgerKey × BucketEntry))
-    → find key_cmp k (changes_of row) ≡ option_map told (value_at k row)
-find-changes k [] = refl
-find-changes k (x ∷ xs) =
-    elim (eq_by_cmp key_cmp k x.0) as (λ b. cond b (Some (told x.1)) (find key_cmp k (changes_of xs))
-    ≡ option_map told (cond b (Some x.1) (find key_cmp k xs))) [ true ↦ refl | false ↦ find-changes k xs ]
+changes_sorted = sorted told
 
 pub change_is : (version : ℕ) (row : List (LedgerKey × BucketEntry)) (k : LedgerKey) → Sorted row
     → change_at (bucket_of version row) k ≡ option_map told (value_at k row)
-change_is version row k s = get-from_sorted key_cmp (changes_of row) k (changes_sorted row s) ∙ find-changes k row
+change_is version row k s = get-from_sorted key_cmp (changes_of row) k (changes_sorted row s) ∙ found told k row
 
 -- ---- what an item tells
 

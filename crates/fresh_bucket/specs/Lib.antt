@@ -1,2 +1,3 @@
 pub mod Spellable
 pub mod Items
+pub mod ItemRefs

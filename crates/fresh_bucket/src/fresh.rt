@@ -24,5 +24,5 @@ pub fn fresh_bucket(alloc: Global, version: u32, batch: &Batch) -> Result<Arc<Bu
 {
     let row = item_row(alloc, batch)?;
     let file = file_of(alloc, version, row.as_slice())?;
-    Bucket::of_file(file)
+    Bucket::of_file_to_merge(file)
 }

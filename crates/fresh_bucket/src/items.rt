@@ -4,19 +4,21 @@ ghost use Rattle.std.specs.Prelude.{◌≡◌, ◌++◌, ◌∷◌, [], map, IfO
 ghost use Rattle.ledger_types.specs.Keys.{key_of};
 ghost use Rattle.entry_map.specs.KeyMaps.{AreRising};
 ghost use Rattle.fresh_bucket.specs.Items.{IsItemRow, made, changed, gone};
+ghost use Rattle.fresh_bucket.specs.ItemRefs.{item_at, items_at};
 
+use crate::item_ref::ItemRef;
 use entry_map::Batch;
 use entry_table::{Kept, overlay};
-use ledger_types::{BucketEntry, LedgerEntry, LedgerKey};
+use ledger_types::{LedgerEntry, LedgerKey};
 use std::alloc::{AllocError, Global};
 
 /// Puts an item under a key at the end of a row.
-fn push(
+fn push<'a>(
     key: LedgerKey,
-    item: BucketEntry,
-    row: &mut Vec<Kept<BucketEntry>>,
+    item: ItemRef<'a>,
+    row: &mut Vec<Kept<ItemRef<'a>>>,
 ) -> Result<(), AllocError>
-    ensures { OnOk result (row.new.items ≡ row.old.items ++ (key, item) ∷ []) }
+    ensures { OnOk result (items_at row.new.items ≡ items_at row.old.items ++ (key, item_at item.entry) ∷ []) }
 {
     let kept = Kept::new(*row.allocator(), key, item)?;
     row.push(kept)?;
@@ -24,44 +26,53 @@ fn push(
 }
 
 /// Entries that were not there.
-fn made_row(alloc: Global, entries: &[LedgerEntry]) -> Result<Vec<Kept<BucketEntry>>, AllocError>
-    ensures { IfOk result (λ row. row.items ≡ map made entries.now) }
+fn made_row<'a>(
+    alloc: Global,
+    entries: &'a [LedgerEntry],
+) -> Result<Vec<Kept<ItemRef<'a>>>, AllocError>
+    ensures { IfOk result (λ row. items_at row.items ≡ map made entries.now) }
 {
     let mut row = Vec::with_capacity(alloc, entries.len())?;
     for entry in entries {
-        push(entry.key()?, BucketEntry::Init(entry.copy()?), &mut row)?;
+        push(entry.key()?, ItemRef::Init(entry), &mut row)?;
     }
     Ok(row)
 }
 
 /// Entries that are another than they were.
-fn changed_row(alloc: Global, entries: &[LedgerEntry]) -> Result<Vec<Kept<BucketEntry>>, AllocError>
-    ensures { IfOk result (λ row. row.items ≡ map changed entries.now) }
+fn changed_row<'a>(
+    alloc: Global,
+    entries: &'a [LedgerEntry],
+) -> Result<Vec<Kept<ItemRef<'a>>>, AllocError>
+    ensures { IfOk result (λ row. items_at row.items ≡ map changed entries.now) }
 {
     let mut row = Vec::with_capacity(alloc, entries.len())?;
     for entry in entries {
-        push(entry.key()?, BucketEntry::Live(entry.copy()?), &mut row)?;
+        push(entry.key()?, ItemRef::Live(entry), &mut row)?;
     }
     Ok(row)
 }
 
 /// Keys of entries that are gone.
-fn gone_row(alloc: Global, keys: &[LedgerKey]) -> Result<Vec<Kept<BucketEntry>>, AllocError>
-    ensures { IfOk result (λ row. row.items ≡ map gone keys.now) }
+fn gone_row<'a>(alloc: Global, keys: &'a [LedgerKey]) -> Result<Vec<Kept<ItemRef<'a>>>, AllocError>
+    ensures { IfOk result (λ row. items_at row.items ≡ map gone keys.now) }
 {
     let mut row = Vec::with_capacity(alloc, keys.len())?;
     for key in keys {
-        push(key.copy()?, BucketEntry::Dead(key.copy()?), &mut row)?;
+        push(key.copy()?, ItemRef::Dead(key), &mut row)?;
     }
     Ok(row)
 }
 
-/// The items that a batch tells, in the order of their keys.
-pub(crate) fn item_row(alloc: Global, batch: &Batch) -> Result<Vec<Kept<BucketEntry>>, AllocError>
+/// The items that a batch tells, in the order of their keys, where the batch has them.
+pub(crate) fn item_row<'a>(
+    alloc: Global,
+    batch: &'a Batch,
+) -> Result<Vec<Kept<ItemRef<'a>>>, AllocError>
     requires init { AreRising (map key_of batch.now.init) }
     requires live { AreRising (map key_of batch.now.live) }
     requires dead { AreRising batch.now.dead }
-    ensures { IfOk result (λ row. IsItemRow batch.now row.items) }
+    ensures { IfOk result (λ row. IsItemRow batch.now (items_at row.items)) }
 {
     let made = made_row(alloc, batch.init.as_slice())?;
     let changed = changed_row(alloc, batch.live.as_slice())?;

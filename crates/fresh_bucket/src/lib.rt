@@ -2,6 +2,7 @@
 #![tactic(auto)]
 
 mod fresh;
+mod item_ref;
 mod items;
 mod write;
 

@@ -1,6 +1,7 @@
 use Rattle.std.proofs.Common.{◌≡◌, take, map}
 use Rattle.fresh_bucket.specs.Items.{changed}
+use Rattle.fresh_bucket.specs.ItemRefs.{items_at}
 use Rattle.fresh_bucket.proofs.items.changed_row.Given as goal
 
 abbrev pub invariant-loop-entry : goal.invariant-loop-entry
-invariant-loop-entry l = l.row.items ≡ map changed (take l.entry-index l.entries)
+invariant-loop-entry l = items_at l.row.items ≡ map changed (take l.entry-index l.entries)

@@ -1,6 +1,7 @@
 use Rattle.std.proofs.Common.{◌≡◌, take, map}
 use Rattle.fresh_bucket.specs.Items.{gone}
+use Rattle.fresh_bucket.specs.ItemRefs.{items_at}
 use Rattle.fresh_bucket.proofs.items.gone_row.Given as goal
 
 abbrev pub invariant-loop-key : goal.invariant-loop-key
-invariant-loop-key l = l.row.items ≡ map gone (take l.key-index l.keys)
+invariant-loop-key l = items_at l.row.items ≡ map gone (take l.key-index l.keys)

@@ -1,10 +1,19 @@
-use Rattle.std.proofs.Common.{ap, ◌∙◌}
+use Rattle.std.proofs.Common.{◌≡◌, IfSome, ap, subst, ◌∙◌}
+use Rattle.ledger_types.specs.declared.ids.Hash.{Hash}
 use Rattle.bucket_core.specs.Bucket.{Contents}
 use Rattle.bucket_core.specs.File.{file_of}
 use Rattle.bucket_core.specs.Hash.{file_hash}
 use Rattle.bucket_core.proofs.bucket.Bucket.hash.Goals as goal
 
-pub returns : goal.returns
-returns c =
-    c.self.invariant.hashed ∙ ap file_hash c.self.invariant.file.is
+pub returns-in-Some : goal.returns-in-Some
+returns-in-Some c =
+    let kept : c.in-Some.hash ≡ file_hash c.self.inside.bytes.items =
+    subst (λ o. IfSome o (λ (h : Hash). h ≡ file_hash c.self.inside.bytes.items)) c.in-Some.is
+    c.self.invariant.hashed in
+    kept ∙ ap file_hash c.self.invariant.file.is
+    ∙ ap (λ (contents : Contents). file_hash (file_of contents)) c.self.view_is
+
+pub returns-in-None : goal.returns-in-None
+returns-in-None c =
+    c.hash_of_file.ensures ∙ ap file_hash c.as_slice.ensures.value ∙ ap file_hash c.self.invariant.file.is
     ∙ ap (λ (contents : Contents). file_hash (file_of contents)) c.self.view_is

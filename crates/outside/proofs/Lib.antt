@@ -1,1 +1,2 @@
 pub mod MemDisk
+pub mod Crashed

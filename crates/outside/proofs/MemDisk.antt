@@ -1,11 +1,11 @@
 -- A disk in memory, one call later.
 use Rattle.std.proofs.Common.{◌≡◌, ◌≢◌, ℕ, ◌+◌, ◌<◌, ◌≤◌, ◌==◌, if◌then◌else◌, List, [], ◌∷◌, ◌++◌, length, map, take, get_or, set, refl, sym, ◌∙◌, ap, subst, inl, inr, ◌⊎◌, arith, length-append, length-take, length-drop, max, min, drop, replicate, Bool, true, false, ◌-◌, get_or-set_other, get_or-set_same, Result, Ok, Err, OnOk, OnErr, IsTrue}
-use Rattle.std.proofs.lemmas.List.{map-set, length-map, length-replicate, take-append-le, take-take, take_all, drop_at, append-nil}
+use Rattle.std.proofs.lemmas.List.{map-set, length-map, length-replicate, take-append-le, take-take, take_all, drop_all, drop-take, drop_at, append-nil}
 use Rattle.std.proofs.lemmas.Bool.{cases_eq, cases_lt}
 use Rattle.std.proofs.lemmas.Bool.Decides.{nat_tests}
 use Rattle.std.specs.Global.{Vec}
 use Rattle.outside.specs.Disk.{Image, Disk, Runs, Same, Stays, InFile, Torn, Wrote, CutShort}
-use Rattle.outside.specs.MemDisk.{DiskState, Standing, items_of, image_of, written, with_file, after_call, after_calls, at_first, standing, now_standing, disk_of}
+use Rattle.outside.specs.MemDisk.{DiskState, Standing, items_of, image_of, written, with_file, fill_range, IsOfFile, AreOfFiles, after_call, after_calls, at_first, standing, now_standing, disk_of}
 use Rattle.outside.specs.declared.call.Call.{Call}
 use Rattle.outside.specs.declared.call.Call.TheVariants.{Write, Cut, Sync}
 
@@ -143,19 +143,19 @@ uncut file n c = record {
 -- ---- a write or a cut that was done is one that a crash may leave
 
 module _ (gap at : ℕ) (piece old : List ℕ) where
-  abbrev gaps : List ℕ
+  abbrev pub gaps : List ℕ
   gaps = replicate (at - length old) gap
 
-  abbrev behind : List ℕ
+  abbrev pub behind : List ℕ
   behind = drop (at + length piece) old
 
-  abbrev front : List ℕ
+  abbrev pub front : List ℕ
   front = (take at old ++ gaps) ++ piece
 
   length-front : length front ≡ at + length piece
   length-front = omega (arith, length-append (take at old ++ gaps) piece, length-append (take at old) gaps, length-take {A = ℕ}, length-replicate (at - length old) gap)
 
-  length-written : length (written gap at piece old) ≡ max (length old) (at + length piece)
+  pub length-written : length (written gap at piece old) ≡ max (length old) (at + length piece)
   length-written =
       omega (arith, length-append front behind, length-front, length-drop (at + length piece) old)
 
@@ -175,7 +175,7 @@ module _ (gap at : ℕ) (piece old : List ℕ) where
 torn_by : (at : ℕ) (piece old : List ℕ) → Torn at (length piece) old (written 0 at piece old)
 torn_by at piece old = torn_piece 0 at piece old
 
-cut_by : (size : ℕ) (old : List ℕ) → CutShort size old (take size old)
+pub cut_by : (size : ℕ) (old : List ℕ) → CutShort size old (take size old)
 cut_by size old = record {
   before = take-take (min size (length old)) size old (omega arith);
   no_shorter = omega (arith, length-take {A = ℕ});
@@ -236,3 +236,46 @@ written_within at piece same old is within =
     ap (λ (n : ℕ). take at old ++ replicate n 0 ++ piece ++ drop (at + length piece) old) none
     ∙ ap (λ (l : List ℕ). l ++ piece ++ drop (at + length piece) old) (append-nil (take at old))
     ∙ ap (λ (l : List ℕ). take at old ++ l ++ drop (at + length l) old) is
+
+-- ---- a crash that fills with one byte
+
+drop_taken : (k n : ℕ) (xs ys : List ℕ) → length ys ≤ n → drop k xs ≡ drop k ys → drop k (take n xs) ≡ drop k ys
+drop_taken k n xs ys short same = elim (cases_lt n k) [
+  | inl beyond ↦ drop_all k (take n xs) (omega (arith, length-take {A = ℕ})) ∙ sym (drop_all k ys (omega arith))
+  | inr within ↦
+      let parts : n ≡ k + (n - k) = omega arith in
+      ap (λ (m : ℕ). drop k (take m xs)) parts ∙ drop-take k (n - k) xs ∙ ap (λ (l : List ℕ). take (n - k) l) same
+      ∙ take_all (n - k) (drop k ys) (omega (arith, length-drop k ys))
+]
+
+-- a write that failed may have left any bytes in its range
+pub torn_within : (gap at : ℕ) (piece old : List ℕ) → Torn at (length piece) old (take (length old) (written gap at piece old))
+torn_within gap at piece old =
+    let torn = torn_piece gap at piece old in
+    let long : length (take (length old) (written gap at piece old)) ≡ length old = omega (arith, length-take {A = ℕ}, torn.no_shorter) in
+    record {
+      before = take-take (min at (length old)) (length old) (written gap at piece old) (omega arith) ∙ torn.before;
+      after = drop_taken (at + length piece) (length old) (written gap at piece old) old (omega arith) torn.after;
+      no_shorter = omega (arith, long);
+      no_longer = omega (arith, long);
+    }
+
+pub cut_within : (fill size : ℕ) (old : List ℕ) → CutShort size old (take (length old) (fill_range fill size (length old - size) old))
+cut_within fill size old =
+    let torn = torn_piece fill size (replicate (length old - size) fill) old in
+    let long : length (take (length old) (fill_range fill size (length old - size) old)) ≡ length old = omega (arith, length-take {A = ℕ}, torn.no_shorter) in
+    record {
+      before = take-take (min size (length old)) (length old) (fill_range fill size (length old - size) old) (omega arith) ∙ torn.before;
+      no_shorter = omega (arith, long);
+      no_longer = omega (arith, long);
+    }
+
+-- ---- the files of calls
+
+all_push : (calls : List Call) (call : Call) → AreOfFiles calls → IsOfFile call → AreOfFiles (calls ++ call ∷ [])
+all_push [] call all one = (one, tt)
+all_push (other ∷ calls) call all one = (all.0, all_push calls call all.1 one)
+
+pub of_files_push : (log : List Call) (call : Call) (after : List Call) → after ≡ log ++ call ∷ [] → AreOfFiles log → IsOfFile call
+    → AreOfFiles after
+of_files_push log call after is all one = subst (λ (l : List Call). AreOfFiles l) (sym is) (all_push log call all one)

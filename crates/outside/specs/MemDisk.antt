@@ -1,5 +1,5 @@
 -- A disk in memory, as the list of its calls: by it the disk tells what a crash might have left at each moment.
-use Rattle.std.specs.Prelude.{◌≡◌, ℕ, ◌+◌, ◌-◌, ◌≤◌, ◌==◌, Bool, true, false, if◌then◌else◌, List, [], ◌∷◌, ◌++◌, length, take, drop, map, slice_index_or, replicate}
+use Rattle.std.specs.Prelude.{◌≡◌, ℕ, ◌+◌, ◌-◌, ◌<◌, ◌≤◌, ◌==◌, Bool, true, false, if◌then◌else◌, List, [], ◌∷◌, ◌++◌, length, take, drop, map, slice_index_or, replicate}
 use Rattle.std.specs.Global.{Vec}
 use Rattle.outside.specs.Disk.{Image, Disk, InFile, Torn, CutShort}
 use Rattle.outside.specs.declared.call.Call.{Call}
@@ -43,6 +43,15 @@ after_call (Cut file size done) s = record {
 }
 after_call Sync s = record { reads = s.reads; may_leave = λ c. c ≡ s.reads }
 
+abbrev pub IsOfFile : Call → Type 0
+IsOfFile (Write file at piece done) = file < 4
+IsOfFile (Cut file size done) = file < 4
+IsOfFile Sync = Unit {0}
+
+abbrev pub AreOfFiles : List Call → Type 0
+AreOfFiles [] = Unit {0}
+AreOfFiles (call ∷ calls) = IsOfFile call × AreOfFiles calls
+
 -- ---- all calls
 
 abbrev pub after_calls : List Call → Standing → Standing
@@ -71,27 +80,38 @@ disk_of disk = record {
 
 -- ---- a crash that fills with one byte
 
--- what is read, and what the crash leaves
-pub record Filled : Type 0 where
-  pub reads : Image
-  pub left : Image
+-- a file as it is read, and as the crash leaves it
+pub record FileLeft : Type 0 where
+  pub reads : List ℕ
+  pub left : List ℕ
 
--- The crash leaves the present lengths, and the byte in all that was written or cut since the last sync.
-abbrev pub fill_call : (fill : ℕ) → Call → Filled → Filled
-fill_call fill (Write file at piece done) f = record {
-  reads = if done then with_file file (written 0 at piece.items) f.reads else f.reads;
-  left = with_file file (λ old. let next = written fill at (replicate (length piece.items) fill) old in
-      if done then next else take (length old) next) f.left;
-}
-fill_call fill (Cut file size done) f = record {
-  reads = if done then with_file file (take size) f.reads else f.reads;
-  left = with_file file (λ old. if done then take size old else written fill size (replicate (length old - size) fill) old) f.left;
-}
-fill_call fill Sync f = record { reads = f.reads; left = f.reads }
+-- n bytes of a file are filled from a place on
+abbrev pub fill_range : (fill at n : ℕ) → List ℕ → List ℕ
+fill_range fill at n old = written fill at (replicate n fill) old
 
-abbrev pub fill_calls : (fill : ℕ) → List Call → Filled → Filled
-fill_calls fill [] f = f
-fill_calls fill (call ∷ calls) f = fill_calls fill calls (fill_call fill call f)
+-- Filled is all that was written or cut since the last sync, and no file is longer or shorter than it is read.
+abbrev pub fill_write : (fill at : ℕ) (piece : List ℕ) (done : Bool) → FileLeft → FileLeft
+fill_write fill at piece true f =
+    record { reads = written 0 at piece f.reads; left = fill_range fill at (length piece) f.left }
+fill_write fill at piece false f =
+    record { reads = f.reads; left = take (length f.left) (fill_range fill at (length piece) f.left) }
+
+abbrev pub fill_cut : (fill size : ℕ) (done : Bool) → FileLeft → FileLeft
+fill_cut fill size true f = record { reads = take size f.reads; left = take size f.left }
+fill_cut fill size false f =
+    record { reads = f.reads; left = take (length f.left) (fill_range fill size (length f.left - size) f.left) }
+
+abbrev pub fill_call : (fill file : ℕ) → Call → FileLeft → FileLeft
+fill_call fill file (Write other at piece done) f = if file == other then fill_write fill at piece.items done f else f
+fill_call fill file (Cut other size done) f = if file == other then fill_cut fill size done f else f
+fill_call fill file Sync f = record { reads = f.reads; left = f.reads }
+
+abbrev pub fill_calls : (fill file : ℕ) → List Call → FileLeft → FileLeft
+fill_calls fill file [] f = f
+fill_calls fill file (call ∷ calls) f = fill_calls fill file calls (fill_call fill file call f)
+
+abbrev pub same_file : List ℕ → FileLeft
+same_file bytes = record { reads = bytes; left = bytes }
 
 abbrev pub filled : (fill : ℕ) → DiskState → Image
-filled fill disk = (fill_calls fill disk.log (record { reads = image_of disk.start; left = image_of disk.start })).left
+filled fill disk = λ k. (fill_calls fill k disk.log (same_file (image_of disk.start k))).left

@@ -1,9 +1,10 @@
 ghost use Rattle.std.specs.Prelude.{◌≡◌, ◌<◌, ◌≤◌, ◌≢◌, [], ◌∷◌, ◌++◌, ℕ, List, Bool, true, length, take, IfOk, OnOk, OnErr, IsTrue};
 ghost use Rattle.outside.specs.Disk.{Image, Runs, Same, InFile, Torn, Wrote, CutShort, IsSafe};
 ghost use Rattle.outside.specs.MemDisk as spec;
-ghost use Rattle.outside.specs.MemDisk.{image_of, items_of, written, with_file, disk_of, now_standing, after_call};
+ghost use Rattle.outside.specs.MemDisk.{image_of, items_of, written, with_file, disk_of, now_standing, after_call, filled};
 
 use crate::call::Call;
+use crate::file_left::file_left;
 use std::alloc::{AllocError, Global};
 use std::marker::Model;
 
@@ -17,14 +18,14 @@ pub(crate) struct MemDisk {
 
 impl Model for MemDisk {
     ghost use Rattle.std.specs.Prelude.{◌≡◌};
-    ghost use Rattle.outside.specs.MemDisk.{DiskState, items_of, image_of, now_standing};
+    ghost use Rattle.outside.specs.MemDisk.{DiskState, items_of, image_of, now_standing, AreOfFiles};
 
     ghost Value = { DiskState };
 
     ghost view = { λ d. record { start = items_of d.start; log = d.log.items } };
 
-    ghost invariant = { λ d. image_of (items_of d.files)
-        ≡ (now_standing (record { start = items_of d.start; log = d.log.items })).reads };
+    ghost invariant = { λ d. AreOfFiles d.log.items × (image_of (items_of d.files)
+        ≡ (now_standing (record { start = items_of d.start; log = d.log.items })).reads) };
 }
 
 // A file with a piece in it, and with the byte `gap` between where it ended and where the piece begins.
@@ -79,7 +80,8 @@ impl MemDisk {
 
     // Notes a call that changes nothing that is read.
     fn note(&mut self, call: Call) -> Result<(), AllocError>
-        requires { (after_call call (now_standing self.old)).reads ≡ (now_standing self.old).reads }
+        requires file { spec.IsOfFile call }
+        requires reads { (after_call call (now_standing self.old)).reads ≡ (now_standing self.old).reads }
         ensures noted { OnOk result (self.new ≡ record self.old { log = self.old.log ++ call ∷ [] }) }
         ensures refused { OnErr result (self.new ≡ self.old) }
     {
@@ -90,6 +92,7 @@ impl MemDisk {
     // Notes a call that puts these bytes in the place of a file.
     fn put(&mut self, call: Call, file: u8, next: Vec<u8>) -> Result<(), AllocError>
         requires file { file < 4 }
+        requires call { spec.IsOfFile call }
         requires reads { (after_call call (now_standing self.old)).reads
             ≡ with_file file (λ _. next.items) (now_standing self.old).reads }
         ensures noted { OnOk result (self.new ≡ record self.old { log = self.old.log ++ call ∷ [] }) }
@@ -161,4 +164,45 @@ impl MemDisk {
     {
         self.note(Call::Sync)
     }
+
+    // A file in one content that a crash may leave: it is as long as it is read, and has the byte `fill` in the place of
+    // each that was written or cut since the last sync.
+    fn file_left(&self, alloc: Global, fill: u8, file: u8) -> Result<Vec<u8>, AllocError>
+        requires { file < 4 }
+        ensures left { IfOk result (λ left. left.items ≡ filled fill self.now file) }
+        ensures files { length self.now.start ≡ 4 }
+    {
+        file_left(alloc, fill, file, &self.start[usize::from(file)], &self.log)
+    }
+
+    // That content, as a disk with nothing pending.
+    pub(crate) fn crashed(&self, alloc: Global, fill: u8) -> Result<MemDisk, AllocError>
+        ensures log { IfOk result (λ disk. disk.log ≡ []) }
+        ensures reads { IfOk result (λ disk. (disk_of disk).reads ≡ filled fill self.now) }
+    {
+        let start = [
+            self.file_left(alloc, fill, 0)?,
+            self.file_left(alloc, fill, 1)?,
+            self.file_left(alloc, fill, 2)?,
+            self.file_left(alloc, fill, 3)?,
+        ];
+        let files = copy_files(alloc, &start)?;
+        let _ = &self.log;
+        Ok(MemDisk {
+            start,
+            files,
+            log: Vec::new(alloc),
+        })
+    }
+}
+
+fn copy_files(alloc: Global, files: &[Vec<u8>; 4]) -> Result<[Vec<u8>; 4], AllocError>
+    ensures { IfOk result (λ copies. items_of copies ≡ items_of files.now) }
+{
+    Ok([
+        Vec::from_slice(alloc, &files[0])?,
+        Vec::from_slice(alloc, &files[1])?,
+        Vec::from_slice(alloc, &files[2])?,
+        Vec::from_slice(alloc, &files[3])?,
+    ])
 }

@@ -7,7 +7,8 @@ use Rattle.outside.specs.Disk.{Image, InFile, Torn, CutShort}
 use Rattle.outside.specs.MemDisk.{DiskState, Standing, FileLeft, image_of, written, with_file, fill_range, fill_write, fill_cut, fill_call, fill_calls, filled, same_file, AreOfFiles, after_call, after_calls, at_first, now_standing}
 use Rattle.outside.specs.declared.call.Call.{Call}
 use Rattle.outside.specs.declared.call.Call.TheVariants.{Write, Cut, Sync}
-use Rattle.outside.proofs.MemDisk.{torn_piece, torn_within, cut_by, cut_within, length-written}
+use Rattle.outside.specs.MemLaws.{torn_piece, cut_by, length-written}
+use Rattle.outside.proofs.MemDisk.{torn_within, cut_within}
 
 -- the files as they are read and as the crash leaves them are those of what stands
 record Follows (s : Standing) (f : ℕ → FileLeft) : Type 0 where

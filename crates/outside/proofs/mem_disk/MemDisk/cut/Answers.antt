@@ -2,7 +2,8 @@ use Rattle.std.proofs.Common.{◌≡◌, take, false, refl, ◌∙◌}
 use Rattle.outside.specs.Disk.{InFile, CutShort}
 use Rattle.outside.specs.MemDisk.{now_standing}
 use Rattle.outside.specs.declared.call.Call.TheVariants.{Cut}
-use Rattle.outside.proofs.MemDisk.{either, on_ok, pushed, reads_pushed, unmoved, uncut, changed, if_done}
+use Rattle.outside.proofs.MemDisk.{either, on_ok, pushed, reads_pushed, unmoved, if_done}
+use Rattle.outside.specs.MemLaws.{uncut, changed}
 use Rattle.outside.proofs.mem_disk.MemDisk.cut.Goals as goal
 
 pub returns-then-not-done-clause-runs : goal.returns-then-not-done-clause-runs

@@ -2,7 +2,8 @@ use Rattle.std.proofs.Common.{◌≡◌, refl, sym, ◌∙◌, ap}
 use Rattle.outside.specs.Disk.{Image, Same, IsSafe}
 use Rattle.outside.specs.MemDisk.{Standing, DiskState, disk_of, now_standing, after_call}
 use Rattle.outside.specs.declared.call.Call.TheVariants.{Sync}
-use Rattle.outside.proofs.MemDisk.{either, on_ok, pushed, reads_pushed, unmoved, reads_now, may_pushed}
+use Rattle.outside.specs.MemLaws.{reads_now}
+use Rattle.outside.proofs.MemDisk.{either, on_ok, pushed, reads_pushed, unmoved, may_pushed}
 use Rattle.outside.proofs.mem_disk.MemDisk.sync.Goals as goal
 
 pub returns-clause-safe : goal.returns-clause-safe

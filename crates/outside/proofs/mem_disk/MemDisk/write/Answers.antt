@@ -2,7 +2,8 @@ use Rattle.std.proofs.Common.{◌≡◌, ℕ, ◌-◌, List, ◌++◌, length, t
 use Rattle.outside.specs.Disk.{Image, InFile, Torn, Wrote}
 use Rattle.outside.specs.MemDisk.{now_standing, written}
 use Rattle.outside.specs.declared.call.Call.TheVariants.{Write}
-use Rattle.outside.proofs.MemDisk.{either, on_ok, pushed, reads_pushed, unmoved, untorn, changed, if_done, written_within}
+use Rattle.outside.proofs.MemDisk.{either, on_ok, pushed, reads_pushed, unmoved, if_done, written_within}
+use Rattle.outside.specs.MemLaws.{untorn, changed}
 use Rattle.outside.proofs.mem_disk.MemDisk.write.Goals as goal
 
 pub returns-then-not-done-clause-runs : goal.returns-then-not-done-clause-runs

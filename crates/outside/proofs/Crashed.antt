@@ -1,8 +1,7 @@
 -- A disk in memory after a crash that fills what is pending with one byte.
-use Rattle.std.proofs.Common.{◌≡◌, ◌≢◌, ℕ, ◌-◌, ◌<◌, ◌≤◌, ◌==◌, if◌then◌else◌, min, max, List, [], ◌∷◌, length, take, replicate, Bool, true, false, zero, suc, refl, sym, ◌∙◌, ap, subst, arith, length-append, length-take, length-drop}
+use Rattle.std.proofs.Common.{◌≡◌, ◌≢◌, ℕ, ◌-◌, ◌≤◌, ◌==◌, if◌then◌else◌, List, [], ◌∷◌, length, take, replicate, Bool, true, false, zero, suc, refl, sym, ◌∙◌, ap, subst, arith, length-take}
 use Rattle.std.proofs.lemmas.List.{length-replicate, get_or_past}
 use Rattle.std.proofs.lemmas.Bool.{eq-eqb, ne_eqb}
-use Rattle.std.specs.Global.{Vec}
 use Rattle.outside.specs.Disk.{Image, InFile, Torn, CutShort}
 use Rattle.outside.specs.MemDisk.{DiskState, Standing, FileLeft, image_of, written, with_file, fill_range, fill_write, fill_cut, fill_call, fill_calls, filled, same_file, AreOfFiles, after_call, after_calls, at_first, now_standing}
 use Rattle.outside.specs.declared.call.Call.{Call}
@@ -63,10 +62,10 @@ same_if false bytes = refl
 long_filled : (fill at : ℕ) (piece : List ℕ) (x : FileLeft) → length x.left ≡ length x.reads
     → length (fill_range fill at (length piece) x.left) ≡ length (written 0 at piece x.reads)
 long_filled fill at piece x same = omega (
-    arith,
-    length-written fill at (replicate (length piece) fill) x.left,
-    length-written 0 at piece x.reads,
-    length-replicate (length piece) fill,
+  arith,
+  length-written fill at (replicate (length piece) fill) x.left,
+  length-written 0 at piece x.reads,
+  length-replicate (length piece) fill,
 )
 
 -- a range may be left with the same byte throughout

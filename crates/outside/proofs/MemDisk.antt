@@ -1,14 +1,13 @@
 -- A disk in memory, one call later.
-use Rattle.std.proofs.Common.{◌≡◌, ◌≢◌, ℕ, ◌+◌, ◌<◌, ◌≤◌, ◌==◌, if◌then◌else◌, List, [], ◌∷◌, ◌++◌, length, map, take, get_or, set, refl, sym, ◌∙◌, ap, subst, inl, inr, ◌⊎◌, arith, length-append, length-take, length-drop, max, min, drop, replicate, Bool, true, false, ◌-◌, get_or-set_other, get_or-set_same, Result, Ok, Err, OnOk, OnErr, IsTrue}
-use Rattle.std.proofs.lemmas.List.{map-set, length-map, length-replicate, take-append-le, take-take, take_all, drop_all, drop-take, drop_at, append-nil}
+use Rattle.std.proofs.Common.{◌≡◌, ℕ, ◌+◌, ◌<◌, ◌≤◌, ◌==◌, if◌then◌else◌, List, [], ◌∷◌, ◌++◌, length, take, get_or, set, refl, sym, ◌∙◌, ap, subst, inl, inr, ◌⊎◌, arith, length-append, length-take, length-drop, min, drop, replicate, Bool, true, false, ◌-◌, get_or-set_other, get_or-set_same, Result, Ok, Err, OnOk, OnErr, IsTrue}
+use Rattle.std.proofs.lemmas.List.{map-set, length-map, take-append-le, take-take, take_all, drop_all, drop-take, append-nil}
 use Rattle.std.proofs.lemmas.Bool.{cases_eq, cases_lt}
 use Rattle.std.proofs.lemmas.Bool.Decides.{nat_tests}
 use Rattle.std.specs.Global.{Vec}
-use Rattle.outside.specs.Disk.{Image, Disk, Runs, Same, Stays, InFile, Torn, Wrote, CutShort}
+use Rattle.outside.specs.Disk.{Image, Runs, Same, Stays, Torn, Wrote, CutShort}
 use Rattle.outside.specs.MemDisk.{DiskState, Standing, items_of, image_of, written, with_file, fill_range, IsOfFile, AreOfFiles, after_call, after_calls, at_first, standing, now_standing, disk_of}
-use Rattle.outside.specs.MemLaws.{changed, untorn, uncut, torn_piece, torn_by, cut_by, length-written, reads_now}
+use Rattle.outside.specs.MemLaws.{torn_piece}
 use Rattle.outside.specs.declared.call.Call.{Call}
-use Rattle.outside.specs.declared.call.Call.TheVariants.{Write, Cut, Sync}
 
 -- ---- one call more
 
@@ -49,7 +48,7 @@ pub image_set : (files : List (Vec ℕ)) (k : ℕ) (next : Vec ℕ) → k < leng
 image_set files k next within =
     let room : k < length (items_of files) = omega (arith, length-map files (λ (file : Vec ℕ). file.items)) in
     let point = λ (j : ℕ). ap (λ (l : List (List ℕ)). get_or l j []) (map-set (λ (file : Vec ℕ). file.items) files k next)
-        ∙ set_at (items_of files) k next.items room j in
+    ∙ set_at (items_of files) k next.items room j in
     λ i j. point j i
 
 -- ---- moments
@@ -194,4 +193,3 @@ all_push (other ∷ calls) call all one = (all.0, all_push calls call all.1 one)
 pub of_files_push : (log : List Call) (call : Call) (after : List Call) → after ≡ log ++ call ∷ [] → AreOfFiles log → IsOfFile call
     → AreOfFiles after
 of_files_push log call after is all one = subst (λ (l : List Call). AreOfFiles l) (sym is) (all_push log call all one)
-

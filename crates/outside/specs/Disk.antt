@@ -1,6 +1,6 @@
 -- A volume as a disk that may lose power: what it reads, and what a crash may leave of it. Between two syncs a crash may
 -- leave any bytes in what was written or cut since, and any length between the least and the greatest since.
-use Rattle.std.specs.Prelude.{◌≡◌, ◌≢◌, ℕ, ◌+◌, ◌≤◌, min, max, List, ◌++◌, length, take, drop, ◌⊎◌}
+use Rattle.std.specs.Prelude.{◌≡◌, ◌≢◌, ℕ, ◌+◌, ◌≤◌, min, max, List, [], ◌++◌, length, take, drop, ◌⊎◌}
 
 -- the bytes of each file, by its number
 abbrev pub Image : Type 0
@@ -60,3 +60,7 @@ pub record CutShort (n : ℕ) (d c : List ℕ) : Type 0 where
   pub before : take (min n (length d)) c ≡ take (min n (length d)) d
   pub no_shorter : min n (length d) ≤ length c
   pub no_longer : length c ≤ length d
+
+-- of a volume that tells nothing
+abbrev pub untold : Disk
+untold = record { reads = λ _. []; may_leave = λ _. ⊥; moment = 0; left_since = λ _ _. ⊥ }

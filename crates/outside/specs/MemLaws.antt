@@ -1,12 +1,10 @@
 -- The laws of a disk in memory: what a write or a cut leaves is one of the contents that a crash may leave of it, so what is
 -- read is always among them, and the clock counts this moment.
-use Rattle.std.proofs.Common.{◌≡◌, ◌≢◌, ℕ, ◌+◌, ◌<◌, ◌≤◌, ◌==◌, if◌then◌else◌, List, [], ◌∷◌, ◌++◌, length, map, take, get_or, set, refl, sym, ◌∙◌, ap, subst, inl, inr, ◌⊎◌, arith, length-append, length-take, length-drop, max, min, drop, replicate, Bool, true, false, ◌-◌, get_or-set_other, get_or-set_same, Result, Ok, Err, OnOk, OnErr, IsTrue}
-use Rattle.std.proofs.lemmas.List.{map-set, length-map, length-replicate, take-append-le, take-take, take_all, drop_all, drop-take, drop_at, append-nil}
-use Rattle.std.proofs.lemmas.Bool.{cases_eq, cases_lt}
+use Rattle.std.proofs.Common.{◌≡◌, ◌≢◌, ℕ, ◌+◌, ◌≤◌, List, [], ◌∷◌, ◌++◌, length, take, refl, sym, ◌∙◌, ap, subst, arith, length-append, length-take, length-drop, max, min, drop, replicate, true, false, ◌-◌}
+use Rattle.std.proofs.lemmas.List.{length-replicate, take-append-le, take-take, take_all, drop_at}
 use Rattle.std.proofs.lemmas.Bool.Decides.{nat_tests}
-use Rattle.std.specs.Global.{Vec}
-use Rattle.outside.specs.Disk.{Image, Disk, Runs, Same, Stays, InFile, Torn, Wrote, CutShort}
-use Rattle.outside.specs.MemDisk.{DiskState, Standing, items_of, image_of, written, with_file, fill_range, IsOfFile, AreOfFiles, after_call, after_calls, at_first, standing, now_standing, disk_of}
+use Rattle.outside.specs.Disk.{Image, InFile, Torn, CutShort}
+use Rattle.outside.specs.MemDisk.{DiskState, Standing, written, with_file, after_call, after_calls, at_first, now_standing, disk_of}
 use Rattle.outside.specs.declared.call.Call.{Call}
 use Rattle.outside.specs.declared.call.Call.TheVariants.{Write, Cut, Sync}
 

@@ -9,7 +9,11 @@ pub(crate) enum Call {
         done: bool,
     },
     /// A file was to be cut, and was, or the call failed.
-    Cut { file: u8, size: u64, done: bool },
+    Cut {
+        file: u8,
+        size: u64,
+        done: bool,
+    },
     /// What stood in the files was kept.
     Sync,
 }

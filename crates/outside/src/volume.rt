@@ -70,3 +70,19 @@ pub trait Volume {
     // Since this moment there is no other.
     ghost only_now: { (v : Self) (c : Image) → (disk v).left_since (disk v).moment c → (disk v).may_leave c };
 }
+
+/// Writes a piece from `at` on, and syncs.
+pub fn write_and_sync<V: Volume>(vol: &mut V, file: u8, at: u64, piece: &[u8]) -> Result<(), Failed>
+    requires { file < 4 }
+    ensures written { V.tells → at ≤ length ((V.disk vol.old).reads file)
+        → OnOk result (InFile file (Wrote at piece.now) (V.disk vol.old).reads (V.disk vol.new).reads) }
+    ensures safe { OnOk result (IsSafe (V.disk vol.new)) }
+    ensures runs { Runs (InFile file (Torn at (length piece.now))) (V.disk vol.old) (V.disk vol.new) }
+    ensures too_far { 2 ^ 64 ≤ at + length piece.now → IsErr result }
+    ensures cause { HasCause (V.faults vol.old) (V.faults vol.new) result }
+{
+    match vol.write_at(file, at, piece) {
+        Err(failed) => Err(failed),
+        Ok(()) => vol.sync(),
+    }
+}

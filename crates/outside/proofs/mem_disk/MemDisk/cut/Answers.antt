@@ -1,4 +1,4 @@
-use Rattle.std.proofs.Common.{◌≡◌, take, false, refl, ◌∙◌}
+use Rattle.std.proofs.Common.{◌≡◌, take, refl, ◌∙◌}
 use Rattle.outside.specs.Disk.{InFile, CutShort}
 use Rattle.outside.specs.MemDisk.{now_standing}
 use Rattle.outside.specs.declared.call.Call.TheVariants.{Cut}

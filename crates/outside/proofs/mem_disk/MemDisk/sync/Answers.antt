@@ -1,6 +1,6 @@
-use Rattle.std.proofs.Common.{◌≡◌, refl, sym, ◌∙◌, ap}
-use Rattle.outside.specs.Disk.{Image, Same, IsSafe}
-use Rattle.outside.specs.MemDisk.{Standing, DiskState, disk_of, now_standing, after_call}
+use Rattle.std.proofs.Common.{refl, sym, ◌∙◌, ap}
+use Rattle.outside.specs.Disk.{Same}
+use Rattle.outside.specs.MemDisk.{DiskState, now_standing}
 use Rattle.outside.specs.declared.call.Call.TheVariants.{Sync}
 use Rattle.outside.specs.MemLaws.{reads_now}
 use Rattle.outside.proofs.MemDisk.{either, on_ok, pushed, reads_pushed, unmoved, may_pushed}

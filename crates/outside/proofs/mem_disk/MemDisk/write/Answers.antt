@@ -1,5 +1,5 @@
-use Rattle.std.proofs.Common.{◌≡◌, ℕ, ◌-◌, List, ◌++◌, length, take, drop, replicate, sym, ◌∙◌, ap, subst}
-use Rattle.outside.specs.Disk.{Image, InFile, Torn, Wrote}
+use Rattle.std.proofs.Common.{◌≡◌, ℕ, length, ◌∙◌, ap, subst}
+use Rattle.outside.specs.Disk.{InFile, Torn, Wrote}
 use Rattle.outside.specs.MemDisk.{now_standing, written}
 use Rattle.outside.specs.declared.call.Call.TheVariants.{Write}
 use Rattle.outside.proofs.MemDisk.{either, on_ok, pushed, reads_pushed, unmoved, if_done, written_within}
@@ -14,7 +14,7 @@ returns-then-not-done-clause-runs c =
     let long : length piece.items ≡ length c.args.piece.now = ap length c.in_ok-from_slice.ensures.items in
     either c.note.result c.note.ensures.noted c.note.ensures.refused
     (λ is. pushed (step (length c.args.piece.now)) old (Write c.args.file c.args.at piece c.args.done) c.note.new.self is
-        (λ image may. (may.0, may.1, subst (λ (n : ℕ). step n may.0 image) long may.2)))
+    (λ image may. (may.0, may.1, subst (λ (n : ℕ). step n may.0 image) long may.2)))
     (λ is. unmoved (step (length c.args.piece.now)) old c.note.new.self is (untorn c.args.file c.args.at (length c.args.piece.now)))
 
 pub returns-clause-written : goal.returns-clause-written
@@ -34,5 +34,5 @@ returns-clause-runs c =
     let long : length piece.items ≡ length c.args.piece.now = ap length c.in_ok-from_slice.ensures.items in
     either c.put.result c.put.ensures.noted c.put.ensures.refused
     (λ is. pushed (step (length c.args.piece.now)) old (Write c.args.file c.args.at piece c.args.done) c.put.new.self is
-        (λ image may. (may.0, may.1, subst (λ (n : ℕ). step n may.0 image) long may.2)))
+    (λ image may. (may.0, may.1, subst (λ (n : ℕ). step n may.0 image) long may.2)))
     (λ is. unmoved (step (length c.args.piece.now)) old c.put.new.self is (untorn c.args.file c.args.at (length c.args.piece.now)))

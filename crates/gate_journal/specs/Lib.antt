@@ -1,0 +1,3 @@
+pub mod Records
+pub mod Calls
+pub mod Reading

@@ -1,3 +1,6 @@
 pub mod Staying
 pub mod Pieces
 pub mod Blocks
+pub mod Records
+pub mod Crash
+pub mod Moments

@@ -12,16 +12,24 @@ pub record JournalState : Type 0 where
   pub end : ℕ
   pub failed : Bool
 
--- the journal stands for these records, whatever a crash leaves of its file
+-- A file stands for these records, whatever a crash leaves of it, and the gate behind them is at this place.
+pub record Stands (disk : Disk) (file end : ℕ) (records : List (List ℕ)) : Type 0 where
+  pub kept : (c : Image) → disk.may_leave c → c file ≡ disk.reads file
+  pub holds : HasRecords (disk.reads file) records
+  pub place : end ≡ length (blocks records)
+
+-- the journal stands for these records
 pub record IsSettled (journal : JournalState) (disk : Disk) (records : List (List ℕ)) : Type 0 where
-  pub kept : (c : Image) → disk.may_leave c → c journal.file ≡ disk.reads journal.file
-  pub holds : HasRecords (disk.reads journal.file) records
-  pub end : journal.end ≡ length (blocks records)
+  pub stands : Stands disk journal.file journal.end records
   pub working : journal.failed ≡ false
 
 -- the records before, or those and the new one
 abbrev pub HasEither : (records : List (List ℕ)) (bytes : List ℕ) (file : List ℕ) → Type 0
 HasEither records bytes file = HasRecords file records ⊎ HasRecords file (records ++ bytes ∷ [])
+
+-- nothing is said
+abbrev pub Anything : List ℕ → List ℕ → Type 0
+Anything old new = Unit {0}
 
 -- why `clear` fails
 abbrev pub IsClearFault : (before now : ℕ) → StoreFault → Type 0

@@ -1,7 +1,7 @@
 -- What is read of one record.
 use Rattle.std.specs.Prelude.{◌≡◌, ℕ, ◌+◌, ◌≤◌, List, [], ◌∷◌, ◌++◌, length, drop, Bool, true, false, Result, Ok, Err, Option, Some, None}
 use Rattle.byteorder.specs.Endian.{big_bytes}
-use Rattle.gate_journal.specs.Records.{max_record, block, IsShut, IsBroken}
+use Rattle.gate_journal.specs.Records.{max_record, block, blocks, IsShut, IsBroken, HasRecords, HasNoRecords}
 use Rattle.gate_journal.specs.Calls.{IsMountFault}
 use Rattle.gate_journal.specs.declared.fault.StoreFault.{StoreFault}
 use Rattle.gate_journal.specs.declared.fault.StoreFault.TheVariants as fault
@@ -41,3 +41,9 @@ abbrev pub TellsRecord : (file place : ℕ) (rest : List ℕ) → Result (Option
 TellsRecord file place rest (Ok None) = IsShut rest
 TellsRecord file place rest (Ok (Some bytes)) = (length bytes ≤ max_record) × (rest ≡ block bytes ++ drop (5 + length bytes) rest)
 TellsRecord file place rest (Err wrong) = TellsBroken file place rest wrong
+
+-- of all records, up to the gate behind them
+abbrev pub TellsRecords : (file : ℕ) (bytes : List ℕ) → Result (List (List ℕ) × ℕ) StoreFault → Type 0
+TellsRecords file bytes (Ok found) = HasRecords bytes found.0 × (found.1 ≡ length (blocks found.0))
+TellsRecords file bytes (Err (fault.BadStore bad place)) = (bad ≡ file) × HasNoRecords bytes place
+TellsRecords file bytes (Err other) = Unit {0}

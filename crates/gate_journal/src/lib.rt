@@ -4,9 +4,9 @@
 
 mod append_buf;
 mod fault;
-//mod journal;
+mod journal;
 mod reading;
 
 pub use append_buf::AppendBuf;
 pub use fault::StoreFault;
-//pub use journal::Journal;
+pub use journal::Journal;

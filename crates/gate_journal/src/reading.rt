@@ -4,7 +4,7 @@ ghost use Rattle.std.specs.Prelude.{◌≡◌, ◌≤◌, ◌<◌, ◌+◌, ◌^
 ghost use Rattle.byteorder.specs.Endian.{big_number, big_bytes};
 ghost use Rattle.outside.specs.Streams.{HasCause};
 ghost use Rattle.outside.specs.Disk.{Stays};
-ghost use Rattle.gate_journal.specs.Reading.{TellsNothing, TellsGate, TellsLength, TellsRecord, IsOpen, HasReadCause};
+ghost use Rattle.gate_journal.specs.Reading.{TellsNothing, TellsGate, TellsLength, TellsRecord, TellsRecords, IsOpen, HasReadCause};
 
 use crate::fault::StoreFault;
 use byteorder::{BigEndian, ByteOrder};
@@ -125,7 +125,7 @@ fn record_length<V: Volume>(vol: &mut V, file: u8, at: u64, size: u64) -> Result
 }
 
 // The record behind the gate at a place, or none where the gate isn't open.
-pub(crate) fn next_record<V: Volume>(
+fn next_record<V: Volume>(
     alloc: Global,
     vol: &mut V,
     file: u8,
@@ -135,7 +135,7 @@ pub(crate) fn next_record<V: Volume>(
     requires file { file < 4 }
     requires size { V.tells → size ≡ length ((V.disk vol.old).reads file) }
     ensures told { V.tells → TellsRecord file at (drop at ((V.disk vol.old).reads file)) result }
-    ensures within { IfOk result (λ found. IfSome found (λ bytes. at + 5 + length bytes ≤ size)) }
+    ensures within { IfOk result (λ found. (at < size) × IfSome found (λ bytes. at + 5 + length bytes ≤ size)) }
     ensures stays { Stays (V.disk vol.old) (V.disk vol.new) }
     ensures cause { HasReadCause (V.faults vol.old) (V.faults vol.new) result }
 {
@@ -151,5 +151,35 @@ pub(crate) fn next_record<V: Volume>(
     match read_bytes(alloc, vol, file, at + 5, count as usize) {
         Err(fault) => Err(fault),
         Ok(bytes) => Ok(Some(ItemList::from_vec(bytes))),
+    }
+}
+
+// The records of a file, and the place of the gate behind them.
+pub(crate) fn read_records<V: Volume>(
+    alloc: Global,
+    vol: &mut V,
+    file: u8,
+    size: u64,
+) -> Result<(ItemList<ItemList<u8>>, u64), StoreFault>
+    requires file { file < 4 }
+    requires size { V.tells → size ≡ length ((V.disk vol.old).reads file) }
+    ensures told { V.tells → TellsRecords file ((V.disk vol.old).reads file) result }
+    ensures within { IfOk result (λ found. found.1 < size) }
+    ensures stays { Stays (V.disk vol.old) (V.disk vol.new) }
+    ensures cause { HasReadCause (V.faults vol.old) (V.faults vol.new) result }
+{
+    let mut records = ItemList::new(alloc);
+    let mut end = 0;
+    loop {
+        let record = match next_record(alloc, vol, file, end, size) {
+            Err(fault) => return Err(fault),
+            Ok(None) => return Ok((records, end)),
+            Ok(Some(record)) => record,
+        };
+        end += 5 + record.len() as u64;
+        match records.push(record) {
+            Err(_) => return Err(StoreFault::NoMemory),
+            Ok(()) => {}
+        }
     }
 }

@@ -1,6 +1,6 @@
 -- Reading one block.
-use Rattle.std.proofs.Common.{◌≡◌, ℕ, ◌+◌, ◌<◌, ◌≤◌, List, [], ◌∷◌, ◌++◌, length, take, drop, get_or, refl, sym, ◌∙◌, ap, subst, arith, length-append, take-append-drop}
-use Rattle.std.proofs.lemmas.List.{drop-drop, take_all}
+use Rattle.std.proofs.Common.{◌≡◌, ℕ, ◌+◌, ◌<◌, ◌≤◌, List, [], ◌∷◌, ◌++◌, length, take, drop, get_or, sym, ◌∙◌, ap, subst, arith, length-append, take-append-drop}
+use Rattle.std.proofs.lemmas.List.{drop-drop}
 use Rattle.std.proofs.lemmas.Nat.{be_bytes_4}
 use Rattle.std.specs.Int.{w32, from_be_bytes}
 use Rattle.byteorder.specs.Endian.{big_number, big_bytes}

@@ -1,13 +1,12 @@
 -- What a crash leaves of a journal in each of the two writes of an append.
-use Rattle.std.proofs.Common.{◌≡◌, ◌≢◌, ℕ, ◌+◌, ◌<◌, ◌≤◌, min, List, [], ◌∷◌, ◌++◌, length, get_or, take, drop, refl, sym, ◌∙◌, ap, subst, inl, inr, ◌⊎◌, arith, append_assoc, length-append, take-append-drop}
+use Rattle.std.proofs.Common.{◌≡◌, ℕ, ◌+◌, ◌≤◌, min, List, [], ◌∷◌, ◌++◌, length, get_or, take, drop, refl, sym, ◌∙◌, ap, subst, inl, inr, arith, append_assoc, length-append, take-append-drop}
 use Rattle.std.proofs.lemmas.List.{take_at, drop_at, drop_more}
 use Rattle.std.proofs.lemmas.List.Elements.{All-push}
 use Rattle.std.proofs.lemmas.Bool.{cases_eq}
 use Rattle.byteorder.specs.Endian.{big_bytes}
-use Rattle.outside.specs.Disk.{Image, Disk, Runs, Same, InFile, Torn, Wrote, IsSafe}
-use Rattle.outside.proofs.Running.{onward}
+use Rattle.outside.specs.Disk.{Torn, Wrote}
 use Rattle.gate_journal.specs.Records.{max_record, block, blocks, StandFirst, IsShut, HasRecords, framed, Appended}
-use Rattle.gate_journal.specs.Calls.{Stands, HasEither}
+use Rattle.gate_journal.specs.Calls.{HasEither}
 use Rattle.gate_journal.proofs.Records.{blocks_push}
 
 -- ---- one gate, and what stands behind it
@@ -36,7 +35,7 @@ torn_at records end n file c (gate ∷ rest) place first shut torn =
     = same ∙ ap (λ (l : List ℕ). take (end + 1) l) first.cut ∙ front_to (blocks records) rest gate end place in
     let whole : c ≡ blocks records ++ gate ∷ drop (end + 1) c
     = sym (take-append-drop (end + 1) c) ∙ ap (λ (l : List ℕ). l ++ drop (end + 1) c) front
-        ∙ append_assoc (blocks records) (gate ∷ []) (drop (end + 1) c) in
+    ∙ append_assoc (blocks records) (gate ∷ []) (drop (end + 1) c) in
     (gate ∷ drop (end + 1) c, record { cut = whole; short = first.short }, shut)
 
 -- the closed gate stands whatever the write leaves

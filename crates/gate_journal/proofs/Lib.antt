@@ -4,3 +4,4 @@ pub mod Blocks
 pub mod Records
 pub mod Crash
 pub mod Moments
+pub mod Settled

@@ -1,10 +1,10 @@
 -- What a crash leaves at each moment of an append.
-use Rattle.std.proofs.Common.{◌≡◌, ◌≢◌, ℕ, ◌+◌, ◌≤◌, List, [], ◌∷◌, ◌++◌, length, drop, refl, sym, ◌∙◌, ap, subst, inl, inr, ◌⊎◌, arith, length-append, Result, Ok, Err, OnOk}
+use Rattle.std.proofs.Common.{◌≡◌, ℕ, ◌+◌, ◌≤◌, List, [], ◌∷◌, ◌++◌, length, drop, ◌∙◌, ap, subst, inl, inr, ◌⊎◌, arith, length-append, Result, Ok, Err, OnOk}
 use Rattle.outside.specs.Disk.{Image, Disk, Runs, InFile, Torn, Wrote, IsSafe}
 use Rattle.outside.proofs.Running.{onward}
 use Rattle.gate_journal.specs.Records.{max_record, blocks, IsShut, StandFirst, HasRecords, framed, Appended}
 use Rattle.gate_journal.specs.Calls.{Stands, HasEither}
-use Rattle.gate_journal.proofs.Crash.{torn_behind, Staged, staged, torn_gate, one_more, appended}
+use Rattle.gate_journal.proofs.Crash.{torn_behind, Staged, staged, torn_gate, appended}
 
 -- a step is also a wider one, from what a crash may leave
 widen_since : {step wider : Image → Image → Type 0} (old new : Disk) (c : Image) (t : ℕ)

@@ -1,13 +1,12 @@
 -- The records at the front of a file, one more at a time.
-use Rattle.std.proofs.Common.{◌≡◌, ◌≢◌, ℕ, ◌+◌, ◌≤◌, List, [], ◌∷◌, ◌++◌, length, drop, refl, sym, ◌∙◌, ap, arith, append_assoc, length-append, All, Result, Ok, Err}
+use Rattle.std.proofs.Common.{◌≡◌, ℕ, ◌+◌, ◌≤◌, List, [], ◌∷◌, ◌++◌, length, drop, refl, sym, ◌∙◌, ap, arith, append_assoc, length-append, Err}
 use Rattle.std.proofs.lemmas.List.{drop-drop, append-nil}
 use Rattle.std.proofs.lemmas.List.Elements.{All-push, All-nil}
-use Rattle.gate_journal.specs.Records.{max_record, block, blocks, StandFirst, IsShut, IsBroken, HasRecords, HasNoRecords}
+use Rattle.gate_journal.specs.Records.{max_record, block, blocks, StandFirst, IsShut, HasRecords}
 use Rattle.gate_journal.specs.Calls.{IsMountFault}
 use Rattle.gate_journal.specs.Reading.{TellsBroken, TellsRecords}
 use Rattle.gate_journal.specs.declared.fault.StoreFault.{StoreFault}
 use Rattle.gate_journal.specs.declared.fault.StoreFault.TheVariants as fault
-use Rattle.gate_journal.proofs.Blocks.{length_block}
 
 pub blocks_push : (records : List (List ℕ)) (bytes : List ℕ) → blocks (records ++ bytes ∷ []) ≡ blocks records ++ block bytes
 blocks_push [] bytes = append-nil (block bytes)

@@ -1,6 +1,6 @@
 -- A volume that stays as it is over several calls.
-use Rattle.std.proofs.Common.{◌≡◌, refl, sym, ◌∙◌, arith, inl}
-use Rattle.outside.specs.Disk.{Image, Disk, Runs, Same, Stays}
+use Rattle.std.proofs.Common.{refl, ◌∙◌, arith, inl}
+use Rattle.outside.specs.Disk.{Disk, Same, Stays}
 use Rattle.outside.proofs.Running.{onward}
 
 pub stays_none : (disk : Disk) → Stays disk disk

@@ -1,5 +1,5 @@
 -- What the calls of a journal need and leave.
-use Rattle.std.specs.Prelude.{◌≡◌, ℕ, ◌<◌, List, [], ◌∷◌, ◌++◌, length, Bool, true, false, Result, Ok, Err, ◌⊎◌}
+use Rattle.std.specs.Prelude.{◌≡◌, ℕ, List, [], ◌∷◌, ◌++◌, length, Bool, true, false, Result, Ok, Err, ◌⊎◌}
 use Rattle.outside.specs.Streams.{Rose}
 use Rattle.outside.specs.Disk.{Image, Disk}
 use Rattle.gate_journal.specs.Records.{blocks, HasRecords, HasNoRecords}

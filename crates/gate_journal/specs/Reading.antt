@@ -1,5 +1,5 @@
 -- What is read of one record.
-use Rattle.std.specs.Prelude.{◌≡◌, ℕ, ◌+◌, ◌≤◌, List, [], ◌∷◌, ◌++◌, length, drop, Bool, true, false, Result, Ok, Err, Option, Some, None}
+use Rattle.std.specs.Prelude.{◌≡◌, ℕ, ◌+◌, ◌≤◌, List, ◌∷◌, ◌++◌, length, drop, Bool, true, false, Result, Ok, Err, Option, Some, None}
 use Rattle.byteorder.specs.Endian.{big_bytes}
 use Rattle.gate_journal.specs.Records.{max_record, block, blocks, IsShut, IsBroken, HasRecords, HasNoRecords}
 use Rattle.gate_journal.specs.Calls.{IsMountFault}

@@ -38,6 +38,13 @@ impl AppendBuf {
         Ok(AppendBuf { piece })
     }
 
+    // How many bytes the record has.
+    pub(crate) fn len(&self) -> usize
+        ensures { result ≡ length self.now }
+    {
+        self.piece.len() - 5
+    }
+
     // What is written behind the gate.
     pub(crate) fn piece(&self) -> &[u8]
         ensures piece { result.now ≡ framed self.now }

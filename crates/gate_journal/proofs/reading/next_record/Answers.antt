@@ -1,4 +1,4 @@
-use Rattle.std.proofs.Common.{◌≡◌, ◌∙◌, ap, length, arith}
+use Rattle.std.proofs.Common.{◌∙◌, ap, length}
 use Rattle.outside.specs.Disk.{Image}
 use Rattle.gate_journal.proofs.Blocks.{record_read}
 use Rattle.gate_journal.proofs.reading.next_record.Goals as goal

@@ -1,4 +1,4 @@
-use Rattle.std.proofs.Common.{◌≡◌, List, [], ℕ, length, drop, sym, ◌∙◌, ap, subst, arith, ◌+◌, Ok, Some}
+use Rattle.std.proofs.Common.{List, ℕ, length, drop, sym, ◌∙◌, ap, subst, arith, ◌+◌, Ok, Some}
 use Rattle.outside.specs.Disk.{Image}
 use Rattle.gate_journal.specs.Records.{IsShut}
 use Rattle.gate_journal.specs.Reading.{TellsBroken, TellsRecord}
@@ -80,7 +80,7 @@ loop-fault-preserved g c =
           (rw c.in-Ok-Some.field-0-is at (c.in-Ok-Some.ensures.told told)) in
           subst (λ records. ReadTo file records (end + (5 + c.len.result))) (sym c.in-Ok.ensures.ok)
           (read_one file c.loop-fault.records c.in-Ok-Some.record end (end + (5 + c.len.result)) (c.loop-fault.invariant.read told) there.0 there.1
-              (ap (λ (n : ℕ). end + (5 + n)) c.len.ensures));
+          (ap (λ (n : ℕ). end + (5 + n)) c.len.ensures));
       stays = stays_more (g.V.Volume.disk c.args.vol.now) (g.V.Volume.disk c.loop-fault.vol) (g.V.Volume.disk c.next_record.new.vol)
           c.loop-fault.invariant.stays c.next_record.ensures.stays;
       later = omega (arith, c.loop-fault.invariant.later, c.in-Ok-Some.ensures.cause);

@@ -25,8 +25,7 @@ returns-then-count-gt-MAX_RECORD-clause-told g c = λ told.
       | then-count-gt-MAX_RECORD-via-then-count-gt-MAX_RECORD w ↦ λ most. absurd (omega (arith, most, w.if-count-gt-MAX_RECORD.true))
       | then-count-gt-MAX_RECORD-via-else-count-gt-MAX_RECORD+then-from-left w ↦ λ most.
           omega (arith, size, length-drop c.args.at file, w.if-from-left.true, w.from.ensures, c.if-left-lt5.false)
-    ] in
-    (
+    ] in (
       refl,
       refl,
       no_room (drop c.args.at file) head count (c.requires.opened told)

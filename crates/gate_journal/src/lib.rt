@@ -5,6 +5,7 @@
 mod append_buf;
 mod fault;
 mod journal;
+pub mod laws;
 mod reading;
 
 pub use append_buf::AppendBuf;

@@ -28,9 +28,8 @@ use Rattle.entry_map.specs.Indexes.{PlaceSet, has, is_at, is_taken, is_in, is_of
 use Rattle.entry_map.specs.Indexes.{AreNarrow, IsIndexOf}
 use Rattle.entry_map.proofs.KeyMaps.{same_keys, same_itself}
 use Rattle.entry_map.proofs.Layers.{is_some_of, keyed_put}
-use Rattle.entry_map.proofs.Places.{order_exact}
+use Rattle.entry_map.proofs.Places.{same_place}
 use Rattle.entry_map.proofs.Sets.{has-empty, has-insert, has-remove}
-use Rattle.entry_map.specs.Order.{order}
 
 -- ---- truth values
 
@@ -45,9 +44,6 @@ never false = refl
 is_false : (b : Bool) → (b ≡ true → false ≡ true) → b ≡ false
 is_false true f = sym (f refl)
 is_false false f = refl
-
-pub same_place : (p q : Place) → eq_by_cmp order p q ≡ true → p ≡ q
-same_place p q e = order_exact p q ((Equal-is (order p q)).0 e)
 
 -- ---- an offer's place tells its key
 

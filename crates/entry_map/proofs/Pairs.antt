@@ -27,6 +27,9 @@ tied_of_both a b up down =
       | Greater ↦ λ e. absurd (up e)
     ] refl
 
+pub tied : (a b : Asset) → a ≡ b → asset_cmp a b ≡ Equal
+tied a b e = subst (λ x. asset_cmp a x ≡ Equal) e (tied_itself assets_total a)
+
 second : (x y : Ordering) → x ≡ Equal → ordering_then x y ≡ y
 second x y e = ap (λ o. ordering_then o y) e
 
@@ -44,9 +47,6 @@ module _ (k next q : Place) (selling : q.selling ≡ k.selling) (buying : q.buyi
   pub same_selling : k.selling ≡ next.selling
   same_selling = tied_of_both k.selling next.selling first_up first_down
 
-  tied : (a b : Asset) → a ≡ b → asset_cmp a b ≡ Equal
-  tied a b e = subst (λ x. asset_cmp a x ≡ Equal) e (tied_itself assets_total a)
-
   second_up : asset_cmp k.buying next.buying ≢ Greater
   unfolding order
   second_up = subst (λ o. o ≢ Greater) (assets_compared k.buying next.buying)
@@ -63,8 +63,8 @@ module _ (k next q : Place) (selling : q.selling ≡ k.selling) (buying : q.buyi
   pub same_buying : k.buying ≡ next.buying
   same_buying = tied_of_both k.buying next.buying second_up second_down
 
-tie : (a b : Asset) → a ≡ b → is_eq (asset_cmp a b) ≡ true
-tie a b e = subst (λ x. is_eq (asset_cmp a x) ≡ true) e (ap is_eq (tied_itself assets_total a))
+pub tie : (a b : Asset) → a ≡ b → is_eq (asset_cmp a b) ≡ true
+tie a b e = ap is_eq (tied a b e)
 
 -- no place of the pair is above, where the least one above is of another pair
 pub other_pair : (places : PlaceSet) (start next : Place) → IsLeastPlace places start next

@@ -2,8 +2,8 @@
 use Rattle.std.proofs.Common.{◌≡◌, refl, sym, ◌∙◌, Bool, true, false}
 use Rattle.std.specs.declared.cmp.Ordering.{Ordering}
 use Rattle.std.specs.declared.cmp.Ordering.TheVariants.{Less, Equal, Greater}
-use Rattle.std.specs.Ordering.{ordering_then, bool_cmp}
-use Rattle.std.specs.Cmp.{IsTotalOrder}
+use Rattle.std.specs.Ordering.{ordering_then, bool_cmp, eq_by_cmp}
+use Rattle.std.specs.Cmp.{IsTotalOrder, Equal-is}
 use Rattle.std.specs.FinMap.{nat_cmp-IsAntisymmetric, int_cmp-IsAntisymmetric}
 use Rattle.std.proofs.lemmas.Map.Lookups.{exact_bytes}
 use Rattle.ledger_types.proofs.KeyOrdering.{assets_compared, assets_exact}
@@ -57,3 +57,6 @@ order_exact a b h =
       is_end = ends i;
       seller = record { 0 = bytes i };
     }
+
+pub same_place : (p q : Place) → eq_by_cmp order p q ≡ true → p ≡ q
+same_place p q e = order_exact p q ((Equal-is (order p q)).0 e)

@@ -5,20 +5,18 @@ use Rattle.std.specs.Prelude.{if◌then◌else◌}
 use Rattle.std.specs.List.{filter, list_any}
 use Rattle.std.specs.declared.cmp.Ordering.{Ordering}
 use Rattle.std.specs.declared.cmp.Ordering.TheVariants.{Less, Equal, Greater}
-use Rattle.std.specs.Ordering.{is_lt, is_eq, eq_by_cmp, ordering_reverse}
-use Rattle.std.specs.Cmp.{tied_itself, Equal-is}
+use Rattle.std.specs.Ordering.{is_lt, is_eq, ordering_reverse}
+use Rattle.std.specs.Cmp.{tied_itself}
 use Rattle.std.proofs.lemmas.List.Elements.{All-nil, All-cons, All-head, All-tail, All-weaker, All-filter, filter_passes}
 use Rattle.ledger_types.specs.declared.asset.Asset.{Asset}
 use Rattle.ledger_types.specs.declared.price.Price.{Price}
 use Rattle.ledger_types.specs.declared.offer.OfferEntry.{OfferEntry}
-use Rattle.ledger_types.specs.KeyOrder.{asset_cmp}
-use Rattle.ledger_types.proofs.KeyOrdering.{assets_total}
 use Rattle.entry_map.specs.declared.place.Place.{Place}
 use Rattle.entry_map.specs.Book.{AreApart, AreSound, IsPriced, goes_before, placed, ranked, is_of_pair, book_in, head, left_behind, next_in}
 use Rattle.entry_map.specs.Places.{IsNarrow, place_of, start_of, name_at}
 use Rattle.entry_map.specs.Indexes.{PlaceSet, has, is_at, is_taken, AreNarrow, IsNextOfPair, IsLastOfPair, name_of}
-use Rattle.entry_map.proofs.Places.{order, order_total, order_exact}
-use Rattle.entry_map.proofs.Pairs.{same_asset}
+use Rattle.entry_map.proofs.Places.{order, order_total, same_place}
+use Rattle.entry_map.proofs.Pairs.{same_asset, tie}
 use Rattle.entry_map.proofs.Ranking.{IsRanked, IsTold, IsPlaceRanked, ranked_price, told, behind, behind_start}
 use Rattle.entry_map.proofs.Ranking.{start_selling, start_buying}
 
@@ -49,12 +47,6 @@ or_swap false b c = refl
 or_true : (b : Bool) → (b || true) ≡ true
 or_true true = refl
 or_true false = refl
-
-is_tied : (a b : Asset) → a ≡ b → is_eq (asset_cmp a b) ≡ true
-is_tied a b e = subst (λ x. is_eq (asset_cmp a x) ≡ true) e (ap is_eq (tied_itself assets_total a))
-
-same_place : (p q : Place) → eq_by_cmp order p q ≡ true → p ≡ q
-same_place p q e = order_exact p q ((Equal-is (order p q)).0 e)
 
 -- ---- what ranking keeps
 
@@ -286,7 +278,7 @@ module _ (places : PlaceSet) (os : List OfferEntry) (each : (p : Place) → has 
 
     taken_pair : (o : OfferEntry) → is_at next o ≡ true → pair o ≡ true
     taken_pair o h = let same = same_place next (place_of o) h in
-        λ i. is_tied o.selling selling (of_selling o same) i && is_tied o.buying buying (of_buying o same) i
+        λ i. tie o.selling selling (of_selling o same) i && tie o.buying buying (of_buying o same) i
 
     taken_behind : (o : OfferEntry) → IsOne o → is_at next o ≡ true → behind after o ≡ true
     taken_behind o one h =

@@ -1,22 +1,23 @@
 -- The order of a book is that of places.
-use Rattle.std.proofs.Common.{◌≡◌, ◌≢◌, refl, sym, ap, subst, ◌∙◌, arith, ℕ, ℤ, ◌*◌, ◌<◌, ◌≤◌, ◌≤ℤ◌, pos}
+use Rattle.std.proofs.Common.{◌≡◌, ◌≢◌, refl, sym, ap, ◌∙◌, arith, ℕ, ℤ, ◌*◌, ◌<◌, ◌≤◌, ◌≤ℤ◌, pos}
 use Rattle.std.proofs.Common.{Bool, true, false, cond, ◌+◌, ◌/◌, Option, Some, None}
 use Rattle.std.specs.Prelude.{unsigned_abs, nat_eq}
 use Rattle.std.specs.declared.cmp.Ordering.{Ordering}
 use Rattle.std.specs.declared.cmp.Ordering.TheVariants.{Less, Equal, Greater}
 use Rattle.std.specs.Ordering.{ordering_then, nat_cmp, int_cmp, bool_cmp, is_lt, MatchOrdering}
-use Rattle.std.specs.Cmp.{tied_itself, ranked, nat_cmp_is}
+use Rattle.std.specs.Cmp.{ranked, nat_cmp_is}
 use Rattle.std.specs.FinMap.{int_cmp-IsAntisymmetric}
 use Rattle.std.proofs.Math.Nat.{mul-le-mul}
 use Rattle.ledger_types.specs.declared.asset.Asset.{Asset}
 use Rattle.ledger_types.specs.declared.price.Price.{Price}
 use Rattle.ledger_types.specs.declared.offer.OfferEntry.{OfferEntry}
-use Rattle.ledger_types.specs.KeyOrder.{asset_cmp, account_cmp}
-use Rattle.ledger_types.proofs.KeyOrdering.{assets_compared, assets_total}
+use Rattle.ledger_types.specs.KeyOrder.{account_cmp}
+use Rattle.ledger_types.proofs.KeyOrdering.{assets_compared}
 use Rattle.entry_map.specs.declared.place.Place.{Place}
 use Rattle.entry_map.specs.Book.{IsPriced, IsPlacePriced, price_cmp, is_behind, goes_before}
 use Rattle.entry_map.specs.Places.{IsNarrow, IsPlaceNarrow, rank, place_of, start_of, no_seller}
 use Rattle.entry_map.specs.Order.{order}
+use Rattle.entry_map.proofs.Pairs.{tied}
 use Rattle.entry_map.proofs.Ranks.{cheaper_is_below, same_is_same}
 
 -- prices whose denominators are at least 1 and fit 32 bits
@@ -43,9 +44,6 @@ rank_cmp p q a b = nat_cmp_is (rank p) (rank q) (price_cmp p q) (elim (price_cmp
     ] refl)
 
 -- ---- places of one pair
-
-tied : (a b : Asset) → a ≡ b → asset_cmp a b ≡ Equal
-tied a b e = subst (λ x. asset_cmp a x ≡ Equal) e (tied_itself assets_total a)
 
 abbrev within : Place → Place → Ordering
 within a b = ordering_then (nat_cmp a.rank b.rank) (ordering_then (int_cmp a.id b.id)

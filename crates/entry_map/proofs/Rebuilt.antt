@@ -10,7 +10,7 @@ use Rattle.entry_map.specs.Places.{key_at}
 use Rattle.entry_map.specs.Indexes.{PlaceSet, has, is_at, is_taken, is_among, is_old, old_keys, index_of}
 use Rattle.entry_map.specs.Indexes.{AreReplaced, AreChangedTo, IndexStaysRight, offers_behind}
 use Rattle.entry_map.proofs.Sets.{has-index_of, same_set}
-use Rattle.entry_map.proofs.Books.{same_place}
+use Rattle.entry_map.proofs.Places.{same_place}
 
 module _ (p : Place) (q : OfferEntry → Bool) (b : Bool) (alike : (o : OfferEntry) → is_at p o ≡ true → q o ≡ b) where
   kept_by : (t : Bool) (o : OfferEntry) (kept : List OfferEntry) (rest : Bool) → q o ≡ t

@@ -1,7 +1,7 @@
 use Rattle.std.proofs.Common.{◌∙◌, ap}
 use Rattle.entry_map.specs.Undo.{undone}
 use Rattle.entry_map.proofs.Under.{undo_of-drop}
-use Rattle.entry_map.proofs.entries.Entries.drop_child.Goals as goal
+use Rattle.entry_map.proofs.layered.Layered.drop_child.Goals as goal
 
 pub returns-in-Some : goal.returns-in-Some
 returns-in-Some g c =

@@ -1,7 +1,7 @@
 use Rattle.std.proofs.Common.{ap, ◌∙◌}
 use Rattle.entry_map.specs.Layers.{undo_of}
 use Rattle.entry_map.proofs.Under.{changed_under}
-use Rattle.entry_map.proofs.entries.Entries.changed.Goals as goal
+use Rattle.entry_map.proofs.layered.Layered.changed.Goals as goal
 
 pub returns : goal.returns
 returns g c =

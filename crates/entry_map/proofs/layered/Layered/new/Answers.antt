@@ -1,5 +1,5 @@
 use Rattle.entry_map.proofs.Under.{undo_of-started}
-use Rattle.entry_map.proofs.entries.Entries.new.Goals as goal
+use Rattle.entry_map.proofs.layered.Layered.new.Goals as goal
 
 pub returns : goal.returns
 returns g c = undo_of-started

@@ -3,7 +3,7 @@ use Rattle.std.proofs.lemmas.Result.{on_ok_weaker}
 use Rattle.entry_map.specs.EntryMap.{erase}
 use Rattle.entry_map.specs.Undo.{with_current}
 use Rattle.entry_map.proofs.Under.{undo_of-erase}
-use Rattle.entry_map.proofs.entries.Entries.erase.Goals as goal
+use Rattle.entry_map.proofs.layered.Layered.erase.Goals as goal
 
 pub returns : goal.returns
 returns g c = on_ok_weaker c.erase.result

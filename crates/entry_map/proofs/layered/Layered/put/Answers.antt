@@ -3,7 +3,7 @@ use Rattle.std.proofs.lemmas.Result.{on_ok_weaker}
 use Rattle.entry_map.specs.EntryMap.{put}
 use Rattle.entry_map.specs.Undo.{with_current}
 use Rattle.entry_map.proofs.Under.{undo_of-put}
-use Rattle.entry_map.proofs.entries.Entries.put.Goals as goal
+use Rattle.entry_map.proofs.layered.Layered.put.Goals as goal
 
 pub returns : goal.returns
 returns g c = on_ok_weaker c.put.result

@@ -1,0 +1,9 @@
+pub mod Held
+pub mod Paying
+pub mod Binding
+pub mod Book
+pub mod StepLegal
+pub mod Left
+pub mod Passing
+pub mod StepLeft
+pub mod CrossedLegal

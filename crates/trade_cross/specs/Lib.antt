@@ -1,0 +1,4 @@
+pub mod Holdings
+pub mod Crossing
+pub mod Accounts
+pub mod CrossingLaws

@@ -1,3 +1,4 @@
+pub mod Altering
 pub mod Held
 pub mod Paying
 pub mod Binding

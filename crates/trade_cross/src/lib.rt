@@ -3,7 +3,11 @@
 #![tactic(auto)]
 
 mod crossed;
+mod holding;
 pub mod laws;
+mod place;
+mod side;
+mod step;
 mod trade;
 
 pub use crossed::{CrossEnd, Crossed};

@@ -86,9 +86,10 @@ module _ (v : View) (id_pool : ℕ) (sum : ℤ) (ctx : Ctx) (owner : AccountId) 
   counted_so new done =
       let went = passed (subentry_tests_at ctx m owner 1) now new done in
       let changed = counted (have_passed ctx m owner 1 now new done) in
-      subst IsCounted went.1
-      (legal_as v (IsEntryLegal id_pool) (Charged t) (one_more owner t) sum sum now changed.legal (charged_is t) refl
-      , λ k no_account. changed.others k (beside_none k) (λ x is. no_account x) (no_account owner))
+      subst IsCounted went.1 (
+        legal_as v (IsEntryLegal id_pool) (Charged t) (one_more owner t) sum sum now changed.legal (charged_is t) refl,
+        λ k no_account. changed.others k (beside_none k) (λ x is. no_account x) (no_account owner),
+      )
 
 pub subentries_counted : SubentriesCounted
 subentries_counted v id_pool sum ctx owner m new legal stands ready =

@@ -8,3 +8,6 @@ pub mod Left
 pub mod Passing
 pub mod StepLeft
 pub mod CrossedLegal
+pub mod Changing
+pub mod Extended
+pub mod Once

@@ -128,14 +128,14 @@ module _ (base : ℕ) (m : EntryMap) (keyed : IsKeyed m) (n : ℕ) where
 
 -- ---- liabilities
 
-same_minimum : (base : ℕ) (selling buying : ℤ) (a : AccountEntry)
+pub same_minimum : (base : ℕ) (selling buying : ℤ) (a : AccountEntry)
     → min_balance (bound_account selling buying a) base ≡ min_balance a base
 same_minimum base selling buying a =
     ap (λ o. (pos (2 + a.num_sub_entries + sponsoring_in o) -ℤ pos (sponsored_in o)) *ℤ pos base)
     (second selling buying a)
 
 -- what is available once so much more is bound for sale
-bound_available : (base : ℕ) (selling buying : ℤ) (a : AccountEntry)
+pub bound_available : (base : ℕ) (selling buying : ℤ) (a : AccountEntry)
     → available (bound_account selling buying a) base
     ≡ (a.balance -ℤ min_balance a base -ℤ ((account_liabilities a).selling +ℤ selling))
 bound_available base selling buying a =

@@ -1,3 +1,4 @@
+pub mod Available
 pub mod Altering
 pub mod Held
 pub mod Paying
@@ -11,3 +12,9 @@ pub mod CrossedLegal
 pub mod Changing
 pub mod Extended
 pub mod Once
+pub mod Seen
+pub mod SeenSides
+pub mod Fits
+pub mod HoldersApart
+pub mod StepIs
+pub mod StepPlanned

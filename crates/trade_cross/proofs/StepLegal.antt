@@ -168,7 +168,7 @@ module _ (v : View) (id_pool base : ℕ) (owed : Owed) (right : IsOwedRightly ow
     pub there : get m (offer_key o) ≡ Some e
     there = its_entry.1.there ∙ ap Some (λ i. record its_entry.0 { body = its_entry.1.is i })
 
-    its_range : IsOfferInRange id_pool o
+    pub its_range : IsOfferInRange id_pool o
     its_range = (open_.legal.entries (offer_key o) e there).range.body
 
     -- an offer that goes leaves what was owed before

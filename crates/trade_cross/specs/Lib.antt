@@ -4,4 +4,6 @@ pub mod Accounts
 pub mod CrossingLaws
 pub mod Places
 pub mod Sides
+pub mod Plans
+pub mod Steps
 pub mod Crossable

@@ -39,14 +39,14 @@ changing other change m = m
 
 -- ---- what fits
 
--- a number rises by delta, which may be below 0: it doesn't fall below 0, nor does it rise above 64 bits with a sign
+-- A number rises by delta, which may be below 0: it falls to 0 at least, and where it rises, not above 64 bits with a sign.
 pub record DoesFit (number delta : ℤ) : Type 0 where
   pub low : pos 0 ≤ℤ (number +ℤ delta)
-  pub high : pos 0 ≤ℤ delta → (number +ℤ delta) ≤ℤ greatest_i64
+  pub high : pos 1 ≤ℤ delta → (number +ℤ delta) ≤ℤ greatest_i64
 
 -- the sums of a change
-pub record DoSumsFit (balance : ℤ) (was : Liabilities) (change : Change) : Type 0 where
-  pub balance : DoesFit balance change.balance
+pub record DoSumsFit (held : ℤ) (was : Liabilities) (change : Change) : Type 0 where
+  pub balance : DoesFit held change.balance
   pub selling : DoesFit was.selling change.selling
   pub buying : DoesFit was.buying change.buying
 

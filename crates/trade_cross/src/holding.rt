@@ -16,7 +16,7 @@ use entry_slots::{
     AccountSlot, LineSlot, account_liabilities, line_liabilities, load_account, load_line,
     set_account_liabilities, set_line_liabilities, store_account, store_line,
 };
-use ledger_types::{AccountId, Liabilities, TrustLineAsset};
+use ledger_types::{AccountEntry, AccountId, Liabilities, TrustLineAsset, TrustLineEntry};
 use std::alloc::AllocError;
 
 /// By how much a balance and what is bound of it rise; each may be below 0.
@@ -101,10 +101,18 @@ fn store_changed<B: Base>(
         accounts.with_account entries.old.current id.now (spec.changed_account change))) }
 {
     let mut slot = slot;
-    let liabilities = risen(account_liabilities(&slot.account), change);
-    slot.account.balance = sum(slot.account.balance, change.balance);
-    set_account_liabilities(&mut slot.account, liabilities);
+    set_account_holding(&mut slot.account, change);
     store_account(entries, slot)
+}
+
+/// Gives an account another balance and other liabilities.
+fn set_account_holding(account: &mut AccountEntry, change: Change)
+    requires { spec.DoSumsFit account.old.balance (extensions.account_liabilities account.old) change }
+    ensures { account.new ≡ spec.changed_account change account.old }
+{
+    let liabilities = risen(account_liabilities(account), change);
+    account.balance = sum(account.balance, change.balance);
+    set_account_liabilities(account, liabilities);
 }
 
 /// Changes the account's line, if it stands.
@@ -144,8 +152,16 @@ fn store_changed_line<B: Base>(
         lines.with_line entries.old.current id.now held.now (spec.changed_line change))) }
 {
     let mut slot = slot;
-    let liabilities = risen(line_liabilities(&slot.line), change);
-    slot.line.balance = sum(slot.line.balance, change.balance);
-    set_line_liabilities(&mut slot.line, liabilities);
+    set_line_holding(&mut slot.line, change);
     store_line(entries, slot)
+}
+
+/// Gives a line another balance and other liabilities.
+fn set_line_holding(line: &mut TrustLineEntry, change: Change)
+    requires { spec.DoSumsFit line.old.balance (line_extensions.line_liabilities line.old) change }
+    ensures { line.new ≡ spec.changed_line change line.old }
+{
+    let liabilities = risen(line_liabilities(line), change);
+    line.balance = sum(line.balance, change.balance);
+    set_line_liabilities(line, liabilities);
 }

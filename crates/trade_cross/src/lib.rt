@@ -2,10 +2,12 @@
 //! stellar-core; CAP-0003).
 #![tactic(auto)]
 
+mod carry;
 mod crossed;
 mod holding;
 pub mod laws;
 mod place;
+mod plan;
 mod side;
 mod step;
 mod trade;

@@ -18,8 +18,8 @@ use Rattle.sponsor_rules.specs.Payers.{is_short}
 use Rattle.sponsor_rules.proofs.Keeping.{with_count_is, with_count_keeps, with_count_means, means_kept}
 use Rattle.sponsor_rules.proofs.Keeping.{means_kept_twice}
 use Rattle.sponsor_laws.proofs.Accounts.{with_count-keeps}
-use Rattle.op_laws.proofs.Numbers.{still_available, covers}
-use Rattle.op_laws.proofs.Standing.{IsNext}
+use Rattle.legal_rules.proofs.Multiples.{still_available, covers}
+use Rattle.legal_rules.proofs.Leaving.{IsNext}
 
 -- the reserves that an account pays for itself and for others
 abbrev pub reserves_of : AccountEntry → ℤ

@@ -36,14 +36,16 @@ use Rattle.sponsor_rules.proofs.Keeping.{with_count_keeps, means_kept}
 use Rattle.sponsor_rules.specs.Keeping.{KeepsMeans}
 use Rattle.legal_rules.specs.Supply.{held}
 use Rattle.legal_rules.proofs.Places.{account_after, account_elsewhere}
-use Rattle.op_laws.proofs.Reserves.{pays_more, pays_less, pays_from, other_payer_charged, available_still}
-use Rattle.op_laws.proofs.Reserves.{enough_of}
-use Rattle.op_laws.proofs.Reserves.{next_still, next_covers, subentry_charged, no_subentry_charged}
-use Rattle.op_laws.proofs.Holdings.{IsKeyed, none_more, under_key, nothing_more, still_holds, none_under, put_same}
-use Rattle.op_laws.proofs.Holdings.{erase_holds}
-use Rattle.op_laws.proofs.Standing.{IsNext, Leaves, leaves_itself, leaves_as, keeps_both, accounts_kept, account_kept}
-use Rattle.op_laws.proofs.Standing.{no_account_changed, put_accounts, keyed_put}
-use Rattle.op_laws.proofs.Tests.{passed, first_passed}
+use Rattle.legal_rules.proofs.ReservesLeft.{pays_more, pays_less, pays_from, other_payer_charged, available_still}
+use Rattle.legal_rules.proofs.ReservesLeft.{enough_of}
+use Rattle.legal_rules.proofs.ReservesLeft.{next_still, next_covers, subentry_charged, no_subentry_charged}
+use Rattle.legal_rules.specs.Holdings.{IsKeyed, none_more, under_key}
+use Rattle.legal_rules.proofs.Holdings.{nothing_more, still_holds, none_under, put_same}
+use Rattle.legal_rules.proofs.Holdings.{erase_holds}
+use Rattle.legal_rules.proofs.Leaving.{IsNext, Leaves, leaves_itself, leaves_as, keeps_both, accounts_kept}
+use Rattle.legal_rules.proofs.Leaving.{account_kept}
+use Rattle.legal_rules.proofs.Leaving.{no_account_changed, put_accounts, keyed_put}
+use Rattle.legal_rules.proofs.Passed.{passed, first_passed}
 
 -- ---- tests
 

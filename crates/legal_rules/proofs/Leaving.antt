@@ -25,20 +25,12 @@ use Rattle.sponsor_rules.proofs.Ids.{same_account, apart_accounts}
 use Rattle.legal_rules.specs.EntryKeys.{is_key}
 use Rattle.legal_rules.proofs.Places.{account_after, account_elsewhere}
 use Rattle.legal_rules.proofs.Steps.{account_entry, with_account_is, with_body}
-use Rattle.op_laws.proofs.Holdings.{IsKeyed, Increase, none_more, both_more, for_one, HoldsMore}
-use Rattle.op_laws.proofs.Holdings.{none_before, holds_itself, holds_both, holds_as, no_lumens_more, account_holds}
+use Rattle.legal_rules.specs.Holdings.{IsKeyed, Increase, none_more, both_more, for_one, HoldsMore}
+use Rattle.legal_rules.specs.Holdings.{IsCoveredBy, IsAfter}
+use Rattle.legal_rules.proofs.Holdings.{none_before, holds_itself, holds_both, holds_as, no_lumens_more}
+use Rattle.legal_rules.proofs.Holdings.{account_holds}
 
 -- ---- one account
-
--- available is at least 0, or at least what it was
-abbrev pub IsCoveredBy : ℕ → Option AccountEntry → AccountEntry → Type 0
-IsCoveredBy base old a =
-    (pos 0 ≤ℤ available a base)
-    ⊎ ((was : AccountEntry) × (old ≡ Some was) × (available was base ≤ℤ available a base))
-
--- what stands under an account's id after a change
-pub record IsAfter (base : ℕ) (old new : Option AccountEntry) : Type 0 where
-  pub covered : (a : AccountEntry) → new ≡ Some a → IsCoveredBy base old a
 
 pub is_itself_after : (base : ℕ) (o : Option AccountEntry) → IsAfter base o o
 is_itself_after base o = record { covered = λ a is. inr (a, is, omega (arith, ints)) }

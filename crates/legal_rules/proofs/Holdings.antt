@@ -21,37 +21,10 @@ use Rattle.entry_slots.specs.Accounts.{account_in, account_of, account_at, with_
 use Rattle.entry_sums.specs.Sums.{part, EachEntry}
 use Rattle.entry_sums.proofs.Lookups.{put_get, erase_get}
 use Rattle.legal_rules.specs.EntryKeys.{is_key}
+use Rattle.legal_rules.specs.Holdings.{IsKeyed, none_more, both_more, under_key, for_one, Increase, HoldsMore}
 use Rattle.legal_rules.specs.Supply.{held, held_in, lumens_of}
 use Rattle.legal_rules.proofs.Steps.{account_entry, same_id_at, with_account_is, with_body}
-use Rattle.op_laws.specs.Moves.{lumens_in, lumens_at}
-
-abbrev pub IsKeyed : EntryMap → Type 0
-IsKeyed m = EachEntry (λ k e. key_of e ≡ k) m
-
--- ---- how much more
-
--- how much more of each asset the entry under each key holds
-abbrev pub Increase : Type 0
-Increase = LedgerKey → Asset → ℤ
-
-abbrev pub none_more : Increase
-none_more k x = pos 0
-
-abbrev pub both_more : (d e : Increase) → Increase
-both_more d e k x = d k x +ℤ e k x
-
--- for the entry under one key
-abbrev pub under_key : LedgerKey → (Asset → ℤ) → Increase
-under_key at amounts k x = if is_key k at then amounts x else pos 0
-
--- lumens for one account
-abbrev pub for_one : AccountId → ℤ → Increase
-for_one id n = under_key (key.Account id) (λ x. lumens_of x n)
-
--- Each entry holds so much more.
-abbrev pub HoldsMore : Increase → (old new : EntryMap) → Type 0
-HoldsMore more old new =
-    (k : LedgerKey) (x : Asset) → part (held x) (get new k) ≡ (part (held x) (get old k) +ℤ more k x)
+use Rattle.legal_rules.specs.Supply.{lumens_in, lumens_at}
 
 pub nothing_more : (n : ℤ) → n ≡ (n +ℤ pos 0)
 nothing_more n = omega (arith, ints)

@@ -1,0 +1,2 @@
+//! Books of offers.
+#![tactic(auto)]

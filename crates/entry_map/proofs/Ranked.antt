@@ -12,7 +12,8 @@ use Rattle.ledger_types.specs.declared.asset.Asset.{Asset}
 use Rattle.ledger_types.specs.declared.price.Price.{Price}
 use Rattle.ledger_types.specs.declared.offer.OfferEntry.{OfferEntry}
 use Rattle.entry_map.specs.declared.place.Place.{Place}
-use Rattle.entry_map.specs.Book.{AreApart, AreSound, IsPriced, goes_before, placed, ranked, is_of_pair, book_in, head, left_behind, next_in}
+use Rattle.ledger_types.specs.Prices.{IsPriced}
+use Rattle.entry_map.specs.Book.{AreApart, AreSound, goes_before, placed, ranked, is_of_pair, book_in, head, left_behind, next_in}
 use Rattle.entry_map.specs.Places.{IsNarrow, place_of, start_of, name_at}
 use Rattle.entry_map.specs.Indexes.{PlaceSet, has, is_at, is_taken, AreNarrow, IsNextOfPair, IsLastOfPair, name_of}
 use Rattle.entry_map.proofs.Places.{order, order_total, same_place}

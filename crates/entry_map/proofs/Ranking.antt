@@ -14,7 +14,8 @@ use Rattle.ledger_types.specs.declared.offer.OfferEntry.{OfferEntry}
 use Rattle.ledger_types.specs.KeyOrder.{account_cmp}
 use Rattle.ledger_types.proofs.KeyOrdering.{assets_compared}
 use Rattle.entry_map.specs.declared.place.Place.{Place}
-use Rattle.entry_map.specs.Book.{IsPriced, IsPlacePriced, price_cmp, is_behind, goes_before}
+use Rattle.ledger_types.specs.Prices.{IsPriced}
+use Rattle.entry_map.specs.Book.{IsPlacePriced, price_cmp, is_behind, goes_before}
 use Rattle.entry_map.specs.Places.{IsNarrow, IsPlaceNarrow, rank, place_of, start_of, no_seller}
 use Rattle.entry_map.specs.Order.{order}
 use Rattle.entry_map.proofs.Pairs.{tied}

@@ -13,6 +13,7 @@ use Rattle.ledger_types.specs.declared.entry.LedgerEntry.{LedgerEntry}
 use Rattle.ledger_types.specs.declared.entry.LedgerEntryBody.{LedgerEntryBody}
 use Rattle.ledger_types.specs.declared.entry.LedgerEntryBody.TheVariants as body
 use Rattle.ledger_types.specs.KeyOrder.{asset_cmp}
+use Rattle.ledger_types.specs.Prices.{IsPriced}
 use Rattle.entry_map.specs.EntryMap.{EntryMap}
 
 -- ---- offers among entries
@@ -83,11 +84,6 @@ abbrev pub next_offer : EntryMap → (selling buying : Asset) → Option (Price 
 next_offer m selling buying after = next_in selling buying after (offers_of m)
 
 -- ---- what a book needs
-
--- a price whose parts are at least 1
-pub record IsPriced (price : Price) : Type 0 where
-  pub n : pos 1 ≤ℤ price.n
-  pub d : pos 1 ≤ℤ price.d
 
 abbrev pub IsPlacePriced : Option (Price × ℤ) → Type 0
 IsPlacePriced None = Unit {0}

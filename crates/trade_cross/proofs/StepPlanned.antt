@@ -11,7 +11,7 @@ use Rattle.entry_map.specs.EntryMap.{EntryMap}
 use Rattle.entry_slots.specs.Offers.{offer_at}
 use Rattle.offer_exchange.specs.declared.rounding.Rounding.{Rounding}
 use Rattle.offer_exchange.specs.Exchange.{Amounts, Bounds, adjusted, exchanged, wheat_stays, unlimited}
-use Rattle.offer_exchange.specs.Calls.{IsPriced}
+use Rattle.ledger_types.specs.Prices.{IsPriced}
 use Rattle.legal_rules.specs.Binding.{releasing}
 use Rattle.legal_rules.specs.Books.{View}
 use Rattle.legal_rules.specs.OfferLiabilities.{bound_of}

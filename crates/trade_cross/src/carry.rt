@@ -3,7 +3,7 @@
 ghost use Rattle.std.specs.Prelude.{◌≡◌, ◌≤ℤ◌, pos, unsigned_abs, Some, OnOk};
 ghost use Rattle.entry_map.specs.Undo.{with_current};
 ghost use Rattle.entry_slots.specs.Offers as offers;
-ghost use Rattle.offer_exchange.specs.Calls.{IsPriced};
+ghost use Rattle.ledger_types.specs.Prices.{IsPriced};
 ghost use Rattle.trade_cross.specs.Crossing.{with_amount};
 ghost use Rattle.trade_cross.specs.Places.{DoesChangeFit, changing, place_key};
 ghost use Rattle.trade_cross.specs.Plans as spec;

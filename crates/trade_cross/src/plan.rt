@@ -1,7 +1,7 @@
 //! What crossing one offer comes to, in numbers alone.
 
 ghost use Rattle.std.specs.Prelude.{◌≡◌, ◌≤◌, ◌-◌, ◌≤ℤ◌, pos, min, true, unsigned_abs};
-ghost use Rattle.offer_exchange.specs.Calls.{IsPriced};
+ghost use Rattle.ledger_types.specs.Prices.{IsPriced};
 ghost use Rattle.trade_cross.specs.Plans as spec;
 
 use crate::place::Place;

@@ -1,6 +1,6 @@
 //! What a set charges.
 
-ghost use Rattle.std.specs.Prelude.{◌≡◌, ◌≤◌, ◌<◌, ◌≤ℤ◌, ◌^◌, pos, unsigned_abs};
+ghost use Rattle.std.specs.Prelude.{◌≡◌, ◌≤◌, ◌<◌, ◌≤ℤ◌, ◌-ℤ◌, ◌^◌, pos, unsigned_abs};
 ghost use Rattle.std.specs.List.{sum_by};
 ghost use Rattle.std.specs.Option.{ForSome};
 ghost use Rattle.fee_rules.specs.Envelopes as envelopes;
@@ -109,4 +109,13 @@ pub fn fee_charged(base_fee: i64, envelope: &TransactionEnvelope, balance: i64) 
     let wanted = u128::from(base_fee.unsigned_abs()) * operation_count(envelope).max(1);
     let most = u128::from(bid(envelope)).min(wanted);
     u128::from(not_below_0(balance)).min(most) as i64
+}
+
+/// What a balance has behind a fee of at most what the balance had, in stroops: nothing more where it was below 0.
+pub fn behind_fee(balance: i64, fee: i64) -> i64
+    requires low { pos 0 ≤ℤ fee }
+    requires most { fee ≤ℤ pos (envelopes.not_below_0 balance) }
+    ensures { result ≡ balance -ℤ fee }
+{
+    balance - fee
 }

@@ -11,5 +11,5 @@ mod spelling;
 mod turn;
 
 pub use envelope::{fee_source, not_below_0, seq_num, source};
-pub use fees::{fee_charged, set_base_fee};
+pub use fees::{behind_fee, fee_charged, set_base_fee};
 pub use order::{SetOrder, apply_order, set_order};

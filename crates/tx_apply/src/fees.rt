@@ -1,11 +1,10 @@
 //! The fees of the transactions of a set.
 
-ghost use Rattle.std.specs.Prelude.{◌≡◌, ◌<◌, ◌≤ℤ◌, ◌-ℤ◌, ◌+ℤ◌, pos, unsigned_abs, ◌++◌, [], ◌∷◌, length, All, IfOk};
+ghost use Rattle.std.specs.Prelude.{◌≡◌, ◌<◌, ◌≤ℤ◌, ◌+ℤ◌, pos, unsigned_abs, ◌++◌, [], ◌∷◌, length, All, IfOk};
 ghost use Rattle.std.specs.Prelude.{OnOk};
 ghost use Rattle.ledger_types.specs.declared.asset.Asset.TheVariants as asset;
 ghost use Rattle.entry_map.specs.Undo.{with_current};
 ghost use Rattle.entry_sums.specs.Sums.{total};
-ghost use Rattle.fee_rules.specs.Envelopes.{not_below_0};
 ghost use Rattle.reserve_rules.specs.Reserve.{greatest_i64};
 ghost use Rattle.legal_rules.specs.Supply.{held};
 ghost use Rattle.op_laws.specs.Underway.{IsSettled};
@@ -15,20 +14,11 @@ ghost use Rattle.tx_apply.specs.Fees as spec;
 
 use entry_map::{Base, Entries};
 use entry_slots::{load_account, store_account};
-use fee_rules::{fee_charged, fee_source};
+use fee_rules::{behind_fee, fee_charged, fee_source};
 use item_list::ItemList;
 use ledger_types::LedgerHeader;
 use op_types::TransactionEnvelope;
 use std::alloc::AllocError;
-
-/// A balance less a fee, which is 0 where the balance is below 0, and at most the balance elsewhere.
-fn less(balance: i64, fee: i64) -> i64
-    requires low { pos 0 ≤ℤ fee }
-    requires most { fee ≤ℤ pos (not_below_0 balance) }
-    ensures { result ≡ balance -ℤ fee }
-{
-    balance - fee
-}
 
 /// Takes the fee that is asked of a transaction, as far as its fee source has that, and answers it, in stroops.
 #[tactic(auto, unfolding(entry_slots::specs::Accounts::with_account))]
@@ -47,7 +37,7 @@ fn take_fee<B: Base>(
         return Ok(0);
     };
     let fee = fee_charged(base_fee, envelope, slot.account.balance);
-    slot.account.balance = less(slot.account.balance, fee);
+    slot.account.balance = behind_fee(slot.account.balance, fee);
     store_account(entries, slot)?;
     Ok(fee)
 }

@@ -2,19 +2,12 @@
 //! fields of one type comes first, and which of two arms of one body has which discriminant, is the choice of a format,
 //! which its reader and its writer only follow. The lines that are wanted (`stdout`) were laid out by hand from the
 //! protocol's XDR.
-#![tactic(auto)]
 
-mod entries;
-mod headers;
-mod operations;
-mod parts;
-mod predicates;
-mod results;
-
-use entries::EntryCase;
-use headers::HeaderCase;
-use operations::OperationCase;
-use results::ResultCase;
+use crate::entries::{self, EntryCase};
+use crate::headers::{self, HeaderCase};
+use crate::operations::{self, OperationCase};
+use crate::predicates;
+use crate::results::{self, ResultCase};
 use std::io;
 use xdr_core::Builder;
 
@@ -102,10 +95,11 @@ fn print_predicates<R: Print + AllocGlobal>(rt: &R) -> io::Result<()> {
     Ok(())
 }
 
-fn main(rt: HostRuntime) -> io::Result<()> {
-    print_entries(&rt)?;
-    print_headers(&rt)?;
-    print_operations(&rt)?;
-    print_results(&rt)?;
-    print_predicates(&rt)
+/// Prints each line.
+pub fn print_all<R: Print + AllocGlobal>(rt: &R) -> io::Result<()> {
+    print_entries(rt)?;
+    print_headers(rt)?;
+    print_operations(rt)?;
+    print_results(rt)?;
+    print_predicates(rt)
 }

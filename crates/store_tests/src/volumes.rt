@@ -7,6 +7,14 @@ fn begin(vol: &mut MemVolume) {
     let _ = vol.sync();
 }
 
+/// Cuts file 0, where it is as long.
+fn cut(vol: &mut MemVolume, size: u64) -> Result<(), Failed> {
+    if (vol.bytes(0).len() as u64) < size {
+        return Err(Failed);
+    }
+    vol.cut(0, size)
+}
+
 /// What a crash leaves behind each of some calls: the end of a file that grows, and what is synced.
 fn grown(vol: &mut MemVolume) -> [bool; 4] {
     begin(vol);
@@ -30,7 +38,7 @@ fn changed(vol: &mut MemVolume) -> [bool; 5] {
     let _ = vol.write_at(0, 8, b"z");
     let is_read = vol.bytes(0) == b"axydef\0\0z".as_slice();
     let has_gap = leaves(vol, 0, 7, b"a\x07\x07def\x07\x07\x07");
-    let _ = vol.cut(0, 4);
+    let _ = cut(vol, 4);
     let is_cut = leaves(vol, 0, 7, b"a\x07\x07d");
     let _ = vol.write_at(0, 4, b"w");
     [
@@ -60,7 +68,7 @@ fn failed_write(vol: &mut MemVolume) -> [bool; 3] {
 /// The same of a cut to 4.
 fn failed_cut(vol: &mut MemVolume) -> [bool; 3] {
     begin(vol);
-    let is_refused = vol.cut(0, 4) == Err(Failed);
+    let is_refused = cut(vol, 4) == Err(Failed);
     let is_same = vol.bytes(0) == b"abcdef".as_slice();
     [is_refused, is_same, leaves(vol, 0, 7, b"abcd\x07\x07")]
 }
@@ -70,7 +78,7 @@ fn failed_len(vol: &mut MemVolume) -> [bool; 3] {
     begin(vol);
     let is_refused = vol.len(0) == Err(Failed);
     let is_same = leaves(vol, 0, 7, b"abcdef");
-    let _ = vol.cut(0, 4);
+    let _ = cut(vol, 4);
     [
         is_refused && vol.faults() == 1,
         is_same,

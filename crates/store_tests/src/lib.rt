@@ -2,6 +2,12 @@
 #![tactic(auto)]
 
 #[cfg(test)]
+mod appending;
+#[cfg(test)]
 mod directory;
+#[cfg(test)]
+mod mounting;
+#[cfg(test)]
+mod ready;
 #[cfg(test)]
 mod volumes;

@@ -12,7 +12,9 @@ use Rattle.legal_rules.specs.Owing.{Owed, IsLegalOwing}
 use Rattle.trade_cross.specs.declared.crossed.CrossEnd.{CrossEnd}
 use Rattle.trade_cross.specs.declared.crossed.CrossEnd.TheVariants.{Converted, BadPrice, CrossSelf, TooMany}
 use Rattle.trade_cross.specs.declared.trade.Trade.{Trade}
-use Rattle.trade_cross.specs.Crossing.{Left, Turn, Ends, Meets}
+use Rattle.trade_cross.specs.declared.turn.Turn.{Turn}
+use Rattle.trade_cross.specs.declared.turn.Turn.TheVariants.{Ends, Meets}
+use Rattle.trade_cross.specs.Crossing.{Left}
 use Rattle.trade_cross.specs.Crossing.{is_too_dear, turn_at, is_used_up, turn, Crossing, ended, at_limit, joined, left_after}
 use Rattle.trade_cross.specs.Crossing.{Step, step, atom_of, crossed}
 use Rattle.sponsor_rules.proofs.Ids.{apart_accounts}

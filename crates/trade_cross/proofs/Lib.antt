@@ -1,9 +1,9 @@
-pub mod Available
 pub mod Altering
 pub mod Held
 pub mod Paying
 pub mod Binding
 pub mod Book
+pub mod BooksSound
 pub mod StepLegal
 pub mod Left
 pub mod Passing
@@ -18,3 +18,4 @@ pub mod Fits
 pub mod HoldersApart
 pub mod StepIs
 pub mod StepPlanned
+pub mod Progressed

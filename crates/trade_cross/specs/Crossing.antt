@@ -2,6 +2,7 @@
 -- crossOfferV10 in stellar-core; CAP-0003).
 use Rattle.std.specs.Prelude.{ℕ, ◌+◌, ◌-◌, zero, suc, pos, neg_ℤ, unsigned_abs, nat_eq, Bool, true, false, ◌||◌, ◌&&◌, min}
 use Rattle.std.specs.Prelude.{List, [], ◌∷◌, Option, Some, None, if◌then◌else◌}
+use Rattle.std.specs.Ordering.{is_lt, is_eq}
 use Rattle.ledger_types.specs.declared.price.Price.{Price}
 use Rattle.ledger_types.specs.declared.claim_atom.ClaimAtom.{ClaimAtom}
 use Rattle.ledger_types.specs.declared.claim_atom.ClaimAtom.TheVariants as atom
@@ -14,12 +15,15 @@ use Rattle.sponsor_rules.specs.Payers.{is_same_account}
 use Rattle.sponsor_rules.specs.Removing.{map_after_removing}
 use Rattle.offer_exchange.specs.declared.rounding.Rounding.{Rounding}
 use Rattle.offer_exchange.specs.Exchange.{Bounds, Amounts, adjusted, exchanged, wheat_stays}
-use Rattle.offer_book.specs.Book.{best, is_cheaper, is_same_price}
+use Rattle.entry_map.specs.Book.{price_cmp}
+use Rattle.offer_book.specs.Book.{best}
 use Rattle.legal_rules.specs.Trades.{holder}
 use Rattle.legal_rules.specs.Binding.{acquiring, releasing}
 use Rattle.trade_cross.specs.declared.crossed.CrossEnd.{CrossEnd}
 use Rattle.trade_cross.specs.declared.crossed.CrossEnd.TheVariants.{Converted, Partial, BadPrice, CrossSelf, TooMany}
 use Rattle.trade_cross.specs.declared.trade.Trade.{Trade}
+use Rattle.trade_cross.specs.declared.turn.Turn.{Turn}
+use Rattle.trade_cross.specs.declared.turn.Turn.TheVariants.{Ends, Meets}
 use Rattle.trade_cross.specs.Holdings.{most_given, most_taken, paying}
 
 -- what is left of a taker's two bounds
@@ -91,21 +95,20 @@ step base rounding left o m = step_within base rounding o (meeting base (releasi
 
 -- ---- the book
 
--- what comes next: the end, or an offer that is crossed
-pub data Turn : Type 0 where
-  Ends : CrossEnd → Turn
-  Meets : OfferEntry → Turn
-
 abbrev pub is_too_dear : Trade → OfferEntry → Option Price → Bool
 is_too_dear trade o None = false
 is_too_dear trade o (Some greatest) =
-    is_cheaper greatest o.price || (trade.passive && is_same_price greatest o.price)
+    is_lt (price_cmp greatest o.price) || (trade.passive && is_eq (price_cmp greatest o.price))
+
+-- what comes next where this offer is the best one
+abbrev pub turn_with : Trade → OfferEntry → Turn
+turn_with trade o =
+    if is_too_dear trade o trade.greatest then Ends BadPrice
+    else if is_same_account o.seller_id trade.taker then Ends CrossSelf else Meets o
 
 abbrev pub turn_at : Trade → Option OfferEntry → Turn
 turn_at trade None = Ends Partial
-turn_at trade (Some o) =
-    if is_too_dear trade o trade.greatest then Ends BadPrice
-    else if is_same_account o.seller_id trade.taker then Ends CrossSelf else Meets o
+turn_at trade (Some o) = turn_with trade o
 
 abbrev pub is_used_up : Left → Bool
 is_used_up left = nat_eq left.sheep_send 0 || nat_eq left.wheat_receive 0

@@ -7,3 +7,4 @@ pub mod Sides
 pub mod Plans
 pub mod Steps
 pub mod Crossable
+pub mod Progressing

@@ -3,14 +3,18 @@
 #![tactic(auto)]
 
 mod carry;
+mod conversion;
 mod crossed;
 mod holding;
 pub mod laws;
 mod place;
 mod plan;
+mod progress;
 mod side;
 mod step;
 mod trade;
+mod turn;
 
+pub use conversion::convert;
 pub use crossed::{CrossEnd, Crossed};
 pub use trade::Trade;

@@ -1,12 +1,12 @@
-use Rattle.std.proofs.Common.{◌∙◌}
-use Rattle.std.specs.Prelude.{pos, min}
-use Rattle.offer_exchange.specs.Exchange.{adjusted}
-use Rattle.trade_cross.specs.Plans.{price_n, price_d}
+use Rattle.std.proofs.Common.{rules, arith}
+use Rattle.std.proofs.lemmas.Int.{ints}
 use Rattle.trade_cross.proofs.plan.rest_that_stays.Goals as goal
 
 pub returns : goal.returns
 returns c =
-    c.adjust.ensures.value
-    ∙ (λ i. pos (adjusted (price_n c.args.offer.now) (price_d c.args.offer.now)
-    ((c.lesser.ensures.value ∙ (λ j. min (c.less.ensures.value j) (c.still-gives.ensures.value j))) i)
-    (c.still-takes.ensures.value i)))
+    let adjusted = c.adjust.ensures.value in
+    let lesser = c.lesser.ensures.value in
+    let less = c.less.ensures.value in
+    let gives = c.still-gives.ensures.value in
+    let takes = c.still-takes.ensures.value in
+    search (rules, adjusted, lesser, less, gives, takes)

@@ -1,4 +1,5 @@
-use Rattle.std.proofs.Common.{ap, ◌∙◌}
+use Rattle.std.proofs.Common.{rules, arith, ap, ◌∙◌}
+use Rattle.std.proofs.lemmas.Int.{ints}
 use Rattle.entry_map.specs.Undo.{with_current}
 use Rattle.trade_cross.proofs.StepPlanned.{priced, amount_low, sides_ready, gives_fit, takes_fit, is_moved, entries_are}
 use Rattle.trade_cross.proofs.step.cross_offer.Goals as goal
@@ -12,8 +13,9 @@ liabilities-bound-requires-clause-priced g c =
 pub liabilities-bound-requires-clause-amount : goal.liabilities-bound-requires-clause-amount
 liabilities-bound-requires-clause-amount g c =
     let k = c.requires.crossable in
-    amount_low k.view k.id_pool c.args.ctx.now.base_reserve k.owed k.right c.args.offer.now k.sum
-    c.args.entries.now.current k.legal c.requires.stands
+    let low = amount_low k.view k.id_pool c.args.ctx.now.base_reserve k.owed k.right c.args.offer.now k.sum
+    c.args.entries.now.current k.legal c.requires.stands in
+    search (rules, arith, ints, low)
 
 pub sides_of-requires-clause-ready : goal.sides_of-requires-clause-ready
 sides_of-requires-clause-ready g c =

@@ -5,3 +5,13 @@ pub mod Under
 pub mod KnownKeys
 pub mod Batches
 pub mod NumberedOffers
+pub mod Places
+pub mod Sets
+pub mod Pairs
+pub mod Ranks
+pub mod Ranking
+pub mod Ranked
+pub mod Books
+pub mod Building
+pub mod Rebuilt
+pub mod Saved

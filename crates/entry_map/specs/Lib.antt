@@ -4,3 +4,7 @@ pub mod Layers
 pub mod Batch
 pub mod Noting
 pub mod Undo
+pub mod Book
+pub mod Order
+pub mod Places
+pub mod Indexes

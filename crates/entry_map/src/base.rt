@@ -3,8 +3,11 @@
 ghost use Rattle.std.specs.Prelude.{◌≡◌, IfOk};
 ghost use Rattle.std.specs.FinMap.{get};
 ghost use Rattle.entry_map.specs.EntryMap.{EntryMap, IsKeyed, IsNextAfter};
+ghost use Rattle.entry_map.specs.Book.{IsPlacePriced, AreOffersSound, next_offer};
+ghost use Rattle.entry_map.specs.Indexes.{IsIndexOf};
 
-use ledger_types::{LedgerEntry, LedgerKey};
+use crate::index::{OfferIndex, offer_key, offer_of};
+use ledger_types::{Asset, LedgerEntry, LedgerKey, OfferEntry, Price};
 use std::alloc::AllocError;
 
 /// A finite map from keys to entries that is read and not changed. It keeps the allocator that its answers are made
@@ -22,4 +25,25 @@ pub trait Base {
     fn next_after(&self, key: &LedgerKey) -> Result<Option<LedgerEntry>, AllocError>
         ensures next { IfOk result (IsNextAfter (entries self.now) key.now) }
         ensures keyed { IsKeyed (entries self.now) };
+
+    /// The index of the map's offers.
+    fn offers(&self) -> Result<OfferIndex, AllocError>
+        ensures { IfOk result (IsIndexOf (entries self.now)) };
+
+    /// The first offer of a pair's book behind a price and an id, or at its head. None exactly where there is none.
+    final fn offer_after(
+        &self,
+        selling: &Asset,
+        buying: &Asset,
+        after: Option<(Price, i64)>,
+    ) -> Result<Option<OfferEntry>, AllocError>
+        ensures { AreOffersSound (entries self.now) → IsPlacePriced after
+            → IfOk result (λ offer. offer ≡ next_offer (entries self.now) selling.now buying.now after) }
+    {
+        let Some(name) = self.offers()?.after(selling, buying, after) else {
+            return Ok(None);
+        };
+        let entry = self.find(&offer_key(name))?;
+        Ok(offer_of(&entry))
+    }
 }

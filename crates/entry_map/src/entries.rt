@@ -1,4 +1,4 @@
-//! Layers of changes over a base.
+//! A map of entries with undo.
 
 ghost use Rattle.std.specs.Prelude.{◌≡◌, IfOk, IfSome, MatchOption, OnOk};
 ghost use Rattle.std.specs.Option.{option_copied};
@@ -6,39 +6,79 @@ ghost use Rattle.std.specs.FinMap.{get};
 ghost use Rattle.ledger_types.specs.Keys.{key_of};
 ghost use Rattle.entry_map.specs.EntryMap.{IsNextAfter, put, erase};
 ghost use Rattle.entry_map.specs.Batch.{IsBatch};
+ghost use Rattle.entry_map.specs.Book.{IsPlacePriced, AreOffersSound, next_offer};
+ghost use Rattle.entry_map.specs.Indexes.{IsIndexOf};
 ghost use Rattle.entry_map.specs.Undo.{started, with_current, IsOpen, opened, undone, kept};
 
 use crate::base::Base;
 use crate::batch::Batch;
-use crate::changes::changes_of;
-use crate::layer::Layer;
-use crate::lookup::{change_at, entry_at};
-use crate::walk::entry_after;
-use ledger_types::{LedgerEntry, LedgerKey};
+use crate::index::{OfferIndex, is_of_offer, offer_in, offer_key, offer_of};
+use crate::layered::Layered;
+use ledger_types::{Asset, LedgerEntry, LedgerKey, OfferEntry, Price};
 use std::alloc::{AllocError, Global};
 use std::marker::Model;
-use std::mem;
 
-/// A map of entries with undo: layers of changes over a base, which stays as it is. Contracts see the map, the maps
-/// that are kept for undoing, and the base's map. After a call that memory was refused to it may only be dropped.
+/// A map of entries with undo: layers of changes over a base, which stays as it is, and the places of the offers behind
+/// them. Contracts see the map, the maps that are kept for undoing, and the base's map. After a call that memory was
+/// refused to it may only be dropped.
 #[derive(Drop)]
 pub struct Entries<'a, B: Base> {
     alloc: Global,
-    base: &'a B,
-    // The changes under the newest open child, the oldest first.
-    lower: Vec<Layer>,
-    top: Layer,
+    layered: Layered<'a, B>,
+    offers: OfferIndex,
+    // The indexes behind each opened child, the newest at the end.
+    saved: Vec<OfferIndex>,
+    // Whether memory was refused in the middle of a change.
+    is_broken: bool,
 }
 
 impl<'a, B: Base> Model for Entries<'a, B> {
+    ghost use Rattle.std.specs.Prelude.{◌≡◌, false};
     ghost use Rattle.entry_map.specs.Undo.{Undo, undo_code};
-    ghost use Rattle.entry_map.specs.Layers.{undo_of};
+    ghost use Rattle.entry_map.specs.Indexes.{IsIndexed};
 
     ghost Value = { Undo };
 
     ghost coded = { undo_code };
 
-    ghost view = { λ e. undo_of (B.entries e.base.now) e.lower.items e.top };
+    ghost view = { λ e. e.layered };
+
+    ghost invariant = { λ e. e.is_broken ≡ false → IsIndexed e.layered e.offers e.saved.items };
+}
+
+/// The index behind an entry that is put.
+fn index_with<B: Base>(
+    alloc: Global,
+    layered: &Layered<'_, B>,
+    offers: &OfferIndex,
+    entry: &LedgerEntry,
+) -> Result<OfferIndex, AllocError>
+    ensures { IsIndexOf layered.now.current offers.now
+        → IfOk result (IsIndexOf (put layered.now.current entry.now)) }
+{
+    let Some(offer) = offer_in(entry) else {
+        return offers.share();
+    };
+    let old = layered.get(&entry.key()?)?;
+    let left = offers.without_entry(alloc, &old)?;
+    left.with_offer(alloc, offer)
+}
+
+/// The index behind a key that is erased.
+fn index_without<B: Base>(
+    alloc: Global,
+    layered: &Layered<'_, B>,
+    offers: &OfferIndex,
+    key: &LedgerKey,
+) -> Result<OfferIndex, AllocError>
+    ensures { IsIndexOf layered.now.current offers.now
+        → IfOk result (IsIndexOf (erase layered.now.current key.now)) }
+{
+    if !is_of_offer(key) {
+        return offers.share();
+    }
+    let old = layered.get(key)?;
+    offers.without_entry(alloc, &old)
 }
 
 impl<'a, B: Base> Entries<'a, B> {
@@ -48,9 +88,10 @@ impl<'a, B: Base> Entries<'a, B> {
     {
         Ok(Entries {
             alloc,
-            base,
-            lower: Vec::new(alloc),
-            top: Layer::new(alloc),
+            layered: Layered::new(alloc, base)?,
+            offers: base.offers()?,
+            saved: Vec::new(alloc),
+            is_broken: false,
         })
     }
 
@@ -59,7 +100,7 @@ impl<'a, B: Base> Entries<'a, B> {
         ensures found { IfOk result (λ entry. entry ≡ get self.now.current key.now) }
         ensures keyed { IfOk result (λ entry. IfSome entry (λ e. key_of e ≡ key.now)) }
     {
-        entry_at(self.base, self.lower.as_slice(), &self.top, key)
+        self.layered.get(key)
     }
 
     /// What a key was changed to against the base, if it was: an entry, or none where it was erased. Nothing is copied.
@@ -67,43 +108,92 @@ impl<'a, B: Base> Entries<'a, B> {
         ensures { MatchOption result (get self.now.current key.now ≡ get self.now.base key.now)
             (λ change. get self.now.current key.now ≡ option_copied change) }
     {
-        change_at(self.lower.as_slice(), &self.top, key)
+        self.layered.changed(key)
     }
 
     /// The entry that the base has with a key.
     pub fn base_entry(&self, key: &LedgerKey) -> Result<Option<LedgerEntry>, AllocError>
         ensures { IfOk result (λ entry. entry ≡ get self.now.base key.now) }
     {
-        self.base.find(key)
+        self.layered.base_entry(key)
     }
 
     /// The entry with the least key above a key.
     pub fn next_after(&self, key: &LedgerKey) -> Result<Option<LedgerEntry>, AllocError>
         ensures { IfOk result (IsNextAfter self.now.current key.now) }
     {
-        entry_after(self.base, self.lower.as_slice(), &self.top, key)
+        self.layered.next_after(key)
+    }
+
+    /// The first offer of a pair's book behind a price and an id, or at its head. None exactly where there is none.
+    pub fn offer_after(
+        &self,
+        selling: &Asset,
+        buying: &Asset,
+        after: Option<(Price, i64)>,
+    ) -> Result<Option<OfferEntry>, AllocError>
+        ensures { AreOffersSound self.now.current → IsPlacePriced after
+            → IfOk result (λ offer. offer ≡ next_offer self.now.current selling.now buying.now after) }
+    {
+        if self.is_broken {
+            return Err(AllocError);
+        }
+        let Some(name) = self.offers.after(selling, buying, after) else {
+            return Ok(None);
+        };
+        let entry = self.layered.get(&offer_key(name))?;
+        Ok(offer_of(&entry))
+    }
+
+    /// The index of the map's offers.
+    pub fn offers(&self) -> Result<OfferIndex, AllocError>
+        ensures { IfOk result (IsIndexOf self.now.current) }
+    {
+        if self.is_broken {
+            return Err(AllocError);
+        }
+        self.offers.share()
     }
 
     /// Puts an entry under its key, in place of what stood there.
     pub fn put(&mut self, entry: LedgerEntry) -> Result<(), AllocError>
         ensures { OnOk result (self.new ≡ with_current self.old (put self.old.current entry)) }
     {
-        self.top.put(self.alloc, entry)
+        if self.is_broken {
+            return Err(AllocError);
+        }
+        self.is_broken = true;
+        self.offers = index_with(self.alloc, &self.layered, &self.offers, &entry)?;
+        self.layered.put(entry)?;
+        self.is_broken = false;
+        Ok(())
     }
 
     /// Removes what stands under a key, if anything does.
     pub fn erase(&mut self, key: &LedgerKey) -> Result<(), AllocError>
         ensures { OnOk result (self.new ≡ with_current self.old (erase self.old.current key.now)) }
     {
-        self.top.erase(key)
+        if self.is_broken {
+            return Err(AllocError);
+        }
+        self.is_broken = true;
+        self.offers = index_without(self.alloc, &self.layered, &self.offers, key)?;
+        self.layered.erase(key)?;
+        self.is_broken = false;
+        Ok(())
     }
 
     /// Opens a child, whose changes can be undone together.
     pub fn child(&mut self) -> Result<(), AllocError>
         ensures { OnOk result (self.new ≡ opened self.old) }
     {
-        let top = mem::replace(&mut self.top, Layer::new(self.alloc));
-        self.lower.push(top)?;
+        if self.is_broken {
+            return Err(AllocError);
+        }
+        self.is_broken = true;
+        self.saved.push(self.offers.share()?)?;
+        self.layered.child()?;
+        self.is_broken = false;
         Ok(())
     }
 
@@ -112,10 +202,13 @@ impl<'a, B: Base> Entries<'a, B> {
         requires { IsOpen self.old }
         ensures { OnOk result (self.new ≡ kept self.old) }
     {
-        if let Some(below) = self.lower.pop() {
-            let top = mem::replace(&mut self.top, below);
-            self.top.absorb(top)?;
+        if self.is_broken {
+            return Err(AllocError);
         }
+        self.is_broken = true;
+        self.saved.pop();
+        self.layered.commit()?;
+        self.is_broken = false;
         Ok(())
     }
 
@@ -124,15 +217,16 @@ impl<'a, B: Base> Entries<'a, B> {
         requires { IsOpen self.old }
         ensures { self.new ≡ undone self.old }
     {
-        if let Some(below) = self.lower.pop() {
-            self.top = below;
+        if let Some(offers) = self.saved.pop() {
+            self.offers = offers;
         }
+        self.layered.drop_child();
     }
 
     /// What changed against the base.
     pub fn changes(&self) -> Result<Batch, AllocError>
         ensures { IfOk result (IsBatch self.now.base self.now.current) }
     {
-        changes_of(self.alloc, self.base, self.lower.as_slice(), &self.top)
+        self.layered.changes()
     }
 }

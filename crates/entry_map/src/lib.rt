@@ -5,13 +5,18 @@ mod base;
 mod batch;
 mod changes;
 mod entries;
+mod index;
 mod key_map;
+pub mod laws;
 mod layer;
+mod layered;
 mod lookup;
 mod map_base;
+mod place;
 mod walk;
 
 pub use base::Base;
 pub use batch::Batch;
 pub use entries::Entries;
+pub use index::OfferIndex;
 pub use map_base::MapBase;

@@ -8,6 +8,7 @@ ghost use Rattle.ledger_types.specs.Keys.{key_of};
 ghost use Rattle.ledger_types.specs.KeyOrder.{key_cmp};
 
 use crate::base::Base;
+use crate::index::OfferIndex;
 use crate::key_map::KeyMap;
 use item_list::Boxed;
 use ledger_types::{LedgerEntry, LedgerKey};
@@ -19,13 +20,15 @@ use std::marker::Model;
 pub struct MapBase {
     // Boxed, so that a node of the tree has room for the entries' places alone.
     entries: KeyMap<Boxed<LedgerEntry>>,
+    offers: OfferIndex,
 }
 
 impl Model for MapBase {
     ghost use Rattle.std.specs.FinMap as map;
     ghost use Rattle.ledger_types.specs.contracts.key.LedgerKey as keys;
     ghost use Rattle.ledger_types.specs.contracts.entry.LedgerEntry as entry;
-    ghost use Rattle.entry_map.specs.EntryMap.{EntryMap, IsKeyed};
+    ghost use Rattle.entry_map.specs.EntryMap.{EntryMap};
+    ghost use Rattle.entry_map.specs.Indexes.{IsIndexOf};
 
     ghost Value = { EntryMap };
 
@@ -33,7 +36,7 @@ impl Model for MapBase {
 
     ghost view = { λ base. base.entries };
 
-    ghost invariant = { λ base. IsKeyed base.entries };
+    ghost invariant = { λ base. IsIndexOf base.entries base.offers };
 }
 
 impl MapBase {
@@ -42,12 +45,15 @@ impl MapBase {
         requires { IsDistinct (eq_by_cmp key_cmp) (map key_of entries.items) }
         ensures { IfOk result (λ base. base ≡ from_entries (map (λ e. (key_of e, e)) entries.items)) }
     {
-        let mut pairs = Vec::with_capacity(*entries.allocator(), entries.len())?;
+        let alloc = *entries.allocator();
+        let offers = OfferIndex::from_entries(alloc, entries.as_slice())?;
+        let mut pairs = Vec::with_capacity(alloc, entries.len())?;
         for entry in entries {
             push_pair(&mut pairs, entry)?;
         }
         Ok(MapBase {
             entries: KeyMap::from_pairs(pairs)?,
+            offers,
         })
     }
 }
@@ -80,5 +86,9 @@ impl Base for MapBase {
             None => Ok(None),
             Some((_, entry)) => Ok(Some(entry.get().copy()?)),
         }
+    }
+
+    fn offers(&self) -> Result<OfferIndex, AllocError> {
+        self.offers.share()
     }
 }

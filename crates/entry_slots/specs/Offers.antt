@@ -8,16 +8,8 @@ use Rattle.ledger_types.specs.declared.entry.LedgerEntryBody.{LedgerEntryBody}
 use Rattle.ledger_types.specs.declared.entry.LedgerEntryBody.TheVariants as body
 use Rattle.ledger_types.specs.declared.key.LedgerKey.TheVariants as key
 use Rattle.entry_map.specs.EntryMap.{EntryMap, put}
+pub use Rattle.entry_map.specs.Book.{offer_in, offer_of}
 use Rattle.entry_slots.specs.declared.offers.OfferSlot.{OfferSlot}
-
--- an offer, where the body is one
-abbrev pub offer_in : LedgerEntryBody → Option OfferEntry
-offer_in (body.Offer offer) = Some offer
-offer_in other = None
-
-abbrev pub offer_of : Option LedgerEntry → Option OfferEntry
-offer_of None = None
-offer_of (Some entry) = offer_in entry.body
 
 -- the seller's offer with this id, if it stands
 unfoldable pub offer_at : EntryMap → AccountId → ℤ → Option OfferEntry

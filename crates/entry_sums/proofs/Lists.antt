@@ -17,11 +17,11 @@ use Rattle.entry_sums.specs.Sums.{Weight, sum_over, part}
 abbrev pub Pairs : Type 0
 Pairs = List (LedgerKey × LedgerEntry)
 
-first_of_both : (a b : Bool) → T (a && b) → T a
+pub first_of_both : (a b : Bool) → T (a && b) → T a
 first_of_both true b p = tt
 first_of_both false b p = p
 
-second_of_both : (a b : Bool) → T (a && b) → T b
+pub second_of_both : (a b : Bool) → T (a && b) → T b
 second_of_both true b p = p
 second_of_both false b p = absurd p
 
@@ -80,10 +80,10 @@ sum_over-put f k v (e ∷ es) h =
       | Greater ↦ λ p. put_later (f e.1) _ _ _ _ (sum_over-put f k v es (second_of_both _ _ h))
     ] refl
 
-found_first : (e : LedgerKey × LedgerEntry) (es : Pairs) → find key_cmp e.0 (e ∷ es) ≡ Some e.1
+pub found_first : (e : LedgerKey × LedgerEntry) (es : Pairs) → find key_cmp e.0 (e ∷ es) ≡ Some e.1
 found_first e es = ap (λ r. cond (is_eq r) (Some e.1) (find key_cmp e.0 es)) (tied_itself keys_total e.0)
 
-found_later : (e : LedgerKey × LedgerEntry) (es : Pairs) (k : LedgerKey) (x : LedgerEntry)
+pub found_later : (e : LedgerKey × LedgerEntry) (es : Pairs) (k : LedgerKey) (x : LedgerEntry)
     → T (below_all key_cmp e.0 es) → find key_cmp k es ≡ Some x → find key_cmp k (e ∷ es) ≡ Some x
 found_later e es k x h there = elim (key_cmp k e.0) as (λ r. key_cmp k e.0 ≡ r
     → cond (is_eq r) (Some e.1) (find key_cmp k es) ≡ Some x) [

@@ -5,3 +5,4 @@ pub mod Places
 pub mod Tables
 pub mod Above
 pub mod Batches
+pub mod Stamped

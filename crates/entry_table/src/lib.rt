@@ -4,6 +4,7 @@
 
 mod kept;
 mod next;
+mod offers;
 mod rows;
 mod table;
 

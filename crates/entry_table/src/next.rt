@@ -5,12 +5,13 @@ ghost use Rattle.ledger_types.specs.Keys.{key_of};
 ghost use Rattle.entry_map.specs.EntryMap.{EntryMap, IsKeyed};
 ghost use Rattle.entry_map.specs.KeyMaps.{AreRising};
 ghost use Rattle.entry_map.specs.Batch.{IsBatch};
+ghost use Rattle.entry_map.specs.Indexes.{IsIndexOf};
 ghost use Rattle.entry_changes.specs.Next.{stamped, AreNextEntries, IsExactBatch};
 ghost use Rattle.entry_table.specs.Rows.{IsRising, IsOverlaid, IsWithout, IsRowBehind, with_key, putting, taking};
 
 use crate::kept::{Kept, kept_entry};
 use crate::table::EntryTable;
-use entry_map::Batch;
+use entry_map::{Batch, OfferIndex};
 use item_list::ItemList;
 use ledger_types::{LedgerEntry, LedgerKey};
 use shared_tree::{Change, Tree};
@@ -118,10 +119,16 @@ fn next_tree(
 }
 
 impl EntryTable {
-    /// The table behind ledger `seq`, by the batch of what its transactions changed: gives the batch's entries the
-    /// number, and shares all others. It costs what the batch costs, and not what the table has.
-    pub fn next(&self, seq: u32, batch: &mut Batch) -> Result<EntryTable, AllocError>
-        requires { (worked : EntryMap) × IsKeyed worked × IsBatch self.now worked batch.old }
+    /// The table behind ledger `seq`, by the batch of what its transactions changed and the index of the offers that
+    /// they left: gives the batch's entries the number, and shares all others. It costs what the batch costs, and not
+    /// what the table has.
+    pub fn next(
+        &self,
+        seq: u32,
+        batch: &mut Batch,
+        offers: OfferIndex,
+    ) -> Result<EntryTable, AllocError>
+        requires { (worked : EntryMap) × IsIndexOf worked offers × IsBatch self.now worked batch.old }
         ensures next { (worked : EntryMap) → IsKeyed worked → IsBatch self.now worked batch.old
             → IfOk result (λ after. AreNextEntries seq self.now worked after × IsExactBatch self.now after batch.new) }
         ensures keyed { IsKeyed self.now }
@@ -130,6 +137,6 @@ impl EntryTable {
         stamp_list(seq, &mut batch.init);
         stamp_list(seq, &mut batch.live);
         let tree = next_tree(&self.tree, batch)?;
-        Ok(EntryTable { tree })
+        Ok(EntryTable { tree, offers })
     }
 }

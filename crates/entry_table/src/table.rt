@@ -9,17 +9,19 @@ ghost use Rattle.shared_tree.specs.Rows.{first_above};
 ghost use Rattle.entry_table.specs.Rows.{IsRising, IsTableRow};
 
 use crate::kept::Kept;
-use entry_map::Base;
+use crate::offers::offers_in_row;
+use entry_map::{Base, OfferIndex};
 use ledger_types::{LedgerEntry, LedgerKey};
 use shared_tree::Tree;
 use std::alloc::{AllocError, Global};
 use std::marker::Model;
 
-/// The entries behind a closed ledger, in the rising order of their keys. It never changes, and the table behind the
-/// next ledger shares the entries that stay. Contracts see the map.
+/// The entries behind a closed ledger, in the rising order of their keys, and the index of the offers among them. It
+/// never changes, and the table behind the next ledger shares what stays. Contracts see the map.
 #[derive(Drop)]
 pub struct EntryTable {
     pub(crate) tree: Tree<LedgerKey, LedgerEntry>,
+    pub(crate) offers: OfferIndex,
 }
 
 impl Model for EntryTable {
@@ -27,7 +29,7 @@ impl Model for EntryTable {
     ghost use Rattle.ledger_types.specs.contracts.key.LedgerKey as keys;
     ghost use Rattle.ledger_types.specs.contracts.entry.LedgerEntry as entry;
     ghost use Rattle.entry_map.specs.EntryMap.{EntryMap};
-    ghost use Rattle.entry_table.specs.Rows.{IsTableRow, map_of};
+    ghost use Rattle.entry_table.specs.Rows.{IsTable, map_of};
 
     ghost Value = { EntryMap };
 
@@ -35,7 +37,7 @@ impl Model for EntryTable {
 
     ghost view = { λ table. map_of table.tree };
 
-    ghost invariant = { λ table. IsTableRow table.tree };
+    ghost invariant = { λ table. IsTable table.tree table.offers };
 }
 
 impl EntryTable {
@@ -45,8 +47,9 @@ impl EntryTable {
         ensures map { IfOk result (λ table. table ≡ from_entries row.items) }
         ensures values { IfOk result (λ table. values table ≡ map (λ x. x.1) row.items) }
     {
+        let offers = offers_in_row(alloc, row.as_slice())?;
         let tree = Tree::of_row(alloc, row.as_slice())?;
-        Ok(EntryTable { tree })
+        Ok(EntryTable { tree, offers })
     }
 
     /// How many entries there are.
@@ -100,5 +103,9 @@ impl Base for EntryTable {
 
     fn next_after(&self, key: &LedgerKey) -> Result<Option<LedgerEntry>, AllocError> {
         copied(entry_above(&self.tree, key))
+    }
+
+    fn offers(&self) -> Result<OfferIndex, AllocError> {
+        self.offers.share()
     }
 }

@@ -8,6 +8,7 @@ use Rattle.xdr_header.specs.declared.record.CloseRecord.{CloseRecord}
 use Rattle.entry_map.specs.declared.batch.Batch.{Batch}
 use Rattle.entry_map.specs.EntryMap.{EntryMap, IsKeyed}
 use Rattle.entry_map.specs.Batch.{IsBatch}
+use Rattle.entry_map.specs.Indexes.{PlaceSet, IsIndexOf}
 use Rattle.entry_map.specs.Undo.{Undo, started}
 use Rattle.entry_sums.specs.Sums.{EachEntry}
 use Rattle.tx_apply.specs.declared.set.SetDone.{SetDone}
@@ -73,3 +74,10 @@ applied_batch s closing old new done batch begun answer told =
     subst (λ (u : Undo). IsBatch u.base (set_done (setting_in s closing) closing.tx_set u.current).entries batch)
     begun
     behind
+
+pub applied_index : (s : ClosingState) (closing : CloseRecord) (old new : Undo) (done : SetDone) (index : PlaceSet)
+    → old ≡ started s.entries → IsAnswer (setting_in s closing) closing.tx_set old new (Ok done)
+    → IsIndexOf new.current index → IsIndexOf (applied_in s closing).entries index
+applied_index s closing old new done index begun answer is =
+    subst (λ (u : Undo). IsIndexOf (set_done (setting_in s closing) closing.tx_set u.current).entries index) begun
+    (subst (λ (u : Undo). IsIndexOf u.current index) answer.1.entries is)

@@ -58,7 +58,10 @@ impl Ledger {
             Err(fault) => return Err(fault_of(fault)),
         };
         let mut batch = entries.changes()?;
-        let next = self.entries.next(self.header.ledger_seq + 1, &mut batch)?;
+        let offers = entries.offers()?;
+        let next = self
+            .entries
+            .next(self.header.ledger_seq + 1, &mut batch, offers)?;
         Ok(Worked {
             done,
             entries: next,

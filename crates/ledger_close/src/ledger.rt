@@ -9,7 +9,7 @@ ghost use Rattle.close_rules.specs.Close.{IsClose};
 use crate::prepare::Prepared;
 use bucket_levels::Levels;
 use close_laws::closes::{next_is_closing, taken_is_closable};
-use entry_map::Base;
+use entry_map::{Base, OfferIndex};
 use entry_table::EntryTable;
 use ledger_types::{Hash, LedgerEntry, LedgerHeader, LedgerKey};
 use std::alloc::AllocError;
@@ -96,5 +96,9 @@ impl Base for Ledger {
 
     fn next_after(&self, key: &LedgerKey) -> Result<Option<LedgerEntry>, AllocError> {
         self.entries.next_after(key)
+    }
+
+    fn offers(&self) -> Result<OfferIndex, AllocError> {
+        self.entries.offers()
     }
 }

@@ -20,7 +20,7 @@ use Rattle.entry_slots.specs.Lines.{line_of}
 use Rattle.entry_sums.proofs.Lookups.{put_there}
 use Rattle.legal_rules.specs.Books.{Kind, Subentries, Sponsoring, Sponsored, Selling, Buying, Shares, ShareLines, Uses}
 use Rattle.legal_rules.specs.Books.{counted, stated_at}
-use Rattle.legal_rules.specs.OfferLiabilities.{bound_of}
+use Rattle.offer_exchange.specs.Exchange.{liabilities, wheat_stays}
 use Rattle.legal_rules.specs.Legal.{IsLegal, IsAuthorized}
 use Rattle.legal_rules.specs.Supply.{held}
 use Rattle.legal_rules.specs.OfferIds.{offer_with}
@@ -61,7 +61,7 @@ a_line_that_sells_less_than_its_offer_list =
     entry_by None (body.TrustLine (record dollars { ext = line_ext (pos 9) (pos 1) })) ∷ whole_list
 
 a_line_that_sells_less_than_its_offer : IsLegal whole_header (state_of a_line_that_sells_less_than_its_offer_list) → ⊥
-unfolding bound_of
+unfolding liabilities wheat_stays
 a_line_that_sells_less_than_its_offer =
     unbooked whole_header a_line_that_sells_less_than_its_offer_list Selling
     (key_of (entry_by None (body.TrustLine dollars))) refl
@@ -73,7 +73,7 @@ an_account_that_buys_less_than_its_offer_list =
 
 an_account_that_buys_less_than_its_offer : IsLegal whole_header
     (state_of an_account_that_buys_less_than_its_offer_list) → ⊥
-unfolding bound_of
+unfolding liabilities wheat_stays
 an_account_that_buys_less_than_its_offer =
     unbooked whole_header an_account_that_buys_less_than_its_offer_list Buying (key.Account owner) refl
 
@@ -83,7 +83,7 @@ an_account_that_sells_without_offer_list =
     (body.Account (record owner_account { ext = account_ext (pos 20) (pos 1) 6 0 (Some sponsor ∷ []) })) ∷ whole_list
 
 an_account_that_sells_without_offer : IsLegal whole_header (state_of an_account_that_sells_without_offer_list) → ⊥
-unfolding bound_of
+unfolding liabilities wheat_stays
 an_account_that_sells_without_offer =
     unbooked whole_header an_account_that_sells_without_offer_list Selling (key.Account owner) refl
 

@@ -144,6 +144,21 @@ spendable : (balance least selling amount : ℤ) → pos 0 ≤ℤ least → pos 
 spendable balance least selling amount low also le = omega (arith, ints)
 
 -- what an account can spend is at most its balance
+-- what has to be kept is at least nothing
+pub minimum_not_below : (v : View) (id_pool : ℕ) (owed : Owed) (lumens : ℤ) (m : EntryMap) (id : AccountId)
+    (a : AccountEntry) (base_reserve : ℕ) → IsLegalOwing v id_pool owed lumens m
+    → owed Subentries (key.Account id) ≤ℤ owed Sponsored (key.Account id) → account_at m id ≡ Some a
+    → pos 0 ≤ℤ min_balance a base_reserve
+minimum_not_below v id_pool owed lumens m id a base_reserve legal none stands =
+    let few = sponsored_at_most v id_pool owed lumens m (key.Account id) legal none in
+    let sponsored = account_states m id a Sponsored stands in
+    let subs = account_states m id a Subentries stands in
+    minimum_low a.num_sub_entries (num_sponsoring a) (num_sponsored a) base_reserve (few_of _ _ _ _ sponsored subs few)
+  where
+    few_of : (stated_sponsored stated_subs sponsored subs : ℤ) → stated_sponsored ≡ sponsored → stated_subs ≡ subs
+        → stated_sponsored ≤ℤ (stated_subs +ℤ pos 2) → sponsored ≤ℤ (subs +ℤ pos 2)
+    few_of stated_sponsored stated_subs sponsored subs is also few = omega (arith, ints)
+
 pub not_above_balance : (v : View) (id_pool : ℕ) (owed : Owed) (lumens : ℤ) (m : EntryMap) (id : AccountId)
     (a : AccountEntry) (base_reserve : ℕ) (amount : ℤ) → IsLegalOwing v id_pool owed lumens m
     → owed Subentries (key.Account id) ≤ℤ owed Sponsored (key.Account id) → account_at m id ≡ Some a
@@ -152,13 +167,5 @@ not_above_balance v id_pool owed lumens m id a base_reserve amount legal none st
     let found = account_entry m id a stands in
     let range : IsAccountInRange a = subst (IsBodyInRange id_pool) found.1.is
     (legal.entries (key.Account id) found.0 found.1.there).range.body in
-    let few = sponsored_at_most v id_pool owed lumens m (key.Account id) legal none in
-    let sponsored = account_states m id a Sponsored stands in
-    let subs = account_states m id a Subentries stands in
     spendable a.balance (min_balance a base_reserve) (account_liabilities a).selling amount
-    (minimum_low a.num_sub_entries (num_sponsoring a) (num_sponsored a) base_reserve
-    (few_of _ _ _ _ sponsored subs few)) range.range.selling le
-  where
-    few_of : (stated_sponsored stated_subs sponsored subs : ℤ) → stated_sponsored ≡ sponsored → stated_subs ≡ subs
-        → stated_sponsored ≤ℤ (stated_subs +ℤ pos 2) → sponsored ≤ℤ (subs +ℤ pos 2)
-    few_of stated_sponsored stated_subs sponsored subs is also few = omega (arith, ints)
+    (minimum_not_below v id_pool owed lumens m id a base_reserve legal none stands) range.range.selling le

@@ -114,7 +114,7 @@ module _ (selling buying : ℤ) (a : AccountEntry) where
   abbrev b : AccountEntry
   b = bound_account selling buying a
 
-  second : second_in b.ext ≡ second_in a.ext
+  pub second : second_in b.ext ≡ second_in a.ext
   second = same_second (risen selling buying (account_liabilities a)) a.ext
 
   now : account_liabilities b ≡ risen selling buying (account_liabilities a)

@@ -40,3 +40,13 @@ pub mod Breaking
 pub mod Rounded
 pub mod SharesKept
 pub mod ShareLinesKept
+pub mod Passed
+pub mod Holdings
+pub mod Leaving
+pub mod Multiples
+pub mod ReservesLeft
+pub mod ChargesLeft
+pub mod LinesLeft
+pub mod MayOwe
+pub mod Counted
+pub mod Freed

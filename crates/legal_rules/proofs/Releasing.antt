@@ -54,7 +54,7 @@ use Rattle.legal_rules.proofs.Numbers.{natural_some}
 -- ---- ranges
 
 module _ (selling buying : ℤ) where
-  bound_in_range : (a : AccountEntry) → IsInRange a → pos 0 ≤ℤ ((account_liabilities a).selling +ℤ selling)
+  pub bound_in_range : (a : AccountEntry) → IsInRange a → pos 0 ≤ℤ ((account_liabilities a).selling +ℤ selling)
       → pos 0 ≤ℤ ((account_liabilities a).buying +ℤ buying)
       → (a.balance +ℤ ((account_liabilities a).buying +ℤ buying)) ≤ℤ greatest_i64
       → IsInRange (bound_account selling buying a)
@@ -67,7 +67,7 @@ module _ (selling buying : ℤ) where
         fits = subst (λ (l : Liabilities). (a.balance +ℤ l.buying) ≤ℤ greatest_i64) now fits;
       }
 
-  line_in_range : (t : TrustLineEntry) → IsLineInRange t → pos 0 ≤ℤ ((line_liabilities t).selling +ℤ selling)
+  pub line_in_range : (t : TrustLineEntry) → IsLineInRange t → pos 0 ≤ℤ ((line_liabilities t).selling +ℤ selling)
       → pos 0 ≤ℤ ((line_liabilities t).buying +ℤ buying)
       → ((line_liabilities t).selling +ℤ selling) ≤ℤ t.balance
       → (t.balance +ℤ ((line_liabilities t).buying +ℤ buying)) ≤ℤ t.limit → IsLineInRange (bound_line selling buying t)

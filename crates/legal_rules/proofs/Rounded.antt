@@ -1,10 +1,10 @@
 -- What offers bind, evaluated.
 use Rattle.std.proofs.Common.{refl}
-use Rattle.legal_rules.specs.OfferLiabilities.{bound_of}
+use Rattle.offer_exchange.specs.Exchange.{liabilities, wheat_stays}
 use Rattle.legal_rules.specs.WholeStates.{BoundsAreRounded}
 
 pub bounds_are_rounded : BoundsAreRounded
-unfolding bound_of
+unfolding liabilities wheat_stays
 bounds_are_rounded = record {
   exact = refl;
   two_thirds = refl;

@@ -57,7 +57,7 @@ by_body which c m id e (body.Account a) is there own le = record {
 }
 by_body which c m id e other is there own le = absurd (cc)
 
-by_entry : (which : Count) (c : ℕ) (m : EntryMap) (id : AccountId) (o : Option LedgerEntry)
+pub by_entry : (which : Count) (c : ℕ) (m : EntryMap) (id : AccountId) (o : Option LedgerEntry)
     → get m (key.Account id) ≡ o → EachEntry (λ k e. key_of e ≡ k) m → 1 ≤ c
     → pos c ≤ℤ stated_at (book_of which) o → StandsWith which c m id
 by_entry which c m id None there keyed some le = absurd (too_few c _ some le refl)

@@ -23,7 +23,7 @@ use Rattle.valid_values.specs.Assets.{is_valid_code, is_valid_asset}
 use Rattle.valid_values.specs.Predicates.{is_valid_below, is_valid_stored_predicate}
 use Rattle.entry_map.proofs.KeyMaps.{same_itself}
 use Rattle.legal_rules.specs.Books.{Kind, Subentries, Sponsoring, Sponsored, Selling, Buying, Shares, ShareLines, Uses}
-use Rattle.legal_rules.specs.OfferLiabilities.{bound_of}
+use Rattle.offer_exchange.specs.Exchange.{liabilities, wheat_stays}
 use Rattle.legal_rules.specs.OfferIds.{offer_with}
 use Rattle.legal_rules.specs.Headers.{IsHeaderInRange}
 use Rattle.legal_rules.specs.Owing.{IsEntryLegal, weight}
@@ -136,7 +136,7 @@ abbrev open_at : Kind → LedgerEntry → ℤ
 open_at kind e = value (weight (view_in asset.Native whole_list) kind (key_of e)) whole_list
 
 even_sale : (kind : Kind) → open_at kind the_sale ≡ pos 0
-unfolding bound_of
+unfolding liabilities wheat_stays
 even_sale Subentries = refl
 even_sale Sponsoring = refl
 even_sale Sponsored = refl
@@ -147,7 +147,7 @@ even_sale ShareLines = refl
 even_sale Uses = rw same_pool refl
 
 even_issuer : (kind : Kind) → open_at kind the_issuer ≡ pos 0
-unfolding bound_of
+unfolding liabilities wheat_stays
 even_issuer Subentries = refl
 even_issuer Sponsoring = refl
 even_issuer Sponsored = refl
@@ -158,7 +158,7 @@ even_issuer ShareLines = refl
 even_issuer Uses = rw same_pool refl
 
 even_owner : (kind : Kind) → open_at kind the_owner ≡ pos 0
-unfolding bound_of
+unfolding liabilities wheat_stays
 even_owner Subentries = refl
 even_owner Sponsoring = refl
 even_owner Sponsored = refl
@@ -169,7 +169,7 @@ even_owner ShareLines = refl
 even_owner Uses = rw same_pool refl
 
 even_sponsor : (kind : Kind) → open_at kind the_sponsor ≡ pos 0
-unfolding bound_of
+unfolding liabilities wheat_stays
 even_sponsor Subentries = refl
 even_sponsor Sponsoring = refl
 even_sponsor Sponsored = refl
@@ -180,7 +180,7 @@ even_sponsor ShareLines = refl
 even_sponsor Uses = rw same_pool refl
 
 even_dollars : (kind : Kind) → open_at kind the_dollars ≡ pos 0
-unfolding bound_of
+unfolding liabilities wheat_stays
 even_dollars Subentries = refl
 even_dollars Sponsoring = refl
 even_dollars Sponsored = refl
@@ -191,7 +191,7 @@ even_dollars ShareLines = refl
 even_dollars Uses = rw same_pool refl
 
 even_shares : (kind : Kind) → open_at kind the_shares ≡ pos 0
-unfolding bound_of
+unfolding liabilities wheat_stays
 even_shares Subentries = rw same_pool refl
 even_shares Sponsoring = rw same_pool refl
 even_shares Sponsored = rw same_pool refl
@@ -202,7 +202,7 @@ even_shares ShareLines = rw same_pool refl
 even_shares Uses = rw same_pool refl
 
 even_note : (kind : Kind) → open_at kind the_note ≡ pos 0
-unfolding bound_of
+unfolding liabilities wheat_stays
 even_note Subentries = refl
 even_note Sponsoring = refl
 even_note Sponsored = refl
@@ -213,7 +213,7 @@ even_note ShareLines = refl
 even_note Uses = rw same_pool refl
 
 even_promise : (kind : Kind) → open_at kind the_promise ≡ pos 0
-unfolding bound_of
+unfolding liabilities wheat_stays
 even_promise Subentries = refl
 even_promise Sponsoring = refl
 even_promise Sponsored = refl
@@ -224,7 +224,7 @@ even_promise ShareLines = refl
 even_promise Uses = rw same_pool refl
 
 even_pool : (kind : Kind) → open_at kind the_pool ≡ pos 0
-unfolding bound_of
+unfolding liabilities wheat_stays
 even_pool Subentries = rw same_pool refl
 even_pool Sponsoring = rw same_pool refl
 even_pool Sponsored = rw same_pool refl
@@ -283,7 +283,7 @@ two_apart zero (suc (suc j)) d below within = absurd (omega arith)
 two_apart (suc i) j d below within = absurd (omega arith)
 
 legal_sale : IsEntryLegal 1 the_sale
-unfolding bound_of is_valid_asset is_valid_code
+unfolding liabilities wheat_stays is_valid_asset is_valid_code
 legal_sale = record {
   range = record {
     body = record {

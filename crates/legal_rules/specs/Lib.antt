@@ -25,3 +25,5 @@ pub mod Consequences
 pub mod FirstStates
 pub mod WholeStates
 pub mod ShareLaws
+pub mod Holdings
+pub mod OneMore

@@ -1,13 +1,17 @@
 -- What entries hold of an asset: balances of accounts and lines, claimable balances and the reserves of pools.
-use Rattle.std.specs.Prelude.{ℤ, pos, ◌+ℤ◌, if◌then◌else◌}
+use Rattle.std.specs.Prelude.{ℤ, pos, ◌+ℤ◌, Option, Some, None, if◌then◌else◌}
 use Rattle.std.specs.Ordering.{is_eq}
+use Rattle.ledger_types.specs.declared.ids.AccountId.{AccountId}
 use Rattle.ledger_types.specs.declared.asset.Asset.{Asset}
 use Rattle.ledger_types.specs.declared.asset.Asset.TheVariants as asset
 use Rattle.ledger_types.specs.declared.asset.TrustLineAsset.{TrustLineAsset}
 use Rattle.ledger_types.specs.declared.asset.TrustLineAsset.TheVariants as line
+use Rattle.ledger_types.specs.declared.account.AccountEntry.{AccountEntry}
 use Rattle.ledger_types.specs.declared.entry.LedgerEntryBody.{LedgerEntryBody}
 use Rattle.ledger_types.specs.declared.entry.LedgerEntryBody.TheVariants as body
 use Rattle.ledger_types.specs.KeyOrder.{asset_cmp}
+use Rattle.entry_map.specs.EntryMap.{EntryMap}
+use Rattle.entry_slots.specs.Accounts.{account_at}
 use Rattle.entry_sums.specs.Sums.{Weight}
 
 -- n of an asset, where that is the one asked for
@@ -36,3 +40,13 @@ held_in x other = pos 0
 
 abbrev pub held : Asset → Weight
 held x e = held_in x e.body
+
+-- ---- accounts
+
+abbrev pub lumens_in : Option AccountEntry → ℤ
+lumens_in None = pos 0
+lumens_in (Some account) = account.balance
+
+-- the lumens of an account; one that doesn't stand has none
+abbrev pub lumens_at : EntryMap → AccountId → ℤ
+lumens_at m id = lumens_in (account_at m id)

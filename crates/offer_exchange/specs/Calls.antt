@@ -7,11 +7,6 @@ use Rattle.offer_exchange.specs.declared.trade.Exchanged.{Exchanged}
 use Rattle.offer_exchange.specs.declared.rounding.Rounding.{Rounding}
 use Rattle.offer_exchange.specs.Exchange.{Bounds, Amounts, wheat_stays, exchanged, liabilities}
 
--- a price whose parts are at least 1
-pub record IsPriced (price : Price) : Type 0 where
-  pub n : pos 1 ≤ℤ price.n
-  pub d : pos 1 ≤ℤ price.d
-
 -- bounds of at least 0
 pub record AreBounds (bounds : BoundsOfCall) : Type 0 where
   pub wheat_send : pos 0 ≤ℤ bounds.wheat_send

@@ -4,7 +4,8 @@ ghost use Rattle.std.specs.Prelude.{◌≡◌, pos, ◌≤ℤ◌, unsigned_abs};
 ghost use Rattle.offer_exchange.specs.Exchange as spec;
 ghost use Rattle.offer_exchange.specs.Exchange.{adjusted};
 ghost use Rattle.offer_exchange.specs.Laws.{IsBound, StaysAdjusted};
-ghost use Rattle.offer_exchange.specs.Calls.{IsPriced, AreBounds, AreLiabilities, parts_of, bounds_of};
+ghost use Rattle.ledger_types.specs.Prices.{IsPriced};
+ghost use Rattle.offer_exchange.specs.Calls.{AreBounds, AreLiabilities, parts_of, bounds_of};
 
 use crate::bounds::Bounds;
 use crate::rounding::Rounding;

@@ -3,7 +3,8 @@
 ghost use Rattle.std.specs.Prelude.{◌≡◌, ◌<◌, ◌^◌, pos, ◌≤ℤ◌, min, unsigned_abs};
 ghost use Rattle.offer_exchange.specs.Exchange as spec;
 ghost use Rattle.offer_exchange.specs.Laws.{AreWithin};
-ghost use Rattle.offer_exchange.specs.Calls.{IsPriced, AreBounds, parts_of, bounds_of};
+ghost use Rattle.ledger_types.specs.Prices.{IsPriced};
+ghost use Rattle.offer_exchange.specs.Calls.{AreBounds, parts_of, bounds_of};
 ghost use Rattle.offer_exchange.specs.Parts.{AreParts, amounts};
 
 use crate::bounds::Bounds;

@@ -1,7 +1,8 @@
 //! A trade with a resting offer.
 
 ghost use Rattle.offer_exchange.specs.Laws.{AreWithin};
-ghost use Rattle.offer_exchange.specs.Calls.{IsPriced, AreBounds, IsExchange, bounds_of, amounts_of};
+ghost use Rattle.ledger_types.specs.Prices.{IsPriced};
+ghost use Rattle.offer_exchange.specs.Calls.{AreBounds, IsExchange, bounds_of, amounts_of};
 
 use crate::bounds::Bounds;
 use crate::rounding::Rounding;

@@ -45,7 +45,7 @@ use Rattle.op_laws.proofs.Payment.{payment_is_lawful}
 use Rattle.op_laws.proofs.Revoking.{revoke_sponsorship_is_lawful}
 use Rattle.op_laws.proofs.SetOptions.{set_options_is_lawful}
 use Rattle.op_laws.proofs.Sponsorships.{begin_sponsoring_is_lawful, end_sponsoring_is_lawful}
-use Rattle.op_laws.proofs.Standing.{leaves_itself}
+use Rattle.legal_rules.proofs.Leaving.{leaves_itself}
 use Rattle.op_laws.proofs.TrustLines.{change_trust_is_lawful}
 
 -- An operation that fails leaves all as it was.

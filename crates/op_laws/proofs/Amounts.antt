@@ -33,12 +33,13 @@ use Rattle.op_form.specs.Lumens.{map_after_lumens_credit, map_after_lumens_debit
 use Rattle.op_form.proofs.Balances.{line_more_in_range}
 use Rattle.op_laws.specs.Underway.{AreEntriesLegal}
 use Rattle.op_laws.proofs.Lawful.{ShiftsLegal}
-use Rattle.op_laws.proofs.LineChanges.{line_legal, line_shifted, line_left}
+use Rattle.legal_rules.proofs.LinesLeft.{line_legal}
+use Rattle.op_laws.proofs.LineChanges.{line_shifted, line_left}
 use Rattle.op_laws.proofs.Paying.{taken, given, taken_legal, taken_left, given_legal, given_left}
-use Rattle.op_laws.proofs.Holdings.{IsKeyed, Increase, none_more, under_key}
-use Rattle.op_laws.proofs.Standing.{Leaves, leaves_itself, leaves_as}
+use Rattle.legal_rules.specs.Holdings.{IsKeyed, Increase, none_more, under_key}
+use Rattle.legal_rules.proofs.Leaving.{Leaves, leaves_itself, leaves_as}
 use Rattle.op_laws.proofs.Told.{more_for, account_more}
-use Rattle.op_laws.proofs.Tests.{passed, first_passed}
+use Rattle.legal_rules.proofs.Passed.{passed, first_passed}
 
 -- ---- what a change moves
 

@@ -64,17 +64,19 @@ use Rattle.op_laws.specs.Underway.{AreEntriesLegal, IsUnderway}
 use Rattle.op_laws.proofs.Amounts.{IsMoved, unless_issuer, shifts_as, shifts_both, amount_taken}
 use Rattle.op_laws.proofs.Amounts.{amount_given}
 use Rattle.op_laws.proofs.Amounts.{ok_of}
-use Rattle.op_laws.proofs.Charges.{charging_kept, releasing_kept, erased_left, payer_had, put_beside}
+use Rattle.legal_rules.proofs.ChargesLeft.{charging_kept, releasing_kept, erased_left, payer_had, put_beside}
 use Rattle.op_laws.proofs.IssuedMoves.{same_issuer, issued_so, issued_by_move}
 use Rattle.op_laws.proofs.Lawful.{lawful_with, shifted_after}
 use Rattle.op_laws.proofs.NewBalances.{IsBalanceEntry, balance_entry, claimants_in_range, new_flags, no_balance}
 use Rattle.op_laws.proofs.Paying.{given}
-use Rattle.op_laws.proofs.Holdings.{IsKeyed, none_more, both_more, under_key, none_before, still_holds, put_holds}
-use Rattle.op_laws.proofs.Holdings.{cancelled}
-use Rattle.op_laws.proofs.Standing.{Leaves, leaves_both, leaves_as, keeps_then, accounts_kept, keyed_put}
+use Rattle.legal_rules.specs.Holdings.{IsKeyed, none_more, both_more, under_key}
+use Rattle.legal_rules.proofs.Holdings.{none_before, still_holds, put_holds}
+use Rattle.legal_rules.proofs.Holdings.{cancelled}
+use Rattle.legal_rules.proofs.Leaving.{Leaves, leaves_both, leaves_as, keeps_then, accounts_kept, keyed_put}
 use Rattle.op_laws.proofs.Told.{more_for, account_place, balance_place, moved, move_tells, more_turned, redeemed_more}
 use Rattle.op_laws.proofs.Told.{balance_more}
-use Rattle.op_laws.proofs.Tests.{went_on, first_passed, neither, passed, went_after_some, went_after_step}
+use Rattle.op_laws.proofs.Tests.{went_on, went_after_some, went_after_step}
+use Rattle.legal_rules.proofs.Passed.{first_passed, neither, passed}
 use Rattle.op_laws.proofs.Tests.{went_after_charge}
 use Rattle.op_laws.proofs.TrustLines.{not_true}
 

@@ -29,9 +29,10 @@ use Rattle.op_laws.proofs.IssuedMoves.{same_both_ways, same_issuer, issued_so, i
 use Rattle.op_laws.proofs.Lawful.{lawful_with}
 use Rattle.op_laws.proofs.LineFlags.{issued_is}
 use Rattle.op_laws.proofs.Payment.{above, asset_move}
-use Rattle.op_laws.proofs.Standing.{leaves_as}
+use Rattle.legal_rules.proofs.Leaving.{leaves_as}
 use Rattle.op_laws.proofs.Told.{account_place, moved, move_tells, redeemed_more, line_more}
-use Rattle.op_laws.proofs.Tests.{went_on, first_passed, neither, went_after_some}
+use Rattle.op_laws.proofs.Tests.{went_on, went_after_some}
+use Rattle.legal_rules.proofs.Passed.{first_passed, neither}
 use Rattle.op_laws.proofs.TrustLines.{not_less, not_true}
 
 -- an asset has one issuer

@@ -22,12 +22,15 @@ use Rattle.legal_rules.proofs.Legality.{view_of}
 use Rattle.legal_rules.proofs.Steps.{same_id_at}
 use Rattle.op_form.specs.Done.{Done, OfAccount, Move}
 use Rattle.op_laws.specs.Laws.{IsCovered, IsLawful}
-use Rattle.op_laws.specs.Moves.{gained, issued, lumens_at, AreTold}
+use Rattle.op_laws.specs.Moves.{gained, issued, AreTold}
+use Rattle.legal_rules.specs.Supply.{lumens_at}
 use Rattle.op_laws.specs.Underway.{AreEntriesLegal, IsUnderway, AreDrawn, KeepsTerms}
 use Rattle.op_laws.proofs.Lumens.{nothing_issued}
 use Rattle.op_laws.proofs.Settled.{entries_legal, owing_of}
-use Rattle.op_laws.proofs.Holdings.{IsKeyed, Increase, none_more, HoldsMore, lumens_there}
-use Rattle.op_laws.proofs.Standing.{IsAfter, IsCoveredBy, Leaves}
+use Rattle.legal_rules.specs.Holdings.{IsKeyed, Increase, none_more, HoldsMore}
+use Rattle.legal_rules.proofs.Holdings.{lumens_there}
+use Rattle.legal_rules.specs.Holdings.{IsAfter, IsCoveredBy}
+use Rattle.legal_rules.proofs.Leaving.{Leaves}
 use Rattle.op_laws.proofs.Told.{Tells, told_by, tells_nothing}
 
 -- A change keeps a state legal, and the supply of the asset at hand, by whatever it is viewed.

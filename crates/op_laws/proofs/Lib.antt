@@ -1,11 +1,6 @@
 pub mod Settled
-pub mod Holdings
-pub mod Standing
 pub mod Payments
-pub mod Numbers
-pub mod Reserves
 pub mod Tests
-pub mod Charges
 pub mod Told
 pub mod Lumens
 pub mod Issued

@@ -1,7 +1,6 @@
 -- What a change of a line leaves: legal entries, the supply of its asset, and the accounts.
 use Rattle.std.proofs.Common.{◌≡◌, refl, sym, ap, subst, ◌∙◌, ℕ, Bool, true, false, Some, arith}
 use Rattle.std.proofs.lemmas.Int.{ints}
-use Rattle.std.specs.FinMap.{get}
 use Rattle.std.specs.Prelude.{ℤ, pos, ◌+ℤ◌, ◌-ℤ◌, if◌then◌else◌}
 use Rattle.std.specs.Ordering.{is_eq}
 use Rattle.ledger_types.specs.declared.ids.AccountId.{AccountId}
@@ -13,69 +12,25 @@ use Rattle.ledger_types.specs.declared.entry.LedgerEntryBody.TheVariants as body
 use Rattle.ledger_types.specs.declared.key.LedgerKey.{LedgerKey}
 use Rattle.ledger_types.specs.declared.key.LedgerKey.TheVariants as key
 use Rattle.ledger_types.specs.KeyOrder.{asset_cmp}
-use Rattle.ledger_types.specs.Keys.{key_of_body}
-use Rattle.entry_map.specs.EntryMap.{EntryMap, put}
+use Rattle.entry_map.specs.EntryMap.{EntryMap}
 use Rattle.entry_slots.specs.Lines.{line_at, with_line}
-use Rattle.entry_sums.specs.Sums.{part}
 use Rattle.legal_rules.specs.Books.{Kind, Shares}
 use Rattle.legal_rules.specs.Books.{View}
 use Rattle.legal_rules.specs.ChangeLaws.{KeepsLineBooks, in_shares}
 use Rattle.legal_rules.specs.Owing.{Owed, nothing_owed, IsBoundRightly, IsEntryLegal, IsLegalOwing}
 use Rattle.legal_rules.specs.Ranges.{IsBodyInRange, IsTrustLineInRange}
-use Rattle.legal_rules.specs.Supply.{of_asset, of_line, held_in, held as held_of}
+use Rattle.legal_rules.specs.Supply.{of_asset, of_line}
 use Rattle.legal_rules.proofs.Changed.{line_changed}
-use Rattle.legal_rules.proofs.Liable.{line_entry, with_line_body, with_line_is}
 use Rattle.legal_rules.proofs.Steps.{legal_as}
 use Rattle.op_form.specs.Assets.{is_native, line_asset_of}
-use Rattle.op_laws.proofs.Charges.{put_beside}
 use Rattle.op_laws.proofs.Lawful.{ShiftsLegal}
-use Rattle.op_laws.proofs.Holdings.{IsKeyed, none_more, under_key, HoldsMore, none_if, none_under, put_holds}
-use Rattle.op_laws.proofs.Standing.{Leaves, leaves_as, accounts_kept, keyed_put}
-
--- ---- a line that stands
-
-pub record IsLegalLine (id : AccountId) (held : TrustLineAsset) (t : TrustLineEntry) : Type 0 where
-  pub range : IsTrustLineInRange t
-  pub bound : IsBoundRightly (body.TrustLine t)
-  pub owner : t.account_id ≡ id
-  pub asset : t.asset ≡ held
-
-owner_of_key : (id other : AccountId) (a b : TrustLineAsset) → key.TrustLine id a ≡ key.TrustLine other b → id ≡ other
-owner_of_key id other a b same = cc
-
-asset_of_key : (id other : AccountId) (a b : TrustLineAsset) → key.TrustLine id a ≡ key.TrustLine other b → a ≡ b
-asset_of_key id other a b same = cc
-
-pub line_legal : (v : View) (id_pool : ℕ) (owed : Owed) (sum : ℤ) (m : EntryMap) (id : AccountId)
-    (held : TrustLineAsset) (t : TrustLineEntry) → IsLegalOwing v id_pool owed sum m → line_at m id held ≡ Some t
-    → IsLegalLine id held t
-line_legal v id_pool owed sum m id held t legal stands =
-    let found = line_entry m id held t stands in
-    let e = found.0 in
-    let is = found.1.is in
-    let entry = legal.entries (key.TrustLine id held) e found.1.there in
-    let named = sym (ap key_of_body is) ∙ legal.keyed (key.TrustLine id held) e found.1.there in
-    record {
-      range = subst (IsBodyInRange id_pool) is entry.range.body;
-      bound = subst IsBoundRightly is entry.bound;
-      owner = owner_of_key t.account_id id t.asset held named;
-      asset = asset_of_key t.account_id id t.asset held named;
-    }
-
-pub line_named : (m : EntryMap) (id : AccountId) (held : TrustLineAsset) (t : TrustLineEntry) → IsKeyed m
-    → line_at m id held ≡ Some t → (t.account_id ≡ id) × (t.asset ≡ held)
-line_named m id held t keyed stands =
-    let found = line_entry m id held t stands in
-    let named = sym (ap key_of_body found.1.is) ∙ keyed (key.TrustLine id held) found.0 found.1.there in
-    (owner_of_key t.account_id id t.asset held named, asset_of_key t.account_id id t.asset held named)
+use Rattle.legal_rules.specs.Holdings.{IsKeyed, none_more, under_key}
+use Rattle.legal_rules.proofs.Leaving.{Leaves, leaves_as}
+use Rattle.legal_rules.proofs.LinesLeft.{line_legal}
+use Rattle.legal_rules.proofs.LinesLeft.{line_left as line_of_any_left, line_kept as line_of_any_kept}
+use Rattle.legal_rules.specs.EntryKeys.{is_key}
 
 -- ---- a line that is changed
-
-by_difference : (new old more : ℤ) → (new -ℤ old) ≡ more → new ≡ (old +ℤ more)
-by_difference new old more is = omega (arith, ints)
-
-no_difference : (new old : ℤ) → new ≡ old → (new -ℤ old) ≡ pos 0
-no_difference new old same = omega (arith, ints)
 
 no_shares : (held : Asset) (n : ℤ) (kind : Kind) (k : LedgerKey)
     → (pos 0 +ℤ in_shares (line_asset_of held) n kind k) ≡ pos 0
@@ -125,44 +80,16 @@ module _ (id_pool : ℕ) (m : EntryMap) (id : AccountId) (held : Asset) (issued 
 
     -- No account changes, and the line holds so much more.
     module _ (keeps : KeepsLineBooks t (f t)) (base : ℕ) (keyed : IsKeyed m) where
-      abbrev more : Asset → ℤ
-      more x = of_asset x held ((f t).balance -ℤ t.balance)
-
       abbrev at : LedgerKey
       at = key.TrustLine id (line_asset_of held)
 
-      its_key : key.TrustLine (f t).account_id (f t).asset ≡ at
-      its_key =
-          let named = line_named m id (line_asset_of held) t keyed stands in
-          λ i. key.TrustLine ((keeps.id ∙ named.0) i) ((keeps.asset ∙ named.1) i)
-
-      had : (x : Asset)
-          → part (held_of x) (get m (key.TrustLine (f t).account_id (f t).asset)) ≡ of_line x t.asset t.balance
-      had x =
-          let found = line_entry m id (line_asset_of held) t stands in
-          ap (λ q. part (held_of x) (get m q)) its_key ∙ ap (part (held_of x)) found.1.there
-          ∙ ap (held_in x) found.1.is
-
-      has_more : (x : Asset) → of_line x (f t).asset (f t).balance
-          ≡ (part (held_of x) (get m (key.TrustLine (f t).account_id (f t).asset)) +ℤ more x)
-      has_more x =
-          let named = line_named m id (line_asset_of held) t keyed stands in
-          ap (λ (a : TrustLineAsset). of_line x a (f t).balance) keeps.asset
-          ∙ by_difference (of_line x t.asset (f t).balance) (of_line x t.asset t.balance) (more x)
-          (difference_of x held issued t.asset named.1 (f t).balance t.balance)
-          ∙ ap (λ n. n +ℤ more x) (sym (had x))
-
-      pub line_left : Leaves base (under_key at more) m new
-      line_left =
-          let found = line_entry m id (line_asset_of held) t stands in
-          let e = with_line_body found.0 (f t) in
-          subst (Leaves base (under_key at more) m) (sym (with_line_is m id (line_asset_of held) f t found.0 found.1))
-          (accounts_kept base (under_key at more) m (put m e) (keyed_put m e keyed)
-          (put_beside m e (λ other same. absurd (cc)))
-          (subst (λ q. HoldsMore (under_key q more) m (put m e)) its_key (put_holds m e more has_more)))
+      pub line_left : Leaves base (under_key at (λ x. of_asset x held ((f t).balance -ℤ t.balance))) m new
+      line_left = leaves_as base (under_key at (λ x. of_line x (line_asset_of held) ((f t).balance -ℤ t.balance)))
+          (under_key at (λ x. of_asset x held ((f t).balance -ℤ t.balance))) m new
+          (line_of_any_left m id (line_asset_of held) f t stands keeps.id keeps.asset base keyed)
+          (λ k x. ap (λ n. if is_key k at then n else pos 0)
+          (of_its_asset x held issued ((f t).balance -ℤ t.balance)))
 
       -- the same of a line with the balance that it had
       pub line_kept : (f t).balance ≡ t.balance → Leaves base none_more m new
-      line_kept same = leaves_as base (under_key at more) none_more m new line_left
-          (none_under at more (λ x. none_if (is_eq (asset_cmp x held)) ((f t).balance -ℤ t.balance)
-          (no_difference (f t).balance t.balance same)))
+      line_kept = line_of_any_kept m id (line_asset_of held) f t stands keeps.id keeps.asset base keyed

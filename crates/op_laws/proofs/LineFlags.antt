@@ -45,11 +45,13 @@ use Rattle.op_laws.specs.Moves.{issued}
 use Rattle.op_laws.specs.Underway.{IsUnderway}
 use Rattle.op_laws.proofs.Amounts.{shifts_as}
 use Rattle.op_laws.proofs.Lawful.{lawful_with}
-use Rattle.op_laws.proofs.LineChanges.{line_legal, line_shifted, line_kept}
+use Rattle.legal_rules.proofs.LinesLeft.{line_legal}
+use Rattle.op_laws.proofs.LineChanges.{line_shifted, line_kept}
 use Rattle.op_laws.proofs.Lumens.{nothing_issued}
-use Rattle.op_laws.proofs.Holdings.{none_more}
+use Rattle.legal_rules.specs.Holdings.{none_more}
 use Rattle.op_laws.proofs.Told.{tells_nothing}
-use Rattle.op_laws.proofs.Tests.{went_on, first_passed, neither, went_after_some}
+use Rattle.op_laws.proofs.Tests.{went_on, went_after_some}
+use Rattle.legal_rules.proofs.Passed.{first_passed, neither}
 use Rattle.op_laws.proofs.TrustLines.{no_less, same_zero, not_true}
 
 -- ---- numbers up to 7

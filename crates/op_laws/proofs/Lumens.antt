@@ -9,7 +9,7 @@ use Rattle.ledger_types.specs.declared.asset.Asset.TheVariants as asset
 use Rattle.ledger_types.specs.KeyOrder.{asset_cmp}
 use Rattle.op_form.specs.Done.{OfAccount, Move}
 use Rattle.op_laws.specs.Moves.{is_holder, gained, issued, place_of}
-use Rattle.op_laws.proofs.Holdings.{none_more, both_more, for_one}
+use Rattle.legal_rules.specs.Holdings.{none_more, both_more, for_one}
 use Rattle.op_laws.proofs.Told.{Tells, none_at, account_place, move_tells}
 
 -- an account gives another one lumens

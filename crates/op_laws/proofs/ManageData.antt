@@ -44,11 +44,13 @@ use Rattle.op_options.specs.ManageData.{answer, name_tests, new_data, with_value
 use Rattle.op_options.specs.ManageData.{manage_data}
 use Rattle.op_laws.specs.Laws.{IsLawful, AreLawful}
 use Rattle.op_laws.specs.Underway.{IsUnderway}
-use Rattle.op_laws.proofs.Charges.{subentry_kept, discharged_kept, erased_kept, put_beside}
+use Rattle.legal_rules.proofs.ChargesLeft.{subentry_kept, discharged_kept, erased_kept, put_beside}
 use Rattle.op_laws.proofs.Lawful.{KeepsLegal, lawful_still}
-use Rattle.op_laws.proofs.Holdings.{IsKeyed, none_more, put_same}
-use Rattle.op_laws.proofs.Standing.{Leaves, keeps_both, accounts_kept, keyed_put}
-use Rattle.op_laws.proofs.Tests.{went_on, first_passed, neither, went_after_charge}
+use Rattle.legal_rules.specs.Holdings.{IsKeyed, none_more}
+use Rattle.legal_rules.proofs.Holdings.{put_same}
+use Rattle.legal_rules.proofs.Leaving.{Leaves, keeps_both, accounts_kept, keyed_put}
+use Rattle.op_laws.proofs.Tests.{went_on, went_after_charge}
+use Rattle.legal_rules.proofs.Passed.{first_passed, neither}
 
 -- ---- the entry of data
 

@@ -62,17 +62,20 @@ use Rattle.op_form.specs.Sponsorships.{is_open_sponsor}
 use Rattle.op_form.specs.Steps.{unless_refused}
 use Rattle.op_laws.specs.Laws.{IsLawful, AreLawful}
 use Rattle.op_laws.specs.Underway.{IsUnderway}
-use Rattle.op_laws.proofs.Charges.{releasing_kept, erase_beside}
+use Rattle.legal_rules.proofs.ChargesLeft.{releasing_kept, erase_beside}
 use Rattle.op_laws.proofs.Lawful.{KeepsLegal, AreEachAfter, terms_kept, lawful_by}
 use Rattle.op_laws.proofs.Lumens.{lumens_move, lumens_told, none_issued}
 use Rattle.op_laws.proofs.Paying.{IsTaken, taken, taken_legal, taken_left}
-use Rattle.op_laws.proofs.Reserves.{pays_less}
+use Rattle.legal_rules.proofs.ReservesLeft.{pays_less}
 use Rattle.op_laws.proofs.Signers.{signer_kept, without_means}
 use Rattle.op_laws.proofs.SetOptions.{is_its_key}
-use Rattle.op_laws.proofs.Holdings.{IsKeyed, none_more, both_more, for_one, HoldsMore, none_before, holds_both}
-use Rattle.op_laws.proofs.Holdings.{holds_as, still_holds, erase_holds, cancelled}
-use Rattle.op_laws.proofs.Standing.{IsAfter, Leaves, leaves_itself, leaves_both, keeps_both}
-use Rattle.op_laws.proofs.Tests.{went_on, first_passed, neither, went_after_some}
+use Rattle.legal_rules.specs.Holdings.{IsKeyed, none_more, both_more, for_one, HoldsMore}
+use Rattle.legal_rules.proofs.Holdings.{none_before, holds_both}
+use Rattle.legal_rules.proofs.Holdings.{holds_as, still_holds, erase_holds, cancelled}
+use Rattle.legal_rules.specs.Holdings.{IsAfter}
+use Rattle.legal_rules.proofs.Leaving.{Leaves, leaves_itself, leaves_both, keeps_both}
+use Rattle.op_laws.proofs.Tests.{went_on, went_after_some}
+use Rattle.legal_rules.proofs.Passed.{first_passed, neither}
 
 -- ---- an account without its first signer
 

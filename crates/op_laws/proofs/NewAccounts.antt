@@ -52,16 +52,19 @@ use Rattle.op_form.specs.Lumens.{map_after_lumens_debit}
 use Rattle.entry_slots.specs.Tests.{Tests}
 use Rattle.op_laws.specs.Laws.{IsLawful, AreLawful}
 use Rattle.op_laws.specs.Underway.{IsUnderway}
-use Rattle.op_laws.proofs.Charges.{payers_had, charging_kept, IsChargedFrom, charged_at}
+use Rattle.legal_rules.proofs.ChargesLeft.{payers_had, charging_kept, IsChargedFrom, charged_at}
 use Rattle.op_laws.proofs.Lawful.{KeepsLegal, lawful_here}
 use Rattle.op_laws.proofs.Lumens.{lumens_move, lumens_told, none_issued}
-use Rattle.op_laws.proofs.Numbers.{still_available}
+use Rattle.legal_rules.proofs.Multiples.{still_available}
 use Rattle.op_laws.proofs.Paying.{IsGiven, not_less, given, given_legal, given_left, given_back}
-use Rattle.op_laws.proofs.Reserves.{reserves_of, pays_more, paid_more}
-use Rattle.op_laws.proofs.Holdings.{IsKeyed, none_more, both_more, under_key, for_one, HoldsMore, none_before}
-use Rattle.op_laws.proofs.Holdings.{put_holds}
-use Rattle.op_laws.proofs.Standing.{IsAfter, Leaves, is_itself_after, leaves_both, leaves_as, keyed_put}
-use Rattle.op_laws.proofs.Tests.{passed, went_on, first_passed, neither, went_after_some, went_after_charge}
+use Rattle.legal_rules.proofs.ReservesLeft.{reserves_of, pays_more, paid_more}
+use Rattle.legal_rules.specs.Holdings.{IsKeyed, none_more, both_more, under_key, for_one, HoldsMore}
+use Rattle.legal_rules.proofs.Holdings.{none_before}
+use Rattle.legal_rules.proofs.Holdings.{put_holds}
+use Rattle.legal_rules.specs.Holdings.{IsAfter}
+use Rattle.legal_rules.proofs.Leaving.{Leaves, is_itself_after, leaves_both, leaves_as, keyed_put}
+use Rattle.legal_rules.proofs.Passed.{passed, first_passed, neither}
+use Rattle.op_laws.proofs.Tests.{went_on, went_after_some, went_after_charge}
 
 -- ---- where no account stands
 

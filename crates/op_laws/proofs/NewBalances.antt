@@ -29,8 +29,8 @@ use Rattle.sponsor_rules.proofs.Ids.{is_itself}
 use Rattle.legal_rules.specs.Ranges.{AreClaimantsInRange, balance_flags}
 use Rattle.op_claim.specs.Predicates.{fixed_level, fixed_below, fixed_claimant, time_after}
 use Rattle.op_claim.specs.CreateClaimableBalance as spec
-use Rattle.op_laws.proofs.Holdings.{IsKeyed}
-use Rattle.op_laws.proofs.Tests.{neither}
+use Rattle.legal_rules.specs.Holdings.{IsKeyed}
+use Rattle.legal_rules.proofs.Passed.{neither}
 use Rattle.op_laws.proofs.TrustLines.{not_true}
 
 -- ---- predicates

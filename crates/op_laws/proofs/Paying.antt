@@ -18,8 +18,8 @@ use Rattle.legal_rules.proofs.Covered.{not_above_balance}
 use Rattle.legal_rules.proofs.Paid.{paid_legal, debit_legal}
 use Rattle.op_form.specs.Lumens.{with_less_lumens, map_after_lumens_debit_of, map_after_lumens_debit, with_more_lumens}
 use Rattle.op_form.specs.Lumens.{map_after_lumens_credit_of, map_after_lumens_credit}
-use Rattle.op_laws.proofs.Holdings.{IsKeyed, for_one}
-use Rattle.op_laws.proofs.Standing.{Leaves, account_changed}
+use Rattle.legal_rules.specs.Holdings.{IsKeyed, for_one}
+use Rattle.legal_rules.proofs.Leaving.{Leaves, account_changed}
 
 pub not_less : (x y : ℤ) → is_lt (int_cmp x y) ≡ false → y ≤ℤ x
 not_less x y h = grind (arith, ints)

@@ -32,10 +32,11 @@ use Rattle.op_laws.proofs.Amounts.{unless_issuer, shifts_as, shifts_both, amount
 use Rattle.op_laws.proofs.IssuedMoves.{same_issuer, issued_so, issued_by_move}
 use Rattle.op_laws.proofs.Lawful.{lawful_here, lawful_with, shifted_after}
 use Rattle.op_laws.proofs.Lumens.{lumens_move, itself_told, none_issued}
-use Rattle.op_laws.proofs.Holdings.{none_more}
-use Rattle.op_laws.proofs.Standing.{leaves_itself, leaves_both}
+use Rattle.legal_rules.specs.Holdings.{none_more}
+use Rattle.legal_rules.proofs.Leaving.{leaves_itself, leaves_both}
 use Rattle.op_laws.proofs.Told.{more_for, account_place, moved, move_tells}
-use Rattle.op_laws.proofs.Tests.{went_on, first_passed, neither, went_after_step}
+use Rattle.op_laws.proofs.Tests.{went_on, went_after_step}
+use Rattle.legal_rules.proofs.Passed.{first_passed, neither}
 
 pub above : (n : ℤ) → int_le n (pos 0) ≡ false → pos 0 ≤ℤ n
 above n h = grind (arith, ints)

@@ -23,7 +23,8 @@ use Rattle.legal_rules.proofs.Legality.{view_of}
 use Rattle.legal_rules.proofs.Paid.{debit_legal}
 use Rattle.legal_rules.proofs.Steps.{legal_as}
 use Rattle.op_laws.specs.Steps.{FeesSettle, SeqNumsSettle}
-use Rattle.op_laws.proofs.Holdings.{none_more, account_same}
+use Rattle.legal_rules.specs.Holdings.{none_more}
+use Rattle.legal_rules.proofs.Holdings.{account_same}
 use Rattle.op_laws.proofs.Issued.{none_moved}
 use Rattle.op_laws.proofs.Settled.{entries_legal, owing_of}
 use Rattle.op_laws.proofs.Told.{told_by, tells_nothing}

@@ -38,13 +38,14 @@ use Rattle.op_sponsor.specs.RevokeSponsorship.{answer, is_malformed, entry_tests
 use Rattle.op_sponsor.specs.RevokeSponsorship.{signer_tests, signer_moved, revoke_sponsorship}
 use Rattle.op_laws.specs.Laws.{IsLawful, AreLawful}
 use Rattle.op_laws.specs.Underway.{IsUnderway}
-use Rattle.op_laws.proofs.Charges.{exchanged_kept, exchange_kept, payers_had, next_payer, moved_between}
-use Rattle.op_laws.proofs.Charges.{sponsor_kept}
+use Rattle.legal_rules.proofs.ChargesLeft.{exchanged_kept, exchange_kept, payers_had, next_payer, moved_between}
+use Rattle.legal_rules.proofs.ChargesLeft.{sponsor_kept}
 use Rattle.op_laws.proofs.Lawful.{lawful_still}
-use Rattle.op_laws.proofs.Reserves.{next_edited}
-use Rattle.op_laws.proofs.Holdings.{IsKeyed, none_more}
-use Rattle.op_laws.proofs.Standing.{IsNext, Leaves, leaves_itself, keeps_both}
-use Rattle.op_laws.proofs.Tests.{passed, went_on, went_after_some, went_after_charge}
+use Rattle.legal_rules.proofs.ReservesLeft.{next_edited}
+use Rattle.legal_rules.specs.Holdings.{IsKeyed, none_more}
+use Rattle.legal_rules.proofs.Leaving.{IsNext, Leaves, leaves_itself, keeps_both}
+use Rattle.legal_rules.proofs.Passed.{passed}
+use Rattle.op_laws.proofs.Tests.{went_on, went_after_some, went_after_charge}
 
 module _ (ctx : Ctx) (m new : EntryMap) (keyed : IsKeyed m) where
   abbrev IsLeft : EntryMap → Type 0

@@ -64,16 +64,17 @@ use Rattle.op_options.specs.OptionTests.{is_bad_domain, given_tests, inflation_t
 use Rattle.op_options.specs.SetOptions.{with_options, options_set, options_of, set_options}
 use Rattle.op_laws.specs.Laws.{IsLawful, AreLawful}
 use Rattle.op_laws.specs.Underway.{IsUnderway}
-use Rattle.op_laws.proofs.Charges.{charged_kept, charging_left, releasing_kept, released_at}
+use Rattle.legal_rules.proofs.ChargesLeft.{charged_kept, charging_left, releasing_kept, released_at}
 use Rattle.op_laws.proofs.Flags.{flags_set}
 use Rattle.op_laws.proofs.Lawful.{KeepsLegal, lawful_still}
-use Rattle.op_laws.proofs.Reserves.{pays_more, subentry_charged, next_edited}
+use Rattle.legal_rules.proofs.ReservesLeft.{pays_more, subentry_charged, next_edited}
 use Rattle.op_laws.proofs.Signers.{without_means}
 use Rattle.op_laws.proofs.Signers.{signer_kept}
 use Rattle.op_laws.proofs.SignerWeights.{weighed_legal, weighed_left}
-use Rattle.op_laws.proofs.Holdings.{IsKeyed, none_more}
-use Rattle.op_laws.proofs.Standing.{IsNext, Leaves, leaves_itself, keeps_both, account_kept}
-use Rattle.op_laws.proofs.Tests.{passed, went_on, first_passed, neither, went_after, went_after_some, went_after_charge}
+use Rattle.legal_rules.specs.Holdings.{IsKeyed, none_more}
+use Rattle.legal_rules.proofs.Leaving.{IsNext, Leaves, leaves_itself, keeps_both, account_kept}
+use Rattle.legal_rules.proofs.Passed.{passed, first_passed, neither}
+use Rattle.op_laws.proofs.Tests.{went_on, went_after, went_after_some, went_after_charge}
 
 -- ---- keys of signers
 

@@ -25,8 +25,8 @@ use Rattle.legal_rules.proofs.Numbers.{kept_sum}
 use Rattle.legal_rules.proofs.Steps.{legal_as}
 use Rattle.op_options.specs.OptionSigner.{with_signer_set}
 use Rattle.op_laws.proofs.Lawful.{KeepsLegal}
-use Rattle.op_laws.proofs.Holdings.{IsKeyed, none_more}
-use Rattle.op_laws.proofs.Standing.{IsNext, Leaves, account_kept}
+use Rattle.legal_rules.specs.Holdings.{IsKeyed, none_more}
+use Rattle.legal_rules.proofs.Leaving.{IsNext, Leaves, account_kept}
 
 -- ---- sponsors
 

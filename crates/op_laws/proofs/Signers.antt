@@ -27,13 +27,13 @@ use Rattle.legal_rules.proofs.Legality.{view_of}
 use Rattle.legal_rules.proofs.PaidFor.{nothing_settled}
 use Rattle.legal_rules.proofs.SignersKept.{counts_subentry, signer_removed}
 use Rattle.op_laws.specs.Steps.{PreauthsSettle}
-use Rattle.op_laws.proofs.Charges.{discharged_kept}
-use Rattle.op_laws.proofs.Reserves.{no_subentry_means, next_edited}
+use Rattle.legal_rules.proofs.ChargesLeft.{discharged_kept}
+use Rattle.legal_rules.proofs.ReservesLeft.{no_subentry_means, next_edited}
 use Rattle.op_laws.proofs.Issued.{none_moved}
 use Rattle.op_laws.proofs.Settled.{entries_legal, owing_of}
 use Rattle.op_laws.proofs.Told.{told_by, tells_nothing}
-use Rattle.op_laws.proofs.Holdings.{none_more}
-use Rattle.op_laws.proofs.Standing.{IsNext, Leaves, leaves_itself}
+use Rattle.legal_rules.specs.Holdings.{none_more}
+use Rattle.legal_rules.proofs.Leaving.{IsNext, Leaves, leaves_itself}
 
 -- the next account without a signer
 unsigned_next : (base place : ℕ) (s : Option AccountId) (a : AccountEntry)

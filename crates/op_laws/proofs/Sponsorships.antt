@@ -28,10 +28,12 @@ use Rattle.op_laws.specs.Laws.{IsLawful, AreLawful}
 use Rattle.op_laws.specs.Underway.{IsUnderway}
 use Rattle.op_laws.proofs.Lawful.{lawful_by}
 use Rattle.op_laws.proofs.Lumens.{nothing_issued}
-use Rattle.op_laws.proofs.Holdings.{none_more, holds_itself}
-use Rattle.op_laws.proofs.Standing.{is_itself_after}
+use Rattle.legal_rules.specs.Holdings.{none_more}
+use Rattle.legal_rules.proofs.Holdings.{holds_itself}
+use Rattle.legal_rules.proofs.Leaving.{is_itself_after}
 use Rattle.op_laws.proofs.Told.{tells_nothing}
-use Rattle.op_laws.proofs.Tests.{went_on, first_passed, went_after_some}
+use Rattle.op_laws.proofs.Tests.{went_on, went_after_some}
+use Rattle.legal_rules.proofs.Passed.{first_passed}
 
 -- ---- other sponsorships
 

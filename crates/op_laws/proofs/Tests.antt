@@ -6,15 +6,6 @@ use Rattle.entry_slots.specs.Tests.{Tests, first_fault, unless_fault, unless_fir
 use Rattle.sponsor_rules.specs.declared.fault.AddFault.{AddFault}
 use Rattle.op_form.specs.Steps.{unless_result, unless_refused, after, after_some, after_charge, after_step}
 
--- a change that was let through
-pub passed : {F M : Type 0} (tests : Tests F) (m new : M) → unless_first tests m ≡ Ok new
-    → (first_fault tests ≡ None) × (m ≡ new)
-passed {F} {M} tests m new is = elim (first_fault tests) as (λ o. first_fault tests ≡ o → unless_fault o m ≡ Ok new
-    → (first_fault tests ≡ None) × (m ≡ new)) [
-      | None ↦ λ none done. (none, cc)
-      | Some fault ↦ λ some done. absurd (cc)
-    ] refl is
-
 -- an operation that went on
 pub went_on : {A : Type 0} (tests : Tests OperationResult) (next : Result A OperationResult) (a : A)
     → unless_refused tests next ≡ Ok a → (first_fault tests ≡ None) × (next ≡ Ok a)
@@ -23,15 +14,6 @@ went_on {A} tests next a is = elim (first_fault tests) as (λ o. first_fault tes
       | None ↦ λ none done. (none, done)
       | Some result ↦ λ some done. absurd (cc)
     ] refl is
-
-pub first_passed : {F : Type 0} (b : Bool) (fault : F) (tests : Tests F) → first_fault ((b, fault) ∷ tests) ≡ None
-    → (b ≡ false) × (first_fault tests ≡ None)
-first_passed true fault tests is = absurd (cc)
-first_passed false fault tests is = (refl, is)
-
-pub neither : (a b : Bool) → (a || b) ≡ false → (a ≡ false) × (b ≡ false)
-neither true b is = absurd (cc)
-neither false b is = (refl, is)
 
 pub went_after : {A B : Type 0} (r : Result A OperationResult) (next : A → Result B OperationResult) (b : B)
     → after r next ≡ Ok b → (a : A) × (r ≡ Ok a) × (next a ≡ Ok b)

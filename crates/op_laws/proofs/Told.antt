@@ -22,8 +22,9 @@ use Rattle.legal_rules.specs.Supply.{held, of_asset}
 use Rattle.op_form.specs.Assets.{is_native, is_issued_by, line_asset_of}
 use Rattle.op_form.specs.Done.{Holder, OfAccount, OfBalance, OfPool, FeePool, Transit, Move}
 use Rattle.op_laws.specs.Moves.{is_holder, is_issuer, gained_in, gained, holding, held_at, place_of, AreTold}
-use Rattle.op_laws.proofs.Holdings.{Increase, none_more, both_more, under_key, HoldsMore, none_before}
-use Rattle.op_laws.proofs.Holdings.{holds_itself, none_if}
+use Rattle.legal_rules.specs.Holdings.{Increase, none_more, both_more, under_key, HoldsMore}
+use Rattle.legal_rules.proofs.Holdings.{none_before}
+use Rattle.legal_rules.proofs.Holdings.{holds_itself, none_if}
 use Rattle.op_laws.proofs.Issued.{plus_assoc}
 use Rattle.op_laws.proofs.IssuedMoves.{same_asset, same_issuer}
 

@@ -60,14 +60,17 @@ use Rattle.op_laws.specs.Laws.{IsLawful, AreLawfulWhere, IsLimitFit}
 use Rattle.op_laws.specs.Moves.{issued}
 use Rattle.op_laws.specs.Underway.{IsUnderway}
 use Rattle.op_laws.proofs.Amounts.{shifts_as}
-use Rattle.op_laws.proofs.Charges.{subentry_kept, discharged_kept, erased_kept}
+use Rattle.legal_rules.proofs.ChargesLeft.{subentry_kept, discharged_kept, erased_kept}
 use Rattle.op_laws.proofs.Lawful.{KeepsLegal, lawful_still, lawful_with}
-use Rattle.op_laws.proofs.LineChanges.{line_legal, line_shifted, line_kept}
+use Rattle.legal_rules.proofs.LinesLeft.{line_legal}
+use Rattle.op_laws.proofs.LineChanges.{line_shifted, line_kept}
 use Rattle.op_laws.proofs.Lumens.{nothing_issued}
-use Rattle.op_laws.proofs.Holdings.{IsKeyed, none_more, still_holds}
-use Rattle.op_laws.proofs.Standing.{Leaves, keeps_both}
+use Rattle.legal_rules.specs.Holdings.{IsKeyed, none_more}
+use Rattle.legal_rules.proofs.Holdings.{still_holds}
+use Rattle.legal_rules.proofs.Leaving.{Leaves, keeps_both}
 use Rattle.op_laws.proofs.Told.{tells_nothing}
-use Rattle.op_laws.proofs.Tests.{went_on, first_passed, neither, went_after_some, went_after_charge}
+use Rattle.op_laws.proofs.Tests.{went_on, went_after_some, went_after_charge}
+use Rattle.legal_rules.proofs.Passed.{first_passed, neither}
 
 -- ---- keys
 

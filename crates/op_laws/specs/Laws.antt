@@ -20,7 +20,8 @@ use Rattle.op_form.specs.Done.{Done, Attempt}
 use Rattle.op_laws.specs.AnyOperation.{any_operation}
 use Rattle.op_laws.specs.Underway.{IsUnderway, AreDrawn, KeepsTerms}
 use Rattle.op_form.specs.Done.{OfAccount}
-use Rattle.op_laws.specs.Moves.{gained, issued, lumens_at, AreTold}
+use Rattle.op_laws.specs.Moves.{gained, issued, AreTold}
+use Rattle.legal_rules.specs.Supply.{lumens_at}
 
 -- an account's available balance is at least 0, or at least what it was
 abbrev pub IsCovered : Ctx → EntryMap → AccountEntry → Type 0

@@ -7,12 +7,10 @@ use Rattle.std.specs.Str.{bytes_eq}
 use Rattle.ledger_types.specs.declared.ids.AccountId.{AccountId}
 use Rattle.ledger_types.specs.declared.asset.Asset.{Asset}
 use Rattle.ledger_types.specs.declared.asset.Asset.TheVariants as asset
-use Rattle.ledger_types.specs.declared.account.AccountEntry.{AccountEntry}
 use Rattle.ledger_types.specs.declared.key.LedgerKey.{LedgerKey}
 use Rattle.ledger_types.specs.declared.key.LedgerKey.TheVariants as key
 use Rattle.ledger_types.specs.KeyOrder.{asset_cmp}
 use Rattle.entry_map.specs.EntryMap.{EntryMap}
-use Rattle.entry_slots.specs.Accounts.{account_at}
 use Rattle.entry_sums.specs.Sums.{part}
 use Rattle.sponsor_rules.specs.Payers.{is_same_account}
 use Rattle.legal_rules.specs.Supply.{held}
@@ -62,14 +60,6 @@ held_at x m (Some place) = part (held x) (get m place)
 -- what a holder has of an asset; an issuer has none of its own
 abbrev pub holding : Asset → Holder → EntryMap → ℤ
 holding x holder m = held_at x m (place_of x holder)
-
-abbrev pub lumens_in : Option AccountEntry → ℤ
-lumens_in None = pos 0
-lumens_in (Some account) = account.balance
-
--- the lumens of an account; one that doesn't stand has none
-abbrev pub lumens_at : EntryMap → AccountId → ℤ
-lumens_at m id = lumens_in (account_at m id)
 
 -- ---- what is issued and redeemed
 

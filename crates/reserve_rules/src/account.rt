@@ -28,9 +28,11 @@ pub fn available(account: &AccountEntry, base_reserve: u32) -> i128
     )
 }
 
-/// What an account can spend by its facts, as `available` gives it.
+/// What an account can spend by its facts, as `available` gives it, and how far from 0 that may be.
 pub fn facts_available(facts: &AccountFacts, base_reserve: u32) -> i128
-    ensures { result ≡ spec.facts_available facts.now base_reserve }
+    ensures value { result ≡ spec.facts_available facts.now base_reserve }
+    ensures above { neg_ℤ (pos (2 ^ 68)) ≤ℤ result }
+    ensures below { result ≤ℤ pos (2 ^ 68) }
 {
     spendable(
         facts.balance,
@@ -123,7 +125,9 @@ fn reserves(counted: u64, spared: u32, base_reserve: u32) -> i128
 fn spendable(balance: i64, kept: i128, selling: i64) -> i128
     requires above { neg_ℤ (pos (2 ^ 67)) ≤ℤ kept }
     requires below { kept ≤ℤ pos (2 ^ 67) }
-    ensures { result ≡ balance -ℤ kept -ℤ selling }
+    ensures value { result ≡ balance -ℤ kept -ℤ selling }
+    ensures above { neg_ℤ (pos (2 ^ 68)) ≤ℤ result }
+    ensures below { result ≤ℤ pos (2 ^ 68) }
 {
     balance as i128 - kept - selling as i128
 }

@@ -54,6 +54,11 @@ map_after_adding_balance ctx entry payer k m =
 abbrev pub map_after_counting : AccountId → ℕ → Option AccountId → EntryMap → EntryMap
 map_after_counting owner k sponsor m = with_account (map_after_charging k sponsor m) owner (with_subentry k sponsor)
 
+-- the map after a subentry is counted, or the fault of the first test that holds
+abbrev pub map_after_counting_subentry : Ctx → AccountId → ℕ → EntryMap → Result EntryMap AddFault
+map_after_counting_subentry ctx owner k m =
+    unless_first (subentry_tests_at ctx m owner k) (map_after_counting owner k (open_sponsor ctx owner) m)
+
 -- the map after a line, an offer or data is added, or the fault of the first test that holds
 abbrev pub map_after_adding_subentry : Ctx → LedgerEntry → AccountId → ℕ → EntryMap → Result EntryMap AddFault
 map_after_adding_subentry ctx entry owner k m =

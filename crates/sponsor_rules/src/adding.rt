@@ -92,10 +92,29 @@ fn add_subentry<B: Base>(
     ensures means { OnOk result (
         keeping.LeavesOtherMeans (key_of entry) entries.old.current entries.new.current) }
 {
+    count_subentry(entries, ctx, owner, multiplicity)?;
+    put_entry(entries, sponsored_entry(open_sponsor(ctx, owner), entry))?;
+    Ok(())
+}
+
+/// Counts a line, an offer or data more for its owner, and for that account's open sponsor if it has one. So a reserve is
+/// paid before it is known what stands for it: an offer may still be filled as it comes. `multiplicity` is the number of
+/// reserves, at most 2. Where it answers a fault other than `NoMemory`, nothing has changed.
+pub fn count_subentry<B: Base>(
+    entries: &mut Entries<'_, B>,
+    ctx: &Ctx,
+    owner: &AccountId,
+    multiplicity: u64,
+) -> Result<(), AddFault>
+    requires multiplicity { multiplicity ≤ 2 }
+    requires owner { payers.IsReady entries.old.current owner.now }
+    ensures outcome { IsOutcome result entries.old entries.new (
+        spec.map_after_counting_subentry ctx.now owner.now multiplicity entries.old.current) }
+    ensures means { OnOk result (keeping.LeavesMeans entries.old.current entries.new.current) }
+{
     let sponsor = open_sponsor(ctx, owner);
     let slot = pay_for_subentry(entries, ctx, owner, &sponsor, multiplicity)?;
     count_for_owner(entries, multiplicity, owner, slot, &sponsor)?;
-    put_entry(entries, sponsored_entry(sponsor, entry))?;
     Ok(())
 }
 

@@ -17,7 +17,7 @@ mod signer_place;
 mod signers;
 mod stored;
 
-pub use adding::add_entry;
+pub use adding::{add_entry, count_subentry};
 pub use charge::{Charge, charge_of};
 pub use context::{Ctx, Sponsorship};
 pub use count::Count;
@@ -25,6 +25,6 @@ pub use counting::count_in;
 pub use fault::AddFault;
 pub use moving::move_entry;
 pub use payers::open_sponsor;
-pub use removing::remove_entry;
+pub use removing::{discount_subentry, remove_entry};
 pub use signer_place::{FoundSigner, found_signer};
 pub use signers::{add_signer, move_signer, remove_preauth, remove_signer};

@@ -29,11 +29,13 @@ use Rattle.reserve_rules.specs.Reserve.{greatest_i64}
 use Rattle.legal_rules.specs.Payments.{paid, with_paid}
 use Rattle.legal_rules.specs.Supply.{held, lumens_of}
 use Rattle.op_form.specs.Done.{Holder, OfAccount, FeePool, Move}
-use Rattle.op_laws.specs.Moves.{is_holder, gained, holding, is_issuer, lumens_in, place_of, AreTold}
+use Rattle.op_laws.specs.Moves.{is_holder, gained, holding, is_issuer, place_of, AreTold}
+use Rattle.legal_rules.specs.Supply.{lumens_in}
 use Rattle.op_laws.specs.Steps.{TransactionLaws}
 use Rattle.op_laws.specs.Underway.{IsSettled}
-use Rattle.op_laws.proofs.Holdings.{none_more, for_one, HoldsMore, holds_itself, holds_as, no_lumens_more}
-use Rattle.op_laws.proofs.Holdings.{account_holds}
+use Rattle.legal_rules.specs.Holdings.{none_more, for_one, HoldsMore}
+use Rattle.legal_rules.proofs.Holdings.{holds_itself, holds_as, no_lumens_more}
+use Rattle.legal_rules.proofs.Holdings.{account_holds}
 use Rattle.op_laws.proofs.Issued.{plus_assoc}
 use Rattle.op_laws.proofs.Told.{more_at, told_at, told_itself, gained_twice, account_place, end_tells}
 use Rattle.tx_apply.specs.Fees.{fee_of, map_after_fee, fee_move, FeesTaken, behind_fee, fees_taken, sum_of}

@@ -7,7 +7,7 @@ use Rattle.fee_rules.specs.Fees.{fee_charged}
 use Rattle.ledger_types.specs.declared.asset.Asset.TheVariants.{Native}
 use Rattle.legal_rules.specs.Payments.{with_paid}
 use Rattle.op_form.specs.Done.{OfAccount, FeePool, Move}
-use Rattle.op_laws.specs.Moves.{lumens_at}
+use Rattle.legal_rules.specs.Supply.{lumens_at}
 
 -- the fee of a transaction, of what its fee source has
 abbrev pub fee_of : (base_fee : ℕ) → TransactionEnvelope → EntryMap → ℤ

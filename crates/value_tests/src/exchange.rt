@@ -2,7 +2,7 @@
 //! follows the branches of stellar-core (OfferExchange).
 
 ghost use Rattle.std.specs.Option.{ForSome};
-ghost use Rattle.offer_exchange.specs.Calls.{IsPriced};
+ghost use Rattle.ledger_types.specs.Prices.{IsPriced};
 
 use ledger_types::{Liabilities, Price};
 use offer_exchange::Rounding::{Normal, StrictReceive, StrictSend};

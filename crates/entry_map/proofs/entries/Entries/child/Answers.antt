@@ -1,11 +1,8 @@
-use Rattle.std.proofs.Common.{◌∙◌, ap}
-use Rattle.entry_map.specs.Undo.{opened}
-use Rattle.entry_map.proofs.Under.{undo_of-child}
+use Rattle.entry_map.proofs.Saved.{child_saved}
 use Rattle.entry_map.proofs.entries.Entries.child.Goals as goal
 
-pub returns : goal.returns
-returns g c =
-    undo_of-child (g.B.Base.entries c.self.inside.base.now) c.self.inside.lower.items c.push.new.self.items
-    c.self.inside.top c.replace-top.new.dest
-    (cc (c.in_ok-push.ensures.items, c.replace-top.ensures.value)) (c.replace-top.ensures.after ∙ c.new.ensures)
-    ∙ ap opened c.self.view_is
+pub invariant_of-self-2 : goal.invariant_of-self-2
+invariant_of-self-2 g c _ =
+    child_saved c.self.inside.layered c.child.new.self c.self.inside.offers c.in_ok-share.field-0 c.self.inside.saved.items
+    c.push.new.self.items (c.self.invariant c.if-self.false) c.in_ok-share.ensures c.in_ok-push.ensures.items
+    c.in_ok-child.ensures

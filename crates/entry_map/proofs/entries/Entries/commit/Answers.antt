@@ -1,15 +1,9 @@
-use Rattle.std.proofs.Common.{◌∙◌, ap}
-use Rattle.std.specs.Option.{option_or}
-use Rattle.std.specs.FinMap.{get}
-use Rattle.entry_map.specs.Undo.{kept}
-use Rattle.entry_map.proofs.Under.{undo_of-commit}
+use Rattle.std.proofs.Common.{rules}
+use Rattle.entry_map.proofs.Saved.{kept_saved}
 use Rattle.entry_map.proofs.entries.Entries.commit.Goals as goal
 
-pub returns-in_ok-absorb : goal.returns-in_ok-absorb
-returns-in_ok-absorb g c =
-    undo_of-commit (g.B.Base.entries c.self.inside.base.now) c.self.inside.lower.items c.pop.new.self.items
-    c.in-Some.below c.self.inside.top c.absorb.new.self c.in-Some.ensures.items
-    (λ q. c.in_ok-absorb.ensures q
-    ∙ ap (λ l. option_or (get l q) (get c.replace-top.new.dest q)) c.replace-top.ensures.value
-    ∙ ap (λ l. option_or (get c.self.inside.top q) (get l q)) c.replace-top.ensures.after)
-    ∙ ap kept c.self.view_is
+pub invariant_of-self-2 : goal.invariant_of-self-2
+invariant_of-self-2 g c _ =
+    kept_saved c.self.inside.layered c.args.self.now c.commit.new.self c.self.inside.offers c.self.inside.saved.items
+    c.pop.new.self.items (c.self.invariant c.if-self.false) c.requires c.self.view_is (search rules)
+    c.in_ok-commit.ensures

@@ -1,12 +1,12 @@
-use Rattle.std.proofs.Common.{arith, ◌≡◌, [], ◌∷◌, ◌++◌, ap, sym, subst, ◌∙◌, append_assoc}
+use Rattle.std.proofs.Common.{arith, ◌≡◌, [], ◌∷◌, ◌++◌, ap, sym, subst, ◌∙◌, append_assoc, append-nil, map}
 use Rattle.std.specs.List.{IsDistinct}
 use Rattle.std.specs.Ordering.{eq_by_cmp}
 use Rattle.std.proofs.lemmas.Grind.{common_steps}
 use Rattle.std.specs.FinMap.{from_entries}
 use Rattle.std.specs.Vec.Iter.{into_iter_items}
 use Rattle.ledger_types.specs.KeyOrder.{key_cmp}
-use Rattle.entry_map.specs.EntryMap.{IsKeyed}
-use Rattle.entry_map.proofs.Layers.{with_key, keyed_from}
+use Rattle.entry_map.specs.Indexes.{IsIndexOf}
+use Rattle.entry_map.proofs.Layers.{with_key}
 use Rattle.entry_map.proofs.Lists.{map_push, all_keys}
 use Rattle.entry_map.proofs.map_base.MapBase.from_entries.Goals as goal
 
@@ -30,5 +30,11 @@ from_pairs-requires c =
 
 pub invariant_of-result : goal.invariant_of-result
 invariant_of-result c =
-    subst IsKeyed (sym (c.in_ok-from_pairs.ensures ∙ ap from_entries c.loop-entry.invariant.made))
-    (keyed_from c.loop-entry.yielded)
+    let none : into_iter_items c.loop-entry.entry-iterator ≡ [] =
+    grind (arith, common_steps, c.in-None.ensures.steps) in
+    let all : c.loop-entry.yielded ≡ c.args.entries.items =
+    sym (ap (λ es. c.loop-entry.yielded ++ es) none ∙ append-nil c.loop-entry.yielded) ∙ c.loop-entry.invariant.left in
+    subst (λ m. IsIndexOf m c.in_ok-offers.offers)
+    (sym (c.in_ok-from_pairs.ensures ∙ ap from_entries (c.loop-entry.invariant.made ∙ ap (map with_key) all)))
+    (subst (λ es. IsIndexOf (from_entries (map with_key es)) c.in_ok-offers.offers) c.as_slice.ensures.value
+    c.in_ok-offers.ensures)

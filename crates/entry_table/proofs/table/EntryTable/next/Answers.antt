@@ -2,8 +2,9 @@ use Rattle.std.proofs.Common.{refl, sym, subst, ap, ◌∙◌, map}
 use Rattle.ledger_types.specs.Keys.{key_of}
 use Rattle.entry_map.specs.declared.batch.Batch.{Batch}
 use Rattle.entry_map.specs.KeyMaps.{AreRising}
-use Rattle.entry_table.specs.Rows.{map_of}
+use Rattle.entry_table.specs.Rows.{map_of, IsTableRow}
 use Rattle.entry_table.proofs.Batches.{stamped_keys, next_row_is, next_entries, exact_batch}
+use Rattle.entry_table.proofs.Stamped.{next_index}
 use Rattle.entry_table.proofs.Tables.{keyed_row}
 use Rattle.entry_table.proofs.table.EntryTable.next.Goals as goal
 
@@ -19,8 +20,23 @@ next_tree-requires-clause-live c =
 
 pub invariant_of-result : goal.invariant_of-result
 invariant_of-result c =
-    next_row_is c.self.inside.tree c.in_ok-tree.tree c.stamp_list.new.entries c.stamp_list-2.new.entries
-    c.args.batch.now.dead c.self.invariant c.in_ok-tree.ensures
+    let tree = c.in_ok-tree.tree in
+    let new : Batch = record {
+      init = c.stamp_list.new.entries;
+      live = c.stamp_list-2.new.entries;
+      dead = c.args.batch.now.dead;
+    } in
+    let is_row : IsTableRow tree =
+    next_row_is c.self.inside.tree tree c.stamp_list.new.entries c.stamp_list-2.new.entries c.args.batch.now.dead
+    c.self.invariant.rows c.in_ok-tree.ensures in
+    record {
+      rows = is_row;
+      index = next_index c.args.seq c.args.self.now c.requires.0 (map_of tree) c.args.offers c.requires.1
+          (next_entries c.args.seq c.self.inside.tree tree c.args.self.now c.requires.0 (map_of tree)
+          c.args.batch.now new c.self.invariant.rows.rises c.self.view_is c.requires.1.keyed c.requires.2
+          c.stamp_list.ensures c.stamp_list-2.ensures refl c.in_ok-tree.ensures refl)
+          (keyed_row tree (map_of tree) is_row refl);
+    }
 
 pub returns-clause-next : goal.returns-clause-next
 returns-clause-next c worked keyed b =
@@ -31,18 +47,18 @@ returns-clause-next c worked keyed b =
       dead = c.args.batch.now.dead;
     } in (
       next_entries c.args.seq c.self.inside.tree c.in_ok-tree.tree c.args.self.now worked after
-          c.args.batch.now new c.self.invariant.rises c.self.view_is keyed b c.stamp_list.ensures
+          c.args.batch.now new c.self.invariant.rows.rises c.self.view_is keyed b c.stamp_list.ensures
           c.stamp_list-2.ensures refl c.in_ok-tree.ensures refl,
       exact_batch c.args.seq c.self.inside.tree c.in_ok-tree.tree c.args.self.now worked after
-          c.args.batch.now new c.self.invariant.rises c.self.view_is keyed b c.stamp_list.ensures
+          c.args.batch.now new c.self.invariant.rows.rises c.self.view_is keyed b c.stamp_list.ensures
           c.stamp_list-2.ensures refl c.in_ok-tree.ensures refl,
     )
 
 pub returns-clause-keyed : goal.returns-clause-keyed
-returns-clause-keyed c = keyed_row c.self.inside.tree c.args.self.now c.self.invariant c.self.view_is
+returns-clause-keyed c = keyed_row c.self.inside.tree c.args.self.now c.self.invariant.rows c.self.view_is
 
 pub returns-clause-keyed_after : goal.returns-clause-keyed_after
-returns-clause-keyed_after c = keyed_row c.in_ok-tree.tree (map_of c.in_ok-tree.tree) (invariant_of-result c) refl
+returns-clause-keyed_after c = keyed_row c.in_ok-tree.tree (map_of c.in_ok-tree.tree) (invariant_of-result c).rows refl
 
 pub returns-in_err-tree-clause-keyed : goal.returns-in_err-tree-clause-keyed
-returns-in_err-tree-clause-keyed c = keyed_row c.self.inside.tree c.args.self.now c.self.invariant c.self.view_is
+returns-in_err-tree-clause-keyed c = keyed_row c.self.inside.tree c.args.self.now c.self.invariant.rows c.self.view_is

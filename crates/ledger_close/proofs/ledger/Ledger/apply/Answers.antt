@@ -8,7 +8,7 @@ use Rattle.ledger_close.specs.Answers.{FaultIs}
 use Rattle.ledger_close.specs.declared.apply.Worked.{Worked}
 use Rattle.ledger_close.specs.Worked.{Leaves}
 use Rattle.ledger_close.proofs.Works.{refused_set, applied_set, applied_done, applied_keyed}
-use Rattle.ledger_close.proofs.Works.{applied_batch}
+use Rattle.ledger_close.proofs.Works.{applied_batch, applied_index}
 use Rattle.ledger_close.proofs.ledger.Ledger.apply.Goals as goal
 
 pub apply_set_in_order-requires-clause-within : goal.apply_set_in_order-requires-clause-within
@@ -31,7 +31,8 @@ next-requires c =
     let s = state_of l.network l.header l.levels.pairs l.entries in
     let closing = c.args.closing.now in (
       (applied_in s closing).entries,
-      applied_keyed s closing c.in_ok-entries.entries c.in_ok-entries.ensures c.in-Ok.ensures.conserved,
+      applied_index s closing c.in_ok-entries.entries c.apply_set_in_order.new.entries c.in-Ok.done c.in_ok-offers.offers
+          c.in_ok-entries.ensures c.in-Ok.ensures.answer c.in_ok-offers.ensures,
       applied_batch s closing c.in_ok-entries.entries c.apply_set_in_order.new.entries c.in-Ok.done c.in_ok-batch.batch
           c.in_ok-entries.ensures c.in-Ok.ensures.answer c.in_ok-batch.ensures,
     )

@@ -1,0 +1,37 @@
+use Rattle.std.proofs.Common.{◌≡◌, refl, arith, List, [], ◌∷◌, ◌++◌, sym, ap, subst, ◌∙◌, append_assoc, append-nil, map, length}
+use Rattle.std.specs.List.{IsDistinct}
+use Rattle.std.specs.Ordering.{eq_by_cmp}
+use Rattle.std.specs.FinMap.{from_entries}
+use Rattle.ledger_types.specs.KeyOrder.{key_cmp}
+use Rattle.ledger_types.specs.Keys.{key_of}
+use Rattle.ledger_types.specs.declared.entry.LedgerEntry.{LedgerEntry}
+use Rattle.entry_map.specs.Indexes.{IsIndexOf}
+use Rattle.entry_map.proofs.Layers.{with_key}
+use Rattle.entry_map.proofs.Books.{index_empty}
+use Rattle.entry_map.proofs.Building.{distinct_behind, not_there}
+use Rattle.entry_map.proofs.index.OfferIndex.from_entries.Goals as goal
+
+pub loop-last-init : goal.loop-last-init
+loop-last-init c = ([], append-nil c.args.entries.now, subst (IsIndexOf _) (sym c.empty-index.ensures) index_empty)
+
+pub loop-last-preserved : goal.loop-last-preserved
+loop-last-preserved c =
+    let done = c.loop-last.invariant.0 in
+    let all : c.in-Some.earlier.now ++ c.in-Some.last.now ∷ done ≡ c.args.entries.now =
+    sym (append_assoc c.in-Some.earlier.now (c.in-Some.last.now ∷ []) done)
+    ∙ ap (λ r. r ++ done) (sym c.in-Some.ensures.cases.0) ∙ c.loop-last.invariant.1 in (
+      c.in-Some.last.now ∷ done,
+      all,
+      c.in_ok-index.ensures.map (from_entries (map with_key done)) c.loop-last.invariant.2
+          (not_there c.in-Some.last.now done (distinct_behind c.in-Some.earlier.now (c.in-Some.last.now ∷ done)
+          (subst (λ es. IsDistinct (eq_by_cmp key_cmp) (map key_of es)) (sym all) c.requires))),
+    )
+
+pub returns : goal.returns
+returns c = subst (λ es. IsIndexOf (from_entries (map with_key es)) c.loop-last.index)
+    (ap (λ es. es ++ c.loop-last.invariant.0) (sym (nothing c.loop-last.ahead.now c.in_default.ensures.cases))
+    ∙ c.loop-last.invariant.1) c.loop-last.invariant.2
+  where
+    nothing : (es : List LedgerEntry) → length es ≡ 0 → es ≡ []
+    nothing [] h = refl
+    nothing (e ∷ es) h = absurd (omega arith)

@@ -1,0 +1,14 @@
+use Rattle.std.proofs.Common.{None}
+use Rattle.entry_map.proofs.Sets.{rising_derived, rising_behind, take_behind}
+use Rattle.entry_map.proofs.index.OfferIndex.without_place.Goals as goal
+
+pub take-requires : goal.take-requires
+take-requires c = rising_derived c.self.inside.tree c.self.invariant
+
+pub invariant_of-result : goal.invariant_of-result
+invariant_of-result c = rising_behind c.self.inside.tree c.in_ok-take.field-0 c.args.place.now None c.self.invariant
+    c.in_ok-take.ensures
+
+pub returns : goal.returns
+returns c = take_behind c.self.inside.tree c.in_ok-take.field-0 c.args.self.now c.args.place.now c.self.invariant
+    c.self.view_is c.in_ok-take.ensures

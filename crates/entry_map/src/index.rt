@@ -1,0 +1,279 @@
+//! The places of offers, kept in their order.
+
+ghost use Rattle.std.specs.Prelude.{◌≡◌, ◌&&◌, not, ◌||◌, None, List, [], ◌∷◌, IfOk, MatchOption, option_map, map};
+ghost use Rattle.std.specs.Option.{option_copied};
+ghost use Rattle.std.specs.List.{IsDistinct};
+ghost use Rattle.std.specs.Ordering.{is_eq, eq_by_cmp};
+ghost use Rattle.std.specs.FinMap.{empty, insert, remove, get, from_entries};
+ghost use Rattle.ledger_types.specs.KeyOrder.{asset_cmp, key_cmp};
+ghost use Rattle.ledger_types.specs.Keys.{key_of};
+ghost use Rattle.ledger_types.specs.declared.key.LedgerKey.TheVariants.{Offer};
+ghost use Rattle.ledger_types.specs.declared.offer.OfferEntry.{OfferEntry as AnOffer};
+ghost use Rattle.entry_map.specs.declared.place.Place.{Place as APlace};
+ghost use Rattle.entry_map.specs.EntryMap.{EntryMap, put};
+ghost use Rattle.entry_map.specs.Book.{IsPlacePriced, AreSound, AreOffersSound, next_in, next_offer, offer_in, offer_of, offers_in};
+ghost use Rattle.entry_map.specs.Places.{IsNarrow, place_of, start_of};
+ghost use Rattle.entry_map.specs.Indexes.{IsIndexOf, IsNextOfPair, IsLastOfPair, IsLeastPlace, IsLastPlace, AreNarrow};
+ghost use Rattle.entry_map.specs.Indexes.{IsChangedTo, has, index_of, is_of_offer, is_taken, name_of, without};
+
+use crate::batch::Batch;
+use crate::place::{Place, place_of, start_of};
+use ledger_types::{AccountId, Asset, LedgerEntry, LedgerEntryBody, LedgerKey, OfferEntry, Price};
+use shared_tree::{Kept, Tree};
+use std::alloc::{AllocError, Global};
+use std::cmp::Ordering;
+use std::marker::Model;
+
+/// The places of offers, in the order of their books. What changes is made anew, and the rest is shared. Contracts see
+/// the set of the places.
+#[derive(Drop)]
+pub struct OfferIndex {
+    tree: Tree<Place, ()>,
+}
+
+impl Model for OfferIndex {
+    ghost use Rattle.std.specs.FinMap.{from_sorted};
+    ghost use Rattle.shared_tree.specs.Rows.{IsRising};
+    ghost use Rattle.entry_map.specs.Order.{order};
+    ghost use Rattle.entry_map.specs.Indexes.{PlaceSet, set_code};
+
+    ghost Value = { PlaceSet };
+
+    ghost coded = { set_code };
+
+    ghost view = { λ index. from_sorted index.tree };
+
+    ghost invariant = { λ index. IsRising order index.tree };
+}
+
+/// The offer that an entry is, if it is one.
+pub fn offer_in(entry: &LedgerEntry) -> Option<&OfferEntry>
+    ensures { option_copied result ≡ offer_in entry.now.body }
+{
+    match &entry.body {
+        LedgerEntryBody::Offer(offer) => Some(offer),
+        _ => None,
+    }
+}
+
+/// The offer that an entry is, if there is one that is.
+pub fn offer_of(entry: &Option<LedgerEntry>) -> Option<OfferEntry>
+    ensures { result ≡ offer_of entry.now }
+{
+    match entry {
+        None => None,
+        Some(entry) => offer_in(entry).copied(),
+    }
+}
+
+/// The key of an offer, by its seller and its id.
+pub fn offer_key(name: (AccountId, i64)) -> LedgerKey
+    ensures { result ≡ Offer name.0 name.1 }
+{
+    let (seller_id, offer_id) = name;
+    LedgerKey::Offer {
+        seller_id,
+        offer_id,
+    }
+}
+
+/// Whether an offer stands under a key, where anything does.
+pub fn is_of_offer(key: &LedgerKey) -> bool
+    ensures { result ≡ is_of_offer key.now }
+{
+    matches!(key, LedgerKey::Offer { .. })
+}
+
+/// Whether two assets are the same.
+fn is_same(a: &Asset, b: &Asset) -> bool
+    ensures { result ≡ is_eq (asset_cmp a.now b.now) }
+{
+    match a.cmp(b) {
+        Ordering::Equal => true,
+        _ => false,
+    }
+}
+
+impl OfferIndex {
+    /// The index of no offers.
+    pub const fn empty() -> OfferIndex
+        ensures { result ≡ empty }
+    {
+        OfferIndex {
+            tree: Tree::empty(),
+        }
+    }
+
+    /// The same index, for one owner more.
+    pub fn share(&self) -> Result<OfferIndex, AllocError>
+        ensures { IfOk result (λ index. index ≡ self.now) }
+    {
+        Ok(OfferIndex {
+            tree: self.tree.share()?,
+        })
+    }
+
+    /// The index with a place.
+    fn with_place(&self, alloc: Global, place: Place) -> Result<OfferIndex, AllocError>
+        ensures { IfOk result (λ index. index ≡ insert self.now place tt) }
+    {
+        let kept = Kept::new(alloc, place, ())?;
+        Ok(OfferIndex {
+            tree: self.tree.put(alloc, &kept)?,
+        })
+    }
+
+    /// The index without a place.
+    fn without_place(&self, alloc: Global, place: &Place) -> Result<OfferIndex, AllocError>
+        ensures { IfOk result (λ index. index ≡ remove self.now place.now) }
+    {
+        Ok(OfferIndex {
+            tree: self.tree.take(alloc, place)?,
+        })
+    }
+
+    /// The index with the place of an offer.
+    pub(crate) fn with_offer(
+        &self,
+        alloc: Global,
+        offer: &OfferEntry,
+    ) -> Result<OfferIndex, AllocError>
+        ensures value { IfOk result (λ index. index ≡ insert self.now (place_of offer.now) tt) }
+        ensures narrow { IsNarrow offer.now.price }
+    {
+        self.with_place(alloc, place_of(offer))
+    }
+
+    /// The index without the place of an entry, if there is one and it is an offer.
+    pub(crate) fn without_entry(
+        &self,
+        alloc: Global,
+        entry: &Option<LedgerEntry>,
+    ) -> Result<OfferIndex, AllocError>
+        ensures { IfOk result (λ index. index ≡ without (offer_of entry.now) self.now) }
+    {
+        match offer_of(entry) {
+            None => self.share(),
+            Some(offer) => self.without_place(alloc, &place_of(&offer)),
+        }
+    }
+
+    /// The index with the place of an entry that wasn't there, if it is an offer.
+    pub fn with_entry(&self, alloc: Global, entry: &LedgerEntry) -> Result<OfferIndex, AllocError>
+        ensures value { IfOk result (λ index. (p : APlace)
+            → has index p ≡ (is_taken (offers_in (entry.now ∷ [])) p || has self.now p)) }
+        ensures map { (m : EntryMap) → IsIndexOf m self.now → get m (key_of entry.now) ≡ None
+            → IfOk result (IsIndexOf (put m entry.now)) }
+    {
+        match offer_in(entry) {
+            None => self.share(),
+            Some(offer) => self.with_offer(alloc, offer),
+        }
+    }
+
+    /// The index with the places of entries that are offers.
+    fn with_entries(&self, alloc: Global, entries: &[LedgerEntry]) -> Result<OfferIndex, AllocError>
+        ensures { IfOk result (λ index. (p : APlace)
+            → has index p ≡ (is_taken (offers_in entries.now) p || has self.now p)) }
+    {
+        let mut index = self.share()?;
+        for entry in entries {
+            index = index.with_entry(alloc, entry)?;
+        }
+        Ok(index)
+    }
+
+    /// The index without the places of offers.
+    fn without_offers(&self, alloc: Global, offers: &[OfferEntry]) -> Result<OfferIndex, AllocError>
+        ensures { IfOk result (λ index. (p : APlace)
+            → has index p ≡ (not (is_taken offers.now p) && has self.now p)) }
+    {
+        let mut index = self.share()?;
+        for offer in offers {
+            index = index.without_place(alloc, &place_of(offer))?;
+        }
+        Ok(index)
+    }
+
+    /// The index of entries with distinct keys.
+    pub fn from_entries(alloc: Global, entries: &[LedgerEntry]) -> Result<OfferIndex, AllocError>
+        requires { IsDistinct (eq_by_cmp key_cmp) (map key_of entries.now) }
+        ensures { IfOk result (IsIndexOf (from_entries (map (λ e. (key_of e, e)) entries.now))) }
+    {
+        let mut index = OfferIndex::empty();
+        let mut ahead = entries;
+        while let Some((last, earlier)) = ahead.split_last() {
+            index = index.with_entry(alloc, last)?;
+            ahead = earlier;
+        }
+        Ok(index)
+    }
+
+    /// The index of a list of offers.
+    pub fn from_offers(alloc: Global, offers: &[OfferEntry]) -> Result<OfferIndex, AllocError>
+        ensures { IfOk result (λ index. index ≡ index_of offers.now) }
+    {
+        let mut index = OfferIndex::empty();
+        for offer in offers {
+            index = index.with_offer(alloc, offer)?;
+        }
+        Ok(index)
+    }
+
+    /// The index behind a batch, made anew where something changed, and shared elsewhere. `before` has those of the
+    /// index's offers that the batch changed or says to be gone.
+    pub fn with_changes(
+        &self,
+        before: &[OfferEntry],
+        batch: &Batch,
+    ) -> Result<OfferIndex, AllocError>
+        ensures { IfOk result (IsChangedTo self.now before.now batch.now) }
+    {
+        let alloc = batch.init.allocator();
+        let left = self.without_offers(alloc, before)?;
+        let made = left.with_entries(alloc, batch.init.as_slice())?;
+        made.with_entries(alloc, batch.live.as_slice())
+    }
+
+    /// The least place above another one.
+    fn first_above(&self, start: &Place) -> Option<Place>
+        ensures { MatchOption result (IsLastPlace self.now start.now) (IsLeastPlace self.now start.now) }
+    {
+        match self.tree.above(start) {
+            None => None,
+            Some(kept) => Some(*kept.key()),
+        }
+    }
+
+    /// The least place above another one, if it is of the same pair.
+    fn next_place(&self, start: &Place) -> Option<Place>
+        ensures { MatchOption result (IsLastOfPair self.now start.now) (IsNextOfPair self.now start.now) }
+    {
+        let next = self.first_above(start)?;
+        if is_same(&next.selling, &start.selling) && is_same(&next.buying, &start.buying) {
+            Some(next)
+        } else {
+            None
+        }
+    }
+
+    /// The seller and the id of the first offer of a pair's book behind a price and an id, or at its head. None
+    /// exactly where there is none.
+    pub fn after(
+        &self,
+        selling: &Asset,
+        buying: &Asset,
+        place: Option<(Price, i64)>,
+    ) -> Option<(AccountId, i64)>
+        ensures map { (m : EntryMap) → IsIndexOf m self.now → AreOffersSound m → IsPlacePriced place
+            → result ≡ option_map name_of (next_offer m selling.now buying.now place) }
+        ensures list { (offers : List AnOffer) → self.now ≡ index_of offers → AreSound offers
+            → AreNarrow offers → IsPlacePriced place
+            → result ≡ option_map name_of (next_in selling.now buying.now place offers) }
+    {
+        let Some(next) = self.next_place(&start_of(selling, buying, place)) else {
+            return None;
+        };
+        Some(next.name())
+    }
+}

@@ -1,0 +1,75 @@
+//! Where an offer stands among all offers.
+
+ghost use Rattle.std.specs.Prelude.{◌≡◌};
+ghost use Rattle.entry_map.specs.Places.{IsNarrow, IsPlaceNarrow, name_at, rank, place_of, start_of};
+
+use ledger_types::{AccountId, Asset, OfferEntry, Price};
+
+/// A place among all offers: by pair, and in the book of a pair by exact price and id. Places are compared field by
+/// field.
+#[derive(Clone, Copy, PartialEq, Eq, PartialOrd, Ord)]
+pub struct Place {
+    pub(crate) selling: Asset,
+    pub(crate) buying: Asset,
+    // Of equal prices the same, and of a lesser price a lesser one; at least 1.
+    pub(crate) rank: u128,
+    pub(crate) id: i64,
+    // Whether it is behind all offers with this rank and this id. No offer's own place is.
+    pub(crate) is_end: bool,
+    pub(crate) seller: AccountId,
+}
+
+impl Place {
+    /// The seller and the id of the offer that has it.
+    pub fn name(self) -> (AccountId, i64)
+        ensures { result ≡ name_at self }
+    {
+        (self.seller, self.id)
+    }
+}
+
+/// A whole number in the order of prices.
+fn rank(price: Price) -> u128
+    ensures value { result ≡ rank price }
+    ensures narrow { IsNarrow price }
+{
+    let d = price.d.unsigned_abs() as u128;
+    if d == 0 {
+        return 1;
+    }
+    price.n.unsigned_abs() as u128 * 4611686018427387904 / d + 1
+}
+
+/// The place of an offer.
+pub fn place_of(offer: &OfferEntry) -> Place
+    ensures value { result ≡ place_of offer.now }
+    ensures narrow { IsNarrow offer.now.price }
+{
+    Place {
+        selling: offer.selling,
+        buying: offer.buying,
+        rank: rank(offer.price),
+        id: offer.offer_id,
+        is_end: false,
+        seller: offer.seller_id,
+    }
+}
+
+/// The place that comes right before what is behind a price and an id in the book of a pair, or before all of it.
+pub fn start_of(selling: &Asset, buying: &Asset, after: Option<(Price, i64)>) -> Place
+    ensures value { result ≡ start_of selling.now buying.now after }
+    ensures narrow { IsPlaceNarrow after }
+{
+    let (rank, id, is_end) = match after {
+        None => (0, 0, false),
+        Some((price, id)) => (rank(price), id, true),
+    };
+    Place {
+        selling: *selling,
+        buying: *buying,
+        rank,
+        id,
+        is_end,
+        seller: AccountId([0; 32]),
+    }
+}

@@ -1,0 +1,8 @@
+pub mod Staying
+pub mod Pieces
+pub mod Blocks
+pub mod OneList
+pub mod Records
+pub mod Crash
+pub mod Moments
+pub mod Settled

@@ -1,0 +1,4 @@
+pub mod Records
+pub mod Calls
+pub mod Reading
+pub mod Laws

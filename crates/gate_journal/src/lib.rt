@@ -1,0 +1,13 @@
+//! A list of records in a file of a volume that may lose power: each record stands behind a gate, which is opened once the
+//! record is kept.
+#![tactic(auto)]
+
+mod append_buf;
+mod fault;
+mod journal;
+pub mod laws;
+mod reading;
+
+pub use append_buf::AppendBuf;
+pub use fault::StoreFault;
+pub use journal::Journal;

@@ -1,0 +1,180 @@
+-- The offers of an account among entries.
+use Rattle.std.proofs.Common.{◌≡◌, ◌≢◌, refl, sym, ap, subst, ◌∙◌, arith, Bool, true, false, cond, ◌&&◌, T, ℤ, pos, ◌<◌, ◌≤ℤ◌}
+use Rattle.std.proofs.Common.{List, [], ◌∷◌, ◌++◌, map, length, All, Option, Some, None, IfSome, ints}
+use Rattle.std.specs.List.{filter, cons_option}
+use Rattle.std.specs.declared.cmp.Ordering.{Ordering}
+use Rattle.std.specs.declared.cmp.Ordering.TheVariants.{Less, Equal, Greater}
+use Rattle.std.specs.Ordering.{is_lt, is_eq, eq_by_cmp, ordering_reverse, ordering_then, int_cmp, nat_cmp}
+use Rattle.std.specs.Cmp.{Equal-is, tied_itself, int_cmp_is, nat_list_cmp_total, IsTotalOrder}
+use Rattle.std.specs.FinMap.{get, find, entries, entries_sorted, get-entries}
+use Rattle.std.specs.FinMap.Entries.{is_sorted}
+use Rattle.std.proofs.lemmas.List.Elements.{All-nil, All-cons, All-head, All-tail}
+use Rattle.std.proofs.lemmas.Map.Lookups.{exact_bytes}
+use Rattle.shared_tree.proofs.Parts.{first, second}
+use Rattle.shared_tree.proofs.Changed.{none_above}
+use Rattle.ledger_types.specs.declared.ids.AccountId.{AccountId}
+use Rattle.ledger_types.specs.declared.offer.OfferEntry.{OfferEntry}
+use Rattle.ledger_types.specs.declared.entry.LedgerEntry.{LedgerEntry}
+use Rattle.ledger_types.specs.declared.entry.LedgerEntryBody.{LedgerEntryBody}
+use Rattle.ledger_types.specs.declared.entry.LedgerEntryBody.TheVariants as body
+use Rattle.ledger_types.specs.declared.key.LedgerKey.{LedgerKey}
+use Rattle.ledger_types.specs.declared.key.LedgerKey.TheVariants as key
+use Rattle.ledger_types.specs.Keys.{key_of, key_of_body}
+use Rattle.ledger_types.specs.KeyOrder.{account_cmp, key_cmp}
+use Rattle.ledger_types.proofs.KeyOrdering.{keys_total, keys_exact}
+use Rattle.entry_map.specs.EntryMap.{EntryMap, IsKeyed, IsLeastAbove, IsNextAfter}
+use Rattle.entry_map.specs.Book.{offer_in, offers_in, offers_of}
+use Rattle.entry_map.proofs.Layers.{is_some_of}
+use Rattle.offer_book.specs.Book.{sold_by, offers_by, AreNumbered}
+use Rattle.offer_book.specs.Sold.{above, left, sold_in, IsSoldIn, IsFirstSold, IsNextSold}
+use Rattle.offer_book.proofs.Above.{Pairs, found_first, skipped, taken, nothing_left, next_left}
+
+pub same_account : (a b : AccountId) → account_cmp a b ≡ Equal → a ≡ b
+same_account a b h = ap (λ k. record { 0 = k }) (exact_bytes a.0 b.0 h)
+
+account_itself : (a : AccountId) → account_cmp a a ≡ Equal
+account_itself a = tied_itself nat_list_cmp_total a.0
+
+pub offer_key : (b : LedgerEntryBody) (o : OfferEntry) → offer_in b ≡ Some o → key_of_body b ≡ key.Offer o.seller_id o.offer_id
+offer_key (body.Offer x) o h = let same : x ≡ o = cc in ap (λ (y : OfferEntry). key.Offer y.seller_id y.offer_id) same
+offer_key (body.Account a) o h = absurd (cc)
+offer_key (body.TrustLine a) o h = absurd (cc)
+offer_key (body.Data a) o h = absurd (cc)
+offer_key (body.ClaimableBalance a) o h = absurd (cc)
+offer_key (body.LiquidityPool a) o h = absurd (cc)
+
+-- ---- one entry in front of others
+
+pub first_sold : (s : AccountId) (x : LedgerKey × LedgerEntry) (o : OfferEntry) (xs : Pairs) → offer_in x.1.body ≡ Some o
+    → o.seller_id ≡ s → sold_in s (x ∷ xs) ≡ o ∷ sold_in s xs
+first_sold s x o xs is same = ap (λ y. sold_by s (cons_option y (offers_in (map (λ pair. pair.1) xs)))) is
+    ∙ ap (λ b. cond b (o ∷ sold_in s xs) (sold_in s xs))
+    (ap is_eq (ap (λ a. account_cmp a s) same ∙ account_itself s))
+
+not_taken : (b : Bool) (o : OfferEntry) (r : List OfferEntry) → cond b (o ∷ []) [] ≡ [] → cond b (o ∷ r) r ≡ r
+not_taken true o r h = absurd (cc)
+not_taken false o r h = refl
+
+not_sold_by : (s : AccountId) (o : Option OfferEntry) (r : List OfferEntry) → sold_by s (cons_option o []) ≡ []
+    → sold_by s (cons_option o r) ≡ sold_by s r
+not_sold_by s None r h = refl
+not_sold_by s (Some o) r h = not_taken (is_eq (account_cmp o.seller_id s)) o (sold_by s r) h
+
+pub not_sold : (s : AccountId) (x : LedgerKey × LedgerEntry) (xs : Pairs) → IsSoldIn x.1 s None
+    → sold_in s (x ∷ xs) ≡ sold_in s xs
+not_sold s x xs h = not_sold_by s (offer_in x.1.body) (offers_in (map (λ pair. pair.1) xs)) h
+
+-- an entry under a key that is none of the account's offers' isn't one of them
+by_offer : (s : AccountId) (k : LedgerKey) (b : LedgerEntryBody) → key_of_body b ≡ k → ((n : ℤ) → k ≢ key.Offer s n)
+    → sold_by s (cons_option (offer_in b) []) ≡ []
+by_offer s k (body.Offer o) own no = elim (account_cmp o.seller_id s) as (λ r. account_cmp o.seller_id s ≡ r
+    → cond (is_eq r) (o ∷ []) [] ≡ []) [
+      | Less ↦ λ _. refl
+      | Equal ↦ λ e. absurd (no o.offer_id (sym own ∙ ap (λ a. key.Offer a o.offer_id) (same_account o.seller_id s e)))
+      | Greater ↦ λ _. refl
+    ] refl
+by_offer s k (body.Account a) own no = refl
+by_offer s k (body.TrustLine a) own no = refl
+by_offer s k (body.Data a) own no = refl
+by_offer s k (body.ClaimableBalance a) own no = refl
+by_offer s k (body.LiquidityPool a) own no = refl
+
+by_key : (s : AccountId) (b : LedgerEntryBody) (n : ℤ) → sold_by s (cons_option (offer_in b) []) ≡ []
+    → key_of_body b ≢ key.Offer s n
+by_key s (body.Offer o) n none e =
+    let same : o.seller_id ≡ s = cc e in
+    absurd (cc (none, ap (λ b. cond b (o ∷ []) []) (ap is_eq (ap (λ a. account_cmp a s) same ∙ account_itself s))))
+by_key s (body.Account a) n none e = absurd (cc)
+by_key s (body.TrustLine a) n none e = absurd (cc)
+by_key s (body.Data a) n none e = absurd (cc)
+by_key s (body.ClaimableBalance a) n none e = absurd (cc)
+by_key s (body.LiquidityPool a) n none e = absurd (cc)
+
+-- ---- the keys of an account's offers stand side by side
+
+between : (s a : AccountId) (x y : Ordering) → ordering_then (account_cmp s a) x ≡ Less
+    → ordering_then (account_cmp a s) y ≡ Less → a ≡ s
+between s a x y up down = elim (account_cmp s a) as (λ r. account_cmp s a ≡ r → ordering_then r x ≡ Less → a ≡ s) [
+  | Less ↦ λ e _. absurd (cc (down, ap (λ r. ordering_then r y) (nat_list_cmp_total.antisymm a.0 s.0 ∙ ap ordering_reverse e)))
+  | Equal ↦ λ e _. sym (same_account s a e)
+  | Greater ↦ λ _ g. absurd (cc)
+] refl up
+
+side_by_side : (s : AccountId) (i j : ℤ) (q : LedgerKey) → key_cmp (key.Offer s i) q ≡ Less
+    → key_cmp q (key.Offer s j) ≡ Less → (n : ℤ) × (q ≡ key.Offer s n)
+side_by_side s i j (key.Offer a n) up down =
+    (n, ap (λ b. key.Offer b n) (between s a (int_cmp i n) (int_cmp n j) up down))
+side_by_side s i j (key.Account a) up down = absurd (cc)
+side_by_side s i j (key.TrustLine a l) up down = absurd (cc)
+side_by_side s i j (key.Data a n) up down = absurd (cc)
+side_by_side s i j (key.ClaimableBalance b) up down = absurd (cc)
+side_by_side s i j (key.LiquidityPool b) up down = absurd (cc)
+
+abbrev pub IsOwn : LedgerKey × LedgerEntry → Type 0
+IsOwn x = key_of x.1 ≡ x.0
+
+-- behind a key that is none of the account's there are none of its offers
+none_sold : (s : AccountId) (i : ℤ) (q : LedgerKey) (es : Pairs) → All IsOwn es → key_cmp (key.Offer s i) q ≡ Less
+    → ((n : ℤ) → q ≢ key.Offer s n) → sold_in s (above q es) ≡ []
+none_sold s i q [] own up no = refl
+none_sold s i q (x ∷ xs) own up no =
+    let later = none_sold s i q xs (All-tail IsOwn x xs own) up no in
+    elim (key_cmp q x.0) as (λ r. key_cmp q x.0 ≡ r → sold_in s (above q (x ∷ xs)) ≡ []) [
+      | Less ↦ λ lt. ap (sold_in s) (taken q x xs lt)
+          ∙ not_sold s x (above q xs) (by_offer s x.0 x.1.body (All-head IsOwn x xs own)
+          (λ n is. let two = side_by_side s i n q up (ap (key_cmp q) (sym is) ∙ lt) in no two.0 two.1)) ∙ later
+      | Equal ↦ λ e. ap (sold_in s) (skipped q x xs (λ lt. absurd (cc (e, lt)))) ∙ later
+      | Greater ↦ λ e. ap (sold_in s) (skipped q x xs (λ lt. absurd (cc (e, lt)))) ∙ later
+    ] refl
+
+-- ---- each entry of a map stands under its own key
+
+found_later : (x : LedgerKey × LedgerEntry) (xs : Pairs) (k : LedgerKey) (e : LedgerEntry)
+    → T (is_sorted key_cmp (x ∷ xs)) → find key_cmp k xs ≡ Some e → find key_cmp k (x ∷ xs) ≡ Some e
+found_later x xs k e h f = elim (eq_by_cmp key_cmp k x.0) as (λ b. eq_by_cmp key_cmp k x.0 ≡ b
+    → cond b (Some x.1) (find key_cmp k xs) ≡ Some e) [
+      | true ↦ λ t. absurd (cc (f, none_above keys_total k x.0 xs ((Equal-is (key_cmp k x.0)).0 t) (first _ _ h)))
+      | false ↦ λ t. f
+    ] refl
+
+own_listed : (es : Pairs) → T (is_sorted key_cmp es)
+    → ((k : LedgerKey) (e : LedgerEntry) → find key_cmp k es ≡ Some e → key_of e ≡ k) → All IsOwn es
+own_listed [] h own = All-nil IsOwn
+own_listed (x ∷ xs) h own = All-cons IsOwn x xs (own x.0 x.1 (found_first x xs))
+    (own_listed xs (second _ _ h) (λ k e f. own k e (found_later x xs k e h f)))
+
+pub all_own : (m : EntryMap) → IsKeyed m → All IsOwn (entries m)
+all_own m keyed = own_listed (entries m) (entries_sorted m)
+    (λ k e f. is_some_of (λ x. key_of x ≡ k) (get m k) e (keyed k) (get-entries m k ∙ f))
+
+-- ---- the next offer of an account
+
+pub none_next : (m : EntryMap) (s : AccountId) (i : ℤ) → IsNextAfter m (key.Offer s i) None → IsNextSold m s i None
+none_next m s i none keyed = ap (sold_in s) (nothing_left m (key.Offer s i) none)
+
+pub other_next : (m : EntryMap) (s : AccountId) (i : ℤ) (e : LedgerEntry) → IsLeastAbove m (key.Offer s i) e
+    → IsSoldIn e s None → IsNextSold m s i None
+other_next m s i e least none keyed = ap (sold_in s) (next_left m (key.Offer s i) e least)
+    ∙ not_sold s (key_of e, e) (above (key_of e) (entries m)) none
+    ∙ none_sold s i (key_of e) (entries m) (all_own m keyed) least.above (λ n. by_key s e.body n none)
+
+pub some_next : (m : EntryMap) (s : AccountId) (i : ℤ) (e : LedgerEntry) (o : OfferEntry)
+    → IsLeastAbove m (key.Offer s i) e → IsSoldIn e s (Some o) → IsNextSold m s i (Some o)
+some_next m s i e o least is =
+    let k : key_of e ≡ key.Offer s o.offer_id = offer_key e.body o is.0 ∙ ap (λ a. key.Offer a o.offer_id) is.1 in
+    let split = next_left m (key.Offer s i) e least in
+    let rest = ap (λ q. above q (entries m)) k in
+    record {
+      first = ap (sold_in s) split ∙ first_sold s (key_of e, e) o (above (key_of e) (entries m)) is.0 is.1
+          ∙ ap (λ r. o ∷ sold_in s r) rest;
+      fewer = shorter (left m s i) (above (key_of e) (entries m)) (left m s o.offer_id) (key_of e, e) split rest;
+    }
+  where
+    shorter : (all rest other : Pairs) (x : LedgerKey × LedgerEntry) → all ≡ x ∷ rest → rest ≡ other
+        → length other < length all
+    shorter all rest other x is same = omega (arith, ap (λ r. length r) is, ap (λ r. length r) same)
+
+-- ---- all offers of an account have ids above 0
+
+pub low_key : (s : AccountId) (n : ℤ) → pos 1 ≤ℤ n → key_cmp (key.Offer s (pos 0)) (key.Offer s n) ≡ Less
+low_key s n h = ap (λ r. ordering_then r (int_cmp (pos 0) n)) (account_itself s) ∙ sym (int_cmp_is (pos 0) n Less ?)

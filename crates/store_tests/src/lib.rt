@@ -1,0 +1,13 @@
+//! Tests of volumes and of journals.
+#![tactic(auto)]
+
+#[cfg(test)]
+mod appending;
+#[cfg(test)]
+mod directory;
+#[cfg(test)]
+mod mounting;
+#[cfg(test)]
+mod ready;
+#[cfg(test)]
+mod volumes;

@@ -1,0 +1,234 @@
+-- Crossing keeps a state legal.
+use Rattle.std.proofs.Common.{◌≡◌, refl, sym, subst, ℕ, ◌+◌, ◌-◌, ◌≤◌, zero, suc, Bool, true, false, Option, Some, None, arith}
+use Rattle.std.proofs.lemmas.Int.{ints}
+use Rattle.std.specs.Prelude.{ℤ, pos, ◌+ℤ◌, if◌then◌else◌}
+use Rattle.ledger_types.specs.declared.offer.OfferEntry.{OfferEntry}
+use Rattle.entry_map.specs.EntryMap.{EntryMap}
+use Rattle.entry_slots.specs.Offers.{offer_at}
+use Rattle.sponsor_rules.specs.Payers.{is_same_account}
+use Rattle.offer_book.specs.Book.{best}
+use Rattle.legal_rules.specs.Books.{View}
+use Rattle.legal_rules.specs.Owing.{Owed, IsLegalOwing}
+use Rattle.trade_cross.specs.declared.crossed.CrossEnd.{CrossEnd}
+use Rattle.trade_cross.specs.declared.crossed.CrossEnd.TheVariants.{Converted, BadPrice, CrossSelf, TooMany}
+use Rattle.trade_cross.specs.declared.trade.Trade.{Trade}
+use Rattle.trade_cross.specs.declared.turn.Turn.{Turn}
+use Rattle.trade_cross.specs.declared.turn.Turn.TheVariants.{Ends, Meets}
+use Rattle.trade_cross.specs.Crossing.{Left}
+use Rattle.trade_cross.specs.Crossing.{is_too_dear, turn_at, is_used_up, turn, Crossing, ended, at_limit, joined, left_after}
+use Rattle.trade_cross.specs.Crossing.{Step, step, atom_of, crossed}
+use Rattle.sponsor_rules.proofs.Ids.{apart_accounts}
+use Rattle.trade_cross.specs.Accounts.{Passes}
+use Rattle.legal_rules.specs.OneMore.{IsOwedRightly}
+use Rattle.trade_cross.specs.CrossingLaws.{CrossingKeeps, kept_by, kept_in, more_by, more_in}
+use Rattle.trade_cross.specs.CrossingLaws.{AreTraded, IsOfTrade, bought_in, sold_in}
+use Rattle.std.proofs.lemmas.List.Elements.{All-nil, All-cons}
+use Rattle.std.proofs.Common.{◌≢◌, ◌&&◌}
+use Rattle.std.specs.Prelude.{◌≤ℤ◌}
+use Rattle.std.specs.Ordering.{is_eq}
+use Rattle.std.specs.Cmp.{Equal-is}
+use Rattle.ledger_types.specs.declared.asset.Asset.{Asset}
+use Rattle.ledger_types.specs.KeyOrder.{asset_cmp}
+use Rattle.ledger_types.proofs.KeyOrdering.{assets_exact}
+use Rattle.trade_cross.proofs.Passing.{passes_itself, passes_on}
+use Rattle.legal_rules.specs.Holdings.{IsKeyed}
+use Rattle.legal_rules.proofs.Leaving.{Leaves, leaves_itself, leaves_both}
+use Rattle.trade_cross.proofs.StepLeft.{step_left, step_passes}
+use Rattle.trade_cross.proofs.Book.{IsInBook, best_stands}
+use Rattle.trade_cross.proofs.StepLegal.{step_legal, step_sheep, step_wheat}
+
+-- ---- what an offer that is met is
+
+-- an offer of the book that isn't the taker's
+pub record IsMet (m : EntryMap) (trade : Trade) (o : OfferEntry) : Type 0 where
+  pub book : IsInBook m trade.wheat trade.sheep o
+  pub other : is_same_account o.seller_id trade.taker ≡ false
+
+module _ (trade : Trade) (left : Left) (m : EntryMap) (keyed : IsKeyed m) (o : OfferEntry) where
+  not_own : (t : Bool) (first : OfferEntry) → is_same_account first.seller_id trade.taker ≡ t
+      → best m trade.wheat trade.sheep ≡ Some first → (if t then Ends CrossSelf else Meets first) ≡ Meets o
+      → IsMet m trade o
+  not_own true first own is meets = absurd (cc)
+  not_own false first own is meets =
+      let same : first ≡ o = cc in
+      subst (IsMet m trade) same
+      (record { book = best_stands m keyed trade.wheat trade.sheep first is; other = own })
+
+  not_dear : (t : Bool) (first : OfferEntry) → best m trade.wheat trade.sheep ≡ Some first
+      → (if t then Ends BadPrice else if is_same_account first.seller_id trade.taker then Ends CrossSelf
+      else Meets first) ≡ Meets o → IsMet m trade o
+  not_dear true first is meets = absurd (cc)
+  not_dear false first is meets = not_own (is_same_account first.seller_id trade.taker) first refl is meets
+
+  by_best : (x : Option OfferEntry) → best m trade.wheat trade.sheep ≡ x → turn_at trade x ≡ Meets o → IsMet m trade o
+  by_best None is meets = absurd (cc)
+  by_best (Some first) is meets = not_dear (is_too_dear trade first trade.greatest) first is meets
+
+  by_left : (t : Bool) → (if t then Ends Converted else turn_at trade (best m trade.wheat trade.sheep)) ≡ Meets o
+      → IsMet m trade o
+  by_left true meets = absurd (cc)
+  by_left false meets = by_best (best m trade.wheat trade.sheep) refl meets
+
+  pub met : turn trade left m ≡ Meets o → IsMet m trade o
+  unfolding turn
+  met meets = by_left (is_used_up left) meets
+
+-- ---- the recursion
+
+same_asset : (a b : Asset) → is_eq (asset_cmp a b) ≡ true → a ≡ b
+same_asset a b is = assets_exact a b ((Equal-is (asset_cmp a b)).0 is)
+
+both_true : (a b : Bool) → (a && b) ≡ true → (a ≡ true) × (b ≡ true)
+both_true true b is = (refl, is)
+both_true false b is = absurd (cc)
+
+natural_low : (n : ℕ) → pos 0 ≤ℤ pos n
+natural_low n = omega (arith, ints)
+
+summed : (a b : ℕ) (rest : ℤ) → rest ≡ pos b → (pos a +ℤ rest) ≡ pos (a + b)
+summed a b rest is = omega (arith, ints)
+
+plus_none : (x : ℤ) → x ≡ (x +ℤ pos 0)
+plus_none x = omega (arith, ints)
+
+grouped : (x a b : ℤ) → ((x +ℤ a) +ℤ b) ≡ (x +ℤ (a +ℤ b))
+grouped x a b = omega (arith, ints)
+
+none_more_of : (n : ℕ) → 0 ≤ n
+none_more_of n = omega arith
+
+together : (a b n : ℕ) → a ≤ n → b ≤ n - a → a + b ≤ n
+together a b n le rest = omega arith
+
+alone : (a n : ℕ) → a ≤ n → a + 0 ≤ n
+alone a n le = omega arith
+
+module _ (v : View) (id_pool base : ℕ) (owed : Owed) (right : IsOwedRightly owed) (trade : Trade) where
+  -- the same, with what the accounts have more
+  pub record IsDone (sum : ℤ) (left : Left) (m : EntryMap) (done : Crossing) : Type 0 where
+    pub legal : IsLegalOwing v id_pool owed (sum +ℤ kept_in v.asset done.atoms) done.entries
+    pub sheep : done.sheep ≤ left.sheep_send
+    pub wheat : done.wheat ≤ left.wheat_receive
+    pub leaves : Leaves base (more_in done.atoms) m done.entries
+    pub passes : Passes base trade.taker m done.entries
+    pub atoms : AreTraded trade done
+
+  nothing_crossed : (sum : ℤ) (left : Left) (m : EntryMap) (end : CrossEnd)
+      → IsLegalOwing v id_pool owed sum m → IsDone sum left m (ended m end)
+  nothing_crossed sum left m end legal = record {
+    legal = subst (λ s. IsLegalOwing v id_pool owed s m) (plus_none sum) legal;
+    sheep = none_more_of left.sheep_send;
+    wheat = none_more_of left.wheat_receive;
+    leaves = leaves_itself base m legal.keyed;
+    passes = passes_itself base trade.taker m;
+    atoms = record { sheep = refl; wheat = refl; each = All-nil (IsOfTrade trade) };
+  }
+
+  limited : (sum : ℤ) (left : Left) (m : EntryMap) (t : Turn) → IsLegalOwing v id_pool owed sum m
+      → IsDone sum left m (at_limit m t)
+  limited sum left m (Ends end) legal = nothing_crossed sum left m end legal
+  limited sum left m (Meets o) legal = nothing_crossed sum left m TooMany legal
+
+  module _ (sum : ℤ) (left : Left) (m : EntryMap) (legal : IsLegalOwing v id_pool owed sum m) (o : OfferEntry)
+      (its : IsMet m trade o) where
+    abbrev stands : offer_at m o.seller_id o.offer_id ≡ Some o
+    stands = its.book.stands
+
+    abbrev x : Step
+    x = step base trade.rounding left o m
+
+    abbrev sum_then : ℤ
+    sum_then = sum +ℤ kept_by v.asset (atom_of o x.amounts)
+
+    legal_then : IsLegalOwing v id_pool owed sum_then x.entries
+    legal_then = step_legal v id_pool base owed right o sum m legal stands trade.rounding left
+
+    sheep_then : x.amounts.sheep ≤ left.sheep_send
+    sheep_then = step_sheep v id_pool base owed right o sum m legal stands trade.rounding left
+
+    wheat_then : x.amounts.wheat ≤ left.wheat_receive
+    wheat_then = step_wheat v id_pool base owed right o sum m legal stands trade.rounding left
+
+    leaves_then : Leaves base (more_by (atom_of o x.amounts)) m x.entries
+    leaves_then = step_left v id_pool base owed right o sum m legal stands trade.rounding left
+
+    passes_then : Passes base trade.taker m x.entries
+    passes_then = step_passes v id_pool base owed right o sum m legal stands trade.rounding left trade.taker
+        (λ same. apart_accounts o.seller_id trade.taker its.other (sym same))
+
+    not_taker : o.seller_id ≢ trade.taker
+    not_taker = apart_accounts o.seller_id trade.taker its.other
+
+    first_atom : IsOfTrade trade (atom_of o x.amounts)
+    first_atom = (
+      not_taker,
+      same_asset o.selling trade.wheat (both_true (is_eq (asset_cmp o.selling trade.wheat))
+          (is_eq (asset_cmp o.buying trade.sheep)) its.book.pair).0,
+      same_asset o.buying trade.sheep (both_true (is_eq (asset_cmp o.selling trade.wheat))
+          (is_eq (asset_cmp o.buying trade.sheep)) its.book.pair).1,
+      natural_low x.amounts.wheat,
+      natural_low x.amounts.sheep,
+    )
+
+    with_rest : (rest : Crossing) → IsDone sum_then (left_after left x.amounts) x.entries rest
+        → IsDone sum left m (joined o x.amounts rest)
+    with_rest rest h = record {
+      legal = subst (λ s. IsLegalOwing v id_pool owed s rest.entries)
+          (grouped sum (kept_by v.asset (atom_of o x.amounts)) (kept_in v.asset rest.atoms)) h.legal;
+      sheep = together x.amounts.sheep rest.sheep left.sheep_send sheep_then h.sheep;
+      wheat = together x.amounts.wheat rest.wheat left.wheat_receive wheat_then h.wheat;
+      leaves = leaves_both base (more_by (atom_of o x.amounts)) (more_in rest.atoms) m x.entries rest.entries
+          leaves_then h.leaves;
+      passes = passes_on base trade.taker m x.entries rest.entries passes_then h.passes;
+      atoms = record {
+        sheep = summed x.amounts.sheep rest.sheep (bought_in rest.atoms) h.atoms.sheep;
+        wheat = summed x.amounts.wheat rest.wheat (sold_in rest.atoms) h.atoms.wheat;
+        each = All-cons (IsOfTrade trade) (atom_of o x.amounts) rest.atoms first_atom h.atoms.each;
+      };
+    }
+
+    by_stays : (t : Bool) (rest : Crossing) → IsDone sum_then (left_after left x.amounts) x.entries rest
+        → IsDone sum left m (joined o x.amounts (if t then ended x.entries Converted else rest))
+    by_stays true rest h = with_rest (ended x.entries Converted)
+        (nothing_crossed sum_then (left_after left x.amounts) x.entries Converted legal_then)
+    by_stays false rest h = with_rest rest h
+
+  by_turn : (k : ℕ) (sum : ℤ) (left : Left) (m : EntryMap)
+      → ((sum : ℤ) (left : Left) (m : EntryMap) → IsLegalOwing v id_pool owed sum m
+      → IsDone sum left m (crossed base trade k left m)) → IsLegalOwing v id_pool owed sum m
+      → (t : Turn) → turn trade left m ≡ t
+      → IsDone sum left m (elim t as (λ s. Crossing) [
+        | Ends end ↦ ended m end
+        | Meets o ↦
+            let x = step base trade.rounding left o m in
+            joined o x.amounts (if x.stays then ended x.entries Converted
+            else crossed base trade k (left_after left x.amounts) x.entries)
+      ])
+  by_turn k sum left m rest legal (Ends end) is = nothing_crossed sum left m end legal
+  by_turn k sum left m rest legal (Meets o) is =
+      let its = met trade left m legal.keyed o is in
+      by_stays sum left m legal o its (step base trade.rounding left o m).stays
+      (crossed base trade k (left_after left (step base trade.rounding left o m).amounts)
+      (step base trade.rounding left o m).entries)
+      (rest (sum_then sum left m legal o its) (left_after left (step base trade.rounding left o m).amounts)
+      (step base trade.rounding left o m).entries (legal_then sum left m legal o its))
+
+  pub crossed_legal : (k : ℕ) (sum : ℤ) (left : Left) (m : EntryMap) → IsLegalOwing v id_pool owed sum m
+      → IsDone sum left m (crossed base trade k left m)
+  unfolding crossed
+  crossed_legal zero sum left m legal = limited sum left m (turn trade left m) legal
+  crossed_legal (suc k) sum left m legal = by_turn k sum left m (crossed_legal k) legal (turn trade left m) refl
+
+pub crossing_keeps : CrossingKeeps
+crossing_keeps v id_pool base owed sum trade crossings left m legal right =
+    let done = crossed_legal v id_pool base owed right trade crossings sum left m legal in
+    record {
+      legal = done.legal;
+      sheep = done.sheep;
+      wheat = done.wheat;
+      holds = done.leaves.holds;
+      accounts = done.leaves.each;
+      stand = done.leaves.stand;
+      passes = done.passes;
+      atoms = done.atoms;
+    }

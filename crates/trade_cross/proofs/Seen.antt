@@ -1,0 +1,139 @@
+-- What an offer's owner can give and take, as it is seen in the entries that stand before the offer's liabilities are
+-- released, and behind the trade.
+use Rattle.std.proofs.Common.{◌≡◌, ◌≢◌, refl, sym, ap, subst, ◌∙◌, ℕ, ◌-◌, ◌≤◌, inl, inr, Option, Some, None, arith}
+use Rattle.std.proofs.lemmas.Int.{ints}
+use Rattle.std.specs.FinMap.{get}
+use Rattle.std.specs.Prelude.{ℤ, pos, neg_ℤ, ◌+ℤ◌, ◌-ℤ◌, ◌≤ℤ◌}
+use Rattle.ledger_types.specs.declared.ids.AccountId.{AccountId}
+use Rattle.ledger_types.specs.declared.asset.TrustLineAsset.{TrustLineAsset}
+use Rattle.ledger_types.specs.declared.price.Liabilities.{Liabilities}
+use Rattle.ledger_types.specs.declared.account.AccountEntry.{AccountEntry}
+use Rattle.ledger_types.specs.declared.trust_line.TrustLineEntry.{TrustLineEntry}
+use Rattle.ledger_types.specs.declared.offer.OfferEntry.{OfferEntry}
+use Rattle.ledger_types.specs.declared.entry.LedgerEntry.{LedgerEntry}
+use Rattle.ledger_types.specs.declared.entry.LedgerEntryBody.{LedgerEntryBody}
+use Rattle.ledger_types.specs.declared.entry.LedgerEntryBody.TheVariants as body
+use Rattle.ledger_types.specs.declared.key.LedgerKey.{LedgerKey}
+use Rattle.ledger_types.specs.declared.key.LedgerKey.TheVariants as key
+use Rattle.entry_map.specs.EntryMap.{EntryMap}
+use Rattle.entry_slots.specs.Accounts.{account_in, account_of, account_at}
+use Rattle.entry_slots.specs.AccountExtensions.{account_liabilities}
+use Rattle.entry_slots.specs.AccountFacts.{facts_in}
+use Rattle.entry_slots.specs.Lines.{line_in, line_of, line_at}
+use Rattle.entry_slots.specs.LineExtensions.{line_liabilities}
+use Rattle.offer_exchange.specs.Exchange.{Amounts}
+use Rattle.reserve_rules.specs.Reserve.{available, min_balance, room, line_available, line_room, greatest_i64}
+use Rattle.legal_rules.specs.Binding.{risen, releasing, binding, bound_account, bound_line}
+use Rattle.legal_rules.specs.Holdings.{IsKeyed}
+use Rattle.legal_rules.specs.OfferLiabilities.{bound_of}
+use Rattle.legal_rules.specs.Payments.{paid}
+use Rattle.legal_rules.proofs.Liable.{stored, line_stored}
+use Rattle.trade_cross.specs.declared.holding.Change.{Change}
+use Rattle.trade_cross.specs.Accounts.{IsHeld}
+use Rattle.trade_cross.specs.Crossing.{seller_gives_at, seller_takes_at, map_after_trade}
+use Rattle.trade_cross.specs.Plans.{giving_change, taking_change}
+use Rattle.trade_cross.specs.Holdings.{at_least_nothing, most_given, most_taken, account_gives, account_takes, line_gives}
+use Rattle.trade_cross.specs.Holdings.{line_takes, line_paid}
+use Rattle.trade_cross.specs.Places.{changed_account, changed_line, changing}
+use Rattle.trade_cross.specs.Sides.{facts_give_with, facts_take_with, line_gives_with, line_takes_with, given_with}
+use Rattle.trade_cross.specs.Sides.{taken_with, still_most}
+use Rattle.trade_cross.proofs.Altering.{mapped, altered_opt, AreApart, KeepsKeys, altered_at, opt_keyed, opt_elsewhere}
+use Rattle.trade_cross.proofs.Changing.{over, holding_body, bound_entry, changed_entry, bound_keeps, changed_keeps}
+use Rattle.trade_cross.proofs.Changing.{bound_altered, changed_altered}
+use Rattle.trade_cross.proofs.Left.{bound_available, same_minimum}
+use Rattle.trade_cross.proofs.Once.{gone_is}
+use Rattle.trade_cross.proofs.Passing.{IsOwnKey, holder_own}
+use Rattle.trade_cross.proofs.Paying.{within}
+
+-- ---- under the key that is changed
+
+module _ (f : AccountEntry → AccountEntry) (g : TrustLineEntry → TrustLineEntry) where
+  account_changed_in : (b : LedgerEntryBody) (a : AccountEntry) → account_in b ≡ Some a
+      → account_in (holding_body f g b) ≡ Some (f a)
+  account_changed_in (body.Account was) a is = let same : was ≡ a = cc in ap (λ x. Some (f x)) same
+  account_changed_in other a is = absurd (cc)
+
+  account_changed_of : (o : Option LedgerEntry) (a : AccountEntry) → account_of o ≡ Some a
+      → account_of (mapped (over (holding_body f g)) o) ≡ Some (f a)
+  account_changed_of None a is = absurd (cc)
+  account_changed_of (Some e) a is = account_changed_in e.body a is
+
+  line_changed_in : (b : LedgerEntryBody) (t : TrustLineEntry) → line_in b ≡ Some t
+      → line_in (holding_body f g b) ≡ Some (g t)
+  line_changed_in (body.TrustLine was) t is = let same : was ≡ t = cc in ap (λ x. Some (g x)) same
+  line_changed_in other t is = absurd (cc)
+
+  line_changed_of : (o : Option LedgerEntry) (t : TrustLineEntry) → line_of o ≡ Some t
+      → line_of (mapped (over (holding_body f g)) o) ≡ Some (g t)
+  line_changed_of None t is = absurd (cc)
+  line_changed_of (Some e) t is = line_changed_in e.body t is
+
+  module _ (m : EntryMap) (keyed : IsKeyed m) (keeps : KeepsKeys (over (holding_body f g))) where
+    pub account_then : (id : AccountId) (a : AccountEntry) → account_at m id ≡ Some a
+        → account_at (altered_opt (Some (key.Account id)) (over (holding_body f g)) m) id ≡ Some (f a)
+    unfolding account_at
+    account_then id a stands = ap account_of (altered_at m keyed (key.Account id) (over (holding_body f g)) keeps)
+        ∙ account_changed_of (get m (key.Account id)) a stands
+
+    pub line_then : (id : AccountId) (x : TrustLineAsset) (t : TrustLineEntry) → line_at m id x ≡ Some t
+        → line_at (altered_opt (Some (key.TrustLine id x)) (over (holding_body f g)) m) id x ≡ Some (g t)
+    unfolding line_at
+    line_then id x t stands = ap line_of (altered_at m keyed (key.TrustLine id x) (over (holding_body f g)) keeps)
+        ∙ line_changed_of (get m (key.TrustLine id x)) t stands
+
+-- ---- under another key
+
+module _ (m : EntryMap) (keyed : IsKeyed m) (k : Option LedgerKey) (h : LedgerEntry → LedgerEntry) (keeps : KeepsKeys h)
+  where
+    pub account_elsewhere : (id : AccountId) → k ≢ Some (key.Account id)
+        → account_at (altered_opt k h m) id ≡ account_at m id
+    unfolding account_at
+    account_elsewhere id apart = ap account_of (opt_elsewhere m keyed k h keeps (key.Account id) apart)
+
+    pub line_elsewhere : (id : AccountId) (x : TrustLineAsset) → k ≢ Some (key.TrustLine id x)
+        → line_at (altered_opt k h m) id x ≡ line_at m id x
+    unfolding line_at
+    line_elsewhere id x apart = ap line_of (opt_elsewhere m keyed k h keeps (key.TrustLine id x) apart)
+
+-- ---- two changes, under keys that are apart
+
+module _ (m : EntryMap) (keyed : IsKeyed m) (w s : Option LedgerKey) (apart : AreApart w s)
+    (f p : AccountEntry → AccountEntry) (g q : TrustLineEntry → TrustLineEntry)
+    (keeps : KeepsKeys (over (holding_body f g))) (also : KeepsKeys (over (holding_body p q))) where
+  abbrev first : EntryMap
+  first = altered_opt w (over (holding_body f g)) m
+
+  first_keyed : IsKeyed first
+  first_keyed = opt_keyed m keyed w (over (holding_body f g)) keeps
+
+  abbrev both : EntryMap
+  both = altered_opt s (over (holding_body p q)) first
+
+  pub account_first : (id : AccountId) (a : AccountEntry) → w ≡ Some (key.Account id) → account_at m id ≡ Some a
+      → account_at both id ≡ Some (f a)
+  account_first id a is stands =
+      account_elsewhere first first_keyed s (over (holding_body p q)) also id (apart (key.Account id) is)
+      ∙ ap (λ k. account_at (altered_opt k (over (holding_body f g)) m) id) is
+      ∙ account_then f g m keyed keeps id a stands
+
+  pub line_first : (id : AccountId) (x : TrustLineAsset) (t : TrustLineEntry) → w ≡ Some (key.TrustLine id x)
+      → line_at m id x ≡ Some t → line_at both id x ≡ Some (g t)
+  line_first id x t is stands =
+      line_elsewhere first first_keyed s (over (holding_body p q)) also id x (apart (key.TrustLine id x) is)
+      ∙ ap (λ k. line_at (altered_opt k (over (holding_body f g)) m) id x) is
+      ∙ line_then f g m keyed keeps id x t stands
+
+  pub account_second : (id : AccountId) (a : AccountEntry) → s ≡ Some (key.Account id) → account_at m id ≡ Some a
+      → account_at both id ≡ Some (p a)
+  account_second id a is stands =
+      ap (λ k. account_at (altered_opt k (over (holding_body p q)) first) id) is
+      ∙ account_then p q first first_keyed also id a
+      (account_elsewhere m keyed w (over (holding_body f g)) keeps id (λ same. apart (key.Account id) same is) ∙ stands)
+
+  pub line_second : (id : AccountId) (x : TrustLineAsset) (t : TrustLineEntry) → s ≡ Some (key.TrustLine id x)
+      → line_at m id x ≡ Some t → line_at both id x ≡ Some (q t)
+  line_second id x t is stands =
+      ap (λ k. line_at (altered_opt k (over (holding_body p q)) first) id x) is
+      ∙ line_then p q first first_keyed also id x t
+      (line_elsewhere m keyed w (over (holding_body f g)) keeps id x (λ same. apart (key.TrustLine id x) same is)
+      ∙ stands)

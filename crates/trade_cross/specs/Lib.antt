@@ -1,0 +1,10 @@
+pub mod Holdings
+pub mod Crossing
+pub mod Accounts
+pub mod CrossingLaws
+pub mod Places
+pub mod Sides
+pub mod Plans
+pub mod Steps
+pub mod Crossable
+pub mod Progressing

@@ -1,0 +1,20 @@
+//! A taker crosses the book of a pair: it sends sheep and receives wheat, offer by offer (convertWithOffers in
+//! stellar-core; CAP-0003).
+#![tactic(auto)]
+
+mod carry;
+mod conversion;
+mod crossed;
+mod holding;
+pub mod laws;
+mod place;
+mod plan;
+mod progress;
+mod side;
+mod step;
+mod trade;
+mod turn;
+
+pub use conversion::convert;
+pub use crossed::{CrossEnd, Crossed};
+pub use trade::Trade;

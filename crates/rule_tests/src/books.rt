@@ -9,7 +9,9 @@ use offer_book::{best, of_account};
 use std::alloc::{AllocError, Global};
 
 const SELLER: AccountId = AccountId([7; 32]);
+
 const OTHER: AccountId = AccountId([3; 32]);
+
 const USD: Asset = Asset::Alphanum4 {
     code: [85, 83, 68, 0],
     issuer: SELLER,

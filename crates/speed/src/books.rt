@@ -9,6 +9,7 @@ const SELLER: AccountId = AccountId([7; 32]);
 
 // How many offers a layer changes over a base, and how many a batch changes.
 const CHANGED: u32 = 1_000;
+
 const BATCH: u32 = 100;
 
 // A prime, so that no offer is changed twice unless it divides the count.
@@ -72,7 +73,11 @@ fn entry(offer: OfferEntry) -> LedgerEntry {
 }
 
 /// Puts offers of one pair, in place of nothing or of what stood there, each shifted in its book.
-fn put_offers(entries: &mut Entries<'_, MapBase>, count: u32, shift: u32) -> Result<(), AllocError> {
+fn put_offers(
+    entries: &mut Entries<'_, MapBase>,
+    count: u32,
+    shift: u32,
+) -> Result<(), AllocError> {
     for number in 0..count {
         entries.put(entry(offer(number, shift, 1)))?;
     }

@@ -72,6 +72,11 @@ fn entry(offer: OfferEntry) -> LedgerEntry {
     }
 }
 
+/// A base of no entries.
+fn no_entries(alloc: Global) -> Result<MapBase, AllocError> {
+    MapBase::from_entries(Vec::new(alloc))
+}
+
 /// Puts offers of one pair, in place of nothing or of what stood there, each shifted in its book.
 fn put_offers(
     entries: &mut Entries<'_, MapBase>,
@@ -101,7 +106,7 @@ fn walk(entries: &Entries<'_, MapBase>) -> Result<Seen, AllocError> {
 /// Makes a map of `count` offers of one pair, and changes a thousand of them in a layer. Where `through` says so, it
 /// goes through their whole book.
 pub fn pass_book(alloc: Global, count: u32, through: bool) -> Result<Seen, AllocError> {
-    let base = MapBase::from_entries(Vec::new(alloc))?;
+    let base = no_entries(alloc)?;
     let mut entries = Entries::new(alloc, &base)?;
     put_offers(&mut entries, count, 0)?;
     entries.child()?;
@@ -129,7 +134,7 @@ fn erase_best(entries: &mut Entries<'_, MapBase>, count: u32) -> Result<(), Allo
 /// Makes a map of 20,000 offers of one pair, of which the best are erased in a layer. Where `calls` says so, it asks
 /// 10,000 times for the head of their book, in the layer above.
 pub fn pass_head(alloc: Global, erased: u32, calls: bool) -> Result<Seen, AllocError> {
-    let base = MapBase::from_entries(Vec::new(alloc))?;
+    let base = no_entries(alloc)?;
     let mut entries = Entries::new(alloc, &base)?;
     put_offers(&mut entries, 20_000, 0)?;
     entries.child()?;

@@ -40,19 +40,6 @@ fn next_offer(alloc: Global, table: &EntryTable) -> Result<EntryTable, AllocErro
     table.next(9, &mut batch, offers)
 }
 
-/// The ids of the book's first two offers, with 0 where there is none.
-fn ids<B: Base>(base: &B) -> Result<[i64; 2], AllocError> {
-    let mut ids = [0; 2];
-    let mut after = None;
-    for id in &mut ids {
-        if let Some(next) = base.offer_after(&Asset::Native, &Asset::Native, after)? {
-            *id = next.offer_id;
-            after = Some((next.price, next.offer_id));
-        }
-    }
-    Ok(ids)
-}
-
 /// The ledger in which an entry of a base was last changed.
 fn changed_in<B: Base>(base: &B, key: &LedgerKey) -> Result<Option<u32>, AllocError> {
     match base.find(key)? {
@@ -61,14 +48,13 @@ fn changed_in<B: Base>(base: &B, key: &LedgerKey) -> Result<Option<u32>, AllocEr
     }
 }
 
-/// Whether the new offer has the number of the ledger, and the old one its own, and both are in the book.
+/// Whether the new offer has the number of the ledger, and the old one its own.
 fn is_stamped(alloc: Global) -> Result<bool, AllocError> {
     let table = one_offer(alloc)?;
     let next = next_offer(alloc, &table)?;
     let new = changed_in(&next, &offer(2).key()?)?;
     let old = changed_in(&next, &offer(3).key()?)?;
-    let is_indexed = ids(&table)? == [3, 0] && ids(&next)? == [2, 3];
-    Ok(next.len() == 2 && new == Some(9) && old == Some(1) && is_indexed)
+    Ok(next.len() == 2 && new == Some(9) && old == Some(1))
 }
 
 #[test]

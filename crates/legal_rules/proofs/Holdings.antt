@@ -18,7 +18,7 @@ use Rattle.ledger_types.specs.Keys.{key_of, key_of_body}
 use Rattle.entry_map.specs.EntryMap.{EntryMap, put, erase}
 use Rattle.entry_map.proofs.KeyMaps.{same_keys}
 use Rattle.entry_slots.specs.Accounts.{account_in, account_of, account_at, with_account}
-use Rattle.entry_sums.specs.Sums.{part, EachEntry}
+use Rattle.entry_sums.specs.Sums.{part}
 use Rattle.entry_sums.proofs.Lookups.{put_get, erase_get}
 use Rattle.legal_rules.specs.EntryKeys.{is_key}
 use Rattle.legal_rules.specs.Holdings.{IsKeyed, none_more, both_more, under_key, for_one, Increase, HoldsMore}

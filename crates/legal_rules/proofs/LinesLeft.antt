@@ -22,7 +22,7 @@ use Rattle.legal_rules.specs.Books.{View}
 use Rattle.legal_rules.specs.Holdings.{IsKeyed, none_more, under_key, HoldsMore}
 use Rattle.legal_rules.specs.Owing.{Owed, IsBoundRightly, IsLegalOwing}
 use Rattle.legal_rules.specs.Ranges.{IsBodyInRange, IsTrustLineInRange}
-use Rattle.legal_rules.specs.Supply.{of_asset, of_line, held_in, held as held_of}
+use Rattle.legal_rules.specs.Supply.{of_line, held_in, held as held_of}
 use Rattle.legal_rules.proofs.ChargesLeft.{put_beside}
 use Rattle.legal_rules.proofs.Holdings.{none_if, none_under, put_holds}
 use Rattle.legal_rules.proofs.Leaving.{Leaves, leaves_as, accounts_kept, keyed_put}

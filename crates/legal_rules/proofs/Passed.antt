@@ -1,5 +1,5 @@
 -- Tests that let a change through.
-use Rattle.std.proofs.Common.{◌≡◌, refl, Bool, true, false, ◌||◌, ◌∷◌, Option, Some, None, Ok}
+use Rattle.std.proofs.Common.{◌≡◌, refl, Bool, true, false, ◌||◌, ◌∷◌, Some, None, Ok}
 use Rattle.entry_slots.specs.Tests.{Tests, first_fault, unless_fault, unless_first}
 
 -- a change that was let through

@@ -1,32 +1,21 @@
 -- What stands above a key in the order of keys, and the offers of an account there.
-use Rattle.std.proofs.Common.{◌≡◌, ◌≢◌, refl, sym, ap, subst, ◌∙◌, arith, Bool, true, false, cond, ◌&&◌, T, ℤ, pos, ◌<◌, ◌≤ℤ◌}
-use Rattle.std.proofs.Common.{List, [], ◌∷◌, ◌++◌, map, length, All, Option, Some, None, IfSome}
-use Rattle.std.specs.List.{filter, cons_option}
+use Rattle.std.proofs.Common.{◌≡◌, ◌≢◌, refl, sym, ap, ◌∙◌, Bool, true, false, cond, ◌&&◌, T}
+use Rattle.std.proofs.Common.{List, [], ◌∷◌, Option, Some, None}
 use Rattle.std.specs.declared.cmp.Ordering.{Ordering}
 use Rattle.std.specs.declared.cmp.Ordering.TheVariants.{Less, Equal, Greater}
-use Rattle.std.specs.Ordering.{is_lt, is_eq, eq_by_cmp, ordering_reverse, ordering_then, int_cmp}
-use Rattle.std.specs.Cmp.{Equal-is, tied_itself, int_cmp_is}
-use Rattle.std.specs.FinMap.{get, find, entries, entries_sorted, get-entries}
+use Rattle.std.specs.Ordering.{is_lt, is_eq, eq_by_cmp}
+use Rattle.std.specs.Cmp.{tied_itself}
+use Rattle.std.specs.FinMap.{find, entries, entries_sorted, get-entries}
 use Rattle.std.specs.FinMap.Entries.{is_sorted, below_all}
-use Rattle.std.proofs.lemmas.List.Elements.{All-head, All-tail}
-use Rattle.shared_tree.proofs.Parts.{both, first, second, less, is_less, greater, turned}
+use Rattle.shared_tree.proofs.Parts.{both, first, second, is_less, greater, turned}
 use Rattle.shared_tree.proofs.Changed.{none_above, below_less, below_tied}
-use Rattle.ledger_types.specs.declared.ids.AccountId.{AccountId}
-use Rattle.ledger_types.specs.declared.offer.OfferEntry.{OfferEntry}
 use Rattle.ledger_types.specs.declared.entry.LedgerEntry.{LedgerEntry}
-use Rattle.ledger_types.specs.declared.entry.LedgerEntryBody.{LedgerEntryBody}
-use Rattle.ledger_types.specs.declared.entry.LedgerEntryBody.TheVariants as body
 use Rattle.ledger_types.specs.declared.key.LedgerKey.{LedgerKey}
-use Rattle.ledger_types.specs.declared.key.LedgerKey.TheVariants as key
-use Rattle.ledger_types.specs.Keys.{key_of, key_of_body}
-use Rattle.ledger_types.specs.KeyOrder.{account_cmp, key_cmp}
+use Rattle.ledger_types.specs.Keys.{key_of}
+use Rattle.ledger_types.specs.KeyOrder.{key_cmp}
 use Rattle.ledger_types.proofs.KeyOrdering.{keys_total, keys_exact}
-use Rattle.entry_map.specs.EntryMap.{EntryMap, IsKeyed, IsLeastAbove, IsNextAfter}
-use Rattle.entry_map.specs.Book.{offer_in, offers_in, offers_of}
-use Rattle.entry_map.proofs.KeyMaps.{same_keys}
-use Rattle.entry_map.proofs.Layers.{is_some_of}
-use Rattle.offer_book.specs.Book.{sold_by, offers_by, AreNumbered}
-use Rattle.offer_book.specs.Sold.{above, left, sold_in, IsSoldIn, IsFirstSold, IsNextSold}
+use Rattle.entry_map.specs.EntryMap.{EntryMap, IsLeastAbove, IsNextAfter}
+use Rattle.offer_book.specs.Sold.{above}
 
 abbrev pub Pairs : Type 0
 Pairs = List (LedgerKey × LedgerEntry)
@@ -62,6 +51,12 @@ skipped k x xs h = elim (key_cmp k x.0) as (λ r. r ≢ Less → cond (is_lt r) 
 pub taken : (k : LedgerKey) (x : LedgerKey × LedgerEntry) (xs : Pairs) → key_cmp k x.0 ≡ Less
     → above k (x ∷ xs) ≡ x ∷ above k xs
 taken k x xs h = ap (λ r. cond (is_lt r) (x ∷ above k xs) (above k xs)) h
+
+equal_not : Equal ≢ Less
+equal_not e = cc
+
+greater_not : Greater ≢ Less
+greater_not e = cc
 
 -- nothing stands above a key
 none_higher : (k : LedgerKey) (es : Pairs)
@@ -110,9 +105,12 @@ module _ (k : LedgerKey) (e : LedgerEntry) (x : LedgerKey × LedgerEntry) (xs : 
   here : key_cmp k x.0 ≡ Less
       → ((q : LedgerKey) → key_cmp k q ≡ Less → find key_cmp q (x ∷ xs) ≢ None → key_cmp (key_of e) q ≢ Greater) → IsFirst
   here up least = elim (key_cmp (key_of e) x.0) as (λ r. key_cmp (key_of e) x.0 ≡ r → IsFirst) [
-    | Less ↦ λ lower. absurd (cc (there, none_above keys_total (key_of e) (key_of e) (x ∷ xs)
-        (tied_itself keys_total (key_of e))
-        (both _ _ (is_less _ lower) (below_less keys_total (key_of e) x.0 xs lower (first _ _ h)))))
+    | Less ↦ λ lower. absurd (cc (
+      there,
+      none_above keys_total (key_of e) (key_of e) (x ∷ xs)
+          (tied_itself keys_total (key_of e))
+          (both _ _ (is_less _ lower) (below_less keys_total (key_of e) x.0 xs lower (first _ _ h))),
+    ))
     | Equal ↦ λ same. both_are up (sym (keys_exact (key_of e) x.0 same))
     | Greater ↦ λ over. absurd (least x.0 up (λ none. absurd (cc (none, found_first x xs))) over)
   ] refl
@@ -125,13 +123,13 @@ least_first : (k : LedgerKey) (e : LedgerEntry) (es : Pairs) → T (is_sorted ke
 least_first k e [] h there lt least = absurd (cc)
 least_first k e (x ∷ xs) h there lt least =
     let later = λ (low : key_cmp k x.0 ≢ Less).
-      let back : key_cmp (key_of e) x.0 ≡ Greater = greater keys_total x.0 (key_of e) (below_higher k x.0 (key_of e) low lt) in
-      past k e x xs h there low back (least_first k e xs (second _ _ h) (found k e x xs h there back) lt
-      (λ q up some. least q up (not_none (eq_by_cmp key_cmp q x.0) x.1 (find key_cmp q xs) some))) in
+    let back : key_cmp (key_of e) x.0 ≡ Greater = greater keys_total x.0 (key_of e) (below_higher k x.0 (key_of e) low lt) in
+    past k e x xs h there low back (least_first k e xs (second _ _ h) (found k e x xs h there back) lt
+    (λ q up some. least q up (not_none (eq_by_cmp key_cmp q x.0) x.1 (find key_cmp q xs) some))) in
     elim (key_cmp k x.0) as (λ r. key_cmp k x.0 ≡ r → above k (x ∷ xs) ≡ (key_of e, e) ∷ above (key_of e) (x ∷ xs)) [
       | Less ↦ λ up. here k e x xs h there up least
-      | Equal ↦ λ low. later (λ up. absurd (cc (low, up)))
-      | Greater ↦ λ low. later (λ up. absurd (cc (low, up)))
+      | Equal ↦ λ low. later (λ up. absurd (equal_not (sym low ∙ up)))
+      | Greater ↦ λ low. later (λ up. absurd (greater_not (sym low ∙ up)))
     ] refl
 
 -- ---- the next entry of a map

@@ -1,15 +1,17 @@
 -- The offers of an account among entries.
-use Rattle.std.proofs.Common.{◌≡◌, ◌≢◌, refl, sym, ap, subst, ◌∙◌, arith, Bool, true, false, cond, ◌&&◌, T, ℤ, pos, ◌<◌, ◌≤ℤ◌}
-use Rattle.std.proofs.Common.{List, [], ◌∷◌, ◌++◌, map, length, All, Option, Some, None, IfSome, ints}
-use Rattle.std.specs.List.{filter, cons_option}
+use Rattle.std.proofs.Common.{◌≡◌, ◌≢◌, refl, sym, ap, ◌∙◌, arith, Bool, true, false, cond, T, ℤ, pos, ◌<◌, ◌≤ℤ◌}
+use Rattle.std.proofs.Common.{List, [], ◌∷◌, map, length, All, Option, Some, None, IfSome}
+use Rattle.std.specs.List.{cons_option}
 use Rattle.std.specs.declared.cmp.Ordering.{Ordering}
 use Rattle.std.specs.declared.cmp.Ordering.TheVariants.{Less, Equal, Greater}
-use Rattle.std.specs.Ordering.{is_lt, is_eq, eq_by_cmp, ordering_reverse, ordering_then, int_cmp, nat_cmp}
-use Rattle.std.specs.Cmp.{Equal-is, tied_itself, int_cmp_is, nat_list_cmp_total, IsTotalOrder}
+use Rattle.std.specs.Ordering.{is_eq, eq_by_cmp, ordering_reverse, ordering_then, int_cmp}
+use Rattle.std.specs.Cmp.{Equal-is, tied_itself, int_cmp_is}
 use Rattle.std.specs.FinMap.{get, find, entries, entries_sorted, get-entries}
 use Rattle.std.specs.FinMap.Entries.{is_sorted}
 use Rattle.std.proofs.lemmas.List.Elements.{All-nil, All-cons, All-head, All-tail}
 use Rattle.std.proofs.lemmas.Map.Lookups.{exact_bytes}
+use Rattle.std.proofs.lemmas.Int.{ints}
+use Rattle.std.proofs.lemmas.Cmp.{nat_list_cmp_total}
 use Rattle.shared_tree.proofs.Parts.{first, second}
 use Rattle.shared_tree.proofs.Changed.{none_above}
 use Rattle.ledger_types.specs.declared.ids.AccountId.{AccountId}
@@ -21,12 +23,12 @@ use Rattle.ledger_types.specs.declared.key.LedgerKey.{LedgerKey}
 use Rattle.ledger_types.specs.declared.key.LedgerKey.TheVariants as key
 use Rattle.ledger_types.specs.Keys.{key_of, key_of_body}
 use Rattle.ledger_types.specs.KeyOrder.{account_cmp, key_cmp}
-use Rattle.ledger_types.proofs.KeyOrdering.{keys_total, keys_exact}
+use Rattle.ledger_types.proofs.KeyOrdering.{keys_total}
 use Rattle.entry_map.specs.EntryMap.{EntryMap, IsKeyed, IsLeastAbove, IsNextAfter}
-use Rattle.entry_map.specs.Book.{offer_in, offers_in, offers_of}
+use Rattle.entry_map.specs.Book.{offer_in, offers_in}
 use Rattle.entry_map.proofs.Layers.{is_some_of}
 use Rattle.offer_book.specs.Book.{sold_by, offers_by, AreNumbered}
-use Rattle.offer_book.specs.Sold.{above, left, sold_in, IsSoldIn, IsFirstSold, IsNextSold}
+use Rattle.offer_book.specs.Sold.{above, left, sold_in, IsSoldIn, IsNextSold}
 use Rattle.offer_book.proofs.Above.{Pairs, found_first, skipped, taken, nothing_left, next_left}
 
 pub same_account : (a b : AccountId) → account_cmp a b ≡ Equal → a ≡ b
@@ -67,17 +69,17 @@ not_sold s x xs h = not_sold_by s (offer_in x.1.body) (offers_in (map (λ pair. 
 -- an entry under a key that is none of the account's offers' isn't one of them
 by_offer : (s : AccountId) (k : LedgerKey) (b : LedgerEntryBody) → key_of_body b ≡ k → ((n : ℤ) → k ≢ key.Offer s n)
     → sold_by s (cons_option (offer_in b) []) ≡ []
-by_offer s k (body.Offer o) own no = elim (account_cmp o.seller_id s) as (λ r. account_cmp o.seller_id s ≡ r
+by_offer s k (body.Offer o) own never = elim (account_cmp o.seller_id s) as (λ r. account_cmp o.seller_id s ≡ r
     → cond (is_eq r) (o ∷ []) [] ≡ []) [
       | Less ↦ λ _. refl
-      | Equal ↦ λ e. absurd (no o.offer_id (sym own ∙ ap (λ a. key.Offer a o.offer_id) (same_account o.seller_id s e)))
+      | Equal ↦ λ e. absurd (never o.offer_id (sym own ∙ ap (λ a. key.Offer a o.offer_id) (same_account o.seller_id s e)))
       | Greater ↦ λ _. refl
     ] refl
-by_offer s k (body.Account a) own no = refl
-by_offer s k (body.TrustLine a) own no = refl
-by_offer s k (body.Data a) own no = refl
-by_offer s k (body.ClaimableBalance a) own no = refl
-by_offer s k (body.LiquidityPool a) own no = refl
+by_offer s k (body.Account a) own never = refl
+by_offer s k (body.TrustLine a) own never = refl
+by_offer s k (body.Data a) own never = refl
+by_offer s k (body.ClaimableBalance a) own never = refl
+by_offer s k (body.LiquidityPool a) own never = refl
 
 by_key : (s : AccountId) (b : LedgerEntryBody) (n : ℤ) → sold_by s (cons_option (offer_in b) []) ≡ []
     → key_of_body b ≢ key.Offer s n
@@ -116,13 +118,13 @@ IsOwn x = key_of x.1 ≡ x.0
 -- behind a key that is none of the account's there are none of its offers
 none_sold : (s : AccountId) (i : ℤ) (q : LedgerKey) (es : Pairs) → All IsOwn es → key_cmp (key.Offer s i) q ≡ Less
     → ((n : ℤ) → q ≢ key.Offer s n) → sold_in s (above q es) ≡ []
-none_sold s i q [] own up no = refl
-none_sold s i q (x ∷ xs) own up no =
-    let later = none_sold s i q xs (All-tail IsOwn x xs own) up no in
+none_sold s i q [] own up never = refl
+none_sold s i q (x ∷ xs) own up never =
+    let later = none_sold s i q xs (All-tail IsOwn x xs own) up never in
     elim (key_cmp q x.0) as (λ r. key_cmp q x.0 ≡ r → sold_in s (above q (x ∷ xs)) ≡ []) [
       | Less ↦ λ lt. ap (sold_in s) (taken q x xs lt)
           ∙ not_sold s x (above q xs) (by_offer s x.0 x.1.body (All-head IsOwn x xs own)
-          (λ n is. let two = side_by_side s i n q up (ap (key_cmp q) (sym is) ∙ lt) in no two.0 two.1)) ∙ later
+          (λ n is. let two = side_by_side s i n q up (ap (key_cmp q) (sym is) ∙ lt) in never two.0 two.1)) ∙ later
       | Equal ↦ λ e. ap (sold_in s) (skipped q x xs (λ lt. absurd (cc (e, lt)))) ∙ later
       | Greater ↦ λ e. ap (sold_in s) (skipped q x xs (λ lt. absurd (cc (e, lt)))) ∙ later
     ] refl
@@ -152,13 +154,13 @@ all_own m keyed = own_listed (entries m) (entries_sorted m)
 pub none_next : (m : EntryMap) (s : AccountId) (i : ℤ) → IsNextAfter m (key.Offer s i) None → IsNextSold m s i None
 none_next m s i none keyed = ap (sold_in s) (nothing_left m (key.Offer s i) none)
 
-pub other_next : (m : EntryMap) (s : AccountId) (i : ℤ) (e : LedgerEntry) → IsLeastAbove m (key.Offer s i) e
+other_next : (m : EntryMap) (s : AccountId) (i : ℤ) (e : LedgerEntry) → IsLeastAbove m (key.Offer s i) e
     → IsSoldIn e s None → IsNextSold m s i None
 other_next m s i e least none keyed = ap (sold_in s) (next_left m (key.Offer s i) e least)
     ∙ not_sold s (key_of e, e) (above (key_of e) (entries m)) none
     ∙ none_sold s i (key_of e) (entries m) (all_own m keyed) least.above (λ n. by_key s e.body n none)
 
-pub some_next : (m : EntryMap) (s : AccountId) (i : ℤ) (e : LedgerEntry) (o : OfferEntry)
+some_next : (m : EntryMap) (s : AccountId) (i : ℤ) (e : LedgerEntry) (o : OfferEntry)
     → IsLeastAbove m (key.Offer s i) e → IsSoldIn e s (Some o) → IsNextSold m s i (Some o)
 some_next m s i e o least is =
     let k : key_of e ≡ key.Offer s o.offer_id = offer_key e.body o is.0 ∙ ap (λ a. key.Offer a o.offer_id) is.1 in
@@ -174,7 +176,70 @@ some_next m s i e o least is =
         → length other < length all
     shorter all rest other x is same = omega (arith, ap (λ r. length r) is, ap (λ r. length r) same)
 
+pub entry_next : (m : EntryMap) (s : AccountId) (i : ℤ) (e : LedgerEntry) (o : Option OfferEntry)
+    → IsLeastAbove m (key.Offer s i) e → IsSoldIn e s o → IsNextSold m s i o
+entry_next m s i e None least is = other_next m s i e least is
+entry_next m s i e (Some o) least is = some_next m s i e o least is
+
+with_option : (s : AccountId) (o : Option OfferEntry) (xs ys : List OfferEntry) → sold_by s xs ≡ sold_by s ys
+    → sold_by s (cons_option o xs) ≡ sold_by s (cons_option o ys)
+with_option s None xs ys same = same
+with_option s (Some o) xs ys same = ap (λ r. cond (is_eq (account_cmp o.seller_id s)) (o ∷ r) r) same
+
+with_first : (s : AccountId) (x : LedgerKey × LedgerEntry) (xs ys : Pairs) → sold_in s xs ≡ sold_in s ys
+    → sold_in s (x ∷ xs) ≡ sold_in s (x ∷ ys)
+with_first s x xs ys same = with_option s (offer_in x.1.body) (offers_in (map (λ pair. pair.1) xs))
+    (offers_in (map (λ pair. pair.1) ys)) same
+
 -- ---- all offers of an account have ids above 0
 
 pub low_key : (s : AccountId) (n : ℤ) → pos 1 ≤ℤ n → key_cmp (key.Offer s (pos 0)) (key.Offer s n) ≡ Less
-low_key s n h = ap (λ r. ordering_then r (int_cmp (pos 0) n)) (account_itself s) ∙ sym (int_cmp_is (pos 0) n Less ?)
+low_key s n h = ap (λ r. ordering_then r (int_cmp (pos 0) n)) (account_itself s) ∙ sym (int_cmp_is (pos 0) n Less (omega (arith, ints)))
+
+low_by : (s : AccountId) (x : LedgerKey × LedgerEntry) (xs : Pairs) (b : LedgerEntryBody) → x.1.body ≡ b
+    → key_of_body b ≡ x.0 → IfSome (offer_in b) (λ o. pos 1 ≤ℤ o.offer_id) → key_cmp (key.Offer s (pos 0)) x.0 ≢ Less
+    → sold_by s (cons_option (offer_in b) []) ≡ []
+low_by s x xs (body.Offer o) is own low past = elim (account_cmp o.seller_id s) as (λ r. account_cmp o.seller_id s ≡ r
+    → cond (is_eq r) (o ∷ []) [] ≡ []) [
+      | Less ↦ λ _. refl
+      | Equal ↦ λ e. absurd (past (ap (key_cmp (key.Offer s (pos 0))) (sym own
+          ∙ ap (λ a. key.Offer a o.offer_id) (same_account o.seller_id s e)) ∙ low_key s o.offer_id low))
+      | Greater ↦ λ _. refl
+    ] refl
+low_by s x xs (body.Account a) is own low past = refl
+low_by s x xs (body.TrustLine a) is own low past = refl
+low_by s x xs (body.Data a) is own low past = refl
+low_by s x xs (body.ClaimableBalance a) is own low past = refl
+low_by s x xs (body.LiquidityPool a) is own low past = refl
+
+abbrev IsLow : OfferEntry → Type 0
+IsLow o = pos 1 ≤ℤ o.offer_id
+
+first_low : (o : Option OfferEntry) (os : List OfferEntry) → All IsLow (cons_option o os) → IfSome o IsLow
+first_low None os all = tt
+first_low (Some o) os all = All-head IsLow o os all
+
+others_low : (o : Option OfferEntry) (os : List OfferEntry) → All IsLow (cons_option o os) → All IsLow os
+others_low None os all = all
+others_low (Some o) os all = All-tail IsLow o os all
+
+all_left : (s : AccountId) (es : Pairs) → All IsOwn es → All IsLow (offers_in (map (λ pair. pair.1) es))
+    → sold_in s (above (key.Offer s (pos 0)) es) ≡ sold_in s es
+all_left s [] own low = refl
+all_left s (x ∷ xs) own low =
+    let others = offers_in (map (λ pair. pair.1) xs) in
+    let later = all_left s xs (All-tail IsOwn x xs own) (others_low (offer_in x.1.body) others low) in
+    let k = key.Offer s (pos 0) in
+    let gone = λ (past : key_cmp k x.0 ≢ Less). ap (sold_in s) (skipped k x xs past) ∙ later
+    ∙ sym (not_sold s x xs (low_by s x xs x.1.body refl (All-head IsOwn x xs own)
+    (first_low (offer_in x.1.body) others low) past)) in
+    elim (key_cmp k x.0) as (λ r. key_cmp k x.0 ≡ r → sold_in s (above k (x ∷ xs)) ≡ sold_in s (x ∷ xs)) [
+      | Less ↦ λ lt. ap (sold_in s) (taken k x xs lt) ∙ with_first s x (above k xs) xs later
+      | Equal ↦ λ e. gone (λ lt. absurd (cc (e, lt)))
+      | Greater ↦ λ e. gone (λ lt. absurd (cc (e, lt)))
+    ] refl
+
+-- no offer of an account is left out at the start
+pub all_ahead : (m : EntryMap) (s : AccountId) → AreNumbered m → sold_in s (left m s (pos 0)) ≡ offers_by m s
+unfolding offers_by
+all_ahead m s h = all_left s (entries m) (all_own m h.keyed) h.low

@@ -1,9 +1,7 @@
 //! The offers of an account.
 
 ghost use Rattle.std.specs.Prelude.{◌≡◌, IfOk};
-ghost use Rattle.std.specs.Ordering.{is_eq};
-ghost use Rattle.ledger_types.specs.KeyOrder.{account_cmp};
-ghost use Rattle.entry_map.specs.Book.{offer_of};
+ghost use Rattle.ledger_types.specs.declared.key.LedgerKey.TheVariants.{Offer};
 ghost use Rattle.offer_book.specs.Book as spec;
 ghost use Rattle.offer_book.specs.Sold.{IsNextSold, IsSoldIn};
 
@@ -25,6 +23,16 @@ fn sold_in(entry: LedgerEntry, seller: &AccountId) -> Option<OfferEntry>
     }
 }
 
+/// The key of an offer.
+fn offer_key(seller_id: AccountId, offer_id: i64) -> LedgerKey
+    ensures { result ≡ Offer seller_id offer_id }
+{
+    LedgerKey::Offer {
+        seller_id,
+        offer_id,
+    }
+}
+
 /// The first offer of an account behind an id.
 fn next_sold<B: Base>(
     entries: &Entries<'_, B>,
@@ -33,11 +41,7 @@ fn next_sold<B: Base>(
 ) -> Result<Option<OfferEntry>, AllocError>
     ensures { IfOk result (IsNextSold entries.now.current seller.now id) }
 {
-    let key = LedgerKey::Offer {
-        seller_id: *seller,
-        offer_id: id,
-    };
-    match entries.next_after(&key)? {
+    match entries.next_after(&offer_key(*seller, id))? {
         None => Ok(None),
         Some(entry) => Ok(sold_in(entry, seller)),
     }

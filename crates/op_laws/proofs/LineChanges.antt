@@ -1,6 +1,5 @@
 -- What a change of a line leaves: legal entries, the supply of its asset, and the accounts.
-use Rattle.std.proofs.Common.{◌≡◌, refl, sym, ap, subst, ◌∙◌, ℕ, Bool, true, false, Some, arith}
-use Rattle.std.proofs.lemmas.Int.{ints}
+use Rattle.std.proofs.Common.{◌≡◌, refl, ap, ◌∙◌, ℕ, Bool, true, false, Some}
 use Rattle.std.specs.Prelude.{ℤ, pos, ◌+ℤ◌, ◌-ℤ◌, if◌then◌else◌}
 use Rattle.std.specs.Ordering.{is_eq}
 use Rattle.ledger_types.specs.declared.ids.AccountId.{AccountId}
@@ -15,10 +14,9 @@ use Rattle.ledger_types.specs.KeyOrder.{asset_cmp}
 use Rattle.entry_map.specs.EntryMap.{EntryMap}
 use Rattle.entry_slots.specs.Lines.{line_at, with_line}
 use Rattle.legal_rules.specs.Books.{Kind, Shares}
-use Rattle.legal_rules.specs.Books.{View}
 use Rattle.legal_rules.specs.ChangeLaws.{KeepsLineBooks, in_shares}
-use Rattle.legal_rules.specs.Owing.{Owed, nothing_owed, IsBoundRightly, IsEntryLegal, IsLegalOwing}
-use Rattle.legal_rules.specs.Ranges.{IsBodyInRange, IsTrustLineInRange}
+use Rattle.legal_rules.specs.Owing.{nothing_owed, IsBoundRightly, IsEntryLegal}
+use Rattle.legal_rules.specs.Ranges.{IsTrustLineInRange}
 use Rattle.legal_rules.specs.Supply.{of_asset, of_line}
 use Rattle.legal_rules.proofs.Changed.{line_changed}
 use Rattle.legal_rules.proofs.Steps.{legal_as}

@@ -1,8 +1,8 @@
 -- What has passed: tests that let a step through, and steps of operations that went on.
-use Rattle.std.proofs.Common.{◌≡◌, refl, Bool, true, false, ◌||◌, ◌∷◌, Option, Some, None, Result, Ok, Err}
+use Rattle.std.proofs.Common.{◌≡◌, refl, Option, Some, None, Result, Ok, Err}
 use Rattle.op_types.specs.declared.operation_result.OperationResult.{OperationResult}
 use Rattle.entry_map.specs.EntryMap.{EntryMap}
-use Rattle.entry_slots.specs.Tests.{Tests, first_fault, unless_fault, unless_first}
+use Rattle.entry_slots.specs.Tests.{Tests, first_fault}
 use Rattle.sponsor_rules.specs.declared.fault.AddFault.{AddFault}
 use Rattle.op_form.specs.Steps.{unless_result, unless_refused, after, after_some, after_charge, after_step}
 

@@ -33,11 +33,11 @@ fn one_offer(alloc: Global) -> Result<EntryTable, AllocError> {
 
 /// The table behind ledger 9, which brings an offer more.
 fn next_offer(alloc: Global, table: &EntryTable) -> Result<EntryTable, AllocError> {
-    let _count = table.len();
     let mut entries = Entries::new(alloc, table)?;
     entries.put(offer(2))?;
     let mut batch = entries.changes()?;
-    table.next(9, &mut batch)
+    let offers = entries.offers()?;
+    table.next(9, &mut batch, offers)
 }
 
 /// The ledger in which an entry of a base was last changed.

@@ -1,4 +1,5 @@
-//! What the scripts in bench/ time: values read from a file and written again, and entries put over a base and got.
+//! What the scripts in bench/ time: values read from a file and written again, entries put over a base and got, merges
+//! of buckets, and books of offers.
 //!
 //!     speed entries FILE            reads the ledger entries of a file, one behind another
 //!     speed entries-again FILE      reads them, and writes them again
@@ -16,12 +17,23 @@
 //!     speed buckets OLDER NEWER     reads them alone
 //!
 //! Both print how many bytes the merge has, or both files together.
+//!
+//!     speed book COUNT              makes a map of so many offers, a thousand of them changed, and goes through their book
+//!     speed book-base COUNT         makes the map alone
+//!     speed head COUNT              makes a map whose so many best offers are erased, and asks for its best 10,000 times
+//!     speed head-base COUNT         makes the map alone
+//!     speed index COUNT PAIRS       makes an index of so many offers, and 100 times the one behind a batch of 100
+//!     speed index-base COUNT PAIRS  makes the index alone
+//!
+//! These print how many offers were answered, and the sum of their numbers.
 #![tactic(auto)]
 
+mod books;
 mod buckets;
 mod codecs;
 mod entries;
 
+use books::{Seen, pass_book, pass_head, pass_index};
 use buckets::pass_buckets;
 use codecs::{Done, pass_entries, pass_set};
 use entries::{Tally, pass_offers};
@@ -87,7 +99,40 @@ fn report_buckets<R: Files + Print + AllocGlobal>(
     }
 }
 
-/// Runs a command on two files, where there is such a command.
+/// Runs a command on books of so many offers, where there is such a command.
+fn run_books<R: AllocGlobal>(rt: &R, command: &str, count: &str) -> Option<Seen> {
+    let count = count.parse().ok()?;
+    match command.as_bytes() {
+        b"book" => pass_book(rt.alloc(), count, true).ok(),
+        b"book-base" => pass_book(rt.alloc(), count, false).ok(),
+        b"head" => pass_head(rt.alloc(), count, true).ok(),
+        b"head-base" => pass_head(rt.alloc(), count, false).ok(),
+        _ => None,
+    }
+}
+
+/// Runs a command on indexes of so many offers in so many pairs, where there is such a command.
+fn run_index<R: AllocGlobal>(rt: &R, command: &str, count: &str, pairs: &str) -> Option<Seen> {
+    let count = count.parse().ok()?;
+    let pairs = pairs.parse().ok()?;
+    match command.as_bytes() {
+        b"index" => pass_index(rt.alloc(), count, pairs, true).ok(),
+        b"index-base" => pass_index(rt.alloc(), count, pairs, false).ok(),
+        _ => None,
+    }
+}
+
+/// Prints what was seen.
+fn report_seen<R: Print>(rt: &R, command: &str, seen: Option<Seen>) -> io::Result<()> {
+    let Some(seen) = seen else {
+        return println!(rt; "{command}: nothing was done");
+    };
+    let offers = seen.offers;
+    let ids = seen.ids;
+    println!(rt; "{command}: {offers} offers, ids {ids}")
+}
+
+/// Runs a command on two words, where there is such a command.
 fn report_two<R: Files + Print + AllocGlobal>(
     rt: &R,
     command: &str,
@@ -96,6 +141,9 @@ fn report_two<R: Files + Print + AllocGlobal>(
 ) -> io::Result<()> {
     match command.as_bytes() {
         b"merge" | b"buckets" => report_buckets(rt, command, older, newer),
+        b"index" | b"index-base" => {
+            report_seen(rt, command, run_index(rt, command, older, newer))
+        }
         _ => println!(rt; "{command}: nothing was done"),
     }
 }
@@ -105,6 +153,9 @@ fn report_one<R: Files + Print + AllocGlobal>(rt: &R, command: &str, word: &str)
     match command.as_bytes() {
         b"map" => report_offers(rt, command, word, true),
         b"map-base" => report_offers(rt, command, word, false),
+        b"book" | b"book-base" | b"head" | b"head-base" => {
+            report_seen(rt, command, run_books(rt, command, word))
+        }
         _ => report(rt, command, word),
     }
 }

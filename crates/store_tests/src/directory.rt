@@ -89,22 +89,24 @@ fn blocked<R: Files>(vol: &mut DirVolume<R>) -> [bool; 3] {
     [is_told, is_written, vol.sync() == Err(Failed)]
 }
 
-// One test, since all of it stands in one directory.
+// One test, since all of it stands in one directory. Each volume is opened anew.
 #[test]
 fn keeps_files_in_a_directory(rt: HostRuntime) {
     let _ = fs::remove_dir_all(&rt, "ledger-store");
     let _ = fs::remove_file(&rt, "ledger-store");
-    assert!(rt; missing(&mut DirVolume::new(&rt)) == [true; 3]);
-    assert!(rt; fs::metadata(&rt, "ledger-store").is_err());
-    assert!(rt; grown(&mut DirVolume::new(&rt)) == [true; 4]);
-    assert!(rt; cut(&mut DirVolume::new(&rt)) == [true; 5]);
-    assert!(rt; again(&mut DirVolume::new(&rt)) == [true; 3]);
+    let is_missing = missing(&mut DirVolume::new(&rt)) == [true; 3];
+    let is_not_made = fs::metadata(&rt, "ledger-store").is_err();
+    let is_grown = grown(&mut DirVolume::new(&rt)) == [true; 4];
+    let is_cut = cut(&mut DirVolume::new(&rt)) == [true; 5];
+    let is_again = again(&mut DirVolume::new(&rt)) == [true; 3];
     let _ = fs::create_dir(&rt, "ledger-store/image0");
-    assert!(rt; refused(&mut DirVolume::new(&rt)) == [true; 2]);
-    assert!(rt; journal(rt.alloc(), &mut DirVolume::new(&rt)) == Ok(()));
-    assert!(rt; is_kept(rt.alloc(), &mut DirVolume::new(&rt)));
+    let is_refused = refused(&mut DirVolume::new(&rt)) == [true; 2];
+    let is_appended = journal(rt.alloc(), &mut DirVolume::new(&rt)) == Ok(());
+    let is_told = is_kept(rt.alloc(), &mut DirVolume::new(&rt));
     let _ = fs::remove_dir_all(&rt, "ledger-store");
     let _ = fs::write(&rt, "ledger-store", b"");
-    assert!(rt; blocked(&mut DirVolume::new(&rt)) == [true; 3]);
+    let is_blocked = blocked(&mut DirVolume::new(&rt)) == [true; 3];
     let _ = fs::remove_file(&rt, "ledger-store");
+    assert!(rt; [is_missing, is_not_made, is_grown, is_cut, is_again] == [true; 5]);
+    assert!(rt; [is_refused, is_appended, is_told, is_blocked] == [true; 4]);
 }

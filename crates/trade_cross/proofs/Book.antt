@@ -1,5 +1,5 @@
 -- The offer at the head of a book stands.
-use Rattle.std.proofs.Common.{◌≡◌, refl, sym, ap, subst, ◌∙◌, Bool, true, false, T, All, List, [], ◌∷◌, Some}
+use Rattle.std.proofs.Common.{◌≡◌, refl, sym, ap, subst, ◌∙◌, true, T, All, List, [], ◌∷◌, Some}
 use Rattle.std.proofs.lemmas.List.Elements.{All-nil, All-cons, All-head, All-tail, All-weaker, All-filter, filter_passes}
 use Rattle.std.specs.List.{filter, cons_option}
 use Rattle.std.specs.Prelude.{map}

@@ -1,8 +1,8 @@
 -- The offers of a legal state are sound: prices of parts of at least 1, and distinct ids.
-use Rattle.std.proofs.Common.{◌≡◌, ◌≢◌, refl, sym, ap, subst, ◌∙◌, Bool, true, false, All, List, [], ◌∷◌, Some, arith}
+use Rattle.std.proofs.Common.{◌≡◌, ◌≢◌, refl, sym, ap, subst, ◌∙◌, Bool, true, false, All, List, [], ◌∷◌, arith}
 use Rattle.std.proofs.lemmas.Int.{ints}
-use Rattle.std.proofs.lemmas.List.Elements.{All-nil, All-cons, All-head, All-tail}
-use Rattle.std.specs.FinMap.{get, entries}
+use Rattle.std.proofs.lemmas.List.Elements.{All-nil, All-cons}
+use Rattle.std.specs.FinMap.{entries}
 use Rattle.std.specs.List.{cons_option}
 use Rattle.std.specs.Ordering.{is_eq, int_cmp}
 use Rattle.std.specs.Prelude.{ℕ, ℤ, pos, ◌+ℤ◌, ◌≤ℤ◌, map, if◌then◌else◌}
@@ -56,10 +56,6 @@ too_many x y none one low = omega (arith, ints)
 rest_none : (x y : ℤ) → (x +ℤ y) ≤ℤ pos 0 → pos 0 ≤ℤ x → y ≤ℤ pos 0
 rest_none x y none low = omega (arith, ints)
 
--- none has this id where none is counted
-none_with : (id : ℤ) (es : Pairs) → sum_over (offer_with id) es ≤ℤ pos 0
-    → All (λ other. id ≢ other.offer_id) (offers_at es)
-
 none_by : (id : ℤ) (b : LedgerEntryBody) (es : Pairs) → (offer_with_in id b +ℤ sum_over (offer_with id) es) ≤ℤ pos 0
     → All (λ other. id ≢ other.offer_id) (offers_at es)
     → All (λ other. id ≢ other.offer_id) (cons_option (offer_in b) (offers_at es))
@@ -67,6 +63,10 @@ none_by id (body.Offer o) es none all = All-cons (λ other. id ≢ other.offer_i
     (λ same. too_many (offer_with_in id (body.Offer o)) (sum_over (offer_with id) es) none
     (counts_itself o id (sym same)) (sum_low id es)) all
 none_by id other es none all = all
+
+-- none has this id where none is counted
+none_with : (id : ℤ) (es : Pairs) → sum_over (offer_with id) es ≤ℤ pos 0
+    → All (λ other. id ≢ other.offer_id) (offers_at es)
 none_with id [] none = All-nil (λ other. id ≢ other.offer_id)
 none_with id (e ∷ es) none = none_by id e.1.body es none
     (none_with id es (rest_none (offer_with id e.1) (sum_over (offer_with id) es) none (counted_low e.1.body id)))

@@ -1,7 +1,7 @@
 -- Who sells or buys by an offer has an extension that says so: liabilities fall and rise there as one number does.
 use Rattle.std.proofs.Common.{◌≡◌, ◌≢◌, refl, sym, ap, subst, ◌∙◌, ℕ, ◌≤◌, Option, Some, None, arith}
 use Rattle.std.proofs.lemmas.Int.{ints}
-use Rattle.std.specs.Prelude.{ℤ, pos, neg_ℤ, ◌+ℤ◌, ◌-ℤ◌, ◌≤ℤ◌}
+use Rattle.std.specs.Prelude.{ℤ, pos, neg_ℤ, ◌+ℤ◌, ◌≤ℤ◌}
 use Rattle.std.specs.FinMap.{get}
 use Rattle.ledger_types.specs.declared.price.Liabilities.{Liabilities}
 use Rattle.ledger_types.specs.declared.account.AccountEntry.{AccountEntry}
@@ -18,7 +18,6 @@ use Rattle.entry_slots.specs.Accounts.{account_in, account_of, account_at}
 use Rattle.entry_slots.specs.AccountExtensions.{liabilities_in, with_liabilities_in, account_liabilities}
 use Rattle.entry_slots.specs.Lines.{line_in, line_of, line_at}
 use Rattle.entry_slots.specs.LineExtensions.{line_liabilities_in, with_line_liabilities_in, line_liabilities}
-use Rattle.reserve_rules.specs.Reserve.{IsInRange, IsLineInRange}
 use Rattle.legal_rules.specs.Binding.{risen, bound_account, bound_line, CanBind}
 use Rattle.legal_rules.specs.Payments.{paid}
 use Rattle.legal_rules.proofs.Liable.{stored, line_stored}

@@ -1,7 +1,7 @@
 -- That the sums of the changes by which an offer is crossed fit 64 bits.
-use Rattle.std.proofs.Common.{◌≡◌, ◌⊎◌, inl, inr, refl, sym, ap, subst, ◌∙◌, ℕ, ◌≤◌, zero, suc, Option, Some, None, arith}
+use Rattle.std.proofs.Common.{◌≡◌, refl, sym, ap, subst, ◌∙◌, ◌≤◌, Option, Some, None, arith}
 use Rattle.std.proofs.lemmas.Int.{ints}
-use Rattle.std.specs.Prelude.{ℤ, pos, neg_ℤ, ◌+ℤ◌, ◌-ℤ◌, ◌≤ℤ◌}
+use Rattle.std.specs.Prelude.{ℤ, pos, ◌+ℤ◌, ◌≤ℤ◌}
 use Rattle.ledger_types.specs.declared.ids.AccountId.{AccountId}
 use Rattle.ledger_types.specs.declared.asset.TrustLineAsset.{TrustLineAsset}
 use Rattle.ledger_types.specs.declared.price.Liabilities.{Liabilities}
@@ -19,7 +19,7 @@ use Rattle.legal_rules.specs.Binding.{risen}
 use Rattle.legal_rules.specs.Holdings.{IsKeyed}
 use Rattle.legal_rules.proofs.Liable.{stored, line_stored}
 use Rattle.trade_cross.specs.declared.holding.Change.{Change}
-use Rattle.trade_cross.specs.Places.{DoesFit, DoSumsFit, DoesChangeFit, changed_account, changed_line, changing}
+use Rattle.trade_cross.specs.Places.{DoSumsFit, DoesChangeFit, changed_account, changed_line, changing}
 use Rattle.trade_cross.proofs.Altering.{AreApart, altered_opt, opt_keyed}
 use Rattle.trade_cross.proofs.Changing.{changed_entry, changed_keeps, changed_altered}
 use Rattle.trade_cross.proofs.Passing.{IsOwnKey}

@@ -1,5 +1,5 @@
 -- What one more turn adds to a trade.
-use Rattle.std.proofs.Common.{◌≡◌, refl, sym, ap, subst, ◌∙◌, ℕ, ◌+◌, ◌-◌, ◌≤◌, ◌<◌, zero, suc, Bool, true, false}
+use Rattle.std.proofs.Common.{◌≡◌, refl, sym, ap, subst, ◌∙◌, ℕ, ◌+◌, ◌-◌, ◌≤◌, ◌<◌, zero, suc, true, false}
 use Rattle.std.proofs.Common.{List, [], ◌∷◌, ◌++◌, Some, None, append_assoc, append-nil, arith}
 use Rattle.std.proofs.lemmas.Int.{ints}
 use Rattle.std.specs.Prelude.{ℤ, pos, ◌+ℤ◌, ◌-ℤ◌, ◌≤ℤ◌, unsigned_abs, if◌then◌else◌}
@@ -19,7 +19,7 @@ use Rattle.trade_cross.specs.declared.turn.Turn.{Turn}
 use Rattle.trade_cross.specs.declared.turn.Turn.TheVariants.{Ends, Meets}
 use Rattle.trade_cross.specs.Crossable.{IsCrossable}
 use Rattle.trade_cross.specs.Crossing.{Left, Crossing, Step, step, turn, ended, joined, at_limit, left_after, crossed, converted, atom_of}
-use Rattle.trade_cross.specs.Plans.{AreLeft, left_in}
+use Rattle.trade_cross.specs.Plans.{left_in}
 use Rattle.trade_cross.specs.Progressing.{atom_of_plan, noted, DoesNoteFit, IsWithin, IsCrossing, behind, in_all, Advances}
 use Rattle.trade_cross.specs.Steps.{IsMoved}
 use Rattle.trade_cross.proofs.CrossedLegal.{met}

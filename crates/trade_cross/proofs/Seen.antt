@@ -1,15 +1,11 @@
 -- What an offer's owner can give and take, as it is seen in the entries that stand before the offer's liabilities are
 -- released, and behind the trade.
-use Rattle.std.proofs.Common.{◌≡◌, ◌≢◌, refl, sym, ap, subst, ◌∙◌, ℕ, ◌-◌, ◌≤◌, inl, inr, Option, Some, None, arith}
-use Rattle.std.proofs.lemmas.Int.{ints}
+use Rattle.std.proofs.Common.{◌≡◌, ◌≢◌, ap, ◌∙◌, ◌-◌, Option, Some, None}
 use Rattle.std.specs.FinMap.{get}
-use Rattle.std.specs.Prelude.{ℤ, pos, neg_ℤ, ◌+ℤ◌, ◌-ℤ◌, ◌≤ℤ◌}
 use Rattle.ledger_types.specs.declared.ids.AccountId.{AccountId}
 use Rattle.ledger_types.specs.declared.asset.TrustLineAsset.{TrustLineAsset}
-use Rattle.ledger_types.specs.declared.price.Liabilities.{Liabilities}
 use Rattle.ledger_types.specs.declared.account.AccountEntry.{AccountEntry}
 use Rattle.ledger_types.specs.declared.trust_line.TrustLineEntry.{TrustLineEntry}
-use Rattle.ledger_types.specs.declared.offer.OfferEntry.{OfferEntry}
 use Rattle.ledger_types.specs.declared.entry.LedgerEntry.{LedgerEntry}
 use Rattle.ledger_types.specs.declared.entry.LedgerEntryBody.{LedgerEntryBody}
 use Rattle.ledger_types.specs.declared.entry.LedgerEntryBody.TheVariants as body
@@ -17,33 +13,10 @@ use Rattle.ledger_types.specs.declared.key.LedgerKey.{LedgerKey}
 use Rattle.ledger_types.specs.declared.key.LedgerKey.TheVariants as key
 use Rattle.entry_map.specs.EntryMap.{EntryMap}
 use Rattle.entry_slots.specs.Accounts.{account_in, account_of, account_at}
-use Rattle.entry_slots.specs.AccountExtensions.{account_liabilities}
-use Rattle.entry_slots.specs.AccountFacts.{facts_in}
 use Rattle.entry_slots.specs.Lines.{line_in, line_of, line_at}
-use Rattle.entry_slots.specs.LineExtensions.{line_liabilities}
-use Rattle.offer_exchange.specs.Exchange.{Amounts}
-use Rattle.reserve_rules.specs.Reserve.{available, min_balance, room, line_available, line_room, greatest_i64}
-use Rattle.legal_rules.specs.Binding.{risen, releasing, binding, bound_account, bound_line}
 use Rattle.legal_rules.specs.Holdings.{IsKeyed}
-use Rattle.legal_rules.specs.OfferLiabilities.{bound_of}
-use Rattle.legal_rules.specs.Payments.{paid}
-use Rattle.legal_rules.proofs.Liable.{stored, line_stored}
-use Rattle.trade_cross.specs.declared.holding.Change.{Change}
-use Rattle.trade_cross.specs.Accounts.{IsHeld}
-use Rattle.trade_cross.specs.Crossing.{seller_gives_at, seller_takes_at, map_after_trade}
-use Rattle.trade_cross.specs.Plans.{giving_change, taking_change}
-use Rattle.trade_cross.specs.Holdings.{at_least_nothing, most_given, most_taken, account_gives, account_takes, line_gives}
-use Rattle.trade_cross.specs.Holdings.{line_takes, line_paid}
-use Rattle.trade_cross.specs.Places.{changed_account, changed_line, changing}
-use Rattle.trade_cross.specs.Sides.{facts_give_with, facts_take_with, line_gives_with, line_takes_with, given_with}
-use Rattle.trade_cross.specs.Sides.{taken_with, still_most}
 use Rattle.trade_cross.proofs.Altering.{mapped, altered_opt, AreApart, KeepsKeys, altered_at, opt_keyed, opt_elsewhere}
-use Rattle.trade_cross.proofs.Changing.{over, holding_body, bound_entry, changed_entry, bound_keeps, changed_keeps}
-use Rattle.trade_cross.proofs.Changing.{bound_altered, changed_altered}
-use Rattle.trade_cross.proofs.Left.{bound_available, same_minimum}
-use Rattle.trade_cross.proofs.Once.{gone_is}
-use Rattle.trade_cross.proofs.Passing.{IsOwnKey, holder_own}
-use Rattle.trade_cross.proofs.Paying.{within}
+use Rattle.trade_cross.proofs.Changing.{over, holding_body}
 
 -- ---- under the key that is changed
 

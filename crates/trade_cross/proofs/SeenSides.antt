@@ -2,7 +2,7 @@
 -- trade.
 use Rattle.std.proofs.Common.{◌≡◌, refl, sym, ap, subst, ◌∙◌, ℕ, ◌-◌, ◌≤◌, Option, Some, None, arith}
 use Rattle.std.proofs.lemmas.Int.{ints}
-use Rattle.std.specs.Prelude.{ℤ, pos, neg_ℤ, ◌+ℤ◌, ◌-ℤ◌, ◌≤ℤ◌}
+use Rattle.std.specs.Prelude.{ℤ, pos, neg_ℤ, ◌+ℤ◌, ◌-ℤ◌}
 use Rattle.ledger_types.specs.declared.ids.AccountId.{AccountId}
 use Rattle.ledger_types.specs.declared.asset.TrustLineAsset.{TrustLineAsset}
 use Rattle.ledger_types.specs.declared.price.Liabilities.{Liabilities}
@@ -29,7 +29,7 @@ use Rattle.trade_cross.specs.Accounts.{IsHeld}
 use Rattle.trade_cross.specs.Crossing.{seller_gives_at, seller_takes_at, map_after_trade}
 use Rattle.trade_cross.specs.Plans.{giving_change, taking_change}
 use Rattle.trade_cross.specs.Holdings.{at_least_nothing, most_given, most_taken, account_gives, account_takes, line_gives}
-use Rattle.trade_cross.specs.Holdings.{line_takes, line_paid}
+use Rattle.trade_cross.specs.Holdings.{line_takes}
 use Rattle.trade_cross.specs.Places.{changed_account, changed_line}
 use Rattle.trade_cross.specs.Sides.{facts_give_with, facts_take_with, line_gives_with, line_takes_with, given_with}
 use Rattle.trade_cross.specs.Sides.{taken_with, still_most}

@@ -1,9 +1,9 @@
 -- One offer that is crossed, by what its owner can give and take before its liabilities are released.
-use Rattle.std.proofs.Common.{◌≡◌, ◌≢◌, refl, sym, ap, subst, ◌∙◌, ℕ, ◌-◌, ◌≤◌, zero, suc, inl, inr, Bool, true, false}
+use Rattle.std.proofs.Common.{◌≡◌, refl, sym, ap, subst, ◌∙◌, ℕ, ◌-◌, ◌≤◌, zero, suc, inl, inr, Bool, true, false}
 use Rattle.std.proofs.Common.{Option, Some, None, arith}
 use Rattle.std.proofs.lemmas.Int.{ints}
 use Rattle.std.specs.FinMap.{get}
-use Rattle.std.specs.Prelude.{ℤ, pos, neg_ℤ, ◌+ℤ◌, ◌-ℤ◌, ◌≤ℤ◌, unsigned_abs, min, if◌then◌else◌}
+use Rattle.std.specs.Prelude.{ℤ, pos, neg_ℤ, ◌+ℤ◌, ◌-ℤ◌, ◌≤ℤ◌, unsigned_abs, if◌then◌else◌}
 use Rattle.ledger_types.specs.declared.ids.AccountId.{AccountId}
 use Rattle.ledger_types.specs.declared.price.Liabilities.{Liabilities}
 use Rattle.ledger_types.specs.declared.account.AccountEntry.{AccountEntry}
@@ -19,10 +19,9 @@ use Rattle.entry_slots.specs.Offers.{offer_at, with_offer}
 use Rattle.sponsor_rules.specs.Removing.{map_after_removing}
 use Rattle.offer_exchange.specs.declared.rounding.Rounding.{Rounding}
 use Rattle.offer_exchange.specs.Exchange.{Amounts, Bounds, exchanged, wheat_stays}
-use Rattle.reserve_rules.specs.Reserve.{available, min_balance, greatest_i64, IsInRange}
-use Rattle.legal_rules.specs.Binding.{risen, acquiring, releasing, binding}
+use Rattle.reserve_rules.specs.Reserve.{available, min_balance, greatest_i64}
+use Rattle.legal_rules.specs.Binding.{risen, releasing, binding}
 use Rattle.legal_rules.specs.Books.{View}
-use Rattle.legal_rules.specs.Holdings.{IsKeyed}
 use Rattle.legal_rules.specs.OfferLiabilities.{bound_of}
 use Rattle.legal_rules.specs.OneMore.{IsOwedRightly}
 use Rattle.legal_rules.specs.Owing.{Owed, IsLegalOwing}
@@ -37,7 +36,7 @@ use Rattle.trade_cross.specs.CrossingLaws.{kept_by}
 use Rattle.trade_cross.specs.Crossing.{atom_of, with_amount, offer_key, map_after_rest, step_by, step}
 use Rattle.trade_cross.specs.Holdings.{at_least_nothing, account_gives, most_given, most_taken}
 use Rattle.trade_cross.specs.Places.{changing, changed_account, DoesChangeFit}
-use Rattle.trade_cross.specs.Plans.{giving_change, taking_change, map_with_rest, map_after_once}
+use Rattle.trade_cross.specs.Plans.{giving_change, taking_change, map_after_once}
 use Rattle.trade_cross.proofs.Altering.{AreApart, opt_elsewhere}
 use Rattle.trade_cross.proofs.Binding.{bindable_held}
 use Rattle.trade_cross.proofs.Changing.{bound_entry, bound_keeps, bound_altered}
@@ -47,8 +46,8 @@ use Rattle.trade_cross.proofs.HoldersApart.{holders_apart, not_an_offer}
 use Rattle.trade_cross.proofs.Once.{gone_is, rest_is, once_stands}
 use Rattle.trade_cross.proofs.Passing.{holder_own}
 use Rattle.trade_cross.proofs.Paying.{within}
-use Rattle.trade_cross.proofs.SeenSides.{given_same, taken_same, given_then, taken_then, giver_then}
-use Rattle.trade_cross.proofs.StepLegal.{IsOpen, its_range, owed_then, covered_then, trade_open, release_open, lets}
+use Rattle.trade_cross.proofs.SeenSides.{giver_then}
+use Rattle.trade_cross.proofs.StepLegal.{IsOpen, its_range, covered_then, trade_open, release_open, lets}
 use Rattle.trade_cross.proofs.StepLegal.{offer_rests, sells_fit, account_keeps, line_keeps, same_given, enough, in_bounds}
 
 -- what is legal is in its ranges

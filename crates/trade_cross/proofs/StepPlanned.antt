@@ -23,12 +23,12 @@ use Rattle.trade_cross.specs.declared.plan.Left.{Left as LeftOfCall}
 use Rattle.trade_cross.specs.declared.plan.Plan.{Plan}
 use Rattle.trade_cross.specs.declared.plan.Sides.{Sides}
 use Rattle.trade_cross.specs.Accounts.{IsHeld}
-use Rattle.trade_cross.specs.Crossing.{seller_gives_at, seller_takes_at, amount_at, meeting, map_after_trade, step}
+use Rattle.trade_cross.specs.Crossing.{seller_gives_at, seller_takes_at, meeting, map_after_trade, step}
 use Rattle.trade_cross.specs.Crossing.{step_by}
 use Rattle.trade_cross.specs.Holdings.{most_given, most_taken}
 use Rattle.trade_cross.specs.Places.{place_key, changing, DoesChangeFit}
 use Rattle.trade_cross.specs.Plans.{left_in, price_n, price_d, bounds_of, amounts_of, rest_by, rest_of, still_most, IsPlan}
-use Rattle.trade_cross.specs.Plans.{giving_change, taking_change, map_after_once, map_with_rest, moved_by, gives_in, takes_in}
+use Rattle.trade_cross.specs.Plans.{giving_change, taking_change, map_with_rest, moved_by, gives_in, takes_in}
 use Rattle.trade_cross.specs.Plans.{map_of, IsCarried}
 use Rattle.trade_cross.specs.Sides.{given_with, taken_with, still_most as still_under, IsInRangeAt}
 use Rattle.trade_cross.specs.Steps.{IsBoundOf, AreSidesReady, AreSidesOf, IsMoved}

@@ -1,7 +1,8 @@
 //! What comes next in a trade.
 
 ghost use Rattle.std.specs.Prelude.{◌≡◌, IfOk};
-ghost use Rattle.entry_map.specs.Book.{price_cmp};
+ghost use Rattle.entry_map.specs.Book.{price_cmp, AreOffersSound};
+ghost use Rattle.offer_book.specs.Book as book;
 ghost use Rattle.trade_cross.specs.Crossable.{IsCrossable};
 ghost use Rattle.trade_cross.specs.Crossing as spec;
 ghost use Rattle.trade_cross.specs.Plans.{AreLeft, left_in};
@@ -36,10 +37,21 @@ pub fn next_turn<B: Base>(
     if is_used_up(left) {
         return Ok(Turn::Ends(CrossEnd::Converted));
     }
-    match best(entries, &trade.wheat, &trade.sheep)? {
+    match best_offer(entries, trade)? {
         None => Ok(Turn::Ends(CrossEnd::Partial)),
         Some(offer) => Ok(turn_at(trade, offer)),
     }
+}
+
+/// The best offer of the pair.
+fn best_offer<B: Base>(
+    entries: &Entries<'_, B>,
+    trade: &Trade,
+) -> Result<Option<OfferEntry>, AllocError>
+    requires { AreOffersSound entries.now.current }
+    ensures { IfOk result (λ offer. offer ≡ book.best entries.now.current trade.now.wheat trade.now.sheep) }
+{
+    best(entries, &trade.wheat, &trade.sheep)
 }
 
 /// Whether a bound is used up.

@@ -1,5 +1,4 @@
-use Rattle.std.proofs.Common.{rules, arith}
-use Rattle.std.proofs.lemmas.Int.{ints}
+use Rattle.std.proofs.Common.{rules}
 use Rattle.trade_cross.proofs.plan.rest_that_stays.Goals as goal
 
 pub returns : goal.returns

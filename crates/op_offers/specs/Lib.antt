@@ -1,0 +1,5 @@
+pub mod Asked
+pub mod Selling
+pub mod Managing
+pub mod Operations
+pub mod SellingLaws

@@ -1,0 +1,159 @@
+-- An offer that is made or changed, once its fields and lines have passed their tests and while it is out of the book
+-- (ManageOfferOpFrameBase in stellar-core; CAP-0003). Its reserve is counted meanwhile.
+use Rattle.std.specs.Prelude.{ℕ, ◌-◌, zero, suc, ℤ, pos, neg_ℤ, unsigned_abs, nat_eq, nat_lt, int_lt, min, Bool, false}
+use Rattle.std.specs.Prelude.{◌||◌, [], ◌∷◌, Option, Some, None, Result, Ok, Err}
+use Rattle.ledger_types.specs.declared.account.AccountEntry.{AccountEntry}
+use Rattle.ledger_types.specs.declared.trust_line.TrustLineEntry.{TrustLineEntry}
+use Rattle.ledger_types.specs.declared.offer.OfferEntry.{OfferEntry}
+use Rattle.ledger_types.specs.declared.entry.LedgerEntry.{LedgerEntry}
+use Rattle.ledger_types.specs.declared.entry.LedgerEntryBody.TheVariants as body
+use Rattle.ledger_types.specs.declared.key.LedgerKey.{LedgerKey}
+use Rattle.ledger_types.specs.declared.key.LedgerKey.TheVariants as key
+use Rattle.entry_map.specs.EntryMap.{EntryMap, put, erase}
+use Rattle.entry_slots.specs.Accounts.{account_at}
+use Rattle.entry_slots.specs.EntrySponsor.{sponsor_of}
+use Rattle.entry_slots.specs.Lines.{line_at}
+use Rattle.entry_slots.specs.Tests.{Tests, unless_first}
+use Rattle.reserve_rules.specs.Reserve.{available, line_available}
+use Rattle.sponsor_rules.specs.Removing.{map_after_discounting}
+use Rattle.offer_exchange.specs.declared.rounding.Rounding.TheVariants.{Normal}
+use Rattle.offer_exchange.specs.Exchange.{unlimited, offered, table, adjusted}
+use Rattle.legal_rules.specs.Trades.{holder}
+use Rattle.legal_rules.specs.Binding.{acquiring, releasing}
+use Rattle.trade_cross.specs.declared.crossed.CrossEnd.{CrossEnd}
+use Rattle.trade_cross.specs.declared.crossed.CrossEnd.TheVariants.{Converted, CrossSelf, TooMany}
+use Rattle.trade_cross.specs.declared.trade.Trade.{Trade}
+use Rattle.trade_cross.specs.Holdings.{most_given, most_taken, paying}
+use Rattle.trade_cross.specs.Crossing.{Crossing, converted, offer_key}
+use Rattle.op_offers.specs.declared.fault.OfferFault.{OfferFault}
+use Rattle.op_offers.specs.declared.fault.OfferFault.TheVariants as fault
+use Rattle.op_offers.specs.Asked.{inverse}
+
+-- how many offers an operation may cross (MAX_OFFERS_TO_CROSS in stellar-core)
+abbrev pub most_crossings : ℕ
+most_crossings = 1000
+
+-- the offer that is asked for, whose amount is still open
+pub record Asked : Type 0 where
+  pub offer : OfferEntry
+  -- its entry, but for the offer: an old one's extension, or a new one's sponsor
+  pub entry : LedgerEntry
+  -- at most so much is sold, or bought, where a number is given
+  pub sells : Option ℕ
+  pub buys : Option ℕ
+
+abbrev pub limit_of : Option ℕ → ℕ
+limit_of None = unlimited
+limit_of (Some n) = n
+
+-- what is there, up to what is left of a limit
+abbrev pub capped : Option ℕ → (used there : ℕ) → ℕ
+capped None used there = there
+capped (Some n) used there = min (n - used) there
+
+abbrev pub source_gives_at : Asked → Option LedgerKey
+source_gives_at asked = holder asked.offer.seller_id asked.offer.selling
+
+abbrev pub source_takes_at : Asked → Option LedgerKey
+source_takes_at asked = holder asked.offer.seller_id asked.offer.buying
+
+-- an old offer lets go of what it binds, and of its entry; its reserve stays counted
+abbrev pub map_without_offer : OfferEntry → EntryMap → EntryMap
+map_without_offer old m = erase (releasing old m) (offer_key old)
+
+-- ---- the tests of what is wanted
+
+-- less than wheat is available, which may be below nothing
+abbrev pub is_short_of : ℤ → Option ℤ → Bool
+is_short_of wheat None = false
+is_short_of wheat (Some there) = int_lt there wheat
+
+abbrev pub account_has : ℕ → Option AccountEntry → Option ℤ
+account_has base None = None
+account_has base (Some account) = Some (available account base)
+
+abbrev pub line_has : Option TrustLineEntry → Option ℤ
+line_has None = None
+line_has (Some line) = Some (line_available line)
+
+-- what is available under a key; of what an account issues nothing is short
+abbrev pub has_at : ℕ → EntryMap → Option LedgerKey → Option ℤ
+has_at base m (Some (key.Account id)) = account_has base (account_at m id)
+has_at base m (Some (key.TrustLine id held)) = line_has (line_at m id held)
+has_at base m other = None
+
+abbrev pub wanted_tests : ℕ → Asked → EntryMap → Tests OfferFault
+wanted_tests base asked m =
+    let wanted = table Normal (unsigned_abs asked.offer.price.n) (unsigned_abs asked.offer.price.d)
+    (offered (limit_of asked.sells) (limit_of asked.buys)) in
+    let room = most_taken m (source_takes_at asked) in
+    (nat_eq room 0 || nat_lt room wanted.sheep, fault.LineFull)
+    ∷ (is_short_of (pos wanted.wheat) (has_at base m (source_gives_at asked)), fault.Underfunded)
+    ∷ []
+
+-- ---- crossing
+
+-- the source sends what it sells and receives what it buys
+abbrev pub trade_of : ℕ → Asked → EntryMap → Trade
+trade_of base asked m =
+    record {
+      sheep = asked.offer.selling;
+      wheat = asked.offer.buying;
+      sheep_send = pos (capped asked.sells 0 (most_given base m (source_gives_at asked)));
+      wheat_receive = pos (capped asked.buys 0 (most_taken m (source_takes_at asked)));
+      rounding = Normal;
+      greatest = Some (inverse asked.offer.price);
+      passive = nat_eq asked.offer.flags 1;
+      crossings = most_crossings;
+      taker = asked.offer.seller_id;
+    }
+
+-- what the source gave goes, and what it took comes
+abbrev pub settled : Asked → Crossing → EntryMap
+settled asked done =
+    paying (source_takes_at asked) (pos done.wheat) (paying (source_gives_at asked) (neg_ℤ
+    (pos done.sheep)) done.entries)
+
+-- ---- what is left of it
+
+abbrev pub left_of : ℕ → Asked → Crossing → CrossEnd → EntryMap → ℕ
+left_of base asked done Converted m = 0
+left_of base asked done other m =
+    adjusted (unsigned_abs asked.offer.price.n) (unsigned_abs asked.offer.price.d)
+    (capped asked.sells done.sheep (most_given base m (source_gives_at asked)))
+    (capped asked.buys done.wheat (most_taken m (source_takes_at asked)))
+
+abbrev pub offer_left : Asked → ℕ → OfferEntry
+offer_left asked amount = record asked.offer { amount = pos amount }
+
+-- an offer of nothing isn't kept, and its reserve isn't counted any more; another one is put and binds what it has
+abbrev pub map_after_keeping : Asked → ℕ → EntryMap → EntryMap
+map_after_keeping asked zero m = map_after_discounting asked.offer.seller_id 1 (sponsor_of asked.entry) m
+map_after_keeping asked (suc n) m =
+    acquiring (offer_left asked (suc n)) (put m (record asked.entry { body = body.Offer (offer_left asked (suc n)) }))
+
+pub record Sold : Type 0 where
+  pub crossed : Crossing
+  -- how much is still offered
+  pub amount : ℕ
+  pub entries : EntryMap
+
+abbrev pub kept : ℕ → Asked → Crossing → EntryMap → Sold
+kept base asked done m =
+    let amount = left_of base asked done done.end m in
+    record { crossed = done; amount = amount; entries = map_after_keeping asked amount m }
+
+abbrev pub by_end : ℕ → Asked → Crossing → CrossEnd → Result Sold OfferFault
+by_end base asked done CrossSelf = Err fault.CrossSelf
+by_end base asked done TooMany = Err fault.TooMany
+by_end base asked done end = Ok (kept base asked done (settled asked done))
+
+abbrev pub after_tests : Result EntryMap OfferFault → (EntryMap → Result Sold OfferFault) → Result Sold OfferFault
+after_tests (Err other) next = Err other
+after_tests (Ok m) next = next m
+
+-- An offer that is out of the book crosses the other side's, and what is left of it is kept.
+unfoldable pub sold : ℕ → Asked → EntryMap → Result Sold OfferFault
+sold base asked m =
+    after_tests (unless_first (wanted_tests base asked m) m) (λ m.
+    let done = converted base (trade_of base asked m) m in by_end base asked done done.end)

@@ -5,7 +5,7 @@ ghost use Rattle.offer_exchange.specs.Exchange as spec;
 ghost use Rattle.offer_exchange.specs.Exchange.{adjusted};
 ghost use Rattle.offer_exchange.specs.Laws.{IsBound, StaysAdjusted};
 ghost use Rattle.ledger_types.specs.Prices.{IsPriced};
-ghost use Rattle.offer_exchange.specs.Calls.{AreBounds, AreLiabilities, parts_of, bounds_of};
+ghost use Rattle.offer_exchange.specs.Calls.{AreBounds, AreLiabilities, AreWanted, parts_of, bounds_of};
 
 use crate::bounds::Bounds;
 use crate::rounding::Rounding;
@@ -47,6 +47,22 @@ pub fn adjust(price: Price, send: i64, receive: i64) -> i64
     exchanged(Rounding::Normal, n, d, offered(send, receive)).wheat as i64
 }
 
+/// What an offer would bind of which its owner wants to send and for which it wants to receive so much at most, each at
+/// least 0: what the table gives, before the zero rules.
+pub fn wanted(price: Price, send: i64, receive: i64) -> Liabilities
+    requires priced { IsPriced price }
+    requires send { pos 0 ≤ℤ send }
+    requires receive { pos 0 ≤ℤ receive }
+    ensures { AreWanted price send receive result }
+{
+    let (n, d) = parts(price);
+    let bound = table(Rounding::Normal, n, d, offered(send, receive));
+    Liabilities {
+        buying: bound.sheep as i64,
+        selling: bound.wheat as i64,
+    }
+}
+
 /// What an open offer of so much wheat, at least 0, binds of what its owner has and has room for.
 #[tactic(auto, unfolding(crate::specs::Exchange::liabilities))]
 pub fn liabilities(price: Price, amount: i64) -> Liabilities
@@ -54,10 +70,5 @@ pub fn liabilities(price: Price, amount: i64) -> Liabilities
     requires amount { pos 0 ≤ℤ amount }
     ensures { AreLiabilities price amount result }
 {
-    let (n, d) = parts(price);
-    let bound = table(Rounding::Normal, n, d, offered(amount, UNLIMITED));
-    Liabilities {
-        buying: bound.sheep as i64,
-        selling: bound.wheat as i64,
-    }
+    wanted(price, amount, UNLIMITED)
 }

@@ -1,4 +1,5 @@
-ghost use Rattle.std.specs.Prelude.{◌≡◌, ◌≢◌, ◌<◌, ◌≤◌, ◌+◌, ◌^◌, [], ℕ, List, length, take, drop, IfOk, OnOk, IsErr, Some, None};
+ghost use Rattle.std.specs.Prelude.{◌≡◌, ◌≢◌, ◌<◌, ◌≤◌, ◌+◌, ◌^◌, [], ℕ, List, length, take, drop, IfOk, OnOk, IsErr};
+ghost use Rattle.std.specs.Prelude.{Some, None};
 ghost use Rattle.outside.specs.Streams.{HasCause, Rose};
 ghost use Rattle.outside.specs.Disk.{Image, Stays, Runs, Same, InFile, Torn, Wrote, CutShort, IsSafe};
 ghost use Rattle.outside.specs.MemDisk.{disk_of, filled};
@@ -13,7 +14,8 @@ use std::alloc::{AllocError, Global};
 use std::marker::Model;
 
 /// A volume in memory, for tests. It keeps the list of its writes, cuts and syncs, by which it tells what a crash might
-/// have left at each moment, and fails where it is told to. Each call of the five counts, from 1 on. A growth that memory
+/// have left at each moment, and fails where it is told to. Each call of the five counts, from 1 on. A growth that
+/// memory
 /// refuses is a fault.
 #[derive(Drop)]
 pub struct MemVolume {
@@ -81,7 +83,8 @@ impl MemVolume {
         }
     }
 
-    /// One content that a crash now may leave, as a volume with nothing pending that fails only where memory is refused:
+    /// One content that a crash now may leave, as a volume with nothing pending that fails only where memory is
+    /// refused:
     /// the present lengths, and the byte `fill` in the place of each that was written or cut since the last sync.
     pub fn crashed(&self, fill: u8) -> Result<MemVolume, AllocError>
         ensures filled { IfOk result (λ v. (disk_of v.disk).reads ≡ filled fill self.now.disk) }

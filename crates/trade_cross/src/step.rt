@@ -18,7 +18,8 @@ use offer_exchange::{Rounding, liabilities};
 use sponsor_rules::Ctx;
 use std::alloc::AllocError;
 
-/// Where an offer's owner has its two assets, and what it can give and take of them at most once it is released from what
+/// Where an offer's owner has its two assets, and what it can give and take of them at most once it is released from
+/// what
 /// the offer binds.
 fn sides_of<B: Base>(
     entries: &Entries<'_, B>,
@@ -48,7 +49,8 @@ fn sides_of<B: Base>(
     })
 }
 
-/// Crosses an offer that stands: its owner's two holders are looked at and changed once each, and the offer shrinks or goes.
+/// Crosses an offer that stands: its owner's two holders are looked at and changed once each, and the offer shrinks or
+/// goes.
 pub fn cross_offer<B: Base>(
     entries: &mut Entries<'_, B>,
     ctx: &Ctx,

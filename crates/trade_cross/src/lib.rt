@@ -2,6 +2,8 @@
 //! stellar-core; CAP-0003).
 #![tactic(auto)]
 
+mod amounts;
+mod cancel;
 mod carry;
 mod conversion;
 mod crossed;
@@ -15,6 +17,9 @@ mod step;
 mod trade;
 mod turn;
 
+pub use amounts::{acquire, most_given, most_taken, pay, release};
+pub use cancel::cancel_offer;
 pub use conversion::convert;
 pub use crossed::{CrossEnd, Crossed};
+pub use place::{Place, place_of};
 pub use trade::Trade;

@@ -11,7 +11,7 @@ ghost use Rattle.trade_cross.specs.Steps as spec;
 use crate::carry::carry_out;
 use crate::place::place_of;
 use crate::plan::{Left, Plan, Sides, plan_of};
-use crate::side::{most_given, most_taken};
+use crate::side::{most_given_with, most_taken_with};
 use entry_map::{Base, Entries};
 use ledger_types::{Liabilities, OfferEntry};
 use offer_exchange::{Rounding, liabilities};
@@ -33,14 +33,14 @@ fn sides_of<B: Base>(
 {
     let gives_at = place_of(&offer.seller_id, &offer.selling);
     let takes_at = place_of(&offer.seller_id, &offer.buying);
-    let gives = most_given(
+    let gives = most_given_with(
         entries,
         base_reserve,
         &offer.seller_id,
         gives_at,
         bound.selling,
     )?;
-    let takes = most_taken(entries, &offer.seller_id, takes_at, bound.buying)?;
+    let takes = most_taken_with(entries, &offer.seller_id, takes_at, bound.buying)?;
     Ok(Sides {
         gives_at,
         gives,

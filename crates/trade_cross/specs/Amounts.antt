@@ -1,0 +1,32 @@
+-- Changes of a balance alone, and of what is bound alone.
+use Rattle.std.specs.Prelude.{ℤ, pos, Option}
+use Rattle.ledger_types.specs.declared.offer.OfferEntry.{OfferEntry}
+use Rattle.ledger_types.specs.declared.key.LedgerKey.{LedgerKey}
+use Rattle.entry_map.specs.EntryMap.{EntryMap}
+use Rattle.legal_rules.specs.Binding.{binding}
+use Rattle.trade_cross.specs.Crossing.{seller_gives_at, seller_takes_at}
+use Rattle.trade_cross.specs.declared.holding.Change.{Change}
+use Rattle.trade_cross.specs.Places.{DoesChangeFit}
+
+abbrev pub payment : ℤ → Change
+payment n = record { balance = n; selling = pos 0; buying = pos 0 }
+
+abbrev pub bond : (selling buying : ℤ) → Change
+bond selling buying = record { balance = pos 0; selling = selling; buying = buying }
+
+-- so much more, which may be below 0, fits what stands under the key of an account or a line
+abbrev pub DoesPaymentFit : EntryMap → Option LedgerKey → ℤ → Type 0
+DoesPaymentFit m k n = DoesChangeFit m k (payment n)
+
+abbrev pub DoesBondFit : EntryMap → Option LedgerKey → (selling buying : ℤ) → Type 0
+DoesBondFit m k selling buying = DoesChangeFit m k (bond selling buying)
+
+-- ---- both sides of an offer
+
+abbrev pub both_bound : OfferEntry → (selling buying : ℤ) → EntryMap → EntryMap
+both_bound o selling buying m =
+    binding (seller_takes_at o) (pos 0) buying (binding (seller_gives_at o) selling (pos 0) m)
+
+pub record DoBondsFit (o : OfferEntry) (selling buying : ℤ) (m : EntryMap) : Type 0 where
+  pub gives : DoesBondFit m (seller_gives_at o) selling (pos 0)
+  pub takes : DoesBondFit (binding (seller_gives_at o) selling (pos 0) m) (seller_takes_at o) (pos 0) buying

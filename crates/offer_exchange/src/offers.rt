@@ -1,6 +1,6 @@
 //! What an offer can really give, and what it binds.
 
-ghost use Rattle.std.specs.Prelude.{◌≡◌, pos, ◌≤ℤ◌, unsigned_abs};
+ghost use Rattle.std.specs.Prelude.{◌≡◌, ◌≤◌, pos, ◌≤ℤ◌, unsigned_abs};
 ghost use Rattle.offer_exchange.specs.Exchange as spec;
 ghost use Rattle.offer_exchange.specs.Exchange.{adjusted};
 ghost use Rattle.offer_exchange.specs.Laws.{IsBound, StaysAdjusted};
@@ -9,6 +9,7 @@ ghost use Rattle.offer_exchange.specs.Calls.{AreBounds, AreLiabilities, AreWante
 
 use crate::bounds::Bounds;
 use crate::rounding::Rounding;
+use crate::rows::Amounts;
 use crate::table::{exchanged, parts, table};
 use ledger_types::{Liabilities, Price};
 
@@ -47,6 +48,19 @@ pub fn adjust(price: Price, send: i64, receive: i64) -> i64
     exchanged(Rounding::Normal, n, d, offered(send, receive)).wheat as i64
 }
 
+/// What an offer binds: the wheat that it would send, and the sheep that it would receive.
+fn bound_by(moved: Amounts) -> Liabilities
+    requires wheat { moved.wheat ≤ spec.unlimited }
+    requires sheep { moved.sheep ≤ spec.unlimited }
+    ensures selling { result.selling ≡ pos moved.wheat }
+    ensures buying { result.buying ≡ pos moved.sheep }
+{
+    Liabilities {
+        buying: moved.sheep as i64,
+        selling: moved.wheat as i64,
+    }
+}
+
 /// What an offer would bind of which its owner wants to send and for which it wants to receive so much at most, each at
 /// least 0: what the table gives, before the zero rules.
 pub fn wanted(price: Price, send: i64, receive: i64) -> Liabilities
@@ -56,11 +70,7 @@ pub fn wanted(price: Price, send: i64, receive: i64) -> Liabilities
     ensures { AreWanted price send receive result }
 {
     let (n, d) = parts(price);
-    let bound = table(Rounding::Normal, n, d, offered(send, receive));
-    Liabilities {
-        buying: bound.sheep as i64,
-        selling: bound.wheat as i64,
-    }
+    bound_by(table(Rounding::Normal, n, d, offered(send, receive)))
 }
 
 /// What an open offer of so much wheat, at least 0, binds of what its owner has and has room for.

@@ -1,3 +1,4 @@
+pub mod Revoking
 pub mod LineFlags
 pub mod AllowTrust
 pub mod SetTrustLineFlags

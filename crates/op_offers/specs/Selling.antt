@@ -112,6 +112,10 @@ abbrev pub trade_of : ℕ → Asked → EntryMap → Trade
 trade_of base asked m =
     trade_within asked (most_given base m (source_gives_at asked)) (most_taken m (source_takes_at asked))
 
+-- the offers of the other side are crossed
+abbrev pub crossed_by : ℕ → Asked → EntryMap → Crossing
+crossed_by base asked m = converted base (trade_of base asked m) m
+
 -- what the source gave goes, and what it took comes
 abbrev pub settled : Asked → Crossing → EntryMap
 settled asked done =
@@ -167,4 +171,4 @@ after_tests (Ok m) next = next m
 unfoldable pub sold : ℕ → Asked → EntryMap → Result Sold OfferFault
 sold base asked m =
     after_tests (unless_first (wanted_tests base asked m) m) (λ m.
-    let done = converted base (trade_of base asked m) m in by_end base asked done done.end)
+    let done = crossed_by base asked m in by_end base asked done done.end)

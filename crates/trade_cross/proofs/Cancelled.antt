@@ -9,7 +9,7 @@ use Rattle.legal_rules.specs.Books.{View}
 use Rattle.legal_rules.specs.OfferLiabilities.{bound_of}
 use Rattle.legal_rules.specs.OneMore.{IsOwedRightly}
 use Rattle.legal_rules.specs.Owing.{Owed, IsLegalOwing}
-use Rattle.trade_cross.specs.Amounts.{DoBondsFit}
+use Rattle.trade_cross.specs.Amounts.{DoesReleaseFit}
 use Rattle.trade_cross.specs.Cancelling.{CancelledOffersKeep, map_after_cancelling}
 use Rattle.trade_cross.specs.Crossable.{IsCrossable}
 use Rattle.trade_cross.specs.Crossing.{seller_gives_at, seller_takes_at}
@@ -23,7 +23,7 @@ cancelled_keeps v id_pool base owed sum o m legal right stands =
 
 pub release_fits : (v : View) (id_pool base : ℕ) (owed : Owed) (right : IsOwedRightly owed) (o : OfferEntry) (sum : ℤ)
     (m : EntryMap) → IsLegalOwing v id_pool owed sum m → offer_at m o.seller_id o.offer_id ≡ Some o
-    → DoBondsFit o (neg_ℤ (pos (bound_of o).wheat)) (neg_ℤ (pos (bound_of o).sheep)) m
+    → DoesReleaseFit o m
 release_fits v id_pool base owed right o sum m legal stands =
     let can = lets v id_pool base owed right o sum m legal stands in
     let unsold = binding (seller_gives_at o) (neg_ℤ (pos (bound_of o).wheat)) (pos 0) m in

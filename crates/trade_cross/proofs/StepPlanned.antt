@@ -40,7 +40,7 @@ use Rattle.trade_cross.proofs.StepIs.{all_in_range, apart, range, gives_held, ta
 use Rattle.trade_cross.proofs.StepIs.{step_is}
 use Rattle.trade_cross.proofs.StepLegal.{IsOpen, owed_then, covered_then, release_open}
 
-in_range_at : (m : EntryMap) → AreAllInRange m → (k : Option LedgerKey) → IsInRangeAt m k
+pub in_range_at : (m : EntryMap) → AreAllInRange m → (k : Option LedgerKey) → IsInRangeAt m k
 in_range_at m all None = tt
 in_range_at m all (Some (key.Account id)) = all.accounts id
 in_range_at m all (Some (key.TrustLine id x)) = λ t there. (all.lines id x t there).0

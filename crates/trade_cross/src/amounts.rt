@@ -1,13 +1,11 @@
 //! Amounts that are paid and bound where an account has an asset.
 
-ghost use Rattle.std.specs.Prelude.{◌≡◌, ◌≤◌, neg_ℤ, pos, ◌≤ℤ◌, IfOk, OnOk};
+ghost use Rattle.std.specs.Prelude.{◌≡◌, ◌≤◌, pos, ◌≤ℤ◌, IfOk, OnOk};
 ghost use Rattle.ledger_types.specs.Prices.{IsPriced};
 ghost use Rattle.entry_map.specs.Undo.{with_current};
 ghost use Rattle.offer_exchange.specs.Exchange.{unlimited};
 ghost use Rattle.legal_rules.specs.Binding as binding;
-ghost use Rattle.legal_rules.specs.OfferLiabilities.{bound_of};
 ghost use Rattle.trade_cross.specs.Amounts as spec;
-ghost use Rattle.trade_cross.specs.Crossing.{seller_gives_at, seller_takes_at};
 ghost use Rattle.trade_cross.specs.Holdings as holdings;
 ghost use Rattle.trade_cross.specs.Places.{place_key};
 ghost use Rattle.trade_cross.specs.Sides.{IsInRangeAt};
@@ -115,8 +113,7 @@ fn bind_sides<B: Base>(
 pub fn acquire<B: Base>(entries: &mut Entries<'_, B>, offer: &OfferEntry) -> Result<(), AllocError>
     requires priced { IsPriced offer.now.price }
     requires amount { pos 0 ≤ℤ offer.now.amount }
-    requires fits { spec.DoBondsFit offer.now (pos (bound_of offer.now).wheat) (pos (bound_of offer.now).sheep)
-        entries.old.current }
+    requires fits { spec.DoesAcquireFit offer.now entries.old.current }
     ensures { OnOk result (
         entries.new ≡ with_current entries.old (binding.acquiring offer.now entries.old.current)) }
 {
@@ -128,8 +125,7 @@ pub fn acquire<B: Base>(entries: &mut Entries<'_, B>, offer: &OfferEntry) -> Res
 pub fn release<B: Base>(entries: &mut Entries<'_, B>, offer: &OfferEntry) -> Result<(), AllocError>
     requires priced { IsPriced offer.now.price }
     requires amount { pos 0 ≤ℤ offer.now.amount }
-    requires fits { spec.DoBondsFit offer.now (neg_ℤ (pos (bound_of offer.now).wheat))
-        (neg_ℤ (pos (bound_of offer.now).sheep)) entries.old.current }
+    requires fits { spec.DoesReleaseFit offer.now entries.old.current }
     ensures { OnOk result (
         entries.new ≡ with_current entries.old (binding.releasing offer.now entries.old.current)) }
 {

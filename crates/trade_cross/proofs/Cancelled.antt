@@ -13,7 +13,7 @@ use Rattle.trade_cross.specs.Amounts.{DoesReleaseFit}
 use Rattle.trade_cross.specs.Cancelling.{CancelledOffersKeep, map_after_cancelling}
 use Rattle.trade_cross.specs.Crossable.{IsCrossable}
 use Rattle.trade_cross.specs.Crossing.{seller_gives_at, seller_takes_at}
-use Rattle.trade_cross.proofs.Amounts.{bond_fits, released_within, bought_within}
+use Rattle.trade_cross.proofs.Bonds.{bond_fits, released_within, bought_within}
 use Rattle.trade_cross.proofs.StepLegal.{lets, legal_unsold, offer_gone, release_open}
 
 pub cancelled_keeps : CancelledOffersKeep

@@ -19,5 +19,5 @@ pub mod HoldersApart
 pub mod StepIs
 pub mod StepPlanned
 pub mod Progressed
-pub mod Amounts
+pub mod Bonds
 pub mod Cancelled

@@ -1,6 +1,6 @@
 //! Amounts that are paid and bound where an account has an asset.
 
-ghost use Rattle.std.specs.Prelude.{◌≡◌, ◌≤◌, pos, ◌≤ℤ◌, IfOk, OnOk};
+ghost use Rattle.std.specs.Prelude.{◌≡◌, ◌≤◌, neg_ℤ, pos, ◌≤ℤ◌, IfOk, OnOk};
 ghost use Rattle.ledger_types.specs.Prices.{IsPriced};
 ghost use Rattle.entry_map.specs.Undo.{with_current};
 ghost use Rattle.offer_exchange.specs.Exchange.{unlimited};
@@ -20,7 +20,7 @@ use std::alloc::AllocError;
 
 /// What an account can give of an asset at most, at least 0: what is available, and of what it issues as much as it
 /// likes.
-#[tactic(auto, using(crate::proofs::Amounts::given_now))]
+#[tactic(auto, using(crate::proofs::Bonds::given_now))]
 pub fn most_given<B: Base>(
     entries: &Entries<'_, B>,
     base_reserve: u32,
@@ -37,7 +37,7 @@ pub fn most_given<B: Base>(
 
 /// What an account can take of an asset at most, at least 0: what it has room for, and of what it issues as much as it
 /// likes.
-#[tactic(auto, using(crate::proofs::Amounts::taken_now))]
+#[tactic(auto, using(crate::proofs::Bonds::taken_now))]
 pub fn most_taken<B: Base>(
     entries: &Entries<'_, B>,
     id: &AccountId,
@@ -121,6 +121,14 @@ pub fn acquire<B: Base>(entries: &mut Entries<'_, B>, offer: &OfferEntry) -> Res
     bind_sides(entries, offer, bound.selling, bound.buying)
 }
 
+/// A number of at least 0 with its sign turned.
+fn turned(number: i64) -> i64
+    requires { pos 0 ≤ℤ number }
+    ensures { result ≡ neg_ℤ number }
+{
+    -number
+}
+
 /// Releases what an offer binds.
 pub fn release<B: Base>(entries: &mut Entries<'_, B>, offer: &OfferEntry) -> Result<(), AllocError>
     requires priced { IsPriced offer.now.price }
@@ -130,5 +138,5 @@ pub fn release<B: Base>(entries: &mut Entries<'_, B>, offer: &OfferEntry) -> Res
         entries.new ≡ with_current entries.old (binding.releasing offer.now entries.old.current)) }
 {
     let bound = liabilities(offer.price, offer.amount);
-    bind_sides(entries, offer, -bound.selling, -bound.buying)
+    bind_sides(entries, offer, turned(bound.selling), turned(bound.buying))
 }

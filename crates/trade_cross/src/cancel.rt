@@ -7,8 +7,9 @@ ghost use Rattle.trade_cross.specs.Cancelling.{map_after_cancelling};
 ghost use Rattle.trade_cross.specs.Crossable.{IsCrossable};
 
 use crate::amounts::release;
+use crate::keys::offer_key;
 use entry_map::{Base, Entries};
-use ledger_types::{LedgerKey, OfferEntry};
+use ledger_types::OfferEntry;
 use sponsor_rules::{Ctx, remove_entry};
 use std::alloc::AllocError;
 
@@ -25,9 +26,6 @@ pub fn cancel_offer<B: Base>(
     ensures crossable { OnOk result (IsCrossable entries.new.current) }
 {
     release(entries, offer)?;
-    let key = LedgerKey::Offer {
-        seller_id: offer.seller_id,
-        offer_id: offer.offer_id,
-    };
-    remove_entry(entries, ctx, &key)
+    remove_entry(entries, ctx, &offer_key(offer))?;
+    Ok(())
 }

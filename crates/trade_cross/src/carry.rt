@@ -9,10 +9,11 @@ ghost use Rattle.trade_cross.specs.Places.{DoesChangeFit, changing, place_key};
 ghost use Rattle.trade_cross.specs.Plans as spec;
 
 use crate::holding::{Change, change_holding};
+use crate::keys::offer_key;
 use crate::plan::{Plan, Sides};
 use entry_map::{Base, Entries};
 use entry_slots::{OfferSlot, load_offer, store_offer};
-use ledger_types::{LedgerKey, Liabilities, OfferEntry};
+use ledger_types::{Liabilities, OfferEntry};
 use offer_exchange::liabilities;
 use sponsor_rules::{Ctx, remove_entry};
 use std::alloc::AllocError;
@@ -107,11 +108,7 @@ fn keep_rest<B: Base>(
     if rest > 0 {
         return resize(entries, offer, rest);
     }
-    let key = LedgerKey::Offer {
-        seller_id: offer.seller_id,
-        offer_id: offer.offer_id,
-    };
-    remove_entry(entries, ctx, &key)
+    remove_entry(entries, ctx, &offer_key(offer))
 }
 
 /// Gives an offer that stands another amount.

@@ -8,6 +8,7 @@ mod carry;
 mod conversion;
 mod crossed;
 mod holding;
+mod keys;
 pub mod laws;
 mod place;
 mod plan;

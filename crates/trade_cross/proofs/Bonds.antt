@@ -70,9 +70,6 @@ bond_is (Some other) selling buying m = refl
 
 -- ---- that they fit
 
-low_paid : (b n : ℤ) → pos 0 ≤ℤ (b +ℤ n) → pos 0 ≤ℤ (b +ℤ n)
-low_paid b n low = low
-
 high_paid : (b n buying g : ℤ) → n ≤ℤ (g -ℤ b -ℤ buying) → pos 0 ≤ℤ buying → (b +ℤ n) ≤ℤ g
 high_paid b n buying g fits low = omega (arith, ints)
 

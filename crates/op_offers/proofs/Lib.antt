@@ -1,3 +1,7 @@
 pub mod Sold
 pub mod OutOfBook
 pub mod SoldLeft
+mod Ready
+mod Begun
+mod OldOffers
+mod Applied

@@ -18,6 +18,9 @@ use Rattle.legal_rules.specs.OneMore.{one_more}
 use Rattle.legal_rules.specs.Owing.{nothing_owed, IsLegalOwing}
 use Rattle.legal_rules.specs.Sponsorships.{IsSponsorReady}
 use Rattle.legal_rules.specs.Trades.{holder}
+use Rattle.op_form.specs.Premises.{AccountsAreReady}
+use Rattle.trade_cross.specs.declared.crossed.CrossEnd.{CrossEnd}
+use Rattle.trade_cross.specs.declared.crossed.CrossEnd.TheVariants.{CrossSelf, TooMany}
 use Rattle.trade_cross.specs.Amounts.{DoesPaymentFit, DoesAcquireFit}
 use Rattle.trade_cross.specs.Holdings.{paying}
 use Rattle.op_offers.specs.declared.ask.Ask.{Ask}
@@ -45,6 +48,7 @@ pub record IsManageable (ctx : Ctx) (m : EntryMap) : Type 0 where
   pub sum : ℤ
   pub legal : IsLegalOwing view ctx.id_pool nothing_owed sum m
   pub ids : pos (ctx.id_pool + 1) ≤ℤ greatest_i64
+  pub ready : AccountsAreReady m
   pub source : HasAccount m ctx.op_source
   pub sponsor : IsSponsorReady ctx ctx.op_source m
 
@@ -94,6 +98,12 @@ DoesRestFit asked zero m = Unit {0}
 DoesRestFit asked (suc n) m =
     let offer = offer_left asked (suc n) in
     DoesAcquireFit offer (put m (record asked.entry { body = body.Offer offer }))
+
+-- why an operation fails whose trade ended so
+abbrev pub end_fault : CrossEnd → Option OfferFault
+end_fault CrossSelf = Some fault.CrossSelf
+end_fault TooMany = Some fault.TooMany
+end_fault other = None
 
 -- ---- what calls answer
 

@@ -54,7 +54,9 @@ fn extension_of(sponsor: Option<AccountId>) -> Option<LedgerEntryExtensionV1>
 pub fn new_asked(ctx: &Ctx, ask: &Ask) -> Asked
     requires seq { ctx.now.seq < last_seq }
     requires ids { pos (ctx.now.id_pool + 1) ≤ℤ greatest_i64 }
-    ensures { asked_in result ≡ spec.new_asked ctx.now ask.now }
+    ensures value { asked_in result ≡ spec.new_asked ctx.now ask.now }
+    ensures sells { result.sells ≡ ask.now.sells }
+    ensures buys { result.buys ≡ ask.now.buys }
 {
     let offer_id = (ctx.id_pool + 1) as i64;
     Asked {
@@ -70,7 +72,9 @@ pub fn new_asked(ctx: &Ctx, ask: &Ask) -> Asked
 
 /// An old offer, which keeps its id, its flags and its sponsor.
 pub fn old_asked(ctx: &Ctx, ask: &Ask, old: &OfferSlot) -> Asked
-    ensures { asked_in result ≡ spec.old_asked ctx.now ask.now old.now.offer (entry_of_offer old.now) }
+    ensures value { asked_in result ≡ spec.old_asked ctx.now ask.now old.now.offer (entry_of_offer old.now) }
+    ensures sells { result.sells ≡ ask.now.sells }
+    ensures buys { result.buys ≡ ask.now.buys }
 {
     let offer = offer_asked(&ctx.op_source, ask, old.offer.offer_id, old.offer.flags);
     Asked {

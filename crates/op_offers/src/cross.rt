@@ -9,11 +9,12 @@ ghost use Rattle.op_offers.specs.Selling as spec;
 use crate::ask::inverse;
 use crate::asked::Asked;
 use crate::limits::capped;
+use crate::source::{source_gives, source_takes};
 use entry_map::{Base, Entries};
 use offer_exchange::Rounding;
 use sponsor_rules::Ctx;
 use std::alloc::AllocError;
-use trade_cross::{Crossed, Trade, convert, most_given, most_taken, place_of};
+use trade_cross::{Crossed, Trade, convert};
 
 /// How many offers an operation may cross (MAX_OFFERS_TO_CROSS in stellar-core).
 const MOST_CROSSINGS: u32 = 1000;
@@ -49,11 +50,8 @@ fn trade_of<B: Base>(
     requires sellable { IsSellable (asked_in asked.now) entries.now.current }
     ensures { IfOk result (λ trade. trade ≡ spec.trade_of base_reserve (asked_in asked.now) entries.now.current) }
 {
-    let offer = &asked.slot.offer;
-    let seller_id = &offer.seller_id;
-    let gives_at = place_of(seller_id, &offer.selling);
-    let gives = most_given(entries, base_reserve, seller_id, gives_at)?;
-    let takes = most_taken(entries, seller_id, place_of(seller_id, &offer.buying))?;
+    let gives = source_gives(entries, base_reserve, asked)?;
+    let takes = source_takes(entries, asked)?;
     Ok(trade_within(asked, gives, takes))
 }
 

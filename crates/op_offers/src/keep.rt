@@ -9,13 +9,14 @@ ghost use Rattle.op_offers.specs.Selling as spec;
 
 use crate::asked::Asked;
 use crate::limits::capped;
+use crate::source::{gives_at, source_gives, source_takes, takes_at};
 use entry_map::{Base, Entries};
 use entry_slots::{OfferSlot, sponsor_in, store_offer};
 use ledger_types::OfferEntry;
 use offer_exchange::adjust;
 use sponsor_rules::discount_subentry;
 use std::alloc::AllocError;
-use trade_cross::{CrossEnd, acquire, most_given, most_taken, pay, place_of};
+use trade_cross::{CrossEnd, acquire, pay, take};
 
 /// Takes from the source what it sent, and gives it what it received, each at least 0.
 pub fn settle_source<B: Base>(
@@ -30,12 +31,9 @@ pub fn settle_source<B: Base>(
         entries.new ≡
         with_current entries.old (calls.map_after_settling (asked_in asked.now) sheep wheat entries.old.current)) }
 {
-    let offer = &asked.slot.offer;
-    let seller_id = &offer.seller_id;
-    let gives_at = place_of(seller_id, &offer.selling);
-    pay(entries, seller_id, gives_at, -sheep)?;
-    let takes_at = place_of(seller_id, &offer.buying);
-    pay(entries, seller_id, takes_at, wheat)
+    let seller_id = &asked.slot.offer.seller_id;
+    take(entries, seller_id, gives_at(asked), sheep)?;
+    pay(entries, seller_id, takes_at(asked), wheat)
 }
 
 /// How much is still offered, by what the source can give and take, each at least 0.
@@ -74,11 +72,8 @@ pub fn amount_left<B: Base>(
     if end == CrossEnd::Converted {
         return Ok(0);
     }
-    let offer = &asked.slot.offer;
-    let seller_id = &offer.seller_id;
-    let gives_at = place_of(seller_id, &offer.selling);
-    let gives = most_given(entries, base_reserve, seller_id, gives_at)?;
-    let takes = most_taken(entries, seller_id, place_of(seller_id, &offer.buying))?;
+    let gives = source_gives(entries, base_reserve, asked)?;
+    let takes = source_takes(entries, asked)?;
     Ok(left_within(asked, sheep, wheat, gives, takes))
 }
 

@@ -13,6 +13,7 @@ mod lines;
 mod manage;
 mod operations;
 mod sell;
+mod source;
 mod wanted;
 
 pub use operations::apply;

@@ -27,6 +27,17 @@ pub struct Sold {
     pub amount: i64,
 }
 
+/// Why an operation fails whose trade ended so, if it does.
+fn end_fault(end: CrossEnd) -> Option<OfferFault>
+    ensures { result ≡ calls.end_fault end }
+{
+    match end {
+        CrossEnd::CrossSelf => Some(OfferFault::CrossSelf),
+        CrossEnd::TooMany => Some(OfferFault::TooMany),
+        CrossEnd::Converted | CrossEnd::Partial | CrossEnd::BadPrice => None,
+    }
+}
+
 /// Settles a trade with the source, and keeps what is left of the offer.
 fn keep_rest<B: Base>(
     entries: &mut Entries<'_, B>,
@@ -73,9 +84,8 @@ pub fn sell<B: Base>(
         return Err(fault);
     }
     let crossed = cross(entries, ctx, asked)?;
-    match crossed.end {
-        CrossEnd::CrossSelf => Err(OfferFault::CrossSelf),
-        CrossEnd::TooMany => Err(OfferFault::TooMany),
-        _ => Ok(keep_rest(entries, ctx.base_reserve, asked, crossed)?),
+    if let Some(fault) = end_fault(crossed.end) {
+        return Err(fault);
     }
+    Ok(keep_rest(entries, ctx.base_reserve, asked, crossed)?)
 }

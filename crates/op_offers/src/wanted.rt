@@ -1,6 +1,6 @@
 //! What is wanted of a trade, and whether the source can give and take it.
 
-ghost use Rattle.std.specs.Prelude.{◌≡◌, Some, IfOk};
+ghost use Rattle.std.specs.Prelude.{◌≡◌, ◌≤ℤ◌, ◌||◌, nat_eq, nat_lt, pos, unsigned_abs, Some, IfOk};
 ghost use Rattle.ledger_types.specs.declared.key.LedgerKey.TheVariants as key;
 ghost use Rattle.entry_slots.specs.Accounts.{account_at};
 ghost use Rattle.entry_slots.specs.Lines.{line_at};
@@ -13,13 +13,14 @@ ghost use Rattle.op_offers.specs.Selling as spec;
 use crate::asked::Asked;
 use crate::fault::OfferFault;
 use crate::limits::limit_of;
+use crate::source::{gives_at, source_takes};
 use entry_map::{Base, Entries};
 use entry_slots::{load_facts, load_line};
 use ledger_types::{AccountId, TrustLineAsset};
 use offer_exchange::wanted;
 use reserve_rules::{facts_available, line_available};
 use std::alloc::AllocError;
-use trade_cross::{Place, most_taken, place_of};
+use trade_cross::Place;
 
 /// Whether less than so many lumens are available to an account that stands.
 fn is_account_short<B: Base>(
@@ -74,6 +75,15 @@ fn is_short<B: Base>(
     }
 }
 
+/// Whether there is no room, or less than is wanted; each is at least 0.
+fn is_too_little(room: i64, sheep: i64) -> bool
+    requires room { pos 0 ≤ℤ room }
+    requires sheep { pos 0 ≤ℤ sheep }
+    ensures { result ≡ (nat_eq (unsigned_abs room) 0 || nat_lt (unsigned_abs room) (unsigned_abs sheep)) }
+{
+    room == 0 || room < sheep
+}
+
 /// Why the source can't give or take what is wanted, if it can't.
 pub fn wanted_fault<B: Base>(
     entries: &Entries<'_, B>,
@@ -85,15 +95,20 @@ pub fn wanted_fault<B: Base>(
     ensures { IfOk result (λ fault. fault ≡ first_fault (
         spec.wanted_tests base_reserve (asked_in asked.now) entries.now.current)) }
 {
-    let offer = &asked.slot.offer;
-    let seller_id = &offer.seller_id;
-    let all = wanted(offer.price, limit_of(asked.sells), limit_of(asked.buys));
-    let room = most_taken(entries, seller_id, place_of(seller_id, &offer.buying))?;
-    if room == 0 || room < all.buying {
+    let price = asked.slot.offer.price;
+    let all = wanted(price, limit_of(asked.sells), limit_of(asked.buys));
+    let room = source_takes(entries, asked)?;
+    if is_too_little(room, all.buying) {
         return Ok(Some(OfferFault::LineFull));
     }
-    let gives_at = place_of(seller_id, &offer.selling);
-    if is_short(entries, base_reserve, seller_id, gives_at, all.selling)? {
+    let seller_id = &asked.slot.offer.seller_id;
+    if is_short(
+        entries,
+        base_reserve,
+        seller_id,
+        gives_at(asked),
+        all.selling,
+    )? {
         return Ok(Some(OfferFault::Underfunded));
     }
     Ok(None)

@@ -28,7 +28,7 @@ use Rattle.legal_rules.proofs.LinesLeft.{line_legal}
 use Rattle.trade_cross.specs.Amounts.{payment, bond, DoesPaymentFit, DoesBondFit}
 use Rattle.trade_cross.specs.Holdings.{at_least_nothing, account_gives, account_takes, line_gives, line_takes}
 use Rattle.trade_cross.specs.Holdings.{most_given, most_taken, line_paid, paying}
-use Rattle.trade_cross.specs.Places.{DoesFit, DoesChangeFit, changed_account, changed_line, changing}
+use Rattle.trade_cross.specs.Places.{DoesFit, changed_account, changed_line, changing}
 use Rattle.trade_cross.specs.Sides.{facts_give_with, facts_take_with, line_gives_with, line_takes_with}
 use Rattle.trade_cross.specs.Sides.{given_with, taken_with}
 use Rattle.trade_cross.proofs.Fits.{account_fits, line_fits}

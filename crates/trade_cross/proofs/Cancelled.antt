@@ -4,7 +4,7 @@ use Rattle.std.specs.Prelude.{ℤ, pos, neg_ℤ}
 use Rattle.ledger_types.specs.declared.offer.OfferEntry.{OfferEntry}
 use Rattle.entry_map.specs.EntryMap.{EntryMap}
 use Rattle.entry_slots.specs.Offers.{offer_at}
-use Rattle.legal_rules.specs.Binding.{CanBindBoth, binding, releasing}
+use Rattle.legal_rules.specs.Binding.{binding, releasing}
 use Rattle.legal_rules.specs.Books.{View}
 use Rattle.legal_rules.specs.OfferLiabilities.{bound_of}
 use Rattle.legal_rules.specs.OneMore.{IsOwedRightly}

@@ -50,7 +50,7 @@ pub fn most_taken<B: Base>(
     most_taken_with(entries, id, place, 0)
 }
 
-/// Pays an amount to what an account has of an asset, or takes it from there where it is below 0.
+/// Adds an amount, which may be below 0, to what an account has of an asset.
 pub fn pay<B: Base>(
     entries: &mut Entries<'_, B>,
     id: &AccountId,
@@ -68,6 +68,30 @@ pub fn pay<B: Base>(
         buying: 0,
     };
     change_holding(entries, id, place, payment)
+}
+
+/// A number of at least 0 with its sign turned.
+fn turned(number: i64) -> i64
+    requires { pos 0 ≤ℤ number }
+    ensures { result ≡ neg_ℤ number }
+{
+    -number
+}
+
+/// Takes an amount of at least 0 from what an account has of an asset.
+pub fn take<B: Base>(
+    entries: &mut Entries<'_, B>,
+    id: &AccountId,
+    place: Place,
+    amount: i64,
+) -> Result<(), AllocError>
+    requires amount { pos 0 ≤ℤ amount }
+    requires fits { spec.DoesPaymentFit entries.old.current (place_key id.now place) (neg_ℤ amount) }
+    ensures { OnOk result (
+        entries.new ≡
+        with_current entries.old (holdings.paying (place_key id.now place) (neg_ℤ amount) entries.old.current)) }
+{
+    pay(entries, id, place, turned(amount))
 }
 
 /// Binds so much more of what an account has of an asset, for what its offers would give and take. Each may be below 0.
@@ -119,14 +143,6 @@ pub fn acquire<B: Base>(entries: &mut Entries<'_, B>, offer: &OfferEntry) -> Res
 {
     let bound = liabilities(offer.price, offer.amount);
     bind_sides(entries, offer, bound.selling, bound.buying)
-}
-
-/// A number of at least 0 with its sign turned.
-fn turned(number: i64) -> i64
-    requires { pos 0 ≤ℤ number }
-    ensures { result ≡ neg_ℤ number }
-{
-    -number
 }
 
 /// Releases what an offer binds.

@@ -18,7 +18,7 @@ mod step;
 mod trade;
 mod turn;
 
-pub use amounts::{acquire, most_given, most_taken, pay, release};
+pub use amounts::{acquire, most_given, most_taken, pay, release, take};
 pub use cancel::cancel_offer;
 pub use conversion::convert;
 pub use crossed::{CrossEnd, Crossed};

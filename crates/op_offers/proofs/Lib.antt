@@ -1,3 +1,4 @@
 pub mod Sold
 pub mod OutOfBook
 pub mod SoldLeft
+pub mod OutLeft

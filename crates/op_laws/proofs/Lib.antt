@@ -25,4 +25,10 @@ pub mod LineFlags
 pub mod Clawbacks
 pub mod NewBalances
 pub mod Claims
+pub mod TradeMoves
+pub mod Sales
+pub mod OfferTests
+pub mod NewOffers
+pub mod OldOffers
+pub mod ManageOffers
 pub mod AllOperations

@@ -26,6 +26,7 @@ use Rattle.sponsor_rules.specs.Adding.{map_after_counting_subentry}
 use Rattle.legal_rules.specs.Legal.{view}
 use Rattle.legal_rules.specs.Supply.{held}
 use Rattle.legal_rules.specs.Trades.{holder}
+use Rattle.trade_cross.specs.Cancelling.{map_after_cancelling}
 use Rattle.trade_cross.specs.Crossing.{offer_key}
 use Rattle.op_form.specs.Done.{Done}
 use Rattle.op_offers.specs.declared.answers.Kind.TheVariants as kind
@@ -35,7 +36,7 @@ use Rattle.op_offers.specs.declared.fault.OfferFault.TheVariants as fault
 use Rattle.op_offers.specs.Asked.{ask_to_sell, ask_passively, ask_to_buy, is_malformed}
 use Rattle.op_offers.specs.Managing.{Effect, Made, Changed, Managed, Removed, drawn, of_sold, unless_some, unless_lines}
 use Rattle.op_offers.specs.Managing.{sell_fault, buy_fault, with_reserve, new_asked, made, old_asked, changed}
-use Rattle.op_offers.specs.Managing.{map_after_cancelling, managed_old, managed_at, managed}
+use Rattle.op_offers.specs.Managing.{managed_old, managed_at, managed}
 use Rattle.op_offers.specs.Operations.{Answer, answer_of, success_answer, effect_of, moves_of, attempt_of_managed}
 use Rattle.op_offers.specs.Operations.{attempt_of}
 use Rattle.op_offers.specs.Selling.{Asked, Sold, sold, map_without_offer}

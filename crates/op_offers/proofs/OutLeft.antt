@@ -22,12 +22,13 @@ use Rattle.legal_rules.proofs.Leaving.{Leaves, keeps_both}
 use Rattle.legal_rules.proofs.OffersKept.{with_offer_body}
 use Rattle.legal_rules.proofs.Releasing.{still_there}
 use Rattle.trade_cross.specs.Accounts.{IsHeld}
+use Rattle.trade_cross.specs.Cancelling.{map_after_cancelling}
 use Rattle.trade_cross.specs.Crossing.{offer_key}
 use Rattle.trade_cross.proofs.Binding.{held_bound}
+use Rattle.trade_cross.proofs.Cancelled.{cancelled_keeps}
 use Rattle.trade_cross.proofs.Left.{removing_left}
 use Rattle.trade_cross.proofs.StepLeft.{release_left}
-use Rattle.trade_cross.proofs.StepLegal.{IsOpen, settled_then, offer_gone, lets, still_held, release_open}
-use Rattle.op_offers.specs.Managing.{map_after_cancelling}
+use Rattle.trade_cross.proofs.StepLegal.{IsOpen, settled_then, lets, still_held, release_open}
 use Rattle.op_offers.specs.Selling.{map_without_offer}
 use Rattle.op_offers.proofs.OutOfBook.{nothing_right, erased_held}
 
@@ -69,7 +70,7 @@ module _ (v : View) (id_pool : ℕ) (sum : ℤ) (old : OfferEntry) (e : LedgerEn
 
   -- Removed it leaves a legal state.
   pub cancelled_legal : IsLegalOwing v id_pool nothing_owed sum (map_after_cancelling old m)
-  cancelled_legal = offer_gone v id_pool 0 nothing_owed nothing_right old sum (releasing old m) open_
+  cancelled_legal = cancelled_keeps v id_pool 0 nothing_owed sum old m legal nothing_right stands
 
   -- So it does to all accounts what they have.
   pub cancelled_left : (base : ℕ) → Leaves base none_more m (map_after_cancelling old m)

@@ -27,8 +27,5 @@ pub mod NewBalances
 pub mod Claims
 pub mod TradeMoves
 pub mod Sales
-pub mod OfferTests
-pub mod NewOffers
-pub mod OldOffers
 pub mod ManageOffers
 pub mod AllOperations

@@ -1,7 +1,7 @@
 -- MANAGE_SELL_OFFER, CREATE_PASSIVE_SELL_OFFER and MANAGE_BUY_OFFER are lawful.
 use Rattle.std.proofs.Common.{◌≡◌, refl, sym, ap, subst, ◌∙◌, ℕ, ◌≤◌, Bool, true, false, [], Option, Some, None, Result}
 use Rattle.std.proofs.Common.{Ok, Err, arith}
-use Rattle.std.specs.Prelude.{ℤ, pos, if◌then◌else◌}
+use Rattle.std.specs.Prelude.{ℤ, pos, if◌then◌else◌, ◌+◌}
 use Rattle.std.specs.FinMap.{get}
 use Rattle.std.specs.Ordering.{int_eq}
 use Rattle.ledger_types.specs.declared.ids.AccountId.{AccountId}
@@ -24,8 +24,10 @@ use Rattle.sponsor_rules.specs.declared.context.Ctx.{Ctx}
 use Rattle.sponsor_rules.specs.declared.fault.AddFault.{AddFault}
 use Rattle.sponsor_rules.specs.Adding.{map_after_counting_subentry}
 use Rattle.legal_rules.specs.Legal.{view}
+use Rattle.legal_rules.specs.Sponsorships.{IsSponsorReady}
 use Rattle.legal_rules.specs.Supply.{held}
 use Rattle.legal_rules.specs.Trades.{holder}
+use Rattle.legal_rules.proofs.Given.{sponsors_ready}
 use Rattle.trade_cross.specs.Cancelling.{map_after_cancelling}
 use Rattle.trade_cross.specs.Crossing.{offer_key}
 use Rattle.op_form.specs.Done.{Done}
@@ -40,17 +42,23 @@ use Rattle.op_offers.specs.Managing.{managed_old, managed_at, managed}
 use Rattle.op_offers.specs.Operations.{Answer, answer_of, success_answer, effect_of, moves_of, attempt_of_managed}
 use Rattle.op_offers.specs.Operations.{attempt_of}
 use Rattle.op_offers.specs.Selling.{Asked, Sold, sold, map_without_offer}
-use Rattle.op_offers.proofs.OutLeft.{cancelled_legal, cancelled_left}
+use Rattle.op_offers.proofs.NewOffers.{new_counted, new_left, new_rightly}
+use Rattle.op_offers.proofs.OldOffers.{old_counted, old_rightly}
+use Rattle.op_offers.proofs.OutLeft.{out_left, cancelled_legal, cancelled_left}
+use Rattle.op_offers.proofs.Tested.{IsValidAsk, valid_ask}
 use Rattle.op_laws.specs.Laws.{IsLawful, AreLawful}
 use Rattle.op_laws.specs.Underway.{IsUnderway}
 use Rattle.op_laws.proofs.Lawful.{lawful_still}
-use Rattle.op_laws.proofs.NewOffers.{new_offer_ready}
-use Rattle.op_laws.proofs.OfferTests.{IsValidAsk, valid_ask}
-use Rattle.op_laws.proofs.OldOffers.{old_offer_ready}
 use Rattle.op_laws.proofs.Sales.{IsReady, sale_is_lawful}
 
 module _ (ctx : Ctx) (ask : Ask) (m : EntryMap) (under : IsUnderway ctx m) (stands : HasAccount m ctx.op_source)
     (flags : ask.flags ≤ 1) (answer : Answer) (done : Done) where
+  abbrev lumens : ℤ
+  lumens = total (held asset.Native) m
+
+  paid_for : IsSponsorReady ctx ctx.op_source m
+  paid_for = sponsors_ready ctx m ctx.op_source under.sponsorships
+
   -- the operation is lawful, if this is what becomes of its offer
   abbrev IsLawfulOf : Result Managed OfferFault → Type 0
   IsLawfulOf r = attempt_of_managed ctx answer r ≡ Ok done → IsLawful ctx m done
@@ -99,8 +107,14 @@ module _ (ctx : Ctx) (ask : Ask) (m : EntryMap) (under : IsUnderway ctx m) (stan
         → map_after_counting_subentry ctx ctx.op_source 1 m ≡ r → IsLawfulOf (with_reserve ctx ask r)
     reserve_lawful gives takes (Err other) counted is = absurd (cc)
     reserve_lawful gives takes (Ok now) counted is =
-        sale_lawful Made _ (new_asked ctx ask) refl now
-        (new_offer_ready ctx ask m under stands valid flags gives takes now counted) _ refl is
+        sale_lawful Made (ctx.id_pool + 1) (new_asked ctx ask) refl now (record {
+          counted = λ v sum legal. new_counted ctx ask m v sum legal stands paid_for now counted;
+          left = new_left ctx ask m (view m) lumens under.settled.legal stands paid_for now counted;
+          right = new_rightly ctx ask m (view m) lumens under.settled.legal stands paid_for now counted valid flags
+              gives takes;
+          low = omega arith;
+          high = omega arith;
+        }) _ refl is
 
     made_lawful : IsLawfulOf (made ctx ask m)
     made_lawful = lines_lawful (with_reserve ctx ask (map_after_counting_subentry ctx ctx.op_source 1 m))
@@ -114,7 +128,14 @@ module _ (ctx : Ctx) (ask : Ask) (m : EntryMap) (under : IsUnderway ctx m) (stan
       changed_lawful = lines_lawful (of_sold Changed (old_asked ctx ask old e) ctx.id_pool ctx.id_pool
           (sold ctx.base_reserve (old_asked ctx ask old e) (map_without_offer old m)))
           (λ gives takes. sale_lawful Changed ctx.id_pool (old_asked ctx ask old e) refl (map_without_offer old m)
-          (old_offer_ready ctx ask m under stands valid old e there is_so own gives takes) _ refl)
+          (record {
+            counted = λ v sum legal. old_counted ctx ask m v sum legal old e there is_so own;
+            left = out_left (view m) ctx.id_pool lumens old e m under.settled.legal there is_so ctx.base_reserve;
+            right = old_rightly ctx ask m (view m) lumens under.settled.legal old e there is_so own stands valid gives
+                takes;
+            low = omega arith;
+            high = omega arith;
+          }) _ refl)
 
       removed_lawful : IsLawfulOf (Ok (Removed (map_after_cancelling old m)))
       removed_lawful is =
@@ -128,8 +149,7 @@ module _ (ctx : Ctx) (ask : Ask) (m : EntryMap) (under : IsUnderway ctx m) (stan
           subst (IsLawful ctx m) same (lawful_still ctx m under (success_answer answer [] effect.Deleted)
           (map_after_cancelling old m)
           (λ v sum legal. cancelled_legal v ctx.id_pool sum old e m legal there is_so)
-          (cancelled_left (view m) ctx.id_pool (total (held asset.Native) m) old e m under.settled.legal there is_so
-          ctx.base_reserve))
+          (cancelled_left (view m) ctx.id_pool lumens old e m under.settled.legal there is_so ctx.base_reserve))
 
       by_amount : (b : Bool)
           → IsLawfulOf (if b then Ok (Removed (map_after_cancelling old m)) else changed ctx ask old e m)

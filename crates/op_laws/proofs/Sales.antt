@@ -1,6 +1,5 @@
 -- An operation that sells an offer is lawful, by what it does before the sale.
 use Rattle.std.proofs.Common.{◌≡◌, refl, ap, subst, ◌∙◌, ℕ, ◌+◌, ◌≤◌, zero, suc, Ok, arith}
-use Rattle.std.proofs.lemmas.Int.{ints}
 use Rattle.std.specs.Prelude.{ℤ, pos, neg_ℤ, ◌+ℤ◌}
 use Rattle.ledger_types.specs.declared.asset.Asset.{Asset}
 use Rattle.ledger_types.specs.declared.asset.Asset.TheVariants as asset
@@ -28,6 +27,7 @@ use Rattle.op_offers.proofs.SoldLeft.{selling_left_so, selling_traded}
 use Rattle.op_laws.specs.Laws.{IsLawful}
 use Rattle.op_laws.specs.Moves.{issued}
 use Rattle.op_laws.specs.Underway.{IsUnderway, AreDrawn}
+use Rattle.op_laws.proofs.Issued.{plus_assoc}
 use Rattle.op_laws.proofs.Lawful.{DrawsLegal, lawful_drawn, sound_after}
 use Rattle.op_laws.proofs.TradeMoves.{moved_by, moves_tell, moved_more, moved_supply}
 
@@ -36,9 +36,6 @@ one_drawn : (id_pool next amount : ℕ) → id_pool ≤ next → next ≤ id_poo
     → AreDrawn 1 id_pool (drawn id_pool next amount)
 one_drawn id_pool next zero low high = record { low = omega arith; high = omega arith }
 one_drawn id_pool next (suc n) low high = record { low = low; high = high }
-
-regrouped : (x a b : ℤ) → ((x +ℤ a) +ℤ b) ≡ (x +ℤ (a +ℤ b))
-regrouped x a b = omega (arith, ints)
 
 -- What holds before a sale: the offer is counted and out of the book, its id is free, and its source holds both assets.
 pub record IsReady (ctx : Ctx) (next : ℕ) (asked : Asked) (old m : EntryMap) : Type 0 where
@@ -70,7 +67,7 @@ module _ (ctx : Ctx) (next : ℕ) (asked : Asked) (old m : EntryMap) (under : Is
   shifts : DrawsLegal ctx.id_pool after.id_pool (λ x. issued x (moves_of asked.offer.seller_id s.crossed.atoms)) old
       s.entries
   shifts v sum legal = subst (λ n. IsLegalOwing v after.id_pool nothing_owed n s.entries)
-      (regrouped sum (kept_in v.asset s.crossed.atoms) (source_kept v.asset)
+      (plus_assoc sum (kept_in v.asset s.crossed.atoms) (source_kept v.asset)
       ∙ ap (λ n. sum +ℤ n)
       (moved_supply (trade_of ctx.base_reserve asked m) asked.offer.seller_id s.crossed traded v.asset))
       (selling_keeps v ctx.id_pool next ctx.base_reserve sum asked m s (ready.counted v sum legal) ready.low

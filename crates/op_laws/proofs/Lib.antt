@@ -25,4 +25,7 @@ pub mod LineFlags
 pub mod Clawbacks
 pub mod NewBalances
 pub mod Claims
+pub mod TradeMoves
+pub mod Sales
+pub mod ManageOffers
 pub mod AllOperations

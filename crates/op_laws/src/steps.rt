@@ -57,6 +57,11 @@ pub fn settled_held()
     ensures { spec.SettledHeld }
 {}
 
+/// What holds before an operation is what those on offers ask for, where one more id can be drawn.
+pub fn underway_manageable()
+    ensures { spec.UnderwayManageable }
+{}
+
 /// All laws that the transactions of a set stand on.
 pub fn transaction_laws()
     ensures { spec.TransactionLaws }
@@ -71,4 +76,5 @@ pub fn transaction_laws()
     settled_in_range();
     settled_amounts();
     settled_held();
+    underway_manageable();
 }

@@ -1,7 +1,11 @@
 pub mod Sold
 pub mod OutOfBook
 pub mod SoldLeft
+pub mod Tested
+pub mod OutLeft
+pub mod NewOffers
+pub mod OldOffers
 mod Ready
 mod Begun
-mod OldOffers
+mod Loaded
 mod Applied

@@ -4,7 +4,7 @@ use Rattle.entry_slots.specs.Offers.{entry_of_offer}
 use Rattle.op_offers.specs.Calls.{IsSellable, IsLimitLow}
 use Rattle.op_offers.specs.Managing.{old_asked}
 use Rattle.op_offers.proofs.Begun.{sells_low, buys_low}
-use Rattle.op_offers.proofs.OldOffers.{old_priced, old_amount, old_fits, changed_sellable}
+use Rattle.op_offers.proofs.Loaded.{old_priced, old_amount, old_fits, changed_sellable}
 use Rattle.op_offers.proofs.manage.change.Goals as goal
 
 pub take_out-requires-clause-priced : goal.take_out-requires-clause-priced

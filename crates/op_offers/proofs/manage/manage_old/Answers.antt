@@ -3,7 +3,7 @@ use Rattle.std.specs.Prelude.{pos}
 use Rattle.std.specs.Ordering.{int_eq}
 use Rattle.entry_slots.specs.Offers.{offer_slot_at}
 use Rattle.op_offers.specs.Calls.{IsManaging}
-use Rattle.op_offers.proofs.OldOffers.{removed_is, changed_is}
+use Rattle.op_offers.proofs.Loaded.{removed_is, changed_is}
 use Rattle.op_offers.proofs.manage.manage_old.Goals as goal
 
 pub returns-then-ask-eq0 : goal.returns-then-ask-eq0

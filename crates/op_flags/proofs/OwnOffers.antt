@@ -1,5 +1,5 @@
 -- The offers of an account stand, with distinct ids of at least 1, and are all that it has.
-use Rattle.std.proofs.Common.{◌≡◌, refl, sym, ap, subst, ◌∙◌, ℕ, Bool, true, false, cond, List, [], ◌∷◌, All, Some}
+use Rattle.std.proofs.Common.{◌≡◌, refl, sym, ap, subst, ◌≢◌, ◌∙◌, ℕ, Bool, true, false, cond, List, [], ◌∷◌, All, Some}
 use Rattle.std.proofs.lemmas.List.Elements.{All-nil, All-cons, All-head, All-tail, All-filter}
 use Rattle.std.proofs.lemmas.Cmp.{nat_list_cmp_total}
 use Rattle.std.specs.Cmp.{tied_itself}
@@ -34,22 +34,23 @@ use Rattle.op_flags.specs.Standing.{IsThere, AreStanding}
 
 apart_filtered : (p : OfferEntry → Bool) (os : List OfferEntry) → AreApart os → AreApart (filter p os)
 apart_filtered p [] apart = tt
-apart_filtered p (o ∷ os) apart = by (p o)
+apart_filtered p (o ∷ os) apart = by (p o) (apart_filtered p os apart.1)
   where
-    by : (t : Bool) → AreApart (cond t (o ∷ filter p os) (filter p os))
-    by true = (All-filter p _ os apart.0, apart_filtered p os apart.1)
-    by false = apart_filtered p os apart.1
+    by : (t : Bool) → AreApart (filter p os) → AreApart (cond t (o ∷ filter p os) (filter p os))
+    by true later = (All-filter p (λ x. o.offer_id ≢ x.offer_id) os apart.0, later)
+    by false later = later
 
 -- what holds of each that passes
 all_passing : (p : OfferEntry → Bool) (P : OfferEntry → Type 0) (os : List OfferEntry) → All P (filter p os)
     → All (λ o. p o ≡ true → P o) os
 all_passing p P [] all = All-nil (λ o. p o ≡ true → P o)
-all_passing p P (o ∷ os) all = by (p o) refl all
+all_passing p P (o ∷ os) all = by (p o) refl all (all_passing p P os)
   where
-    by : (t : Bool) → p o ≡ t → All P (cond t (o ∷ filter p os) (filter p os)) → All (λ x. p x ≡ true → P x) (o ∷ os)
-    by true is all = All-cons (λ x. p x ≡ true → P x) o os (λ yes. All-head P o (filter p os) all)
-        (all_passing p P os (All-tail P o (filter p os) all))
-    by false is all = All-cons (λ x. p x ≡ true → P x) o os (λ yes. absurd (cc)) (all_passing p P os all)
+    by : (t : Bool) → p o ≡ t → All P (cond t (o ∷ filter p os) (filter p os))
+        → (All P (filter p os) → All (λ x. p x ≡ true → P x) os) → All (λ x. p x ≡ true → P x) (o ∷ os)
+    by true is all later = All-cons (λ x. p x ≡ true → P x) o os (λ yes. All-head P o (filter p os) all)
+        (later (All-tail P o (filter p os) all))
+    by false is all later = All-cons (λ x. p x ≡ true → P x) o os (λ yes. absurd (cc)) (later all)
 
 -- ---- each offer that stands is among the offers
 
@@ -65,13 +66,14 @@ module _ (P : OfferEntry → Type 0) (x : OfferEntry) where
   found_in : (es : List (LedgerKey × LedgerEntry)) (k : LedgerKey) (e : LedgerEntry) → find key_cmp k es ≡ Some e
       → e.body ≡ body.Offer x → All P (offers_in (map (λ p. p.1) es)) → P x
   found_in [] k e there is all = absurd (cc)
-  found_in (p ∷ es) k e there is all = by (is_eq (key_cmp k p.0)) there
+  found_in (p ∷ es) k e there is all = by (is_eq (key_cmp k p.0)) there (λ later.
+      found_in es k e later is (tail_of p.1.body (offers_in (map (λ q. q.1) es)) all))
     where
-      by : (t : Bool) → cond t (Some p.1) (find key_cmp k es) ≡ Some e → P x
-      by true here =
+      by : (t : Bool) → cond t (Some p.1) (find key_cmp k es) ≡ Some e → (find key_cmp k es ≡ Some e → P x) → P x
+      by true here among =
           let same : p.1 ≡ e = cc in
           head_of p.1.body (offers_in (map (λ q. q.1) es)) (ap (λ (y : LedgerEntry). y.body) same ∙ is) all
-      by false later = found_in es k e later is (tail_of p.1.body (offers_in (map (λ q. q.1) es)) all)
+      by false later among = among later
 
 pub holds_of : (P : OfferEntry → Type 0) (m : EntryMap) (k : LedgerKey) (e : LedgerEntry) (x : OfferEntry)
     → get m k ≡ Some e → e.body ≡ body.Offer x → All P (offers_of m) → P x

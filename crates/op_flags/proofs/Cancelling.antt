@@ -33,6 +33,9 @@ both_of P Q [] ps qs = All-nil (λ o. P o × Q o)
 both_of P Q (o ∷ os) ps qs = All-cons (λ x. P x × Q x) o os (All-head P o os ps, All-head Q o os qs)
     (both_of P Q os (All-tail P o os ps) (All-tail Q o os qs))
 
+abbrev pub IsGone : EntryMap → OfferEntry → Type 0
+IsGone m o = get m (offer_key o) ≡ None
+
 module _ (v : View) (id_pool : ℕ) (owed : Owed) (right : IsOwedRightly owed) (sum : ℤ) where
   abbrev IsLegal : EntryMap → Type 0
   IsLegal m = IsLegalOwing v id_pool owed sum m
@@ -110,9 +113,6 @@ module _ (v : View) (id_pool : ℕ) (owed : Owed) (right : IsOwedRightly owed) (
         | None ↦ λ is. refl
         | Some e ↦ λ is. let was = all_stood os m legal all x e is in absurd (cc)
       ] refl
-
-  abbrev pub IsGone : EntryMap → OfferEntry → Type 0
-  IsGone m o = get m (offer_key o) ≡ None
 
   -- None of them stands any more.
   pub all_gone : (os : List OfferEntry) (m : EntryMap) → IsLegal m → AreStanding m os

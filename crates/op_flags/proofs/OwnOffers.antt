@@ -40,6 +40,13 @@ apart_filtered p (o ∷ os) apart = by (p o) (apart_filtered p os apart.1)
     by true later = (All-filter p (λ x. o.offer_id ≢ x.offer_id) os apart.0, later)
     by false later = later
 
+pub filtered_standing : (p : OfferEntry → Bool) (m : EntryMap) (os : List OfferEntry) → AreStanding m os
+    → AreStanding m (filter p os)
+filtered_standing p m os all = record {
+  there = All-filter p (IsThere m) os all.there;
+  apart = apart_filtered p os all.apart;
+}
+
 -- what holds of each that passes
 all_passing : (p : OfferEntry → Bool) (P : OfferEntry → Type 0) (os : List OfferEntry) → All P (filter p os)
     → All (λ o. p o ≡ true → P o) os
@@ -117,11 +124,8 @@ module _ (v : View) (id_pool : ℕ) (owed : Owed) (sum : ℤ) (m : EntryMap) (le
 
     pub offers_standing : (seller : AccountId) → AreStanding m (offers_by m seller)
     unfolding offers_by
-    offers_standing seller = record {
-      there = All-filter (λ o. is_eq (account_cmp o.seller_id seller)) (IsThere m) (offers_of m) all_stand;
-      apart = apart_filtered (λ o. is_eq (account_cmp o.seller_id seller)) (offers_of m)
-          (offers_sound v id_pool owed sum m legal).apart;
-    }
+    offers_standing seller = filtered_standing (λ o. is_eq (account_cmp o.seller_id seller)) m (offers_of m)
+        (record { there = all_stand; apart = (offers_sound v id_pool owed sum m legal).apart })
 
 pub numbered : (m : EntryMap) → IsCrossable m → AreNumbered m
 numbered m c = offers_numbered c.view c.id_pool c.owed c.sum m c.legal

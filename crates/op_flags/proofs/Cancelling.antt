@@ -1,13 +1,17 @@
 -- Offers that are removed one after the other: what is left is legal, all accounts keep what they have, no other offer
 -- comes, and none of those that were removed stands.
-use Rattle.std.proofs.Common.{◌≡◌, ◌≢◌, refl, sym, ap, subst, ◌∙◌, ℕ, Bool, true, false, List, [], ◌∷◌, All, Option}
-use Rattle.std.proofs.Common.{Some, None}
+use Rattle.std.proofs.Common.{◌≡◌, ◌≢◌, refl, sym, ap, subst, ◌∙◌, ℕ, Bool, true, false, cond, List, [], ◌∷◌, All}
+use Rattle.std.proofs.Common.{Some, None, suc, ◌+◌, ◌<◌, ◌≤◌, length, drop, get_or, drop-cons, arith}
+use Rattle.std.proofs.lemmas.List.{drop_all}
 use Rattle.std.proofs.lemmas.List.Elements.{All-nil, All-cons, All-head, All-tail, All-weaker}
 use Rattle.std.specs.FinMap.{get}
-use Rattle.std.specs.Prelude.{ℤ}
+use Rattle.std.specs.List.{filter}
+use Rattle.std.specs.Prelude.{ℤ, if◌then◌else◌}
+use Rattle.ledger_types.specs.declared.asset.Asset.{Asset}
 use Rattle.ledger_types.specs.declared.offer.OfferEntry.{OfferEntry}
 use Rattle.ledger_types.specs.declared.entry.LedgerEntry.{LedgerEntry}
 use Rattle.entry_map.specs.EntryMap.{EntryMap}
+use Rattle.entry_map.specs.Undo.{Undo, with_current}
 use Rattle.entry_map.proofs.KeyMaps.{same_keys, same_itself}
 use Rattle.entry_slots.specs.Offers.{offer_of, offer_at}
 use Rattle.legal_rules.specs.Books.{View}
@@ -21,8 +25,8 @@ use Rattle.trade_cross.specs.Crossable.{IsCrossable}
 use Rattle.trade_cross.specs.Crossing.{offer_key}
 use Rattle.trade_cross.proofs.Cancelled.{cancelled_keeps}
 use Rattle.trade_cross.proofs.CancelledLeft.{cancelling_left, cancelling_takes, cancelling_beside}
-use Rattle.op_flags.specs.Revoking.{map_after_cancelling_all}
-use Rattle.op_flags.specs.Standing.{IsThere, AreStanding}
+use Rattle.op_flags.specs.Revoking.{trades_in, map_after_cancelling_all}
+use Rattle.op_flags.specs.Standing.{IsThere, AreStanding, map_after_one}
 
 other_keys : (o x : OfferEntry) → o.offer_id ≢ x.offer_id → offer_key x ≢ offer_key o
 other_keys o x apart same = apart (cc)
@@ -61,7 +65,7 @@ module _ (v : View) (id_pool : ℕ) (owed : Owed) (right : IsOwedRightly owed) (
           | true ↦ λ tied.
               let same : offer_key x ≡ offer_key o = same_keys _ _ tied in
               let gone : get then_ (offer_key x) ≡ None =
-                  ap (get then_) same ∙ cancelling_takes v id_pool owed sum o m legal right stands in
+              ap (get then_) same ∙ cancelling_takes v id_pool owed sum o m legal right stands in
               absurd (cc)
           | false ↦ λ apart. sym (cancelling_beside v id_pool owed sum o m legal right stands x (λ same.
               let tied : is_key (offer_key x) (offer_key o) ≡ true = ap (λ k. is_key k (offer_key o)) same
@@ -127,7 +131,66 @@ module _ (v : View) (id_pool : ℕ) (owed : Owed) (right : IsOwedRightly owed) (
       (not_there os now legal_now next o (cancelling_takes v id_pool owed sum o m legal right stands))
       (all_gone os now legal_now next)
 
--- the rest of some offers stands behind the first
-pub rest_standing : (o : OfferEntry) (os : List OfferEntry) (m : EntryMap) → IsCrossable m → AreStanding m (o ∷ os)
-    → AreStanding (map_after_cancelling o m) os
-rest_standing o os m c all = next_standing c.view c.id_pool c.owed c.right c.sum o os m c.legal all
+-- ---- offer by offer
+
+-- Of some offers those are still to be looked at that are left; the others in the asset are removed.
+pub record AreLeft (held : Asset) (offers left : List OfferEntry) (old now : Undo) : Type 0 where
+  pub crossable : IsCrossable now.current
+  pub standing : AreStanding now.current left
+  pub kept : now ≡ with_current old now.current
+  pub rest : map_after_cancelling_all (filter (trades_in held) left) now.current
+      ≡ map_after_cancelling_all (filter (trades_in held) offers) old.current
+
+-- the others stand behind one that was looked at
+rest_standing : (held : Asset) (o : OfferEntry) (os : List OfferEntry) (m : EntryMap) → IsCrossable m
+    → AreStanding m (o ∷ os) → (t : Bool)
+    → AreStanding (if t then map_after_cancelling o m else m) os
+rest_standing held o os m c all true = next_standing c.view c.id_pool c.owed c.right c.sum o os m c.legal all
+rest_standing held o os m c all false = record { there = All-tail (IsThere m) o os all.there; apart = all.apart.1 }
+
+rest_same : (held : Asset) (o : OfferEntry) (os : List OfferEntry) (m : EntryMap) (t : Bool)
+    → map_after_cancelling_all (filter (trades_in held) os) (if t then map_after_cancelling o m else m)
+    ≡ map_after_cancelling_all (cond t (o ∷ filter (trades_in held) os) (filter (trades_in held) os)) m
+rest_same held o os m true = refl
+rest_same held o os m false = refl
+
+pub one_less : (held : Asset) (offers : List OfferEntry) (o : OfferEntry) (os : List OfferEntry) (old now new : Undo)
+    → AreLeft held offers (o ∷ os) old now → new ≡ with_current now (map_after_one held o now.current)
+    → IsCrossable new.current → AreLeft held offers os old new
+one_less held offers o os old now new left is crossable = record {
+  crossable = crossable;
+  standing = subst (λ m. AreStanding m os) (sym current_is)
+      (rest_standing held o os now.current left.crossable left.standing (trades_in held o));
+  kept = is ∙ ap (λ u. with_current u (map_after_one held o now.current)) left.kept
+      ∙ ap (with_current old) (sym current_is);
+  rest = ap (map_after_cancelling_all (filter (trades_in held) os)) current_is
+      ∙ rest_same held o os now.current (trades_in held o) ∙ left.rest;
+}
+  where
+    current_is : new.current ≡ map_after_one held o now.current
+    current_is = ap (λ (u : Undo). u.current) is
+
+-- ---- by the place of an offer
+
+pub this_stands : (offers : List OfferEntry) (i : ℕ) (d : OfferEntry) (m : EntryMap) → i < length offers
+    → AreStanding m (drop i offers) → IsThere m (get_or offers i d)
+this_stands offers i d m lt all = All-head (IsThere m) (get_or offers i d) (drop (suc i) offers)
+    (subst (All (IsThere m)) (drop-cons offers i d lt) all.there)
+
+pub one_further : (held : Asset) (offers : List OfferEntry) (i : ℕ) (d : OfferEntry) (old now new : Undo)
+    → i < length offers → AreLeft held offers (drop i offers) old now
+    → new ≡ with_current now (map_after_one held (get_or offers i d) now.current) → IsCrossable new.current
+    → AreLeft held offers (drop (i + 1) offers) old new
+one_further held offers i d old now new lt left is crossable =
+    let next : suc i ≡ i + 1 = omega arith in
+    subst (λ n. AreLeft held offers (drop n offers) old new) next
+    (one_less held offers (get_or offers i d) (drop (suc i) offers) old now new
+    (subst (λ os. AreLeft held offers os old now) (drop-cons offers i d lt) left) is crossable)
+
+-- none is left
+pub all_looked_at : (held : Asset) (offers : List OfferEntry) (i : ℕ) (old now : Undo) → length offers ≤ i
+    → AreLeft held offers (drop i offers) old now
+    → now ≡ with_current old (map_after_cancelling_all (filter (trades_in held) offers) old.current)
+all_looked_at held offers i old now le left =
+    let last = subst (λ os. AreLeft held offers os old now) (drop_all i offers le) left in
+    last.kept ∙ ap (with_current old) last.rest

@@ -1,5 +1,5 @@
 -- Offers that can be removed one after the other.
-use Rattle.std.specs.Prelude.{◌≡◌, Bool, true, false, List, All, Some, if◌then◌else◌}
+use Rattle.std.specs.Prelude.{◌≡◌, List, All, Some, if◌then◌else◌}
 use Rattle.ledger_types.specs.declared.asset.Asset.{Asset}
 use Rattle.ledger_types.specs.declared.offer.OfferEntry.{OfferEntry}
 use Rattle.entry_map.specs.Book.{AreApart}

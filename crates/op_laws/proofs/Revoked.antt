@@ -33,12 +33,10 @@ use Rattle.legal_rules.specs.Books.{Kind, Selling, Buying, View, counted, stated
 use Rattle.legal_rules.specs.EntryKeys.{is_key, for_key}
 use Rattle.legal_rules.specs.Holdings.{none_more}
 use Rattle.legal_rules.specs.OfferLiabilities.{bound_of}
-use Rattle.legal_rules.specs.OneMore.{IsOwedRightly}
 use Rattle.legal_rules.specs.Owing.{nothing_owed, IsEntryLegal, IsLegalOwing}
 use Rattle.legal_rules.specs.Trades.{holder, sells, buys}
 use Rattle.legal_rules.proofs.Leaving.{Leaves}
 use Rattle.legal_rules.proofs.Liable.{line_entry}
-use Rattle.legal_rules.proofs.PaidFor.{nothing_settled}
 use Rattle.legal_rules.proofs.Weighing.{total_of}
 use Rattle.trade_cross.specs.Crossing.{offer_key}
 use Rattle.trade_cross.proofs.Passing.{IsOwnKey, holder_own}
@@ -47,13 +45,7 @@ use Rattle.op_flags.specs.Revoking.{trades_in, map_after_cancelling_all, map_wit
 use Rattle.op_flags.specs.Standing.{AreStanding}
 use Rattle.op_flags.proofs.Cancelling.{IsGone, all_legal, all_left, all_stood, all_gone}
 use Rattle.op_flags.proofs.OwnOffers.{filtered_standing, offers_standing, holds_of_own}
-
-pub nothing_right : IsOwedRightly nothing_owed
-nothing_right = record {
-  reserves = nothing_settled;
-  trades = record { selling = λ k. omega (arith, ints); buying = λ k. omega (arith, ints) };
-  covered = λ k. omega (arith, ints);
-}
+use Rattle.op_laws.proofs.Settled.{nothing_right}
 
 -- ---- which line holds an asset
 

@@ -21,6 +21,7 @@ pub mod SignerWeights
 pub mod SetOptions
 pub mod Merging
 pub mod TrustLines
+pub mod Revoked
 pub mod LineFlags
 pub mod Clawbacks
 pub mod NewBalances

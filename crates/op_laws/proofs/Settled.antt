@@ -31,6 +31,7 @@ use Rattle.legal_rules.specs.PoolShares.{uses}
 use Rattle.legal_rules.specs.Ranges.{IsBodyInRange}
 use Rattle.legal_rules.specs.Supply.{of_asset, of_line, held_in, held}
 use Rattle.legal_rules.specs.Legal.{view, pools_in}
+use Rattle.legal_rules.specs.OneMore.{IsOwedRightly}
 use Rattle.legal_rules.specs.Owing.{weight, nothing_owed, IsEntryLegal, IsLegalOwing}
 use Rattle.legal_rules.proofs.Bounded.{account_legal}
 use Rattle.legal_rules.proofs.Covered.{sponsored_at_most, account_states}
@@ -38,9 +39,10 @@ use Rattle.legal_rules.proofs.Given.{sponsors_ready}
 use Rattle.legal_rules.proofs.Legality.{owing_nothing_of, legal_of, view_of}
 use Rattle.legal_rules.proofs.Liable.{line_entry}
 use Rattle.legal_rules.proofs.Numbers.{taken_off}
+use Rattle.legal_rules.proofs.PaidFor.{nothing_settled}
 use Rattle.op_laws.specs.Underway.{AreEntriesLegal}
 use Rattle.op_laws.specs.Steps.{LegalSettles, SettledLegal, SettledAccounts, SettledReady, SettledInRange, SettledHeld}
-use Rattle.op_laws.specs.Steps.{SettledFew, SettledAmounts, UnderwayManageable}
+use Rattle.op_laws.specs.Steps.{SettledCrossable, SettledFew, SettledAmounts, UnderwayManageable}
 
 -- ---- other views
 
@@ -124,6 +126,24 @@ settled_in_range id_pool m settled = record {
   lines = λ id held t stands. line_in_range id_pool m id held t settled.legal stands;
 }
 
+-- nothing is owed rightly
+pub nothing_right : IsOwedRightly nothing_owed
+nothing_right = record {
+  reserves = nothing_settled;
+  trades = record { selling = λ k. omega (arith, ints); buying = λ k. omega (arith, ints) };
+  covered = λ k. omega (arith, ints);
+}
+
+pub settled_crossable : SettledCrossable
+settled_crossable id_pool m settled = record {
+  view = view m;
+  id_pool = id_pool;
+  owed = nothing_owed;
+  sum = total (held asset.Native) m;
+  legal = settled.legal;
+  right = nothing_right;
+}
+
 -- ---- what is held
 
 sum_not_below : (a b : ℤ) → pos 0 ≤ℤ a → pos 0 ≤ℤ b → pos 0 ≤ℤ (a +ℤ b)
@@ -190,6 +210,7 @@ underway_manageable ctx m under stands ids = record {
   sum = total (held asset.Native) m;
   legal = under.settled.legal;
   ids = ids;
+  ready = settled_ready ctx.id_pool m under.settled;
   source = stands;
   sponsor = sponsors_ready ctx m ctx.op_source under.sponsorships;
 }

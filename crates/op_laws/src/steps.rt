@@ -42,6 +42,11 @@ pub fn settled_in_range()
     ensures { spec.SettledInRange }
 {}
 
+/// Settled entries are such that books of offers can be crossed, and offers removed.
+pub fn settled_crossable()
+    ensures { spec.SettledCrossable }
+{}
+
 /// Each account of settled entries has at most 20 signers.
 pub fn settled_few()
     ensures { spec.SettledFew }
@@ -74,6 +79,7 @@ pub fn transaction_laws()
     settled_few();
     settled_ready();
     settled_in_range();
+    settled_crossable();
     settled_amounts();
     settled_held();
     underway_manageable();

@@ -21,3 +21,4 @@ pub mod StepPlanned
 pub mod Progressed
 pub mod Bonds
 pub mod Cancelled
+pub mod CancelledLeft

@@ -1,7 +1,7 @@
 -- The entry of an offer of the source that was loaded, and that it can be sold once it is out of its book.
-use Rattle.std.proofs.Common.{◌≡◌, refl, sym, ap, subst, ◌∙◌, Bool, true, false, Option, Some, None, Ok, arith}
+use Rattle.std.proofs.Common.{◌≡◌, refl, sym, ap, ◌∙◌, Bool, true, false, Option, Some, None, Ok, arith}
 use Rattle.std.proofs.lemmas.Int.{ints}
-use Rattle.std.specs.Prelude.{ℤ, pos, neg_ℤ, ◌≤ℤ◌, Result, if◌then◌else◌}
+use Rattle.std.specs.Prelude.{ℤ, pos, ◌≤ℤ◌, Result, if◌then◌else◌}
 use Rattle.std.specs.FinMap.{get}
 use Rattle.std.specs.Ordering.{int_eq}
 use Rattle.ledger_types.specs.Prices.{IsPriced}
@@ -10,27 +10,18 @@ use Rattle.ledger_types.specs.declared.offer.OfferEntry.{OfferEntry}
 use Rattle.ledger_types.specs.declared.entry.LedgerEntry.{LedgerEntry}
 use Rattle.ledger_types.specs.declared.entry.LedgerEntryBody.{LedgerEntryBody}
 use Rattle.ledger_types.specs.declared.entry.LedgerEntryBody.TheVariants as body
-use Rattle.ledger_types.specs.declared.key.LedgerKey.{LedgerKey}
 use Rattle.ledger_types.specs.declared.key.LedgerKey.TheVariants as key
 use Rattle.entry_map.specs.EntryMap.{EntryMap}
 use Rattle.entry_slots.specs.declared.offers.OfferSlot.{OfferSlot}
-use Rattle.entry_slots.specs.EntrySponsor.{sponsor_of}
 use Rattle.entry_slots.specs.Offers.{offer_of, offer_at, offer_slot_by, offer_slot_of, offer_slot_at, entry_of_offer}
 use Rattle.sponsor_rules.specs.declared.context.Ctx.{Ctx}
-use Rattle.legal_rules.specs.OfferLiabilities.{bound_of}
-use Rattle.legal_rules.specs.OneMore.{one_more}
-use Rattle.legal_rules.specs.Owing.{nothing_owed, IsLegalOwing}
+use Rattle.legal_rules.specs.Owing.{nothing_owed}
 use Rattle.legal_rules.specs.Ranges.{IsOfferInRange}
 use Rattle.legal_rules.specs.Trades.{holder}
-use Rattle.trade_cross.specs.Accounts.{IsHeld}
 use Rattle.trade_cross.specs.Amounts.{DoesReleaseFit}
 use Rattle.trade_cross.specs.Cancelling.{map_after_cancelling}
-use Rattle.trade_cross.specs.Crossing.{offer_key, seller_gives_at}
-use Rattle.trade_cross.proofs.Binding.{held_bound}
+use Rattle.trade_cross.specs.Crossing.{offer_key}
 use Rattle.trade_cross.proofs.Cancelled.{release_fits}
-use Rattle.trade_cross.proofs.Passing.{holder_own}
-use Rattle.trade_cross.proofs.StepLegal.{lets}
-use Rattle.trade_cross.proofs.StepLegal.{still_held as held_behind}
 use Rattle.op_offers.specs.declared.ask.Ask.{Ask}
 use Rattle.op_offers.specs.declared.fault.OfferFault.{OfferFault}
 use Rattle.op_offers.specs.Calls.{IsManageable, IsSellable, IsSound}

@@ -10,9 +10,9 @@ use Rattle.ledger_types.specs.declared.offer.OfferEntry.{OfferEntry}
 use Rattle.ledger_types.specs.declared.key.LedgerKey.{LedgerKey}
 use Rattle.ledger_types.specs.declared.key.LedgerKey.TheVariants as key
 use Rattle.entry_map.specs.EntryMap.{EntryMap}
-use Rattle.entry_slots.specs.AccountExtensions.{is_nothing, second_in, with_liabilities_in}
+use Rattle.entry_slots.specs.AccountExtensions.{is_nothing, second_in, account_liabilities, with_liabilities_in}
 use Rattle.offer_book.specs.Book.{offers_by}
-use Rattle.legal_rules.specs.Binding.{bound_account, bound_line, binding, releasing}
+use Rattle.legal_rules.specs.Binding.{risen, bound_account, bound_line, binding, releasing}
 use Rattle.legal_rules.specs.OfferLiabilities.{bound_of}
 use Rattle.legal_rules.specs.Trades.{holder}
 use Rattle.trade_cross.specs.Cancelling.{map_after_cancelling}
@@ -41,7 +41,8 @@ bound_account_bytes selling buying account bytes = record {
   home_domain = bytes.home_domain;
   thresholds = bytes.thresholds;
   signers = bytes.signers;
-  sponsors = subst (λ ext. All IsIdIf (sponsors_in ext)) (sym (second_kept _ account.ext)) bytes.sponsors;
+  sponsors = subst (λ ext. All IsIdIf (sponsors_in ext)) (sym (second_kept
+      (risen selling buying (account_liabilities account)) account.ext)) bytes.sponsors;
 }
 
 bound_line_bytes : (selling buying : ℤ) → KeepsLines (bound_line selling buying)

@@ -12,6 +12,7 @@ pub mod BytesMaps
 pub mod BytesAmounts
 pub mod BytesSteps
 pub mod BytesPredicates
+pub mod BytesOffers
 pub mod BytesTrust
 pub mod BytesClaims
 pub mod BytesOperations

@@ -151,7 +151,8 @@ pub fn put_all(
 }
 
 /// Applies an operation, or answers none where it may not be: its source doesn't stand, or the ledger is the last.
-/// ALLOW_TRUST and SET_TRUST_LINE_FLAGS aren't applied here: they ask for a legal ledger, which these small ones aren't.
+/// ALLOW_TRUST and SET_TRUST_LINE_FLAGS aren't applied here: they ask for a legal ledger, which these small ones
+/// aren't.
 pub fn applied(
     op: &Operation,
     ctx: &mut Ctx,

@@ -1,5 +1,5 @@
--- What goes with an authorisation that is taken back: the account's offers that sell or buy the asset, in rising order of
--- their ids (removeOffersByAccountAndAsset in stellar-core; CAP-0018).
+-- What goes with an authorisation that is taken back: the account's offers that sell or buy the asset, in rising order
+-- of their ids (removeOffersByAccountAndAsset in stellar-core; CAP-0018).
 use Rattle.std.specs.Prelude.{Bool, ◌||◌, List, [], ◌∷◌}
 use Rattle.std.specs.List.{filter}
 use Rattle.std.specs.Ordering.{is_eq}

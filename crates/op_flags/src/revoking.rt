@@ -55,8 +55,7 @@ fn cancel_trading<B: Base>(
     }
 }
 
-/// Removes those of some offers that sell or buy the asset, one after the other. They all stand, with distinct
-/// ids.
+/// Removes those of some offers that sell or buy the asset, one after the other. They all stand, with distinct ids.
 fn cancel_all<B: Base>(
     entries: &mut Entries<'_, B>,
     ctx: &Ctx,

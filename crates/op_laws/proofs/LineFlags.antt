@@ -1,7 +1,7 @@
 -- ALLOW_TRUST and SET_TRUST_LINE_FLAGS are lawful.
 use Rattle.std.proofs.Common.{◌≡◌, ◌≢◌, refl, sym, ap, subst, ◌∙◌, ℕ, zero, suc, ◌%◌, ◌^◌, ◌<◌, ◌≤◌, Bool, true, false}
-use Rattle.std.proofs.Common.{not, ◌&&◌, ◌||◌, ◌∷◌, [], nat_eq, nat_lt, bit_and, bit_or, bit_xor, Option, Some, None, Ok}
-use Rattle.std.proofs.Common.{arith}
+use Rattle.std.proofs.Common.{not, ◌&&◌, ◌||◌, ◌∷◌, [], nat_eq, nat_lt, bit_and, bit_or, bit_xor, Option, Some, None}
+use Rattle.std.proofs.Common.{Ok, arith}
 use Rattle.std.proofs.lemmas.Int.{ints}
 use Rattle.std.proofs.lemmas.Nat.{or_lt, xor_lt, and_le_l}
 use Rattle.std.specs.FinMap.{get}

@@ -45,7 +45,7 @@ use Rattle.op_flags.specs.Revoking.{trades_in, map_after_cancelling_all, map_wit
 use Rattle.op_flags.specs.Standing.{AreStanding}
 use Rattle.op_flags.proofs.Cancelling.{IsGone, all_legal, all_left, all_stood, all_gone}
 use Rattle.op_flags.proofs.OwnOffers.{filtered_standing, offers_standing, holds_of_own}
-use Rattle.op_laws.proofs.Settled.{nothing_right}
+use Rattle.op_offers.proofs.OutOfBook.{nothing_right}
 
 -- ---- which line holds an asset
 

@@ -31,7 +31,6 @@ use Rattle.legal_rules.specs.PoolShares.{uses}
 use Rattle.legal_rules.specs.Ranges.{IsBodyInRange}
 use Rattle.legal_rules.specs.Supply.{of_asset, of_line, held_in, held}
 use Rattle.legal_rules.specs.Legal.{view, pools_in}
-use Rattle.legal_rules.specs.OneMore.{IsOwedRightly}
 use Rattle.legal_rules.specs.Owing.{weight, nothing_owed, IsEntryLegal, IsLegalOwing}
 use Rattle.legal_rules.proofs.Bounded.{account_legal}
 use Rattle.legal_rules.proofs.Covered.{sponsored_at_most, account_states}
@@ -39,7 +38,7 @@ use Rattle.legal_rules.proofs.Given.{sponsors_ready}
 use Rattle.legal_rules.proofs.Legality.{owing_nothing_of, legal_of, view_of}
 use Rattle.legal_rules.proofs.Liable.{line_entry}
 use Rattle.legal_rules.proofs.Numbers.{taken_off}
-use Rattle.legal_rules.proofs.PaidFor.{nothing_settled}
+use Rattle.op_offers.proofs.OutOfBook.{nothing_right}
 use Rattle.op_laws.specs.Underway.{AreEntriesLegal}
 use Rattle.op_laws.specs.Steps.{LegalSettles, SettledLegal, SettledAccounts, SettledReady, SettledInRange, SettledHeld}
 use Rattle.op_laws.specs.Steps.{SettledCrossable, SettledFew, SettledAmounts, UnderwayManageable}
@@ -124,14 +123,6 @@ pub settled_in_range : SettledInRange
 settled_in_range id_pool m settled = record {
   accounts = record { in_range = λ id a stands. (settled_accounts id_pool m id a settled stands).range };
   lines = λ id held t stands. line_in_range id_pool m id held t settled.legal stands;
-}
-
--- nothing is owed rightly
-pub nothing_right : IsOwedRightly nothing_owed
-nothing_right = record {
-  reserves = nothing_settled;
-  trades = record { selling = λ k. omega (arith, ints); buying = λ k. omega (arith, ints) };
-  covered = λ k. omega (arith, ints);
 }
 
 pub settled_crossable : SettledCrossable

@@ -16,6 +16,7 @@ pub mod BytesTrust
 pub mod BytesClaims
 pub mod BytesOperations
 pub mod BytesSets
+pub mod BytesOffers
 pub mod Short
 pub mod ShortIds
 pub mod ShortPredicates

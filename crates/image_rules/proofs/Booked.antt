@@ -140,8 +140,8 @@ module _ (which : Book) (m : EntryMap) where
 
 -- what is neither an account nor a line states nothing
 states_none : (which : Book) (b : LedgerEntryBody) → IsElsewhere (key_of_body b) → stated (kind_of which) b ≡ pos 0
-states_none which (body.Account a) elsewhere = absurd (elsewhere.account a.account_id refl)
-states_none which (body.TrustLine t) elsewhere = absurd (elsewhere.line t.account_id t.asset refl)
+states_none which (body.Account a) elsewhere = absurd (elsewhere.accounts a.account_id refl)
+states_none which (body.TrustLine t) elsewhere = absurd (elsewhere.lines t.account_id t.asset refl)
 states_none book.Subentries b elsewhere = refl
 states_none book.Sponsoring b elsewhere = refl
 states_none book.Sponsored b elsewhere = refl
@@ -171,13 +171,13 @@ module _ (which : Book) (m : EntryMap) (counts : CountMap) (i : ℕ) (e : Ledger
       (all (key.TrustLine t.account_id t.asset))).0 said
       ∙ sym (total_line which m e t is)
   right_in (body.Offer offer) is agrees said =
-      right_other (body.Offer offer) is (record { account = λ id same. cc; line = λ id x same. cc })
+      right_other (body.Offer offer) is (record { accounts = λ id same. cc; lines = λ id x same. cc })
   right_in (body.Data entry) is agrees said =
-      right_other (body.Data entry) is (record { account = λ id same. cc; line = λ id x same. cc })
+      right_other (body.Data entry) is (record { accounts = λ id same. cc; lines = λ id x same. cc })
   right_in (body.ClaimableBalance balance) is agrees said =
-      right_other (body.ClaimableBalance balance) is (record { account = λ id same. cc; line = λ id x same. cc })
+      right_other (body.ClaimableBalance balance) is (record { accounts = λ id same. cc; lines = λ id x same. cc })
   right_in (body.LiquidityPool pool) is agrees said =
-      right_other (body.LiquidityPool pool) is (record { account = λ id same. cc; line = λ id x same. cc })
+      right_other (body.LiquidityPool pool) is (record { accounts = λ id same. cc; lines = λ id x same. cc })
 
   pub right_of_answer : Agrees counts which e answer → IsTrue answer → IsRight which m e
   right_of_answer agrees said = right_in e.body refl agrees said

@@ -225,8 +225,8 @@ accounts_only P all (Some id ∷ ids) =
 
 -- a key under which neither an account nor a line stands
 pub record IsElsewhere (k : LedgerKey) : Type 0 where
-  pub account : (id : AccountId) → key.Account id ≢ k
-  pub line : (id : AccountId) (x : TrustLineAsset) → key.TrustLine id x ≢ k
+  pub accounts : (id : AccountId) → key.Account id ≢ k
+  pub lines : (id : AccountId) (x : TrustLineAsset) → key.TrustLine id x ≢ k
 
 module _ (k : LedgerKey) (elsewhere : IsElsewhere k) where
   line_other : (id issuer : AccountId) (x : TrustLineAsset)
@@ -234,11 +234,11 @@ module _ (k : LedgerKey) (elsewhere : IsElsewhere k) where
   line_other id issuer x = elim (is_same_account issuer id) as
       (λ t. All (IsOther k) (keys_in (if t then None else Some (key.TrustLine id x)))) [
         | true ↦ All-nil (IsOther k)
-        | false ↦ All-cons (IsOther k) (key.TrustLine id x) [] (elsewhere.line id x) (All-nil (IsOther k))
+        | false ↦ All-cons (IsOther k) (key.TrustLine id x) [] (elsewhere.lines id x) (All-nil (IsOther k))
       ]
 
   holder_other : (id : AccountId) (x : Asset) → All (IsOther k) (keys_in (holder id x))
-  holder_other id asset.Native = All-cons (IsOther k) (key.Account id) [] (elsewhere.account id) (All-nil (IsOther k))
+  holder_other id asset.Native = All-cons (IsOther k) (key.Account id) [] (elsewhere.accounts id) (All-nil (IsOther k))
   holder_other id (asset.Alphanum4 code issuer) = line_other id issuer (line.Alphanum4 code issuer)
   holder_other id (asset.Alphanum12 code issuer) = line_other id issuer (line.Alphanum12 code issuer)
 
@@ -251,9 +251,9 @@ module _ (k : LedgerKey) (elsewhere : IsElsewhere k) where
 
   pub named_elsewhere : (e : LedgerEntry) → AllNamed (IsOther k) e
   named_elsewhere e = record {
-    owner = account_only (IsOther k) elsewhere.account (owner_of e.body);
-    sponsor = account_only (IsOther k) elsewhere.account (sponsor_of e);
-    signers = accounts_only (IsOther k) elsewhere.account (signer_sponsors_in e.body);
+    owner = account_only (IsOther k) elsewhere.accounts (owner_of e.body);
+    sponsor = account_only (IsOther k) elsewhere.accounts (sponsor_of e);
+    signers = accounts_only (IsOther k) elsewhere.accounts (signer_sponsors_in e.body);
     traded = traded_other e.body;
   }
 

@@ -182,10 +182,12 @@ fn with_own(count: u64, book: Book, entry: &LedgerEntry) -> u64
 {
     match book {
         Book::Subentries => count.saturating_add(subentries_in(&entry.body)),
+        Book::Sponsoring => count,
         Book::Sponsored => count
             .saturating_add(paid_for(entry))
             .saturating_add(sponsored_signers(&entry.body)),
-        _ => count,
+        Book::Selling => count,
+        Book::Buying => count,
     }
 }
 

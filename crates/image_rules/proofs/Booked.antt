@@ -1,14 +1,14 @@
 -- The books of accounts and of lines.
-use Rattle.std.proofs.Common.{◌≡◌, ◌≢◌, refl, sym, ap, subst, ◌∙◌, ℕ, ◌<◌, min, Option}
-use Rattle.std.proofs.Common.{Some, None, Bool, IfSome, arith}
-use Rattle.std.proofs.lemmas.Int.{ints}
+use Rattle.std.proofs.Common.{◌≡◌, ◌≢◌, refl, sym, ap, subst, ◌∙◌, ℕ, Option}
+use Rattle.std.proofs.Common.{Some, None, Bool, IfSome}
 use Rattle.std.proofs.lemmas.List.Elements.{All-weaker}
-use Rattle.std.specs.Prelude.{ℤ, pos, ◌+ℤ◌, IsTrue, if◌then◌else◌}
+use Rattle.std.specs.Prelude.{ℤ, pos, ◌+ℤ◌, ◌↔◌, IsTrue, if◌then◌else◌}
 use Rattle.std.specs.Cmp.{tied_itself}
 use Rattle.std.specs.Ordering.{is_eq}
 use Rattle.std.specs.List.{slice_get}
 use Rattle.std.specs.FinMap.{get, values}
 use Rattle.ledger_types.specs.declared.ids.AccountId.{AccountId}
+use Rattle.ledger_types.specs.declared.asset.TrustLineAsset.{TrustLineAsset}
 use Rattle.ledger_types.specs.declared.account.AccountEntry.{AccountEntry}
 use Rattle.ledger_types.specs.declared.trust_line.TrustLineEntry.{TrustLineEntry}
 use Rattle.ledger_types.specs.declared.entry.LedgerEntry.{LedgerEntry}
@@ -27,7 +27,7 @@ use Rattle.legal_rules.specs.Books.{counted, stated, stated_at}
 use Rattle.close_rules.specs.EntryRules.{AreOwned}
 use Rattle.image_rules.specs.declared.books.Book.{Book}
 use Rattle.image_rules.specs.declared.books.Book.TheVariants as book
-use Rattle.image_rules.specs.Counts.{greatest_count, CountMap, IsCountOf}
+use Rattle.image_rules.specs.Counts.{CountMap, IsCountOf}
 use Rattle.image_rules.specs.Books.{kind_of, itself, own_count, counted_itself, counted_else}
 use Rattle.image_rules.specs.Books.{AreCounts, Agrees, AgreesIn}
 use Rattle.image_rules.proofs.Listed.{stands_at}
@@ -37,25 +37,14 @@ use Rattle.image_rules.proofs.Naming.{none_itself, counted_by_others}
 pub keyed_each : (m : EntryMap) → IsKeyed m → EachEntry (λ k e. key_of e ≡ k) m
 keyed_each m keyed k e there = subst (λ o. IfSome o (λ x. key_of x ≡ k)) there (keyed k)
 
--- ---- a number that is a count's
+-- ---- a line that states a count
 
-exactly : (number : ℤ) (count exact : ℕ) → number ≤ℤ pos 9223372036854775807 → count ≡ min exact greatest_count
-    → number ≡ pos count → number ≡ pos exact
-exactly number count exact small capped is = omega (arith, ints)
-
-counted_exactly : (number : ℤ) (count exact : ℕ) → number ≤ℤ pos 9223372036854775807
-    → count ≡ min exact greatest_count → number ≡ pos exact → number ≡ pos count
-counted_exactly number count exact small capped is = omega (arith, ints)
-
-pub states_count : (number sum : ℤ) (count : ℕ) → number ≤ℤ pos 9223372036854775807 → IsCountOf count sum
-    → number ≡ pos count → number ≡ sum
-states_count number sum count small counts is =
-    exactly number count counts.exact small counts.capped is ∙ sym counts.is
-
-pub count_stated : (number sum : ℤ) (count : ℕ) → number ≤ℤ pos 9223372036854775807 → IsCountOf count sum
-    → number ≡ sum → number ≡ pos count
-count_stated number sum count small counts is =
-    counted_exactly number count counts.exact small counts.capped (is ∙ counts.is)
+pub line_states : (count known : ℕ) (number states : ℤ) (answer : Bool)
+    → ((sum : ℤ) → IsCountOf count sum → (IsTrue answer ↔ (number ≡ sum))) → count ≡ known → states ≡ number
+    → (sum : ℤ) → IsCountOf known sum → (IsTrue answer ↔ (states ≡ sum))
+line_states count known number states answer says is same sum counts =
+    let told = says sum (subst (λ (n : ℕ). IsCountOf n sum) (sym is) counts) in
+    (λ yes. same ∙ told.0 yes, λ equal. told.1 (sym same ∙ equal))
 
 -- ---- what an account counts for itself
 
@@ -90,7 +79,10 @@ total_line which m e t is =
     let own_key : key_of e ≡ k = ap key_of_body is in
     ap (λ q. total (counted (view m) (kind_of which) q) m) own_key
     ∙ total_same (counted (view m) (kind_of which) k) (counted_else which k) m
-    (λ q x there. counted_by_others which (view m) k x (λ id same. cc))
+    (λ q x there. counted_by_others which (view m) k x (no_account t.account_id t.asset))
+  where
+    no_account : (owner : AccountId) (held : TrustLineAsset) (id : AccountId) → key.Account id ≢ key.TrustLine owner held
+    no_account owner held id same = cc
 
 -- ---- all entries
 

@@ -1,5 +1,5 @@
 -- Neither pools nor lines of pool shares: what these can't break. And what offers have where they are in their ranges.
-use Rattle.std.proofs.Common.{◌≡◌, refl, sym, ap, ◌∙◌, Option, Some, None, [], arith}
+use Rattle.std.proofs.Common.{◌≡◌, refl, sym, ap, ◌∙◌, ℕ, Option, Some, None, [], arith}
 use Rattle.std.proofs.lemmas.Int.{ints}
 use Rattle.std.specs.Prelude.{ℤ, pos, ◌≤ℤ◌}
 use Rattle.std.specs.FinMap.{get}
@@ -110,9 +110,12 @@ module _ (m : EntryMap) (built : AreBuilt m) where
 
 -- ---- offers that are in their ranges
 
+not_below : (n : ℤ) → pos 1 ≤ℤ n → pos 0 ≤ℤ n
+not_below n le = omega (arith, ints)
+
 terms_in : (id_pool : ℕ) (b : LedgerEntryBody) → IsBodyInRange id_pool b → AreTerms b
 terms_in id_pool (body.Offer offer) range =
-    record { amount = omega (arith, ints); price = record { n = range.n; d = range.d } }
+    record { amount = not_below offer.amount range.amount; price = record { n = range.n; d = range.d } }
 terms_in id_pool other range = tt
 
 pub terms_of : (h : LedgerHeader) (m : EntryMap) → AreInRange h m → HaveTerms m

@@ -1,6 +1,6 @@
 -- That offers have distinct ids, as far as the entries were gone through.
-use Rattle.std.proofs.Common.{◌≡◌, refl, sym, ap, subst, ◌∙◌, ℕ, zero, suc, ◌≤◌, Bool, true, false, not, [], ◌∷◌, length}
-use Rattle.std.proofs.Common.{take, cond, Some, arith}
+use Rattle.std.proofs.Common.{◌≡◌, refl, sym, ap, subst, ◌∙◌, ℕ, zero, suc, ◌+◌, ◌≤◌, Bool, true, false, not, List, [], ◌∷◌}
+use Rattle.std.proofs.Common.{length, take, cond, Some, arith}
 use Rattle.std.proofs.lemmas.Int.{ints}
 use Rattle.std.specs.Prelude.{ℤ, pos, ◌+ℤ◌, ◌≤ℤ◌, if◌then◌else◌}
 use Rattle.std.specs.BTreeSet.{BTreeSet, contains, Updates, IsEmpty}
@@ -65,13 +65,9 @@ pub brought_twice : (m : EntryMap) (ids new : BTreeSet ℤ) (i : ℕ) (e : Ledge
 brought_twice m ids new i e before at twice apart =
     let id : ℤ = twice.0 in
     let f : Weight = offer_with id in
-    two_at_most_one (sum_before f m (suc i)) (total f m)
-    (sum_next f m i e at ∙ ap (λ n. n +ℤ f e) (before id ∙ twice.1) ∙ ap (λ n. pos 1 +ℤ n) twice.2)
-    (before_at_most f m (suc i) (λ x. low_with id x.body)) (apart id)
-  where
-    sum_next : (f : Weight) (m : EntryMap) (i : ℕ) (e : LedgerEntry) → slice_get (values m) i ≡ Some e
-        → sum_before f m (suc i) ≡ (sum_before f m i +ℤ f e)
-    sum_next f m i e at = sum_more f m i e at
+    two_at_most_one (sum_before f m (i + 1)) (total f m)
+    (sum_more f m i e at ∙ ap (λ n. n +ℤ f e) (before id ∙ twice.1) ∙ ap (λ n. pos 1 +ℤ n) twice.2)
+    (before_at_most f m (i + 1) (λ x. low_with id x.body)) (apart id)
 
 pub brought_once : (m : EntryMap) (ids new : BTreeSet ℤ) (i : ℕ) (e : LedgerEntry)
     → ((id : ℤ) → sum_before (offer_with id) m i ≡ id_among ids id) → slice_get (values m) i ≡ Some e
@@ -94,7 +90,7 @@ pub same_id : (a b : ℤ) → is_eq (int_cmp a b) ≡ true → a ≡ b
 same_id a b tied = int_cmp-IsAntisymmetric a b ((Equal-is (int_cmp a b)).0 tied)
 
 pub none_among : (ids : BTreeSet ℤ) → IsEmpty ids → (id : ℤ) → pos 0 ≡ id_among ids id
-none_among ids none id = ap (λ ks. if list_any (is_at (int_cmp id)) ks then pos 1 else pos 0) (sym none)
+none_among ids none id = ap (λ (ks : List ℤ). if list_any (is_at (int_cmp id)) ks then pos 1 else pos 0) (sym none)
 
 pub brings_none : (ids : BTreeSet ℤ) (b : LedgerEntryBody) → ((id : ℤ) → offer_with_in id b ≡ pos 0)
     → Brings ids ids b true
@@ -123,7 +119,7 @@ not_false true is = refl
 not_false false is = absurd (cc)
 
 -- an offer's id is put into a set
-pub brought : (old new : BTreeSet ℤ) (offer : OfferEntry) (added : Bool)
+brought : (old new : BTreeSet ℤ) (offer : OfferEntry) (added : Bool)
     → added ≡ not (contains int_cmp old offer.offer_id) → Updates int_cmp old new offer.offer_id true
     → Brings old new (body.Offer offer) added
 brought old new offer true is updates = λ id.
@@ -135,3 +131,9 @@ brought old new offer false is updates = (
   ap number_of (not_false (contains int_cmp old offer.offer_id) is),
   ap (λ r. number_of (is_eq r)) (tied_itself int_cmp_total offer.offer_id),
 )
+
+pub brought_as : (old new : BTreeSet ℤ) (offer : OfferEntry) (id : ℤ) (added : Bool) → id ≡ offer.offer_id
+    → added ≡ not (contains int_cmp old id) → Updates int_cmp old new id true → Brings old new (body.Offer offer) added
+brought_as old new offer id added same is updates =
+    brought old new offer added (subst (λ (x : ℤ). added ≡ not (contains int_cmp old x)) same is)
+    (subst (λ (x : ℤ). Updates int_cmp old new x true) same updates)

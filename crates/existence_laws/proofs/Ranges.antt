@@ -158,8 +158,34 @@ offer_in_range id_pool o =
       assets = h.1.1.1.1.1.1.1.1.1.0;
       flags = h.1.1.1.1.1.1.1.1.1.1;
     })
-    (λ r. (r.amount, (r.n, (r.d, (r.wheat, (r.sheep, (r.id_low, (r.id_high, (r.selling, (r.buying,
-    (r.assets, r.flags)))))))))))
+    (λ r. (
+      r.amount,
+      (
+        r.n,
+        (
+          r.d,
+          (
+            r.wheat,
+            (
+              r.sheep,
+              (
+                r.id_low,
+                (
+                  r.id_high,
+                  (
+                    r.selling,
+                    (
+                      r.buying,
+                      (r.assets, r.flags),
+                    ),
+                  ),
+                ),
+              ),
+            ),
+          ),
+        ),
+      ),
+    ))
     (both (below_int (pos 1) o.amount) (both (below_int (pos 1) o.price.n) (both (below_int (pos 1) o.price.d)
     (both (below 1 (bound_of o).wheat) (both (below 1 (bound_of o).sheep) (both (below_int (pos 1) o.offer_id)
     (both (below_int o.offer_id (pos id_pool)) (both (is_true (is_valid_asset o.selling))

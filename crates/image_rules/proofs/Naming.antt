@@ -136,8 +136,12 @@ needed_iff P pools e all owner sponsor payers holders four owns pays signs holds
   λ said. let each = four.0 said in
       needed_of_all P pools e (owns.0 each.0) (pays.0 each.1) (signs.0 each.2) (holds.0 each.3),
   λ needed. let named = named_of_needed P pools e needed in
-      four.1 (owns.1 named.owner, pays.1 named.sponsor, signs.1 named.signers,
-      holds.1 (held_of_needed P pools e needed)),
+      four.1 (
+        owns.1 named.owner,
+        pays.1 named.sponsor,
+        signs.1 named.signers,
+        holds.1 (held_of_needed P pools e needed),
+      ),
 )
 
 -- two answers on the keys of one key each

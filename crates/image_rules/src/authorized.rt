@@ -53,10 +53,7 @@ fn are_both_authorized(entries: &EntryTable, offer: &OfferEntry) -> Result<bool,
 }
 
 /// Whether the lines that an entry trades in, if it is an offer, are authorised.
-fn are_lines_authorized(
-    entries: &EntryTable,
-    body: &LedgerEntryBody,
-) -> Result<bool, AllocError>
+fn are_lines_authorized(entries: &EntryTable, body: &LedgerEntryBody) -> Result<bool, AllocError>
     ensures { IfOk result (λ kept. IsTrue kept ↔ AreLinesAuthorized entries.now body.now) }
 {
     match body {

@@ -128,9 +128,7 @@ fn add_entry(tally: &mut Tally, book: Book, entry: &LedgerEntry) -> Result<(), A
     ensures { OnOk result (Adds tally.old tally.new (λ k. counted_else book k entry.now)) }
 {
     match book {
-        Book::Subentries => {
-            add_for(tally, other_owner(&entry.body), subentries_in(&entry.body))
-        }
+        Book::Subentries => { add_for(tally, other_owner(&entry.body), subentries_in(&entry.body)) }
         Book::Sponsoring => add_payers(tally, entry),
         Book::Sponsored => add_paid_for(tally, entry),
         Book::Selling => add_sold(tally, &entry.body),

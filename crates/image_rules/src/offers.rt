@@ -26,9 +26,7 @@ pub fn sheep_of(offer: &OfferEntry) -> u64
     requires { HasTerms offer.now }
     ensures { result ≡ (bound_of offer.now).sheep }
 {
-    liabilities(offer.price, offer.amount)
-        .buying
-        .unsigned_abs()
+    liabilities(offer.price, offer.amount).buying.unsigned_abs()
 }
 
 /// Whether an offer sells something, at a price whose parts are at least 1.
@@ -58,9 +56,7 @@ fn are_assets_in_range(offer: &OfferEntry) -> bool
     ensures { IsTrue result ↔ ((asset.is_valid_asset offer.now.selling ≡ true)
         × (asset.is_valid_asset offer.now.buying ≡ true) × (offer.now.selling ≢ offer.now.buying)) }
 {
-    is_valid_asset(&offer.selling)
-        && is_valid_asset(&offer.buying)
-        && offer.selling != offer.buying
+    is_valid_asset(&offer.selling) && is_valid_asset(&offer.buying) && offer.selling != offer.buying
 }
 
 /// Whether an offer is in its ranges: it has an id that was drawn, trades two valid assets, binds something on both

@@ -17,7 +17,8 @@ use Rattle.ledger_types.specs.declared.key.LedgerKey.{LedgerKey}
 use Rattle.ledger_types.specs.declared.key.LedgerKey.TheVariants as key
 use Rattle.xdr_core.specs.Leaves.{i64}
 use Rattle.entry_map.specs.EntryMap.{EntryMap}
-use Rattle.entry_slots.specs.Accounts.{account_at, account_of, account_in, with_account, with_account_of, with_account_in}
+use Rattle.entry_slots.specs.Accounts.{account_at, account_of, account_in, with_account, with_account_of}
+use Rattle.entry_slots.specs.Accounts.{with_account_in}
 use Rattle.entry_slots.specs.AccountExtensions.{account_liabilities, liabilities_in, is_nothing, with_liabilities_in}
 use Rattle.entry_slots.specs.AccountExtensions.{second_in}
 use Rattle.entry_slots.specs.EntrySponsor.{sponsor_of}

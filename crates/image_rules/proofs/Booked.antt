@@ -81,7 +81,8 @@ total_line which m e t is =
     ∙ total_same (counted (view m) (kind_of which) k) (counted_else which k) m
     (λ q x there. counted_by_others which (view m) k x (no_account t.account_id t.asset))
   where
-    no_account : (owner : AccountId) (held : TrustLineAsset) (id : AccountId) → key.Account id ≢ key.TrustLine owner held
+    no_account : (owner : AccountId) (held : TrustLineAsset) (id : AccountId)
+        → key.Account id ≢ key.TrustLine owner held
     no_account owner held id same = cc
 
 -- ---- all entries

@@ -1,5 +1,5 @@
-//! The rules of a start image that are of its entries, judged in their order. So far entries are all but pools and lines
-//! of pool shares.
+//! The rules of a start image that are of its entries, judged in their order. So far entries are all but pools and
+//! lines of pool shares.
 #![tactic(auto)]
 
 mod authorized;

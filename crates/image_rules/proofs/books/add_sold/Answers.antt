@@ -11,5 +11,6 @@ returns-in-Offer c =
     let named = c.holder-named.result in
     on_ok_weaker c.add_at.result
     (added_as c.args.tally.now c.add_at.new.tally (λ k. for_key k named (pos c.wheat_of.result))
-    (λ k. sells k c.args.body.now) (λ k. sold_at k c.args.body.now c.in-Offer.offer named c.wheat_of.result c.in-Offer.is
-    c.holder-named.ensures c.wheat_of.ensures)) c.add_at.ensures
+    (λ k. sells k c.args.body.now)
+    (λ k. sold_at k c.args.body.now c.in-Offer.offer named c.wheat_of.result c.in-Offer.is c.holder-named.ensures
+    c.wheat_of.ensures)) c.add_at.ensures

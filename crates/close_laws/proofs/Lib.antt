@@ -21,6 +21,7 @@ pub mod Short
 pub mod ShortIds
 pub mod ShortPredicates
 pub mod ShortBalances
+pub mod ShortOffers
 pub mod ShortEntries
 pub mod NextEntries
 pub mod AnswerSteps

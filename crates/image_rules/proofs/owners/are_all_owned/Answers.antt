@@ -5,8 +5,7 @@ use Rattle.legal_rules.specs.Legal.{pools_in}
 use Rattle.close_rules.specs.State.{IsBuiltBody}
 use Rattle.image_rules.proofs.Listed.{holds_of_all, holds_at, stands_at}
 use Rattle.image_rules.proofs.Booked.{keyed_each}
-use Rattle.image_rules.proofs.Bounded.{offers_apart}
-use Rattle.image_rules.proofs.owners.are_owned.Goals as goal
+use Rattle.image_rules.proofs.owners.are_all_owned.Goals as goal
 
 pub is_owned-requires : goal.is_owned-requires
 is_owned-requires c =
@@ -22,18 +21,15 @@ pub returns-then-not-owned : goal.returns-then-not-owned
 returns-then-not-owned c =
     let m = c.args.entries.now in (
       λ no. absurd (cc),
-      λ owned.
+      λ standing.
           let holds = c.in_ok-owned.ensures.1 (holds_at (λ e. All (λ q. get m q ≢ None) (needed_keys (pools_in m) e)) m
-          c.loop-place.place c.entry.result.now owned.standing c.entry.ensures.entry) in cc,
+          c.loop-place.place c.entry.result.now standing c.entry.ensures.entry) in cc,
     )
 
 pub returns : goal.returns
 returns c =
     let m = c.args.entries.now in (
-      λ _. record {
-        standing = holds_of_all (λ e. All (λ q. get m q ≢ None) (needed_keys (pools_in m) e)) m c.loop-place.place
-            (omega arith) c.loop-place.invariant;
-        offers = offers_apart m c.requires;
-      },
+      λ _. holds_of_all (λ e. All (λ q. get m q ≢ None) (needed_keys (pools_in m) e)) m c.loop-place.place (omega arith)
+          c.loop-place.invariant,
       λ _. refl,
     )

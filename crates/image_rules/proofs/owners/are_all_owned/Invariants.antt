@@ -3,7 +3,7 @@ use Rattle.std.specs.FinMap.{get}
 use Rattle.legal_rules.specs.Needs.{needed_keys}
 use Rattle.legal_rules.specs.Legal.{pools_in}
 use Rattle.image_rules.proofs.Listed.{HoldsBefore}
-use Rattle.image_rules.proofs.owners.are_owned.Given as goal
+use Rattle.image_rules.proofs.owners.are_all_owned.Given as goal
 
 abbrev pub invariant-loop-place : goal.invariant-loop-place
 invariant-loop-place l =

@@ -84,8 +84,7 @@ fn append_at<V: Volume>(vol: &mut V, file: u8, end: u64, buf: &AppendBuf) -> Res
 
 impl Journal {
     /// Makes a file a journal without records: it is cut to 0 bytes, gets one closed gate, and is synced. The other
-    /// files
-    /// are synced with it. It takes no memory, and fails with `DiskFault` alone.
+    /// files are synced with it. It takes no memory, and fails with `DiskFault` alone.
     pub fn clear<V: Volume>(vol: &mut V, file: u8) -> Result<Journal, StoreFault>
         requires { file < 4 }
         ensures journal { IfOk result (λ j. j ≡ record { file = file; end = 0; failed = false }) }
@@ -112,10 +111,8 @@ impl Journal {
     }
 
     /// Opens the journal of a file, and gives its records. It begins with a sync and writes nothing, so a last gate
-    /// that
-    /// is neither open nor closed stays until the next `append`. `BadStore` tells where a gate is missing, or the gate
-    /// of
-    /// a record that is cut short or longer than 16777216 bytes.
+    /// that is neither open nor closed stays until the next `append`. `BadStore` tells where a gate is missing, or the
+    /// gate of a record that is cut short or longer than 16777216 bytes.
     pub fn mount<V: Volume>(
         alloc: Global,
         vol: &mut V,

@@ -137,9 +137,9 @@ module _ (v : View) (id_pool : ℕ) (sum : ℤ) (m : EntryMap) (legal : IsLegalO
       let at : get left (offer_key x) ≡ Some e = ap (get left) named ∙ there in
       let stood = all_stood v id_pool nothing_owed nothing_right sum offers m legal standing x e at in
       let gone : get left (offer_key x) ≡ None =
-          holds_of_own (IsGone left) m trustor (trades_in held)
-          (all_gone v id_pool nothing_owed nothing_right sum offers m legal standing) (offer_key x) e x stood is own
-          passes in
+      holds_of_own (IsGone left) m trustor (trades_in held)
+      (all_gone v id_pool nothing_owed nothing_right sum offers m legal standing) (offer_key x) e x stood is own
+      passes in
       absurd (cc)
 
   -- ---- the line

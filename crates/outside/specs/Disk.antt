@@ -1,6 +1,5 @@
 -- A volume as a disk that may lose power: what it reads, and what a crash may leave of it. Between two syncs a crash
--- may
--- leave any bytes in what was written or cut since, and any length between the least and the greatest since.
+-- may leave any bytes in what was written or cut since, and any length between the least and the greatest since.
 use Rattle.std.specs.Prelude.{◌≡◌, ◌≢◌, ℕ, ◌+◌, ◌≤◌, min, max, List, [], ◌++◌, length, take, drop, ◌⊎◌}
 
 -- the bytes of each file, by its number
@@ -18,8 +17,7 @@ pub record Disk : Type 1 where
   pub left_since : ℕ → Image → Type 0
 
 -- Time goes on: what a crash may leave now stands in this relation to what one might have left before, and a crash
--- since
--- an earlier moment might have left what one before might have left, or such an image.
+-- since an earlier moment might have left what one before might have left, or such an image.
 pub record Runs (step : Image → Image → Type 0) (old new : Disk) : Type 0 where
   pub later : old.moment ≤ new.moment
   pub crash : (c : Image) → new.may_leave c → (d : Image) × old.may_leave d × step d c

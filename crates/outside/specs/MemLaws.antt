@@ -1,6 +1,5 @@
 -- The laws of a disk in memory: what a write or a cut leaves is one of the contents that a crash may leave of it, so
--- what is
--- read is always among them, and the clock counts this moment.
+-- what is read is always among them, and the clock counts this moment.
 use Rattle.std.proofs.Common.{◌≡◌, ◌≢◌, ℕ, ◌+◌, ◌≤◌, List, [], ◌∷◌, ◌++◌, length, take, refl, sym, ◌∙◌, ap, subst}
 use Rattle.std.proofs.Common.{arith, length-append, length-take, length-drop, max, min, drop, replicate, true, false}
 use Rattle.std.proofs.Common.{◌-◌}

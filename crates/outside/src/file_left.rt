@@ -8,8 +8,7 @@ use std::alloc::{AllocError, Global};
 use std::marker::Model;
 
 // A file as it is read, and as a crash leaves it that puts a byte in the place of each that was written or cut since
-// the
-// last sync.
+// the last sync.
 #[derive(Drop)]
 struct FileLeft {
     bytes: Vec<u8>,

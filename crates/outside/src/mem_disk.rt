@@ -168,8 +168,7 @@ impl MemDisk {
     }
 
     // A file in one content that a crash may leave: it is as long as it is read, and has the byte `fill` in the place
-    // of
-    // each that was written or cut since the last sync.
+    // of each that was written or cut since the last sync.
     fn file_left(&self, alloc: Global, fill: u8, file: u8) -> Result<Vec<u8>, AllocError>
         requires { file < 4 }
         ensures left { IfOk result (λ left. left.items ≡ filled fill self.now file) }

@@ -13,10 +13,9 @@ use crate::volume::Volume;
 use std::alloc::{AllocError, Global};
 use std::marker::Model;
 
-/// A volume in memory, for tests. It keeps the list of its writes, cuts and syncs, by which it tells what a crash might
-/// have left at each moment, and fails where it is told to. Each call of the five counts, from 1 on. A growth that
-/// memory
-/// refuses is a fault.
+/// A volume in memory, for tests. It keeps the list of its writes, cuts and syncs, by which it tells what a crash
+/// might have left at each moment, and fails where it is told to. Each call of the five counts, from 1 on. A growth
+/// that memory refuses is a fault.
 #[derive(Drop)]
 pub struct MemVolume {
     alloc: Global,
@@ -84,8 +83,8 @@ impl MemVolume {
     }
 
     /// One content that a crash now may leave, as a volume with nothing pending that fails only where memory is
-    /// refused:
-    /// the present lengths, and the byte `fill` in the place of each that was written or cut since the last sync.
+    /// refused: the present lengths, and the byte `fill` in the place of each that was written or cut since the last
+    /// sync.
     pub fn crashed(&self, fill: u8) -> Result<MemVolume, AllocError>
         ensures filled { IfOk result (λ v. (disk_of v.disk).reads ≡ filled fill self.now.disk) }
         ensures image { IfOk result (λ v. (disk_of self.now.disk).may_leave (disk_of v.disk).reads) }

@@ -5,9 +5,8 @@ ghost use Rattle.outside.specs.Disk.{Image, Disk, Runs, Same, Stays, InFile, Tor
 use crate::failed::Failed;
 
 /// Four files, numbered 0 to 3, that may lose power. Between two syncs a crash may leave any bytes in each range that
-/// was
-/// written or cut since and behind the old end, and any length between the least and the greatest since. Bytes outside
-/// those ranges stay. A call that failed counts its range as written.
+/// was written or cut since and behind the old end, and any length between the least and the greatest since. Bytes
+/// outside those ranges stay. A call that failed counts its range as written.
 pub trait Volume {
     // Inhabited where the volume tells its bytes.
     ghost tells: { Type 0 };

@@ -19,8 +19,7 @@ fn withdrawn(reserve: u64, total: u64, shares: u64) -> u64
 }
 
 /// What `shares` of `total` give of an asset of which the pool has `reserve`, rounded down. No shares give nothing,
-/// also
-/// where there are none.
+/// also where there are none.
 pub fn withdraw(reserve: i64, total: i64, shares: i64) -> i64
     requires reserve { pos 0 ≤ℤ reserve }
     requires shares { pos 0 ≤ℤ shares }

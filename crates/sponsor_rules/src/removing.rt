@@ -60,8 +60,7 @@ fn remove_charge<B: Base>(
 }
 
 /// Counts a line, an offer or data less for its owner and for its sponsor, if it has one. `multiplicity` is the number
-/// of
-/// reserves.
+/// of reserves.
 pub fn discount_subentry<B: Base>(
     entries: &mut Entries<'_, B>,
     multiplicity: u64,

@@ -63,8 +63,7 @@ fn taking_change(plan: Plan, bound: i64, rest: i64) -> Change
 }
 
 /// Changes each of the two holders once, and then the offer: what rests of it stays in its place, and where nothing
-/// rests
-/// it is removed with its reserve.
+/// rests it is removed with its reserve.
 pub fn carry_out<B: Base>(
     entries: &mut Entries<'_, B>,
     ctx: &Ctx,

@@ -19,8 +19,7 @@ pub enum CrossEnd {
 }
 
 /// What was sent and received in all, and each offer that was crossed, in order. The taker's own entries haven't
-/// changed
-/// yet.
+/// changed yet.
 #[derive(Drop)]
 pub struct Crossed {
     pub sheep: i64,

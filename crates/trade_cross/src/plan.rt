@@ -16,8 +16,7 @@ pub struct Left {
 }
 
 /// Where an offer's owner has its two assets, and what it can give and take of them at most, each at least 0, once it
-/// is
-/// released from what the offer binds.
+/// is released from what the offer binds.
 #[derive(Clone, Copy)]
 pub struct Sides {
     pub gives_at: Place,
@@ -71,8 +70,7 @@ fn still(place: Place, most: i64, moved: i64) -> i64
 }
 
 /// How much rests of an offer of so much, at least 0: where wheat stays it is adjusted to what its owner can give and
-/// take
-/// then.
+/// take then.
 fn rest_of(offer: &OfferEntry, sides: Sides, amount: i64, moved: Exchanged) -> i64
     requires priced { IsPriced offer.now.price }
     requires amount { pos 0 ≤ℤ amount }

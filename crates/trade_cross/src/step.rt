@@ -19,8 +19,7 @@ use sponsor_rules::Ctx;
 use std::alloc::AllocError;
 
 /// Where an offer's owner has its two assets, and what it can give and take of them at most once it is released from
-/// what
-/// the offer binds.
+/// what the offer binds.
 fn sides_of<B: Base>(
     entries: &Entries<'_, B>,
     base_reserve: u32,

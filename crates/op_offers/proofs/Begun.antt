@@ -1,4 +1,5 @@
--- That an offer which is made can be sold, once its fields and lines have passed their tests and its reserve is counted.
+-- That an offer which is made can be sold, once its fields and lines have passed their tests and its reserve is
+-- counted.
 use Rattle.std.proofs.Common.{◌≡◌, sym, subst, ◌+◌, false, Option, Some, None, Ok, arith}
 use Rattle.std.proofs.lemmas.Int.{ints}
 use Rattle.std.specs.Prelude.{ℤ, pos, ◌≤ℤ◌, int_lt}

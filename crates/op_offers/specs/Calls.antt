@@ -1,5 +1,6 @@
 -- What the calls of this crate need of a state, and what they come to.
-use Rattle.std.specs.Prelude.{◌≡◌, false, ℕ, ◌+◌, ◌≤◌, zero, suc, ℤ, pos, neg_ℤ, ◌≤ℤ◌, List, [], Option, Some, None, Result, Ok, Err}
+use Rattle.std.specs.Prelude.{◌≡◌, false, ℕ, ◌+◌, ◌≤◌, zero, suc, ℤ, pos, neg_ℤ, ◌≤ℤ◌, List, [], Option, Some, None}
+use Rattle.std.specs.Prelude.{Result, Ok, Err}
 use Rattle.ledger_types.specs.declared.ids.AccountId.{AccountId}
 use Rattle.ledger_types.specs.declared.claim_atom.ClaimAtom.{ClaimAtom}
 use Rattle.ledger_types.specs.declared.entry.LedgerEntryBody.TheVariants as body

@@ -88,7 +88,8 @@ fn keep_some<B: Base>(
     requires fits { calls.DoesRestFit (asked_in asked.now) (unsigned_abs amount) entries.old.current }
     ensures { OnOk result (
         entries.new ≡
-        with_current entries.old (spec.map_after_keeping (asked_in asked.now) (unsigned_abs amount) entries.old.current)) }
+        with_current entries.old
+        (spec.map_after_keeping (asked_in asked.now) (unsigned_abs amount) entries.old.current)) }
 {
     let offer = OfferEntry {
         amount,
@@ -115,7 +116,8 @@ pub fn keep<B: Base>(
     requires fits { calls.DoesRestFit (asked_in asked.now) (unsigned_abs amount) entries.old.current }
     ensures { OnOk result (
         entries.new ≡
-        with_current entries.old (spec.map_after_keeping (asked_in asked.now) (unsigned_abs amount) entries.old.current)) }
+        with_current entries.old
+        (spec.map_after_keeping (asked_in asked.now) (unsigned_abs amount) entries.old.current)) }
 {
     if amount == 0 {
         let sponsor = sponsor_in(&asked.slot.ext);

@@ -59,8 +59,8 @@ fn apply_ask<B: Base>(
     }
 }
 
-/// Applies an operation of `ctx.op_source`: it answers the result, and changes the entries and the greatest id of offers.
-/// Where the operation fails, nothing has changed. Operations of other types are not supported here.
+/// Applies an operation of `ctx.op_source`: it answers the result, and changes the entries and the greatest id of
+/// offers. Where the operation fails, nothing has changed. Operations of other types are not supported here.
 #[tactic(auto, unfolding(crate::specs::Operations::offers_operation))]
 pub fn apply<B: Base>(
     op: &Operation,

@@ -67,8 +67,8 @@ fn keep_rest<B: Base>(
     Ok(Sold { atoms, amount })
 }
 
-/// Sells an offer that is counted and out of its book: it crosses the offers of the other side, and what is left of it is
-/// kept. Where it answers a fault, the map has to be undone.
+/// Sells an offer that is counted and out of its book: it crosses the offers of the other side, and what is left of it
+/// is kept. Where it answers a fault, the map has to be undone.
 #[tactic(auto, unfolding(crate::specs::Selling::sold))]
 pub fn sell<B: Base>(
     entries: &mut Entries<'_, B>,

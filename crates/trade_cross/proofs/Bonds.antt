@@ -121,7 +121,8 @@ module _ (v : View) (id_pool : ℕ) (owed : Owed) (sum : ℤ) (m : EntryMap) (le
             low = line_low (line_liabilities t).selling t.balance n its.range.range.selling
                 (subst (λ (y : TrustLineEntry). (line_liabilities y).selling ≤ℤ (y.balance +ℤ n)) same can.2);
             high = λ more. line_high t.balance n (line_liabilities t).buying t.limit greatest_i64
-                (subst (λ (y : TrustLineEntry). ((y.balance +ℤ n) +ℤ (line_liabilities y).buying) ≤ℤ y.limit) same can.3)
+                (subst (λ (y : TrustLineEntry).
+                ((y.balance +ℤ n) +ℤ (line_liabilities y).buying) ≤ℤ y.limit) same can.3)
                 its.range.range.buying its.range.greatest;
           };
           selling = stays (line_liabilities t).selling its.range.range.selling;

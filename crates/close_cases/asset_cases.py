@@ -7,7 +7,7 @@ import set_cases as sets  # ledger_model puts its folder first
 from asset_model import issuer_of, line_rank
 from case_tools import (
     A, META_18, USD, Account, B, C, Story, bucket, case, claimable, entry, image, items, key, line, offer, pool, predicate, raw,
-    sent, with_counts,
+    sent, with_counts, with_liabilities,
 )
 from entry_model import ASSET
 from ledger_model import DEAD, ENTRY, GREATEST, INIT, LIVE, NO_HASH, Text, i32, i64, many, sha, u32
@@ -152,12 +152,74 @@ def asset_rules_at_once():
     case("rule 5 and a pool", image([A, pool(ID)], {0: bucket((LIVE, A), (LIVE, pool(ID))), 3: bucket((DEAD, A))}), "10 bad image rule 5")
     for name, value in [
         ("a line of shares", shares), ("a line of shares out of its ranges", line("a", u32(3) + ID, balance=-1)), ("a pool", pool(ID)),
-        ("an offer", offer("a")),
     ]:
         case(f"{name}, not built", image([HOLDER, value]), "10 bad image not built")
         case(f"{name}, not built, and rule 7", image([HOLDER, wrong, value]), "10 bad image not built")
     gone = {0: bucket((LIVE, A), (DEAD, shares), (DEAD, pool(ID))), 2: bucket((INIT, shares), (LIVE, pool(ID)))}
     case("shares and a pool that are gone", Story(image([A], gone)).close(), "end 6", 1)
+
+
+# a sells a stroop for one of USD, which binds 1 of its lumens and 1 of the room of its line
+SELLER = with_liabilities(entry(Account("a", 100 * LUMEN, data=2)), selling=1)
+BUYING = line("a", owed=(1, 0))
+
+
+def offer_ranges():
+    """Rule 7 by offers and by their lines, and offers at the bounds of it."""
+    for name, value in [
+        ("an amount of 0", offer("a", amount=0)), ("an amount below 0", offer("a", amount=-1)), ("a price of 0", offer("a", price=(0, 1))),
+        ("a price of no part", offer("a", price=(1, 0))), ("a price below 0", offer("a", price=(-1, 1))),
+        ("a price by parts below 0", offer("a", price=(-1, -1))), ("nothing is bound", offer("a", amount=2, price=(1, 3))),
+        ("an id of 0", offer("a", 0)), ("an id below 0", offer("a", -1)), ("an id that wasn't drawn", offer("a", 2)),
+        ("flags 2", offer("a", flags=2)),
+        ("lumens for lumens", offer("a", buying=sets.LUMENS)), ("USD for USD", offer("a", selling=USD)),
+        ("the code US D is sold", offer("a", selling=code(b"US D"))), ("the code US D is bought", offer("a", buying=code(b"US D"))),
+        ("its seller pays for it", offer("a", payer="a")),
+    ]:
+        case(f"an offer: {name}", image([SELLER, BUYING, value], ids=1), "10 bad image rule 7")
+    case("an offer: no id was drawn", image([SELLER, BUYING, offer("a")]), "10 bad image rule 7")
+    for flags in (0, 4):
+        unauthorised = [SELLER, line("a", owed=(1, 0), flags=flags), offer("a")]
+        case(f"an offer: a line of flags {flags} buys", image(unauthorised, ids=1), "10 bad image rule 7")
+        held = line("a", balance=1, owed=(0, 1), flags=flags)
+        sells = [with_liabilities(entry(Account("a", 0, data=2)), buying=1), held, offer("a", selling=USD, buying=sets.LUMENS)]
+        case(f"an offer: a line of flags {flags} sells", image(sells, ids=1), "10 bad image rule 7")
+    for flags in (1, 2, 5, 6):
+        case(f"an offer: a line of flags {flags}", image([SELLER, line("a", owed=(1, 0), flags=flags), offer("a")], ids=1), "end 5", 0)
+    # a line that no offer trades in needs no authorisation
+    three = with_liabilities(entry(Account("a", 0, data=3)), selling=1)
+    case("an offer: another line of flags 0", image([three, BUYING, line("a", EUR, flags=0), offer("a")], ids=1), "end 5", 0)
+    case("an offer: the last id, passive", image([SELLER, BUYING, offer("a", 2**32, flags=1)], ids=2**32), "end 5", 0)
+
+
+def offer_rules():
+    """Rules 8 to 11 by offers, and legal ones."""
+    sale, issuing = offer("a"), offer("z", 2, selling=USD, buying=sets.LUMENS, amount=7, price=(2, 3))
+    twins = [with_liabilities(entry(Account("b", 0, data=2)), selling=1), line("b", owed=(1, 0))]
+    for rule, name, entries in [
+        (8, "of nobody", [B, sale]), (8, "without a line to buy", [SELLER, sale]),
+        (8, "without a line to sell", [SELLER, offer("a", selling=USD, buying=sets.LUMENS)]),
+        (8, "whose sponsor isn't there", [SELLER, BUYING, offer("a", payer="b")]),
+        (8, "two of one id", [SELLER, BUYING, sale, *twins, offer("b")]),
+        (9, "sells what no account owes", [entry(Account("a", 0, data=2)), BUYING, sale]),
+        (9, "buys what no line owes", [SELLER, line("a"), sale]), (9, "buys less than the line owes", [SELLER, line("a", owed=(2, 0)), sale]),
+        (9, "sells less than the account owes", [with_liabilities(entry(Account("a", 0, data=2)), selling=2), BUYING, sale]),
+        (9, "its line owes by selling", [SELLER, line("a", balance=1, owed=(1, 1)), sale]),
+        (9, "another account owes", [with_liabilities(B, selling=1), SELLER, BUYING, sale]),
+        (9, "an issuer that owes for what it issues", [with_liabilities(entry(Account("z", 0, data=1)), selling=6, buying=4), issuing]),
+        (10, "that isn't counted", [with_liabilities(HOLDER, selling=1), BUYING, sale]),
+        (11, "whose sponsor counts none", [SELLER, BUYING, B, offer("a", payer="b")]),
+    ]:
+        case(f"an offer: {name}", image(entries, ids=2), f"10 bad image rule {rule}")
+    # 7 at 2/3 binds 6 and 4, and an issuer has no line of its own asset
+    case("an offer: of its own asset", image([with_liabilities(entry(Account("z", 0, data=1)), buying=4), issuing], ids=2), "end 5", 0)
+    both = [with_liabilities(entry(Account("a", 100, data=3)), buying=4, selling=1), line("a", balance=9, owed=(1, 6)), sale]
+    case("two offers of one seller", image([*both, offer("a", 2, USD, sets.LUMENS, 7, (2, 3))], ids=2), "end 5", 0)
+    paid = model.with_second(SELLER["body"][1], {"sponsored": 1, "sponsoring": 0, "sponsors": [None], "ext": (0, None)})
+    case("an offer with a sponsor",
+         image([{**SELLER, "body": (0, paid)}, BUYING, with_counts(B, sponsoring=1), offer("a", payer="b")], ids=1), "end 5", 0)
+    story = Story(image([SELLER, BUYING, sale, B], ids=1))
+    case("a close behind offers", story.close(sent("b", 1, NOTHING)), "end 6", 1)
 
 
 def asset_files():
@@ -896,7 +958,7 @@ def asset_story():
 
 
 PARTS = [
-    line_ranges, claimable_ranges, asset_rules, asset_rules_at_once, asset_files, payments, lines, many_lines, authorisation, clawbacks,
+    line_ranges, claimable_ranges, asset_rules, asset_rules_at_once, offer_ranges, offer_rules, asset_files, payments, lines, many_lines, authorisation, clawbacks,
     set_aside_codes, set_aside, claims, times, clawed_balances, sponsored_lines, sponsored_balances, all_sponsored,
     sponsored_reserves, sponsored_signers, rewritten, not_built, asset_records, consequences, asset_story,
 ]

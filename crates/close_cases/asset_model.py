@@ -1,5 +1,5 @@
 """Issued assets of a ledger of protocol 18: trust lines and claimable balances, their ranges, and the operations on them, beside those
-of `ledger_model.py`. After CAP-0018, CAP-0023, CAP-0033, CAP-0035 and stellar-core. There are no offers and no pools.
+of `ledger_model.py`. After CAP-0018, CAP-0023, CAP-0033, CAP-0035 and stellar-core. There are no pools, and no operation on offers.
 """
 
 from entry_model import (

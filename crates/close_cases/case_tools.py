@@ -72,12 +72,14 @@ def pool(digest):
     return {"modified": 1, "body": (5, {"pool": digest, "body": body}), "ext": (0, None)}
 
 
-def offer(name, number=1):
-    """An offer of lumens for USD, an entry that isn't built."""
-    usd = ASSET.read(Text(USD))
-    price = {"n": 1, "d": 1}
-    body = dict(seller=(0, key(name)), offer=number, selling=(0, None), buying=usd, amount=1, price=price, flags=0, ext=(0, None))
-    return {"modified": 1, "body": (2, body), "ext": (0, None)}
+def offer(name, number=1, selling=sets.LUMENS, buying=USD, amount=1, price=(1, 1), flags=0, payer=None):
+    """An offer, of lumens for USD where nothing else is said."""
+    sold, bought = (ASSET.read(Text(asset)) for asset in (selling, buying))
+    body = dict(
+        seller=(0, key(name)), offer=number, selling=sold, buying=bought, amount=amount, price={"n": price[0], "d": price[1]},
+        flags=flags, ext=(0, None),
+    )
+    return model.with_sponsor({"modified": 1, "body": (2, body), "ext": (0, None)}, payer and key(payer))
 
 
 def bucket(*rows, version=18):

@@ -1,12 +1,14 @@
-"""A ledger of protocol 18 with accounts, trust lines, data and claimable balances: what `catchup` prints for an input, worked out here.
+"""A ledger of protocol 18 with accounts, trust lines, offers, data and claimable balances: what `catchup` prints for an input, worked out here.
 
 It shares nothing with the program. It follows the protocol's XDR (RFC 4506; the .x files of stellar-core), CAP-0015 for fee bumps,
 CAP-0018 for authorisation, CAP-0020 for buckets, CAP-0023 for claimable balances, CAP-0033 for sponsorship, CAP-0035 for clawback, and
-stellar-core for the rest. Values and reserves stand in `entry_model.py`, the operations of assets in `asset_model.py`.
+stellar-core for the rest. Values and reserves stand in `entry_model.py`, the operations of assets in `asset_model.py`, what offers
+bind in `offer_model.py`.
 `run_cases.py` makes cases with it, `bench/` inputs. Python 3.9 or later and its standard library.
 """
 
 import asset_model as assets
+import offer_model as offers
 from entry_model import (  # noqa: F401  (some names are for the scripts that use this ledger)
     DEAD, ENTRY, GREATEST, HEADER, INIT, ITEM, LIVE, META, RECORD, U32, U64, UPGRADE, Frame, Layer, Refused, Text, Wrong, account_key,
     add_signer, add_subentry, available, count, i32, i64, is_text, key_of, liabilities, many, marked, move, muxed_key, place_of,
@@ -602,10 +604,12 @@ def standing(files):
     return entries
 
 
-def is_in_range(entry):
+def is_in_range(entry, ids):
     kind, body = entry["body"]
     if kind == 4:
         return assets.is_claimable_in_range(entry)
+    if kind == 2:
+        return sponsor_of(entry) != body["seller"][1] and offers.is_offer_in_range(body, ids)
     if sponsor_of(entry) == body["id"][1]:
         return False
     if kind == 1:
@@ -645,7 +649,7 @@ class Counts:
         if kind == 4:
             self.add(None, sponsor_of(entry), len(body["claimants"]))
             return
-        name = body["id"][1]
+        name = body["seller" if kind == 2 else "id"][1]
         self.add(name, sponsor_of(entry), 2 if kind == 0 else 1, 0 if kind == 0 else 1)
         for place in range(len(body["signers"]) if kind == 0 else 0):
             self.add(name, sponsor_of_signer(body, place), 1, 1)
@@ -656,18 +660,34 @@ class Counts:
         return is_paid and account["subs"] + said["sponsoring"] <= 4294967295
 
 
+def owes(body):
+    """What an account or a line says that its offers sell and buy."""
+    said = liabilities(body)
+    return [said["selling"], said["buying"]]
+
+
 def judge_entries(header, entries):
-    """The rules of entries, where there are no offers and no pools."""
+    """The rules of entries, where there are no pools."""
     bodies = {kind: [entry["body"][1] for entry in entries.values() if entry["body"][0] == kind] for kind in range(5)}
     accounts = {account["id"][1]: account for account in bodies[0]}
-    if not all(map(is_in_range, entries.values())):
+    lines = [entries[rank]["body"][1] for offer in bodies[2] for rank in offers.holders(offer) if rank in entries and rank[0] == 1]
+    if not all(is_in_range(entry, header["ids"]) for entry in entries.values()) or not all(line["flags"] & 3 for line in lines):
         raise BadImage("rule 7")
     counts = Counts(accounts)
     for entry in entries.values():
         counts.add_entry(entry)
+    owed = {rank: [0, 0] for rank in [None, *entries]}
+    for offer in bodies[2]:
+        for side, (rank, amount) in enumerate(zip(offers.holders(offer), offers.bound(offer))):
+            if rank not in owed:
+                raise BadImage("rule 8")
+            owed[rank][side] += amount
+    if len({offer["offer"] for offer in bodies[2]}) < len(bodies[2]):
+        raise BadImage("rule 8")
     lumens = [account["balance"] for account in bodies[0]] + [claim["amount"] for claim in bodies[4] if claim["asset"] == assets.NATIVE]
     for number, is_kept in [
-        (9, not any(owed for body in bodies[0] + bodies[1] for owed in liabilities(body).values())),
+        (9, all(owed[account_key(name)] == owes(account) for name, account in accounts.items())
+         and all(owed[assets.line_rank(line["id"][1], line["asset"])] == owes(line) for line in bodies[1])),
         (10, all(account["subs"] == counts.subs[name] <= 1000 for name, account in accounts.items())),
         (11, all(counts.has(name, account) for name, account in accounts.items())),
         (12, not any(map(assets.uses_of, bodies[1]))),
@@ -678,9 +698,9 @@ def judge_entries(header, entries):
 
 
 def has_other_entries(entries):
-    """Whether entries have an offer, a pool, or a line of a pool's shares."""
+    """Whether entries have a pool, or a line of a pool's shares."""
     kinds = {(kind, kind == 1 and body["asset"][0] == 3) for kind, body in (entry["body"] for entry in entries.values())}
-    return not kinds <= {(0, False), (1, False), (3, False), (4, False)}
+    return not kinds <= {(0, False), (1, False), (2, False), (3, False), (4, False)}
 
 
 def ledger_of(network, header_bytes, files):

@@ -17,7 +17,7 @@ import set_cases as sets  # ledger_model puts its folder first
 from asset_cases import PARTS as ASSET_PARTS
 from case_tools import (
     A_WITH_D, CASES, LUMEN, META_18, NETWORK, NO_RESULTS, A, Account, B, C, D, Data, Story, bucket, case, entry, header_of, image,
-    image_bytes, items, key, offer, predicate, raw, sent, sponsored, upgrade, var, with_counts, with_liabilities,
+    image_bytes, items, key, offer, pool, predicate, raw, sent, sponsored, upgrade, var, with_counts, with_liabilities,
 )
 
 NOTHING = sets.NOTHING
@@ -104,7 +104,7 @@ def file_rules():
     }
     case("marks that fit", Story(image([A, B, C, f], fits)).close(sent("a", 1, NOTHING)), "end 6", 1)
     case("another hash of the levels", image([A], levels=sha(b"other")), "10 bad image rule 6")
-    case("an offer", image([A, offer("a")]), "10 bad image not built")
+    case("an offer", image([A, offer("a")]), "10 bad image rule 7")
     gone = {0: bucket((LIVE, A), (DEAD, offer("a"))), 2: bucket((INIT, offer("a")))}
     case("an offer that is gone", Story(image([A], gone)).close(), "end 6", 1)
 
@@ -176,7 +176,7 @@ def rules_at_once():
     ]:
         case(f"rules {name}", data, f"10 bad image rule {rule}")
     case("rule 6 and an offer", image([A, offer("a")], levels=NO_HASH), "10 bad image rule 6")
-    case("an offer and rule 7", image([wrong, offer("a")]), "10 bad image not built")
+    case("rule 7 and a pool", image([wrong, pool(sha(b"an id"))]), "10 bad image not built")
 
 
 SELL = sets.sell_offer(1, buying=sets.asset("USD", "b"))

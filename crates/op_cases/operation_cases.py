@@ -223,7 +223,6 @@ OPERATIONS = {
     "set_options": set_options,
     "change_trust": lambda asset, limit: u32(6) + line_asset(asset) + i64(limit),
     "change_trust_pool": pool_line,
-    "allow_trust": lambda trustor, authorize: u32(7) + account_id(trustor) + u32(1) + SHORT[""] + u32(authorize),
     "account_merge": lambda name: u32(8) + muxed(name),
     "inflation": lambda: u32(9),
     "manage_data": manage_data,
@@ -235,7 +234,6 @@ OPERATIONS = {
     "revoke": revoke,
     "clawback": lambda asset, name, amount: u32(19) + line_asset(asset) + muxed(name) + i64(amount),
     "clawback_balance": lambda of: u32(20) + balance_id(of),
-    "line_flags": lambda issuer, trustor, clear, set: u32(21) + account_id(trustor) + line_asset(issuer) + u32(clear) + u32(set),
 }
 
 

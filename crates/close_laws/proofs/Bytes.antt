@@ -2,7 +2,7 @@
 use Rattle.std.proofs.Common.{◌≡◌, ℕ, refl, List, [], ◌∷◌, All, Option, Some, None}
 use Rattle.std.proofs.Common.{Bool, true, false, cond}
 use Rattle.std.proofs.lemmas.List.Elements.{All-head, All-tail}
-use Rattle.std.specs.Prelude.{option_map}
+use Rattle.std.specs.Prelude.{option_map, ◌≤ℤ◌}
 use Rattle.std.specs.List.{find}
 use Rattle.std.specs.FinMap.{get}
 use Rattle.ledger_types.specs.declared.ids.AccountId.{AccountId}
@@ -11,6 +11,7 @@ use Rattle.ledger_types.specs.declared.account.AccountEntry.{AccountEntry}
 use Rattle.ledger_types.specs.declared.account.AccountEntryExtensionV2.{AccountEntryExtensionV2}
 use Rattle.ledger_types.specs.declared.asset.TrustLineAsset.{TrustLineAsset}
 use Rattle.ledger_types.specs.declared.trust_line.TrustLineEntry.{TrustLineEntry}
+use Rattle.ledger_types.specs.declared.offer.OfferEntry.{OfferEntry}
 use Rattle.ledger_types.specs.declared.data_entry.DataEntry.{DataEntry}
 use Rattle.ledger_types.specs.declared.claimable_balance.Claimant.{Claimant}
 use Rattle.ledger_types.specs.declared.claimable_balance.ClaimableBalanceEntry.{ClaimableBalanceEntry}
@@ -32,8 +33,9 @@ use Rattle.entry_sums.proofs.Lookups.{put_each, erase_each}
 use Rattle.entry_slots.specs.Accounts.{with_account, with_account_of, with_account_in}
 use Rattle.entry_slots.specs.Lines.{with_line, with_line_of, with_line_in}
 use Rattle.entry_slots.specs.DataEntries.{with_data, with_data_of, with_data_in}
-use Rattle.entry_slots.specs.AccountExtensions.{second_in}
+use Rattle.entry_slots.specs.AccountExtensions.{account_liabilities, second_in}
 use Rattle.entry_slots.specs.EntrySponsor.{sponsor_of, with_sponsor, with_sponsor_in, sponsor_in}
+use Rattle.reserve_rules.specs.Reserve.{greatest_i64}
 use Rattle.sponsor_rules.specs.declared.context.Ctx.{Ctx}
 use Rattle.sponsor_rules.specs.declared.context.Sponsorship.{Sponsorship}
 use Rattle.sponsor_rules.specs.Payers.{is_same_account, open_sponsor, payer_by, payer_of}
@@ -80,6 +82,8 @@ pub record AreAccountBytes (account : AccountEntry) : Type 0 where
   pub thresholds : IsSpelled (fixed 4) account.thresholds
   pub signers : All IsKey account.signers
   pub sponsors : All IsIdIf (recorded account)
+  -- what no balance bounds: an account whose balance falls by a fee may sell more than it has
+  pub selling : (account_liabilities account).selling ≤ℤ greatest_i64
 
 pub record AreDataBytes (entry : DataEntry) : Type 0 where
   pub id : IsId entry.account_id
@@ -101,12 +105,22 @@ pub record AreBalanceBytes (balance : ClaimableBalanceEntry) : Type 0 where
   pub asset : IsSpelled basic.asset balance.asset
   pub amount : IsSpelled i64 balance.amount
 
--- of the entries of which all operations can be applied so far
+-- the numbers of an offer too, of which a range bounds only the flags
+pub record AreOfferBytes (offer : OfferEntry) : Type 0 where
+  pub id : IsId offer.seller_id
+  pub offer_id : IsSpelled i64 offer.offer_id
+  pub selling : IsSpelled basic.asset offer.selling
+  pub buying : IsSpelled basic.asset offer.buying
+  pub amount : IsSpelled i64 offer.amount
+  pub price : IsSpelled basic.price offer.price
+
+-- all but pools
 abbrev pub AreBodyBytes : LedgerEntryBody → Type 0
 AreBodyBytes (body.Account account) = AreAccountBytes account
 AreBodyBytes (body.TrustLine held) = AreLineBytes held
 AreBodyBytes (body.Data entry) = AreDataBytes entry
 AreBodyBytes (body.ClaimableBalance balance) = AreBalanceBytes balance
+AreBodyBytes (body.Offer offer) = AreOfferBytes offer
 AreBodyBytes other = ⊥
 
 pub record AreEntryBytes (e : LedgerEntry) : Type 0 where

@@ -32,6 +32,7 @@ numbers was account bytes = record {
   thresholds = bytes.thresholds;
   signers = bytes.signers;
   sponsors = bytes.sponsors;
+  selling = bytes.selling;
 }
 
 less_lumens : (amount : ℤ) → KeepsAccounts (lumens.with_less_lumens amount)

@@ -2,6 +2,7 @@
 use Rattle.std.proofs.Common.{◌≡◌, ℕ, zero, suc, ◌<◌, refl, List, [], ◌∷◌, Option, Some}
 use Rattle.std.proofs.Common.{None, Ok, ℤ, take, drop, Bool, true, false, if◌then◌else◌, ◌||◌, arith}
 use Rattle.std.proofs.lemmas.Bool.Decides.{nat_tests}
+use Rattle.std.proofs.lemmas.Int.{ints}
 use Rattle.std.proofs.lemmas.List.Elements.{All-nil, All-cons, All-append, All-set, All-take, All-drop}
 use Rattle.std.specs.Prelude.{pos, not, is_some, bit_and, int_lt, nat_eq, nat_lt, unwrap_or, slice_index}
 use Rattle.std.specs.FinMap.{get}
@@ -123,6 +124,7 @@ new_account_bytes ctx op id = record {
   thresholds = four_bytes 1 0 0 0 (omega arith) (omega arith) (omega arith) (omega arith);
   signers = All-nil IsKey;
   sponsors = All-nil IsIdIf;
+  selling = omega (arith, ints);
 }
 
 created : (ctx : Ctx) (op : CreateAccountOp) (m : EntryMap) → IsId op.destination → AreWorkBytes ctx m
@@ -281,6 +283,7 @@ set_signer place one spelled account bytes = record {
   thresholds = bytes.thresholds;
   signers = All-set IsKey account.signers place one spelled bytes.signers;
   sponsors = bytes.sponsors;
+  selling = bytes.selling;
 }
 
 weighed : (ctx : Ctx) (one : Signer) (account : AccountEntry) (m : EntryMap) (found : Option FoundSigner)
@@ -361,6 +364,7 @@ with_options_bytes op given range account bytes = record {
   thresholds = new_thresholds op account.thresholds range bytes.thresholds;
   signers = bytes.signers;
   sponsors = bytes.sponsors;
+  selling = bytes.selling;
 }
 
 third_passes : {F : Type 0} (a b c : Bool) (x y z : F) (rest : Option F)

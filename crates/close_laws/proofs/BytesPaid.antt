@@ -2,6 +2,7 @@
 use Rattle.std.proofs.Common.{ℕ, suc, take, drop, List, [], ◌∷◌, map, All, Option, Some, None}
 use Rattle.std.proofs.Common.{Bool, true, false, if◌then◌else◌, nat_eq, slice_set}
 use Rattle.std.proofs.lemmas.List.Elements.{All-nil, All-cons, All-append, All-take, All-drop, All-set}
+use Rattle.std.specs.Prelude.{◌≤ℤ◌}
 use Rattle.std.specs.List.{insert, remove}
 use Rattle.ledger_types.specs.declared.ids.AccountId.{AccountId}
 use Rattle.ledger_types.specs.declared.signer.Signer.{Signer}
@@ -10,7 +11,9 @@ use Rattle.ledger_types.specs.declared.account.AccountEntryExtensionV1.{AccountE
 use Rattle.ledger_types.specs.declared.account.AccountEntryExtensionV2.{AccountEntryExtensionV2}
 use Rattle.xdr_entries.specs.Basic.{signer_key}
 use Rattle.entry_map.specs.EntryMap.{EntryMap}
-use Rattle.entry_slots.specs.AccountExtensions.{second_in, sponsorship_of, sponsorship_in, with_sponsorship}
+use Rattle.entry_slots.specs.AccountExtensions.{liabilities_in, second_in, sponsorship_of, sponsorship_in}
+use Rattle.entry_slots.specs.AccountExtensions.{with_sponsorship}
+use Rattle.reserve_rules.specs.Reserve.{greatest_i64}
 use Rattle.sponsor_rules.specs.declared.count.Count.{Count}
 use Rattle.sponsor_rules.specs.declared.count.Count.TheVariants.{SubEntries, Sponsoring, Sponsored}
 use Rattle.sponsor_rules.specs.Counting.{count_in, with_count, with_new_count, with_more, with_less}
@@ -42,6 +45,7 @@ sponsorship_bytes sponsorship account bytes all = record {
   thresholds = bytes.thresholds;
   signers = bytes.signers;
   sponsors = all;
+  selling = bytes.selling;
 }
 
 new_count_bytes : (count : Count) (n : ℕ) → KeepsAccounts (with_new_count count n)
@@ -52,6 +56,7 @@ new_count_bytes SubEntries n account bytes = record {
   thresholds = bytes.thresholds;
   signers = bytes.signers;
   sponsors = bytes.sponsors;
+  selling = bytes.selling;
 }
 new_count_bytes Sponsoring n account bytes =
     sponsorship_bytes (record (sponsorship_of account) { num_sponsoring = n }) account bytes
@@ -128,6 +133,11 @@ changed_sponsors : (change : List (Option AccountId) → List (Option AccountId)
 changed_sponsors change None keep all = all
 changed_sponsors change (Some ext) keep all = changed_second change ext.ext keep all
 
+same_selling : (change : List (Option AccountId) → List (Option AccountId)) (ext : Option AccountEntryExtensionV1)
+    → (liabilities_in ext).selling ≤ℤ greatest_i64 → (liabilities_in (with_sponsors change ext)).selling ≤ℤ greatest_i64
+same_selling change None le = le
+same_selling change (Some ext) le = le
+
 insert_all : {X : Type 0} (P : X → Type 0) (xs : List X) (i : ℕ) (x : X) → All P xs → P x → All P (insert xs i x)
 insert_all P xs i x all here = All-append P (take i xs) (x ∷ drop i xs) (All-take P i xs all)
     (All-cons P x (drop i xs) here (All-drop P i xs all))
@@ -145,6 +155,7 @@ signer_at_bytes place signer sponsor spelled named account bytes = record {
   signers = insert_all IsKey account.signers place signer bytes.signers spelled;
   sponsors = changed_sponsors (λ sponsors. insert sponsors place sponsor) account.ext
       (λ xs all. insert_all IsIdIf xs place sponsor all named) bytes.sponsors;
+  selling = same_selling (λ sponsors. insert sponsors place sponsor) account.ext bytes.selling;
 }
 
 pub without_signer_bytes : (place : ℕ) → KeepsAccounts (without_signer place)
@@ -156,6 +167,7 @@ without_signer_bytes place account bytes = record {
   signers = remove_all IsKey account.signers place bytes.signers;
   sponsors = changed_sponsors (λ sponsors. remove sponsors place) account.ext
       (λ xs all. remove_all IsIdIf xs place all) bytes.sponsors;
+  selling = same_selling (λ sponsors. remove sponsors place) account.ext bytes.selling;
 }
 
 pub signer_sponsor_bytes : (place : ℕ) (sponsor : Option AccountId) → IsIdIf sponsor
@@ -168,4 +180,5 @@ signer_sponsor_bytes place sponsor named account bytes = record {
   signers = bytes.signers;
   sponsors = changed_sponsors (λ sponsors. slice_set sponsors place sponsor) account.ext
       (λ xs all. All-set IsIdIf xs place sponsor named all) bytes.sponsors;
+  selling = same_selling (λ sponsors. slice_set sponsors place sponsor) account.ext bytes.selling;
 }

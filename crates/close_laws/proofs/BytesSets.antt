@@ -132,6 +132,7 @@ with_seq_num_bytes tx m each =
       thresholds = bytes.thresholds;
       signers = bytes.signers;
       sponsors = bytes.sponsors;
+      selling = bytes.selling;
     }) each
 
 judged_bytes : (pays : Bool) (ctx : Ctx) (hash : Hash) (signatures : List HeldSignature) (tx : Transaction)
@@ -261,6 +262,7 @@ fees_bytes base (whole ∷ others) m each =
       thresholds = bytes.thresholds;
       signers = bytes.signers;
       sponsors = bytes.sponsors;
+      selling = bytes.selling;
     }) each)
 
 -- ---- sets

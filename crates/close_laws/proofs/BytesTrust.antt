@@ -35,6 +35,7 @@ use Rattle.op_trust.specs.ChangeTrust as trusting
 use Rattle.close_rules.specs.State.{IsSpelled, IsBuiltLine}
 use Rattle.close_laws.proofs.Bytes.{IsId, no_id, AreEntryBytes, KeepsLines, with_line_bytes}
 use Rattle.close_laws.proofs.BytesMaps.{adding_subentry_bytes, removing_bytes}
+use Rattle.close_laws.proofs.BytesOffers.{revoking_bytes}
 use Rattle.close_laws.proofs.BytesSteps.{AreWorkBytes, Work, Leaves, behind, behind_some, behind_charge}
 use Rattle.close_laws.proofs.BytesSteps.{either_leaves}
 
@@ -144,10 +145,11 @@ line_flagged : (ctx : Ctx) (trustor : AccountId) (held : Asset) (flags : ℕ) (s
     (line : TrustLineEntry) (m : EntryMap) → AreWorkBytes ctx m
     → Leaves (flagged.flagged ctx trustor held flags succeeded line m)
 line_flagged ctx trustor held flags succeeded line m work =
-    behind Work ((flagged.is_revoked line flags && flagged.is_in_use line, NotSupported) ∷ []) _ (record {
+    let revoked = flagged.is_revoked line flags in
+    behind Work ((revoked && not (int_eq (use_count line) (pos 0)), NotSupported) ∷ []) _ (record {
       gives = record {
-        entries = with_line_bytes m trustor (line_asset_of held) (flagged.with_flags flags) (other_flags flags)
-            work.entries;
+        entries = with_line_bytes (flagged.map_after_revoking trustor held revoked m) trustor (line_asset_of held)
+            (flagged.with_flags flags) (other_flags flags) (revoking_bytes trustor held revoked m work.entries);
         sponsors = work.sponsors;
       };
     })

@@ -12,6 +12,7 @@ pub mod BytesMaps
 pub mod BytesAmounts
 pub mod BytesSteps
 pub mod BytesPredicates
+pub mod BytesOffers
 pub mod BytesTrust
 pub mod BytesClaims
 pub mod BytesOperations
@@ -20,6 +21,7 @@ pub mod Short
 pub mod ShortIds
 pub mod ShortPredicates
 pub mod ShortBalances
+pub mod ShortOffers
 pub mod ShortEntries
 pub mod NextEntries
 pub mod AnswerSteps

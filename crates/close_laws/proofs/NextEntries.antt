@@ -3,7 +3,8 @@ use Rattle.std.proofs.Common.{◌≡◌, ℕ, ◌+◌, ◌^◌, ◌<◌, ◌≤�
 use Rattle.std.proofs.Common.{Option, Some, None, ℤ, pos, inl, inr, arith}
 use Rattle.std.proofs.lemmas.Int.{ints}
 use Rattle.std.proofs.lemmas.List.Elements.{All-nil, All-weaker}
-use Rattle.std.specs.Prelude.{◌+ℤ◌, ◌≤ℤ◌}
+use Rattle.std.specs.Prelude.{◌+ℤ◌, ◌≤ℤ◌, FitsSigned}
+use Rattle.std.specs.Int.{w64}
 use Rattle.std.specs.FinMap.{get}
 use Rattle.ledger_types.specs.declared.signer.Signer.{Signer}
 use Rattle.ledger_types.specs.declared.account.AccountEntry.{AccountEntry}
@@ -12,6 +13,8 @@ use Rattle.ledger_types.specs.declared.account.AccountEntryExtensionV2.{AccountE
 use Rattle.ledger_types.specs.declared.asset.TrustLineAsset.{TrustLineAsset}
 use Rattle.ledger_types.specs.declared.asset.TrustLineAsset.TheVariants as line
 use Rattle.ledger_types.specs.declared.trust_line.TrustLineEntry.{TrustLineEntry}
+use Rattle.ledger_types.specs.declared.price.Liabilities.{Liabilities}
+use Rattle.ledger_types.specs.declared.offer.OfferEntry.{OfferEntry}
 use Rattle.ledger_types.specs.declared.data_entry.DataEntry.{DataEntry}
 use Rattle.ledger_types.specs.declared.claimable_balance.ClaimableBalanceEntry.{ClaimableBalanceEntry}
 use Rattle.ledger_types.specs.declared.entry.LedgerEntry.{LedgerEntry}
@@ -20,30 +23,30 @@ use Rattle.ledger_types.specs.declared.entry.LedgerEntryBody.TheVariants as body
 use Rattle.ledger_types.specs.declared.entry.LedgerEntryExtensionV1.{LedgerEntryExtensionV1}
 use Rattle.ledger_types.specs.declared.key.LedgerKey.{LedgerKey}
 use Rattle.ledger_types.specs.Keys.{key_of_body}
-use Rattle.xdr_core.specs.Leaves.{u32}
+use Rattle.xdr_core.specs.Leaves.{u32, i64}
 use Rattle.xdr_core.specs.Combinators.{extension}
 use Rattle.xdr_core.specs.Xdr.{list_of, optional, extension_of}
 use Rattle.xdr_header.specs.declared.record.CloseRecord.{CloseRecord}
-use Rattle.xdr_entries.specs.Basic.{account_id, signer}
+use Rattle.xdr_entries.specs.Basic.{account_id, signer, liabilities}
 use Rattle.xdr_entries.specs.Entries.{account_extension_v2, account_extension_v1, account_head, account_tail}
 use Rattle.xdr_entries.specs.Entries.{account_entry, trust_line_entry, claimant, claimable_balance_entry}
+use Rattle.xdr_entries.specs.Entries.{offer_entry}
 use Rattle.xdr_entries.specs.Entries.{data_entry, ledger_entry_body, ledger_entry_extension_v1, ledger_entry}
 use Rattle.entry_map.specs.EntryMap.{EntryMap}
 use Rattle.entry_map.specs.Batch.{parts_of}
 use Rattle.entry_changes.specs.Next.{IsNextAt}
 use Rattle.entry_slots.specs.Accounts.{account_at, account_of, account_in}
-use Rattle.entry_slots.specs.AccountExtensions.{account_liabilities, num_sponsoring, num_sponsored, second_in}
-use Rattle.entry_slots.specs.AccountExtensions.{sponsorship_in}
+use Rattle.entry_slots.specs.AccountExtensions.{account_liabilities, liabilities_in, num_sponsoring, num_sponsored}
+use Rattle.entry_slots.specs.AccountExtensions.{second_in, sponsorship_in}
 use Rattle.entry_slots.specs.LineExtensions.{use_count}
 use Rattle.entry_slots.specs.EntrySponsor.{sponsor_in}
 use Rattle.entry_sums.specs.Sums.{total}
 use Rattle.entry_sums.proofs.Summing.{total_none}
 use Rattle.reserve_rules.specs.Reserve.{greatest_i64}
 use Rattle.sponsor_rules.specs.Payers.{IsReadyAccount}
-use Rattle.legal_rules.specs.Books.{Selling, Uses, counted, stated, stated_at}
+use Rattle.legal_rules.specs.Books.{Uses, counted, stated, stated_at}
 use Rattle.legal_rules.specs.Bounds.{AreSubentriesFew, DoReservesFit}
 use Rattle.legal_rules.specs.PoolShares.{uses, uses_by}
-use Rattle.legal_rules.specs.Trades.{sells}
 use Rattle.legal_rules.specs.Legal.{view, IsLegal}
 use Rattle.legal_rules.specs.Ranges.{IsAccountInRange, AreLineFlags, IsTrustLineInRange, IsBalanceInRange}
 use Rattle.legal_rules.specs.Ranges.{IsBodyInRange}
@@ -60,7 +63,7 @@ use Rattle.close_laws.proofs.SpelledSets.{set_spelled}
 use Rattle.close_laws.proofs.Unrefused.{seq_below}
 use Rattle.close_laws.proofs.NextLegal.{next_settled, next_is_legal}
 use Rattle.close_laws.proofs.Bytes.{IsIdIf, no_id, IsKey, sponsors_in, AreAccountBytes, AreDataBytes, AreBodyBytes}
-use Rattle.close_laws.proofs.Bytes.{AreLineBytes, AreBalanceBytes, AreEntryBytes, AreBytes}
+use Rattle.close_laws.proofs.Bytes.{AreLineBytes, AreBalanceBytes, AreOfferBytes, AreEntryBytes, AreBytes}
 use Rattle.close_laws.proofs.BytesSets.{set_bytes}
 use Rattle.close_laws.proofs.ShortBalances.{AreLineNumbers, AreBalanceNumbers}
 use Rattle.close_laws.proofs.ShortEntries.{AreAccountNumbers, AreBodyNumbers, entry_spellable}
@@ -104,6 +107,25 @@ signers_spelled : (account : AccountEntry) → IsSpelled account_entry account
 unfolding account_entry account_tail
 signers_spelled account spelled = record { within = spelled.within.1.1.1.0; sized = spelled.sized.1.1.1.0 }
 
+liabilities_selling : (owed : Liabilities) → IsSpelled liabilities owed → owed.selling ≤ℤ greatest_i64
+unfolding liabilities i64
+liabilities_selling owed spelled = most owed.selling spelled.sized.1
+  where
+    most : (n : ℤ) → FitsSigned w64 n → n ≤ℤ greatest_i64
+    most n fits = grind (arith, ints)
+
+v1_selling : (ext : AccountEntryExtensionV1) → IsSpelled account_extension_v1 ext
+    → ext.liabilities.selling ≤ℤ greatest_i64
+unfolding account_extension_v1
+v1_selling ext spelled =
+    liabilities_selling ext.liabilities (record { within = spelled.within.0; sized = spelled.sized.0 })
+
+ext_selling : (ext : Option AccountEntryExtensionV1) → IsSpelled (extension_of (pos 1) account_extension_v1) ext
+    → (liabilities_in ext).selling ≤ℤ greatest_i64
+unfolding extension
+ext_selling None spelled = omega (arith, ints)
+ext_selling (Some ext) spelled = v1_selling ext (record { within = spelled.within; sized = spelled.sized })
+
 account_bytes : (account : AccountEntry) → IsSpelled account_entry account → AreAccountBytes account
 unfolding account_entry account_head account_tail
 account_bytes account spelled = record {
@@ -113,6 +135,7 @@ account_bytes account spelled = record {
   thresholds = record { within = spelled.within.1.1.0; sized = spelled.sized.1.1.0 };
   signers = all_keys account.signers (signers_spelled account spelled);
   sponsors = ext_sponsors account.ext (record { within = spelled.within.1.1.1.1; sized = spelled.sized.1.1.1.1 });
+  selling = ext_selling account.ext (record { within = spelled.within.1.1.1.1; sized = spelled.sized.1.1.1.1 });
 }
 
 data_bytes : (entry : DataEntry) → IsSpelled data_entry entry → AreDataBytes entry
@@ -142,6 +165,17 @@ balance_bytes balance spelled = record {
   amount = record { within = spelled.within.1.1.1.0; sized = spelled.sized.1.1.1.0 };
 }
 
+offer_bytes : (offer : OfferEntry) → IsSpelled offer_entry offer → AreOfferBytes offer
+unfolding offer_entry
+offer_bytes offer spelled = record {
+  id = record { within = spelled.within.0; sized = spelled.sized.0 };
+  offer_id = record { within = spelled.within.1.0; sized = spelled.sized.1.0 };
+  selling = record { within = spelled.within.1.1.0; sized = spelled.sized.1.1.0 };
+  buying = record { within = spelled.within.1.1.1.0; sized = spelled.sized.1.1.1.0 };
+  amount = record { within = spelled.within.1.1.1.1.0; sized = spelled.sized.1.1.1.1.0 };
+  price = record { within = spelled.within.1.1.1.1.1.0; sized = spelled.sized.1.1.1.1.1.0 };
+}
+
 body_bytes : (of : LedgerEntryBody) → IsSpelled ledger_entry_body of → IsBuiltBody of → AreBodyBytes of
 unfolding ledger_entry_body
 body_bytes (body.Account account) spelled built =
@@ -152,7 +186,8 @@ body_bytes (body.TrustLine held) spelled built =
     line_bytes held (record { within = spelled.within; sized = spelled.sized }) built
 body_bytes (body.ClaimableBalance balance) spelled built =
     balance_bytes balance (record { within = spelled.within; sized = spelled.sized })
-body_bytes (body.Offer offer) spelled built = absurd built
+body_bytes (body.Offer offer) spelled built =
+    offer_bytes offer (record { within = spelled.within; sized = spelled.sized })
 body_bytes (body.LiquidityPool pool) spelled built = absurd built
 
 sponsor_id : (ext : LedgerEntryExtensionV1) → IsSpelled ledger_entry_extension_v1 ext → IsIdIf ext.sponsoring_id
@@ -230,21 +265,6 @@ seq_of seq (Some was) (Some x) after e lt old is there =
 
 -- ---- the numbers of accounts
 
--- nothing is sold where no offer stands
-nothing_sold : (m : EntryMap) (k : LedgerKey) → AreBytes m → total (counted (view m) Selling k) m ≡ pos 0
-nothing_sold m k each = total_none (counted (view m) Selling k) m (λ q e there. by e (each q e there).body)
-  where
-    by_body : (of : LedgerEntryBody) → AreBodyBytes of → sells k of ≡ pos 0
-    by_body (body.Account account) bytes = refl
-    by_body (body.Data entry) bytes = refl
-    by_body (body.TrustLine held) bytes = refl
-    by_body (body.ClaimableBalance balance) bytes = refl
-    by_body (body.Offer offer) bytes = absurd bytes
-    by_body (body.LiquidityPool pool) bytes = absurd bytes
-
-    by : (e : LedgerEntry) → AreBodyBytes e.body → counted (view m) Selling k e ≡ pos 0
-    by e bytes = by_body e.body bytes
-
 -- no pool uses a line where none has a line of its shares
 nothing_used : (m : EntryMap) (k : LedgerKey) → AreBytes m → total (counted (view m) Uses k) m ≡ pos 0
 nothing_used m k each = total_none (counted (view m) Uses k) m (λ q e there. by e (each q e there).body)
@@ -261,14 +281,11 @@ nothing_used m k each = total_none (counted (view m) Uses k) m (λ q e there. by
     by_body (body.Data entry) bytes = refl
     by_body (body.TrustLine held) bytes = by_line held held.asset refl bytes.built
     by_body (body.ClaimableBalance balance) bytes = refl
-    by_body (body.Offer offer) bytes = absurd bytes
+    by_body (body.Offer offer) bytes = refl
     by_body (body.LiquidityPool pool) bytes = absurd bytes
 
     by : (e : LedgerEntry) → AreBodyBytes e.body → counted (view m) Uses k e ≡ pos 0
     by e bytes = by_body e.body bytes
-
-nothing_at_most : (n : ℤ) → n ≡ pos 0 → n ≤ℤ greatest_i64
-nothing_at_most n is = omega (arith, ints)
 
 at_most_whole : (balance buying : ℤ) → pos 0 ≤ℤ buying → (balance +ℤ buying) ≤ℤ greatest_i64 → balance ≤ℤ greatest_i64
 at_most_whole balance buying low fits = omega (arith, ints)
@@ -284,8 +301,8 @@ few_recorded signers (Some ext) same few = omega (arith, same, few)
 
 account_numbers : (account : AccountEntry) → IsAccountInRange account → account.num_sub_entries ≤ 1000
     → account.num_sub_entries + num_sponsoring account ≤ 4294967295 → IsReadyAccount account
-    → (account_liabilities account).selling ≡ pos 0 → AreAccountNumbers account
-account_numbers account range few fits ready sold = record {
+    → (account_liabilities account).selling ≤ℤ greatest_i64 → AreAccountNumbers account
+account_numbers account range few fits ready selling = record {
   balance_low = range.range.balance;
   balance_high = at_most_whole account.balance (account_liabilities account).buying range.range.buying range.range.fits;
   seq_low = range.seq_num;
@@ -300,7 +317,7 @@ account_numbers account range few fits ready sold = record {
     buying_high = buying_at_most account.balance (account_liabilities account).buying range.range.balance
         range.range.fits;
     selling_low = range.range.selling;
-    selling_high = nothing_at_most (account_liabilities account).selling sold;
+    selling_high = selling;
     sponsored = below_sponsored (num_sponsored account) ready.sponsored;
     sponsoring = below_sponsoring account.num_sub_entries (num_sponsoring account) fits;
     few = few_recorded account.signers (second_in account.ext) range.signers.items range.signers.few;
@@ -384,9 +401,6 @@ module _ (legal : SettledLegal) (conserve : SetsConserve) (ready : SettledReady)
   next_legal : IsLegal (finished (upgraded_header s closing) (record { 0 = [] })) after
   next_legal = next_is_legal legal conserve s closing after (record { 0 = [] }) can closed
 
-  sold : (k : LedgerKey) (e : LedgerEntry) → get after k ≡ Some e → stated_at Selling (Some e) ≡ pos 0
-  sold k e there = ap (stated_at Selling) (sym there) ∙ next_legal.selling k ∙ nothing_sold after k next_bytes
-
   used : (k : LedgerKey) (e : LedgerEntry) → get after k ≡ Some e → stated_at Uses (Some e) ≡ pos 0
   used k e there = ap (stated_at Uses) (sym there) ∙ next_legal.uses k ∙ nothing_used after k next_bytes
 
@@ -404,6 +418,10 @@ module _ (legal : SettledLegal) (conserve : SetsConserve) (ready : SettledReady)
       ap (λ (q : LedgerKey). account_of (get after q)) (ap key_of_body (sym is) ∙ next_legal.keyed k e there)
       ∙ ap account_of there ∙ ap account_in is
 
+  bytes_of : (k : LedgerKey) (e : LedgerEntry) (of : LedgerEntryBody) → get after k ≡ Some e → e.body ≡ of
+      → AreBodyBytes of
+  bytes_of k e of there is = subst AreBodyBytes is (next_bytes k e there).body
+
   numbers_of : (k : LedgerKey) (e : LedgerEntry) (of : LedgerEntryBody) → get after k ≡ Some e → e.body ≡ of
       → AreBodyNumbers of
   numbers_of k e (body.Account account) there is =
@@ -412,11 +430,12 @@ module _ (legal : SettledLegal) (conserve : SetsConserve) (ready : SettledReady)
       account_numbers account (range k e (body.Account account) there is)
       (subst AreSubentriesFew is (next_legal.few k e there)) (subst DoReservesFit is (next_legal.fits k e there))
       ((ready (applied_in s closing).id_pool after settled).ready account.account_id account at)
-      (sym (ap (stated Selling) is) ∙ sold k e there)
+      (bytes_of k e (body.Account account) there is).selling
   numbers_of k e (body.TrustLine held) there is =
       line_numbers held (range k e (body.TrustLine held) there is) (sym (ap (stated Uses) is) ∙ used k e there)
   numbers_of k e (body.ClaimableBalance balance) there is =
       balance_numbers balance (range k e (body.ClaimableBalance balance) there is)
+  numbers_of k e (body.Offer offer) there is = (range k e (body.Offer offer) there is).flags
   numbers_of k e other there is = tt
 
   pub next_spellable : AreSpellable after
@@ -431,7 +450,7 @@ module _ (legal : SettledLegal) (conserve : SetsConserve) (ready : SettledReady)
       by (body.Data entry) bytes = tt
       by (body.TrustLine held) bytes = bytes.built
       by (body.ClaimableBalance balance) bytes = tt
-      by (body.Offer offer) bytes = absurd bytes
+      by (body.Offer offer) bytes = tt
       by (body.LiquidityPool pool) bytes = absurd bytes
 
 pub entries_stay_spellable : SettledLegal → SetsConserve → SettledReady → EntriesStaySpellable

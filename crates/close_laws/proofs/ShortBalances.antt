@@ -59,7 +59,7 @@ line_asset_short (line.PoolShare pool) spelled =
     let rest = hash_short pool (record { within = spelled.within; sized = spelled.sized }) in
     record { within = rest.within; sized = rest.sized; short = arm_most (pos 3) _ 35 (omega arith) rest.short }
 
-asset_short : (held : Asset) → IsSpelled basic.asset held → IsShort basic.asset 58 held
+pub asset_short : (held : Asset) → IsSpelled basic.asset held → IsShort basic.asset 58 held
 unfolding basic.asset
 asset_short asset.Native spelled =
     record { within = tt; sized = tt; short = arm_most (pos 0) [] 0 (omega arith) (omega arith) }
@@ -178,7 +178,7 @@ balance_ext_short None few = short.no_extension (pos 1) claimable_balance_extens
 balance_ext_short (Some ext) few =
     short.some_extension (pos 1) claimable_balance_extension_v1 8 ext (balance_v1_short ext few)
 
-amount_fits : (amount : ℤ) → IsSpelled i64 amount → FitsSigned w64 amount
+pub amount_fits : (amount : ℤ) → IsSpelled i64 amount → FitsSigned w64 amount
 unfolding i64
 amount_fits amount spelled = spelled.sized
 

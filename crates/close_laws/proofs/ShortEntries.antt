@@ -32,6 +32,7 @@ use Rattle.close_laws.proofs.Short as short
 use Rattle.close_laws.proofs.Short.{IsShort}
 use Rattle.close_laws.proofs.ShortIds.{id_short, id_if_short, signer_short, fits_i64, liabilities_short}
 use Rattle.close_laws.proofs.ShortBalances.{AreLineNumbers, AreBalanceNumbers, line_short, balance_short}
+use Rattle.close_laws.proofs.ShortOffers.{offer_short}
 
 -- ---- what accounts say beside their bytes
 
@@ -148,6 +149,7 @@ abbrev pub AreBodyNumbers : LedgerEntryBody → Type 0
 AreBodyNumbers (body.Account account) = AreAccountNumbers account
 AreBodyNumbers (body.TrustLine held) = AreLineNumbers held
 AreBodyNumbers (body.ClaimableBalance balance) = AreBalanceNumbers balance
+AreBodyNumbers (body.Offer offer) = offer.flags ≤ 1
 AreBodyNumbers other = Unit {0}
 
 -- an arm of at most 2351 bytes, the most that a claimable balance has
@@ -169,7 +171,9 @@ body_short (body.Data entry) bytes numbers =
 body_short (body.ClaimableBalance balance) bytes numbers =
     let rest = balance_short balance bytes numbers in
     record { within = rest.within; sized = rest.sized; short = body_arm (pos 4) _ 2351 (omega arith) rest.short }
-body_short (body.Offer offer) bytes numbers = absurd bytes
+body_short (body.Offer offer) bytes numbers =
+    let rest = offer_short offer bytes numbers in
+    record { within = rest.within; sized = rest.sized; short = body_arm (pos 2) _ 187 (omega arith) rest.short }
 body_short (body.LiquidityPool pool) bytes numbers = absurd bytes
 
 sponsor_short : (ext : LedgerEntryExtensionV1) → IsIdIf ext.sponsoring_id → IsShort ledger_entry_extension_v1 47 ext

@@ -95,7 +95,8 @@ flagged_answers : (ctx : Ctx) (trustor : AccountId) (held : Asset) (flags : ℕ)
     → Answers (IsDone ctx.id_pool) (flagged.flagged ctx trustor held flags succeeded line m)
 flagged_answers ctx trustor held flags succeeded line m answers =
     first_answers (IsDone ctx.id_pool)
-    ((flagged.is_revoked line flags && flagged.is_in_use line, operation.NotSupported) ∷ []) _ (not_supported, tt)
+    ((flagged.is_revoked line flags && not (int_eq (use_count line) (pos 0)), operation.NotSupported) ∷ []) _
+    (not_supported, tt)
     (record { ends = (answers, refl) })
 
 pub allow_answers : (ctx : Ctx) (op : AllowTrustOp) (m : EntryMap)

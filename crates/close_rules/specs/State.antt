@@ -42,12 +42,13 @@ abbrev pub IsBuiltLine : TrustLineAsset → Type 0
 IsBuiltLine (line.PoolShare pool) = ⊥
 IsBuiltLine other = Unit {0}
 
--- all but offers, pools and lines of pool shares: entries of which all operations can be applied so far
+-- all but pools and lines of pool shares
 abbrev pub IsBuiltBody : LedgerEntryBody → Type 0
 IsBuiltBody (body.Account account) = Unit {0}
 IsBuiltBody (body.TrustLine held) = IsBuiltLine held.asset
 IsBuiltBody (body.Data entry) = Unit {0}
 IsBuiltBody (body.ClaimableBalance balance) = Unit {0}
+IsBuiltBody (body.Offer offer) = Unit {0}
 IsBuiltBody other = ⊥
 
 abbrev pub AreBuilt : EntryMap → Type 0

@@ -2,9 +2,9 @@
 //! (`by_hand.tsv`).
 //!
 //! A line has a type, an input in hexadecimal, and what the codec has to make of it: `value N`, where a spelling of N
-//! bytes is a front of the input, and the value written again gives these bytes; or a fault and its place.
-//! Prints the number of vectors of each type, and before it each vector that goes otherwise. Behind these come the bytes
-//! of values that are built by the names of their fields.
+//! bytes is a front of the input, and the value written again gives these bytes; or a fault and its place. Prints the
+//! number of vectors of each type, and before it each vector that goes otherwise. Behind these come the bytes of
+//! values that are built by the names of their fields.
 //!
 //! The folder is the program's one argument, or `data` where there is none.
 #![tactic(auto)]

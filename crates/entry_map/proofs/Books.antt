@@ -203,7 +203,8 @@ taken_out m index k p h = has-without (offer_of (get m k)) index p
     ∙ ap (λ b. not (is_in p (offer_of (get m k))) && b) (h.each p)
     ∙ elim (eq_by_cmp key_cmp (key_at p) k) as (λ b. eq_by_cmp key_cmp (key_at p) k ≡ b
     → (not (is_in p (offer_of (get m k))) && stands m p) ≡ cond b false (stands m p)) [
-      | true ↦ λ e. ap (λ q. not (is_in p (offer_of (get m k))) && is_in p (offer_of (get m q))) (same_keys (key_at p) k e)
+      | true ↦ λ e. ap (λ q. not (is_in p (offer_of (get m k))) && is_in p (offer_of (get m q)))
+          (same_keys (key_at p) k e)
           ∙ never (is_in p (offer_of (get m k)))
       | false ↦ λ e. ap (λ b. not b && stands m p) (apart_from p k (get m k) (h.keyed k) e)
     ] refl

@@ -111,7 +111,8 @@ pub index_new : (m : EntryMap) (index new : PlaceSet) (e : LedgerEntry) (o : Off
     → get m (key_of e) ≡ None → offer_in e.body ≡ Some o → IsNarrow o.price → new ≡ insert index (place_of o) tt
     → IsIndexOf (put m e) new
 index_new m index new e o h none is narrow made = subst (IsIndexOf (put m e)) (sym made)
-    (subst (λ (old : Option LedgerEntry). IsIndexOf (put m e) (insert (without (offer_of old) index) (place_of o) tt)) none
+    (subst (λ (old : Option LedgerEntry).
+    IsIndexOf (put m e) (insert (without (offer_of old) index) (place_of o) tt)) none
     (index_put m index e o h is narrow))
 
 -- ---- the entries of a whole list
@@ -127,7 +128,8 @@ not_some None h = refl
 not_some (Some x) h = absurd (cc)
 
 pub not_there : (e : LedgerEntry) (rest : List LedgerEntry)
-    → IsDistinct (eq_by_cmp key_cmp) (map key_of (e ∷ rest)) → get {R = key_cmp} (from_entries (map with_key rest)) (key_of e) ≡ None
+    → IsDistinct (eq_by_cmp key_cmp) (map key_of (e ∷ rest))
+    → get {R = key_cmp} (from_entries (map with_key rest)) (key_of e) ≡ None
 unfolding IsDistinct
 not_there e rest h = get-from_entries keys_total (map with_key rest) (key_of e)
     ∙ not_some _ (is_some-find key_cmp (key_of e) (map with_key rest)

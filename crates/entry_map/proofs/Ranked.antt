@@ -1,5 +1,6 @@
 -- The first offer of a book behind a place is the one whose place comes next.
-use Rattle.std.proofs.Common.{◌≡◌, ◌≢◌, refl, sym, ap, subst, ◌∙◌, ℤ, Bool, true, false, cond, ◌||◌, ◌&&◌, List, [], ◌∷◌}
+use Rattle.std.proofs.Common.{◌≡◌, ◌≢◌, refl, sym, ap, subst, ◌∙◌, ℤ, Bool, true, false, cond, ◌||◌, ◌&&◌, List, []}
+use Rattle.std.proofs.Common.{◌∷◌}
 use Rattle.std.proofs.Common.{All, Option, Some, None, IfSome, option_map}
 use Rattle.std.specs.Prelude.{if◌then◌else◌}
 use Rattle.std.specs.List.{filter, list_any}
@@ -7,13 +8,15 @@ use Rattle.std.specs.declared.cmp.Ordering.{Ordering}
 use Rattle.std.specs.declared.cmp.Ordering.TheVariants.{Less, Equal, Greater}
 use Rattle.std.specs.Ordering.{is_lt, is_eq, ordering_reverse}
 use Rattle.std.specs.Cmp.{tied_itself}
-use Rattle.std.proofs.lemmas.List.Elements.{All-nil, All-cons, All-head, All-tail, All-weaker, All-filter, filter_passes}
+use Rattle.std.proofs.lemmas.List.Elements.{All-nil, All-cons, All-head, All-tail, All-weaker, All-filter}
+use Rattle.std.proofs.lemmas.List.Elements.{filter_passes}
 use Rattle.ledger_types.specs.declared.asset.Asset.{Asset}
 use Rattle.ledger_types.specs.declared.price.Price.{Price}
 use Rattle.ledger_types.specs.declared.offer.OfferEntry.{OfferEntry}
 use Rattle.entry_map.specs.declared.place.Place.{Place}
 use Rattle.ledger_types.specs.Prices.{IsPriced}
-use Rattle.entry_map.specs.Book.{AreApart, AreSound, goes_before, placed, ranked, is_of_pair, book_in, head, left_behind, next_in}
+use Rattle.entry_map.specs.Book.{AreApart, AreSound, goes_before, placed, ranked, is_of_pair, book_in, head}
+use Rattle.entry_map.specs.Book.{left_behind, next_in}
 use Rattle.entry_map.specs.Places.{IsNarrow, place_of, start_of, name_at}
 use Rattle.entry_map.specs.Indexes.{PlaceSet, has, is_at, is_taken, AreNarrow, IsNextOfPair, IsLastOfPair, name_of}
 use Rattle.entry_map.proofs.Places.{order, order_total, same_place}
@@ -29,7 +32,8 @@ less Equal h = absurd (cc)
 less Greater h = absurd (cc)
 
 turned : (a b : Place) → order a b ≢ Equal → is_lt (order a b) ≡ false → order b a ≡ Less
-turned a b untied h = order_total.antisymm b a ∙ ap ordering_reverse (elim (order a b) as (λ o. o ≢ Equal → is_lt o ≡ false
+turned a b untied h = order_total.antisymm b a
+    ∙ ap ordering_reverse (elim (order a b) as (λ o. o ≢ Equal → is_lt o ≡ false
     → o ≡ Greater) [
       | Less ↦ λ u e. absurd (cc)
       | Equal ↦ λ u e. absurd (u refl)
@@ -115,7 +119,8 @@ Rises (o ∷ os) = All (λ x. order (place_of o) (place_of x) ≡ Less) os × Ri
 abbrev Below : OfferEntry → OfferEntry → Type 0
 Below o x = order (place_of o) (place_of x) ≡ Less
 
-rises_by : (t : Bool) (o first : OfferEntry) (others : List OfferEntry) → Rises (first ∷ others) → goes_before o first ≡ t
+rises_by : (t : Bool) (o first : OfferEntry) (others : List OfferEntry) → Rises (first ∷ others)
+    → goes_before o first ≡ t
     → IsTold o first → Rises (placed o others)
     → Rises (if t then o ∷ first ∷ others else first ∷ placed o others)
 rises_by true o first others rises t is later =
@@ -255,7 +260,8 @@ module _ (places : PlaceSet) (os : List OfferEntry) (each : (p : Place) → has 
   )
 
   left_ahead : All IsAhead left
-  left_ahead = All-weaker (λ o. (is_taken os (place_of o) ≡ true) × (IsOne o × (behind after o ≡ true))) IsAhead ahead left
+  left_ahead = All-weaker (λ o. (is_taken os (place_of o) ≡ true)
+      × (IsOne o × (behind after o ≡ true))) IsAhead ahead left
       (both_all (λ o. is_taken os (place_of o) ≡ true) (λ o. IsOne o × (behind after o ≡ true)) left
       (of_left (λ o. is_taken os (place_of o) ≡ true) (each_taken os))
       (both_all IsOne (λ o. behind after o ≡ true) left left_of_book (filter_passes (behind after) (ranked of_pair))))

@@ -109,7 +109,8 @@ start_buying selling buying (Some (price, id)) = refl
 pub behind_start : (selling buying : Asset) (after : Option (Price × ℤ)) (o : OfferEntry) → o.selling ≡ selling
     → o.buying ≡ buying → IsPlaceRanked after → IsRanked o.price
     → is_lt (order (start_of selling buying after) (place_of o)) ≡ behind after o
-behind_start selling buying None o s b h r = ap is_lt (in_pair (start_of selling buying None) (place_of o) (sym s) (sym b)
+behind_start selling buying None o s b h r =
+    ap is_lt (in_pair (start_of selling buying None) (place_of o) (sym s) (sym b)
     ∙ ap (λ (x : Ordering). ordering_then x (ordering_then (int_cmp (pos 0) o.offer_id)
     (ordering_then (bool_cmp false false) (account_cmp no_seller o.seller_id)))) (lowest o.price))
 behind_start selling buying (Some (price, id)) o s b h r =
@@ -127,7 +128,8 @@ pub told : (a b : OfferEntry) → a.selling ≡ b.selling → a.buying ≡ b.buy
     → a.offer_id ≢ b.offer_id → IsTold a b
 told a b s y p q apart =
     let untied : int_cmp a.offer_id b.offer_id ≢ Equal = λ e. apart (int_cmp-IsAntisymmetric a.offer_id b.offer_id e) in
-    let is : order (place_of a) (place_of b) ≡ ordering_then (price_cmp a.price b.price) (int_cmp a.offer_id b.offer_id) =
+    let is : order (place_of a) (place_of b)
+    ≡ ordering_then (price_cmp a.price b.price) (int_cmp a.offer_id b.offer_id) =
     in_pair (place_of a) (place_of b) s y
     ∙ apart_ids (nat_cmp (rank a.price) (rank b.price)) (int_cmp a.offer_id b.offer_id) _ untied
     ∙ ap (λ x. ordering_then x (int_cmp a.offer_id b.offer_id)) (sym (rank_cmp a.price b.price p q)) in

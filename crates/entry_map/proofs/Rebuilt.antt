@@ -1,5 +1,6 @@
 -- The index behind a batch is that of the offers behind it.
-use Rattle.std.proofs.Common.{◌≡◌, refl, sym, ap, subst, ◌∙◌, Bool, true, false, cond, not, ◌||◌, ◌&&◌, List, [], ◌∷◌, ◌++◌}
+use Rattle.std.proofs.Common.{◌≡◌, refl, sym, ap, subst, ◌∙◌, Bool, true, false, cond, not, ◌||◌, ◌&&◌, List, [], ◌∷◌}
+use Rattle.std.proofs.Common.{◌++◌}
 use Rattle.std.specs.List.{filter}
 use Rattle.std.proofs.lemmas.List.Folds.{list_any-append}
 use Rattle.ledger_types.specs.declared.offer.OfferEntry.{OfferEntry}
@@ -76,7 +77,8 @@ rebuilt offers before batch first left made index is replaced l m i = same_set i
     i p ∙ ap (λ b. is_taken (offers_in batch.live) p || b) (m p ∙ ap (λ b. is_taken (offers_in batch.init) p || b) gone)
     ∙ turned (is_taken (offers_in batch.live) p) (is_taken (offers_in batch.init) p) _
     ∙ sym (has-index_of (offers_behind offers batch) p
-    ∙ list_any-append (is_at p) (filter (λ o. not (is_old batch o)) offers) (offers_in batch.init ++ offers_in batch.live)
+    ∙ list_any-append (is_at p) (filter (λ o. not (is_old batch o)) offers)
+    (offers_in batch.init ++ offers_in batch.live)
     ∙ ap (λ b. is_taken (filter (λ o. not (is_old batch o)) offers) p || b)
     (list_any-append (is_at p) (offers_in batch.init) (offers_in batch.live))))
 

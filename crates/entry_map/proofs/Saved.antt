@@ -1,5 +1,6 @@
 -- The indexes that are kept for undoing.
-use Rattle.std.proofs.Common.{◌≡◌, ◌≢◌, refl, sym, ap, subst, ◌∙◌, arith, ℕ, ◌+◌, List, [], ◌∷◌, ◌++◌, length, ◌-◌, take, length-append}
+use Rattle.std.proofs.Common.{◌≡◌, ◌≢◌, refl, sym, ap, subst, ◌∙◌, arith, ℕ, ◌+◌, List, [], ◌∷◌, ◌++◌, length, ◌-◌}
+use Rattle.std.proofs.Common.{take, length-append}
 use Rattle.entry_map.specs.EntryMap.{EntryMap}
 use Rattle.entry_map.specs.Undo.{Undo, IsOpen, opened, kept}
 use Rattle.entry_map.specs.Indexes.{PlaceSet, IsIndexOf, IsIndexed, AreIndexes}
@@ -8,7 +9,8 @@ front : {X : Type 0} (xs ys : List X) → take (length xs) (xs ++ ys) ≡ xs
 front [] ys = refl
 front (x ∷ xs) ys = ap (λ r. x ∷ r) (front xs ys)
 
-all_but_last : {X : Type 0} (older saved : List X) (x : X) → saved ≡ older ++ x ∷ [] → take (length saved - 1) saved ≡ older
+all_but_last : {X : Type 0} (older saved : List X) (x : X) → saved ≡ older ++ x ∷ []
+    → take (length saved - 1) saved ≡ older
 all_but_last older saved x is = ap (λ s. take (length s - 1) s) is
     ∙ ap (λ n. take n (older ++ x ∷ [])) (one_less (length (older ++ x ∷ [])) (length-append older (x ∷ [])))
     ∙ front older (x ∷ [])
@@ -30,10 +32,12 @@ committed : (current base : EntryMap) (maps : List EntryMap) (index : PlaceSet) 
 committed current base [] index saved fewer h some is = absurd (some refl)
 committed current base (m ∷ ms) index saved fewer h some is = record {
   now = h.now;
-  earlier = subst (AreIndexes ms) (sym (is ∙ all_but_last h.earlier.0 saved h.earlier.1.0 h.earlier.1.1.0)) h.earlier.1.1.1.1;
+  earlier = subst (AreIndexes ms) (sym (is ∙ all_but_last h.earlier.0 saved h.earlier.1.0 h.earlier.1.1.0))
+      h.earlier.1.1.1.1;
 }
 
-pub kept_saved : (u was new : Undo) (index : PlaceSet) (saved fewer : List PlaceSet) → IsIndexed u index saved → IsOpen was
+pub kept_saved : (u was new : Undo) (index : PlaceSet) (saved fewer : List PlaceSet)
+    → IsIndexed u index saved → IsOpen was
     → u ≡ was → fewer ≡ take (length saved - 1) saved → new ≡ kept u → IsIndexed new index fewer
 kept_saved u was new index saved fewer h some same is is_new = subst (λ w. IsIndexed w index fewer) (sym is_new)
     (committed u.current u.base u.saved index saved fewer h (λ e. some (ap (λ (w : Undo). w.saved) (sym same) ∙ e)) is)

@@ -58,7 +58,8 @@ row_empty = same_map order_total order_exact _ _ (λ q. get-from_sorted order []
 row_put : (row : Row) (p : Place) → IsRising order row
     → from_sorted {R = order} (changed order p (Some tt) row) ≡ insert (from_sorted row) p tt
 row_put row p h = same_map order_total order_exact _ _ (λ q.
-    get-from_sorted order _ q (rising_changed order_total p (Some tt) row h) ∙ find_changed order_total q p (Some tt) row h
+    get-from_sorted order _ q (rising_changed order_total p (Some tt) row h)
+    ∙ find_changed order_total q p (Some tt) row h
     ∙ ap (cond (eq_by_cmp order q p) (Some tt)) (sym (get-from_sorted order row q h))
     ∙ sym (get-insert order_total (from_sorted row) p tt q))
 

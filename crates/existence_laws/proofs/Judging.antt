@@ -56,7 +56,7 @@ built_line other = inl tt
 built_body : (b : LedgerEntryBody) → Decided (IsBuiltBody b)
 built_body (body.Account account) = inl tt
 built_body (body.TrustLine held) = built_line held.asset
-built_body (body.Offer offer) = inr (λ h. h)
+built_body (body.Offer offer) = inl tt
 built_body (body.Data entry) = inl tt
 built_body (body.ClaimableBalance balance) = inl tt
 built_body (body.LiquidityPool pool) = inr (λ h. h)

@@ -5,6 +5,7 @@ use Rattle.std.specs.declared.cmp.Ordering.{Ordering}
 use Rattle.std.specs.declared.cmp.Ordering.TheVariants.{Less, Equal, Greater}
 use Rattle.ledger_types.specs.contracts.ids.AccountId as account_id
 use Rattle.ledger_types.specs.contracts.signer.SignerKey as signer_key
+use Rattle.ledger_types.specs.contracts.asset.Asset as an_asset
 use Rattle.ledger_types.specs.declared.ids.AccountId.{AccountId}
 use Rattle.ledger_types.specs.declared.asset.TrustLineAsset.{TrustLineAsset}
 use Rattle.ledger_types.specs.declared.asset.TrustLineAsset.TheVariants as line
@@ -12,6 +13,7 @@ use Rattle.ledger_types.specs.declared.signer.Signer.{Signer}
 use Rattle.ledger_types.specs.declared.signer.SignerKey.TheVariants as signer
 use Rattle.ledger_types.specs.declared.account.AccountEntry.{AccountEntry}
 use Rattle.ledger_types.specs.declared.trust_line.TrustLineEntry.{TrustLineEntry}
+use Rattle.ledger_types.specs.declared.offer.OfferEntry.{OfferEntry}
 use Rattle.ledger_types.specs.declared.data_entry.DataEntry.{DataEntry}
 use Rattle.ledger_types.specs.declared.claimable_balance.Claimant.{Claimant}
 use Rattle.ledger_types.specs.declared.claimable_balance.ClaimableBalanceEntry.{ClaimableBalanceEntry}
@@ -27,8 +29,10 @@ use Rattle.entry_slots.specs.LineExtensions.{line_liabilities, use_count}
 use Rattle.entry_slots.specs.EntrySponsor.{sponsor_of}
 use Rattle.reserve_rules.specs.Reserve.{greatest_i64, IsInRange, IsLineInRange}
 use Rattle.sponsor_rules.specs.Charge.{owner_of}
+use Rattle.legal_rules.specs.OfferLiabilities.{bound_of}
 use Rattle.legal_rules.specs.Ranges.{has_flag, AreAccountFlags, AreSignersInRange, IsAccountInRange, IsHeldIn}
-use Rattle.legal_rules.specs.Ranges.{AreLineFlags, IsTrustLineInRange, IsDataInRange, balance_flags}
+use Rattle.legal_rules.specs.Ranges.{AreLineFlags, IsTrustLineInRange, IsOfferInRange, IsDataInRange}
+use Rattle.legal_rules.specs.Ranges.{balance_flags}
 use Rattle.legal_rules.specs.Ranges.{AreClaimantsInRange, IsBalanceInRange, IsBodyInRange, IsPaidRightly}
 use Rattle.legal_rules.specs.Ranges.{IsEntryInRange}
 use Rattle.close_rules.specs.State.{IsBuiltBody}
@@ -102,7 +106,7 @@ account_in_range a =
     (both (balance_in_range a) (both (below_int (pos 0) a.seq_num) (both (below_int a.seq_num greatest_i64)
     (both (account_flags a.flags) (both (is_true (is_valid_text a.home_domain)) (signers_in_range a))))))
 
--- ---- trust lines and data
+-- ---- trust lines, offers and data
 
 line_range : (t : TrustLineEntry) → Decided (IsLineInRange t)
 line_range t =
@@ -139,6 +143,55 @@ line_in_range t =
     (both (line_range t) (both (below_int (pos 1) t.limit) (both (below_int t.limit greatest_i64)
     (both (held_in t.account_id t.asset) (both (line_flags t.asset t.flags) (below_int (pos 0) (use_count t)))))))
 
+offer_in_range : (id_pool : ℕ) (o : OfferEntry) → Decided (IsOfferInRange id_pool o)
+offer_in_range id_pool o =
+    decided_as (λ h. record {
+      amount = h.0;
+      n = h.1.0;
+      d = h.1.1.0;
+      wheat = h.1.1.1.0;
+      sheep = h.1.1.1.1.0;
+      id_low = h.1.1.1.1.1.0;
+      id_high = h.1.1.1.1.1.1.0;
+      selling = h.1.1.1.1.1.1.1.0;
+      buying = h.1.1.1.1.1.1.1.1.0;
+      assets = h.1.1.1.1.1.1.1.1.1.0;
+      flags = h.1.1.1.1.1.1.1.1.1.1;
+    })
+    (λ r. (
+      r.amount,
+      (
+        r.n,
+        (
+          r.d,
+          (
+            r.wheat,
+            (
+              r.sheep,
+              (
+                r.id_low,
+                (
+                  r.id_high,
+                  (
+                    r.selling,
+                    (
+                      r.buying,
+                      (r.assets, r.flags),
+                    ),
+                  ),
+                ),
+              ),
+            ),
+          ),
+        ),
+      ),
+    ))
+    (both (below_int (pos 1) o.amount) (both (below_int (pos 1) o.price.n) (both (below_int (pos 1) o.price.d)
+    (both (below 1 (bound_of o).wheat) (both (below 1 (bound_of o).sheep) (both (below_int (pos 1) o.offer_id)
+    (both (below_int o.offer_id (pos id_pool)) (both (is_true (is_valid_asset o.selling))
+    (both (is_true (is_valid_asset o.buying)) (both (opposite (same_value an_asset.the_row.coded o.selling o.buying))
+    (below o.flags 1)))))))))))
+
 data_in_range : (entry : DataEntry) → Decided (IsDataInRange entry)
 data_in_range entry =
     decided_as (λ h. record { some = h.0; name = h.1 }) (λ r. (r.some, r.name))
@@ -169,7 +222,7 @@ balance_stands balance =
 body_in_range : (id_pool : ℕ) (b : LedgerEntryBody) → IsBuiltBody b → Decided (IsBodyInRange id_pool b)
 body_in_range id_pool (body.Account account) built = account_in_range account
 body_in_range id_pool (body.TrustLine line) built = line_in_range line
-body_in_range id_pool (body.Offer offer) built = absurd built
+body_in_range id_pool (body.Offer offer) built = offer_in_range id_pool offer
 body_in_range id_pool (body.Data entry) built = data_in_range entry
 body_in_range id_pool (body.ClaimableBalance balance) built = balance_stands balance
 body_in_range id_pool (body.LiquidityPool pool) built = absurd built

@@ -1,34 +1,43 @@
 -- The first rule of entries that is broken, where all entries are built.
 use Rattle.std.proofs.Common.{◌≢◌, inl, inr, pos, List, [], ◌∷◌, Option, Some, None, All, IfSome, refl, sym, ap, ◌∙◌}
-use Rattle.std.proofs.Common.{◌+◌}
-use Rattle.std.specs.Prelude.{◌+ℤ◌}
+use Rattle.std.proofs.Common.{◌≡◌, subst, ◌+◌, ◌%◌, ◌++◌, true, false, arith}
+use Rattle.std.proofs.lemmas.Int.{ints}
+use Rattle.std.specs.Prelude.{ℤ, ◌+ℤ◌, ◌≤ℤ◌, if◌then◌else◌}
+use Rattle.std.specs.Ordering.{is_eq, int_cmp}
 use Rattle.std.specs.FinMap.{get}
 use Rattle.ledger_types.specs.declared.asset.Asset.TheVariants as asset
+use Rattle.ledger_types.specs.declared.trust_line.TrustLineEntry.{TrustLineEntry}
 use Rattle.ledger_types.specs.declared.header.LedgerHeader.{LedgerHeader}
 use Rattle.ledger_types.specs.declared.entry.LedgerEntryBody.{LedgerEntryBody}
 use Rattle.ledger_types.specs.declared.entry.LedgerEntryBody.TheVariants as body
 use Rattle.ledger_types.specs.Keys.{key_of}
 use Rattle.entry_map.specs.EntryMap.{EntryMap, IsKeyed}
 use Rattle.entry_slots.specs.AccountExtensions.{num_sponsoring}
-use Rattle.entry_sums.specs.Sums.{total}
-use Rattle.legal_rules.specs.Books.{Selling, Buying, Uses, counted, stated, stated_at}
+use Rattle.entry_slots.specs.Lines.{line_of}
+use Rattle.entry_sums.specs.Sums.{total, EachEntry}
+use Rattle.entry_sums.proofs.Summing.{total_none}
+use Rattle.legal_rules.specs.Books.{Uses, counted, stated, stated_at}
 use Rattle.legal_rules.specs.Bounds.{AreSubentriesFew, DoReservesFit}
-use Rattle.legal_rules.specs.Legal.{view, pools_in, IsBooked}
-use Rattle.legal_rules.specs.Needs.{needed_keys}
+use Rattle.legal_rules.specs.Legal.{view, pools_in, IsBooked, IsAuthorized, AreLinesAuthorized}
+use Rattle.legal_rules.specs.Needs.{keys_in, needed_keys}
+use Rattle.legal_rules.specs.OfferIds.{offer_with_in, offer_with, AreOffersApart}
 use Rattle.legal_rules.specs.Ranges.{IsEntryInRange}
 use Rattle.legal_rules.specs.Supply.{held}
+use Rattle.legal_rules.specs.Trades.{holder}
 use Rattle.close_rules.specs.declared.image_fault.ImageRule.{ImageRule}
 use Rattle.close_rules.specs.declared.image_fault.ImageRule.TheVariants as rule
 use Rattle.close_rules.specs.State.{AreBuilt}
 use Rattle.close_rules.specs.EntryRules.{AreInRange, AreOwned, AreLiable, AreSubentriesCounted, AreSponsorsCounted}
 use Rattle.close_rules.specs.EntryRules.{ArePoolsCounted, AreLumensCounted, Keeps, entry_rules, IsFirstBroken}
-use Rattle.image_rules.specs.declared.books.AccountBook.{AccountBook}
-use Rattle.image_rules.specs.declared.books.AccountBook.TheVariants as book
-use Rattle.image_rules.specs.AccountBooks.{kind_of}
-use Rattle.image_rules.specs.EntryTests.{IsUnbound, IsUnused}
+use Rattle.image_rules.specs.declared.books.Book.{Book}
+use Rattle.image_rules.specs.declared.books.Book.TheVariants as book
+use Rattle.image_rules.specs.Books.{kind_of}
+use Rattle.image_rules.specs.EntryTests.{IsUnused}
 use Rattle.image_rules.proofs.Booked.{IsRight, keyed_each, booked_of_right}
-use Rattle.image_rules.proofs.Bounded.{liable_of, unbound_of, pools_counted, unused_of, offers_apart, in_range_of}
-use Rattle.existence_laws.proofs.Decided.{Decided, decided_as, both, below, same_int, each}
+use Rattle.image_rules.proofs.Bounded.{pools_counted, unused_of}
+use Rattle.image_rules.proofs.Distinct.{same_id}
+use Rattle.existence_laws.proofs.Decided.{Decided, decided_as, both, opposite, below, below_int, same_number, same_int}
+use Rattle.existence_laws.proofs.Decided.{each}
 use Rattle.existence_laws.proofs.Entries.{each_entry, stands}
 use Rattle.existence_laws.proofs.Ranges.{in_range}
 
@@ -42,32 +51,75 @@ fitting : (b : LedgerEntryBody) → Decided (DoReservesFit b)
 fitting (body.Account account) = below (account.num_sub_entries + num_sponsoring account) 4294967295
 fitting other = inl tt
 
-unbound : (b : LedgerEntryBody) → Decided (IsUnbound b)
-unbound b =
-    decided_as (λ h. record { selling = h.0; buying = h.1 }) (λ r. (r.selling, r.buying))
-    (both (same_int (stated Selling b) (pos 0)) (same_int (stated Buying b) (pos 0)))
+-- ---- offers
+
+authorized_line : (found : Option TrustLineEntry) → Decided (IsAuthorized found)
+authorized_line None = inl tt
+authorized_line (Some held) = opposite (same_number (held.flags % 4) 0)
+
+authorized : (m : EntryMap) (b : LedgerEntryBody) → Decided (AreLinesAuthorized m b)
+authorized m (body.Offer offer) =
+    each (λ k. IsAuthorized (line_of (get m k)))
+    (keys_in (holder offer.seller_id offer.selling) ++ keys_in (holder offer.seller_id offer.buying))
+    (λ k. authorized_line (line_of (get m k)))
+authorized m other = inl tt
+
+-- no offer but one has the id of this one
+abbrev IsApart : EntryMap → LedgerEntryBody → Type 0
+IsApart m (body.Offer offer) = total (offer_with offer.offer_id) m ≤ℤ pos 1
+IsApart m other = Unit {0}
+
+one_apart : (m : EntryMap) (b : LedgerEntryBody) → Decided (IsApart m b)
+one_apart m (body.Offer offer) = below_int (total (offer_with offer.offer_id) m) (pos 1)
+one_apart m other = inl tt
+
+low_none : (x : ℤ) → x ≡ pos 0 → x ≤ℤ pos 1
+low_none x none = omega (arith, ints)
+
+-- an id that more than one offer had would be that of an offer which isn't apart
+no_id : (m : EntryMap) (id : ℤ) (b : LedgerEntryBody) → (total (offer_with id) m ≤ℤ pos 1 → ⊥) → IsApart m b
+    → offer_with_in id b ≡ pos 0
+no_id m id (body.Offer offer) many apart = elim (is_eq (int_cmp offer.offer_id id)) as
+    (λ t. is_eq (int_cmp offer.offer_id id) ≡ t → (if t then pos 1 else pos 0) ≡ pos 0) [
+      | true ↦ λ same. absurd (many (subst (λ (x : ℤ). total (offer_with x) m ≤ℤ pos 1)
+          (same_id offer.offer_id id same) apart))
+      | false ↦ λ other. refl
+    ] refl
+no_id m id other many apart = refl
+
+all_apart : (m : EntryMap) → EachEntry (λ k e. IsApart m e.body) m → AreOffersApart m
+all_apart m apart id = elim (below_int (total (offer_with id) m) (pos 1)) [
+  | inl few ↦ few
+  | inr many ↦ low_none (total (offer_with id) m)
+      (total_none (offer_with id) m (λ k e there. no_id m id e.body many (apart k e there)))
+]
+
+each_apart : (m : EntryMap) (b : LedgerEntryBody) → AreOffersApart m → IsApart m b
+each_apart m (body.Offer offer) apart = apart offer.offer_id
+each_apart m other apart = tt
+
+offers_apart : (m : EntryMap) → Decided (AreOffersApart m)
+offers_apart m =
+    decided_as (all_apart m) (λ apart k e there. each_apart m e.body apart)
+    (each_entry (λ k e. IsApart m e.body) m (λ k e there. one_apart m e.body))
 
 -- ---- each rule, where all entries are built
 
 module _ (h : LedgerHeader) (m : EntryMap) (keyed : IsKeyed m) (built : AreBuilt m) where
   entries_in_range : Decided (AreInRange h m)
   entries_in_range =
-      decided_as (λ entries. in_range_of m built h entries) (λ r. r.entries)
-      (each_entry (λ k e. IsEntryInRange h.id_pool e) m (λ k e there. in_range h.id_pool e (built k e there)))
+      decided_as (λ both. record { entries = both.0; authorized = both.1 }) (λ r. (r.entries, r.authorized))
+      (both (each_entry (λ k e. IsEntryInRange h.id_pool e) m (λ k e there. in_range h.id_pool e (built k e there)))
+      (each_entry (λ k e. AreLinesAuthorized m e.body) m (λ k e there. authorized m e.body)))
 
   owned : Decided (AreOwned m)
   owned =
-      decided_as (λ standing. record { standing = standing; offers = offers_apart m built }) (λ r. r.standing)
-      (each_entry (λ k e. All (λ q. get m q ≢ None) (needed_keys (pools_in m) e)) m
-      (λ k e there. each (λ q. get m q ≢ None) (needed_keys (pools_in m) e) (λ q. stands m q)))
+      decided_as (λ both. record { standing = both.0; offers = both.1 }) (λ r. (r.standing, r.offers))
+      (both (each_entry (λ k e. All (λ q. get m q ≢ None) (needed_keys (pools_in m) e)) m
+      (λ k e there. each (λ q. get m q ≢ None) (needed_keys (pools_in m) e) (λ q. stands m q))) (offers_apart m))
 
-  liable : Decided (AreLiable m)
-  liable =
-      decided_as (λ each. liable_of m built each) (λ r. unbound_of m built r)
-      (each_entry (λ k e. IsUnbound e.body) m (λ k e there. unbound e.body))
-
-  -- where owners and sponsors stand, books are decided by the entries that state them
-  booked : AreOwned m → (which : AccountBook) → Decided (IsBooked (kind_of which) m)
+  -- where owners, sponsors and holders stand, books are decided by the entries that state them
+  booked : AreOwned m → (which : Book) → Decided (IsBooked (kind_of which) m)
   booked stand which =
       decided_as (λ right. booked_of_right which m stand (λ k e there. (keyed, right k e there)))
       (λ (all : IsBooked (kind_of which) m) k e there.
@@ -75,6 +127,11 @@ module _ (h : LedgerHeader) (m : EntryMap) (keyed : IsKeyed m) (built : AreBuilt
       (each_entry (λ k e. IsRight which m e) m
       (λ k e there. same_int (stated (kind_of which) e.body)
       (total (counted (view m) (kind_of which) (key_of e)) m)))
+
+  liable : AreOwned m → Decided (AreLiable m)
+  liable stand =
+      decided_as (λ both. record { selling = both.0; buying = both.1 }) (λ r. (r.selling, r.buying))
+      (both (booked stand book.Selling) (booked stand book.Buying))
 
   subentries : AreOwned m → Decided (AreSubentriesCounted m)
   subentries stand =
@@ -144,7 +201,7 @@ pub first_of : (h : LedgerHeader) (m : EntryMap) → IsKeyed m → AreBuilt m �
 first_of h m keyed built =
     first_or h m rule.Entry from_owner tt (entries_in_range h m keyed built) (λ in_range.
     first_or h m rule.Owner from_liabilities tt (owned h m keyed built) (λ stand.
-    first_or h m rule.Liabilities from_subentries tt (liable h m keyed built) (λ bound.
+    first_or h m rule.Liabilities from_subentries tt (liable h m keyed built stand) (λ bound.
     first_or h m rule.Subentries from_sponsorship tt (subentries h m keyed built stand) (λ few.
     first_or h m rule.Sponsorship from_pools tt (sponsors h m keyed built stand) (λ paid.
     first_or h m rule.Pools from_lumens tt (pools h m keyed built) (λ used.

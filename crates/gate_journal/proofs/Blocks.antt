@@ -1,5 +1,6 @@
 -- Reading one block.
-use Rattle.std.proofs.Common.{◌≡◌, ℕ, ◌+◌, ◌<◌, ◌≤◌, List, [], ◌∷◌, ◌++◌, length, take, drop, get_or, sym, ◌∙◌, ap, subst, arith, length-append, take-append-drop}
+use Rattle.std.proofs.Common.{◌≡◌, ℕ, ◌+◌, ◌<◌, ◌≤◌, List, [], ◌∷◌, ◌++◌, length, take, drop, get_or, sym, ◌∙◌, ap}
+use Rattle.std.proofs.Common.{subst, arith, length-append, take-append-drop}
 use Rattle.std.proofs.lemmas.List.{drop-drop}
 use Rattle.std.proofs.lemmas.Nat.{be_bytes_4}
 use Rattle.std.specs.Int.{w32, from_be_bytes}
@@ -18,14 +19,16 @@ pub length_block : (bytes more : List ℕ) → length (block bytes ++ more) ≡ 
 length_block bytes more = omega (arith, length-append (block bytes) more)
 
 -- the length that a block begins with
-pub length_told : (bytes more rest head : List ℕ) → length bytes ≤ max_record → rest ≡ block bytes ++ more → head ≡ take 4 (drop 1 rest)
+pub length_told : (bytes more rest head : List ℕ) → length bytes ≤ max_record → rest ≡ block bytes ++ more
+    → head ≡ take 4 (drop 1 rest)
     → big_number 4 head ≡ length bytes
 length_told bytes more rest head short is front =
     let same : head ≡ big_bytes 4 (length bytes) = front ∙ ap (λ (l : List ℕ). take 4 (drop 1 l)) is in
     ap (big_number 4) same ∙ big_number-reads_back 4 (length bytes) [] (omega arith)
 
 pub too_short : (rest : List ℕ) → IsOpen rest → length rest < 5 → IsBroken rest
-too_short rest opened less = broken_by rest opened (λ bytes more short is. absurd (omega (arith, ap length is, length_block bytes more)))
+too_short rest opened less =
+    broken_by rest opened (λ bytes more short is. absurd (omega (arith, ap length is, length_block bytes more)))
 
 pub no_room : (rest head : List ℕ) (count : ℕ) → IsOpen rest → head ≡ take 4 (drop 1 rest) → count ≡ big_number 4 head
     → (count ≤ max_record → length rest < 5 + count) → IsBroken rest
@@ -33,7 +36,8 @@ no_room rest head count opened front counts less = broken_by rest opened (λ byt
     let same : count ≡ length bytes = counts ∙ length_told bytes more rest head short is front in
     absurd (omega (arith, less (omega (arith, same, short)), ap length is, length_block bytes more)))
 
-pub spelled_by : (head : List ℕ) (count : ℕ) → length head ≡ 4 → ((i : ℕ) → get_or head i 0 < 256) → count ≡ big_number 4 head
+pub spelled_by : (head : List ℕ) (count : ℕ) → length head ≡ 4 → ((i : ℕ) → get_or head i 0 < 256)
+    → count ≡ big_number 4 head
     → big_bytes 4 count ≡ head
 spelled_by head count four fits counts =
     let word : count ≡ from_be_bytes w32 head = counts ∙ omega arith in
@@ -48,7 +52,8 @@ head_stands rest head count opened back front =
     ∙ ap (λ (l : List ℕ). (1 ∷ big_bytes 4 count) ++ l) (drop-drop 4 1 rest)
 
 -- and by its bytes
-pub block_stands : (rest bytes : List ℕ) (count : ℕ) → rest ≡ (1 ∷ big_bytes 4 count) ++ drop 5 rest → length bytes ≡ count
+pub block_stands : (rest bytes : List ℕ) (count : ℕ) → rest ≡ (1 ∷ big_bytes 4 count) ++ drop 5 rest
+    → length bytes ≡ count
     → bytes ≡ take count (drop 5 rest) → rest ≡ block bytes ++ drop (5 + length bytes) rest
 block_stands rest bytes count head long front =
     head ∙ ap (λ (n : ℕ). (1 ∷ big_bytes 4 n) ++ drop 5 rest) (sym long)
@@ -59,8 +64,10 @@ block_stands rest bytes count head long front =
 
 -- a record was read, from a file that stayed as it was
 pub record_read : (at count : ℕ) (file mid late bytes : List ℕ) → mid ≡ file → late ≡ file
-    → drop at mid ≡ (1 ∷ big_bytes 4 count) ++ drop 5 (drop at mid) → length bytes ≡ count → bytes ≡ take count (drop (at + 5) late)
-    → count ≤ max_record → (length bytes ≤ max_record) × (drop at file ≡ block bytes ++ drop (5 + length bytes) (drop at file))
+    → drop at mid ≡ (1 ∷ big_bytes 4 count) ++ drop 5 (drop at mid) → length bytes ≡ count
+    → bytes ≡ take count (drop (at + 5) late)
+    → count ≤ max_record → (length bytes ≤ max_record)
+    × (drop at file ≡ block bytes ++ drop (5 + length bytes) (drop at file))
 record_read at count file mid late bytes first second head long read short =
     let there : drop at file ≡ (1 ∷ big_bytes 4 count) ++ drop 5 (drop at file)
     = subst (λ (l : List ℕ). drop at l ≡ (1 ∷ big_bytes 4 count) ++ drop 5 (drop at l)) first head in

@@ -1,5 +1,6 @@
 -- What a crash leaves at each moment of an append.
-use Rattle.std.proofs.Common.{◌≡◌, ℕ, ◌+◌, ◌≤◌, List, [], ◌∷◌, ◌++◌, length, drop, ◌∙◌, ap, subst, inl, inr, ◌⊎◌, arith, length-append, Result, Ok, Err, OnOk}
+use Rattle.std.proofs.Common.{◌≡◌, ℕ, ◌+◌, ◌≤◌, List, [], ◌∷◌, ◌++◌, length, drop, ◌∙◌, ap, subst, inl, inr, ◌⊎◌, arith}
+use Rattle.std.proofs.Common.{length-append, Result, Ok, Err, OnOk}
 use Rattle.outside.specs.Disk.{Image, Disk, Runs, InFile, Torn, Wrote, IsSafe}
 use Rattle.outside.proofs.Running.{onward}
 use Rattle.gate_journal.specs.Records.{max_record, blocks, IsShut, StandFirst, HasRecords, framed, Appended}
@@ -14,7 +15,8 @@ widen_since : {step wider : Image → Image → Type 0} (old new : Disk) (c : Im
 widen_since old new c t h (inl before) = inl before
 widen_since old new c t h (inr (d, may, s)) = inr (d, may, h d c may s)
 
-pub widened_from : {step wider : Image → Image → Type 0} (old new : Disk) → ((d e : Image) → old.may_leave d → step d e → wider d e)
+pub widened_from : {step wider : Image → Image → Type 0} (old new : Disk)
+    → ((d e : Image) → old.may_leave d → step d e → wider d e)
     → Runs step old new → Runs wider old new
 widened_from {step} {wider} old new h r = record {
   later = r.later;
@@ -26,7 +28,8 @@ widened_from {step} {wider} old new h r = record {
 abbrev Either : (file : ℕ) (records : List (List ℕ)) (bytes : List ℕ) → Image → Image → Type 0
 Either file records bytes = InFile file (λ _ c. HasEither records bytes c)
 
-pub first_write : (old new : Disk) (file end n : ℕ) (records : List (List ℕ)) (bytes : List ℕ) → Stands old file end records
+pub first_write : (old new : Disk) (file end n : ℕ) (records : List (List ℕ)) (bytes : List ℕ)
+    → Stands old file end records
     → Runs (InFile file (Torn (end + 1) n)) old new → Runs (Either file records bytes) old new
 first_write old new file end n records bytes stands r =
     widened_from {step = InFile file (Torn (end + 1) n)} {wider = Either file records bytes} old new
@@ -36,11 +39,14 @@ first_write old new file end n records bytes stands r =
       others = step.others;
     }) r
 
-pub both_writes : (old mid new : Disk) (file end : ℕ) (records : List (List ℕ)) (bytes behind : List ℕ) → length bytes ≤ max_record
+pub both_writes : (old mid new : Disk) (file end : ℕ) (records : List (List ℕ)) (bytes behind : List ℕ)
+    → length bytes ≤ max_record
     → end ≡ length (blocks records) → Staged records bytes behind (mid.reads file) → IsSafe mid
-    → Runs (Either file records bytes) old mid → Runs (InFile file (Torn end 1)) mid new → Runs (Either file records bytes) old new
+    → Runs (Either file records bytes) old mid → Runs (InFile file (Torn end 1)) mid new
+    → Runs (Either file records bytes) old new
 both_writes old mid new file end records bytes behind fits place stage safe first second =
-    onward {first = Either file records bytes} {second = InFile file (Torn end 1)} {both = Either file records bytes} old mid new
+    onward {first = Either file records bytes} {second = InFile file (Torn end 1)} {both =
+    Either file records bytes} old mid new
     (λ d e f may may_mid one two. record {
       here = torn_gate records bytes behind end (mid.reads file) (f file) fits place stage
           (subst (λ (image : Image). Torn end 1 (image file) (f file)) (safe e may_mid) two.here);
@@ -49,33 +55,40 @@ both_writes old mid new file end records bytes behind fits place stage safe firs
     (λ d e one. one) first second
 
 -- the gate behind the records is there
-reach_at : (file : List ℕ) (records : List (List ℕ)) (behind : List ℕ) (end : ℕ) → end ≡ length (blocks records) → StandFirst file records behind
+reach_at : (file : List ℕ) (records : List (List ℕ)) (behind : List ℕ) (end : ℕ) → end ≡ length (blocks records)
+    → StandFirst file records behind
     → IsShut behind → end + 1 ≤ length file
 reach_at file records [] end place first shut = absurd shut
-reach_at file records (gate ∷ rest) end place first shut = omega (arith, place, ap length first.cut, length-append (blocks records) (gate ∷ rest))
+reach_at file records (gate ∷ rest) end place first shut =
+    omega (arith, place, ap length first.cut, length-append (blocks records) (gate ∷ rest))
 
-pub reach : (file : List ℕ) (records : List (List ℕ)) (end : ℕ) → end ≡ length (blocks records) → HasRecords file records → end + 1 ≤ length file
+pub reach : (file : List ℕ) (records : List (List ℕ)) (end : ℕ) → end ≡ length (blocks records)
+    → HasRecords file records → end + 1 ≤ length file
 reach file records end place (behind, first, shut) = reach_at file records behind end place first shut
 
-pub reach_staged : (records : List (List ℕ)) (bytes behind mid : List ℕ) (end : ℕ) → end ≡ length (blocks records) → Staged records bytes behind mid
+pub reach_staged : (records : List (List ℕ)) (bytes behind mid : List ℕ) (end : ℕ) → end ≡ length (blocks records)
+    → Staged records bytes behind mid
     → end ≤ length mid
 reach_staged records bytes behind mid end place stage =
     omega (arith, place, ap length stage.whole, length-append (blocks records) (stage.gate ∷ (framed bytes ++ behind)))
 
 -- what the first write leaves
-pub staged_by : (old mid : Disk) (file end : ℕ) (records : List (List ℕ)) (bytes piece : List ℕ) → piece ≡ framed bytes → Stands old file end records
+pub staged_by : (old mid : Disk) (file end : ℕ) (records : List (List ℕ)) (bytes piece : List ℕ) → piece ≡ framed bytes
+    → Stands old file end records
     → InFile file (Wrote (end + 1) piece) old.reads mid.reads
     → Staged records bytes (drop (end + 1 + length (framed bytes)) (old.reads file)) (mid.reads file)
 staged_by old mid file end records bytes piece is stands wrote =
     staged records bytes end (old.reads file) (mid.reads file) stands.place stands.holds
     (subst (λ (l : List ℕ). Wrote (end + 1) l (old.reads file) (mid.reads file)) is wrote.here)
 
-pub appended_by : (old mid new : Disk) (file end : ℕ) (records : List (List ℕ)) (bytes piece : List ℕ) → Stands old file end records
+pub appended_by : (old mid new : Disk) (file end : ℕ) (records : List (List ℕ)) (bytes piece : List ℕ)
+    → Stands old file end records
     → Staged records bytes (drop (end + 1 + length (framed bytes)) (old.reads file)) (mid.reads file)
     → InFile file (Wrote (end + 1) piece) old.reads mid.reads → InFile file (Wrote end (1 ∷ [])) mid.reads new.reads
     → InFile file (Appended end bytes) old.reads new.reads
 appended_by old mid new file end records bytes piece stands stage first second = record {
-  here = appended records bytes end (old.reads file) (mid.reads file) (new.reads file) stands.place stands.holds stage second.here;
+  here = appended records bytes end (old.reads file) (mid.reads file)
+      (new.reads file) stands.place stands.holds stage second.here;
   others = λ k other. second.others k other ∙ first.others k other;
 }
 

@@ -1,5 +1,6 @@
 -- A file is cut into blocks and what stands behind them in one way.
-use Rattle.std.proofs.Common.{◌≡◌, ℕ, ◌≤◌, List, [], ◌∷◌, ◌++◌, length, get_or, take, drop, refl, sym, ◌∙◌, ap, arith, append_assoc, All}
+use Rattle.std.proofs.Common.{◌≡◌, ℕ, ◌≤◌, List, [], ◌∷◌, ◌++◌, length, get_or, take, drop, refl, sym, ◌∙◌, ap, arith}
+use Rattle.std.proofs.Common.{append_assoc, All}
 use Rattle.std.proofs.lemmas.List.{take_at, drop_at}
 use Rattle.std.proofs.lemmas.List.Elements.{All-head, All-tail}
 use Rattle.byteorder.specs.Endian.{big_number, big_bytes}
@@ -41,19 +42,22 @@ one_cut [] (s ∷ ss) x y small_r small_s end_x end_y e =
 one_cut (r ∷ rs) [] x y small_r small_s end_x end_y e =
     absurd (end_y r (blocks rs ++ x) (All-head IsSmall r rs small_r) (sym e ∙ append_assoc (block r) (blocks rs) x))
 one_cut (r ∷ rs) (s ∷ ss) x y small_r small_s end_x end_y e =
-    let apart = block_apart r s (blocks rs ++ x) (blocks ss ++ y) (All-head IsSmall r rs small_r) (All-head IsSmall s ss small_s)
+    let apart = block_apart r s (blocks rs ++ x) (blocks ss ++ y) (All-head IsSmall r rs small_r)
+    (All-head IsSmall s ss small_s)
     (sym (append_assoc (block r) (blocks rs) x) ∙ e ∙ append_assoc (block s) (blocks ss) y) in
     let rest = one_cut rs ss x y (All-tail IsSmall r rs small_r) (All-tail IsSmall s ss small_s) end_x end_y apart.1 in
     ((λ i. apart.0 i ∷ rest.0 i), rest.1)
 
 pub records_are_one : RecordsAreOne
 records_are_one file rs ss (x, first, shut_x) (y, second, shut_y) =
-    (one_cut rs ss x y first.short second.short (shut_is_end x shut_x) (shut_is_end y shut_y) (sym first.cut ∙ second.cut)).0
+    (one_cut rs ss x y first.short second.short (shut_is_end x shut_x) (shut_is_end y shut_y)
+    (sym first.cut ∙ second.cut)).0
 
 pub places_are_one : PlacesAreOne
 places_are_one file place other (rs, x, first, broken_x, at) (ss, y, second, broken_y, there) =
     at ∙ ap (λ (l : List (List ℕ)). length (blocks l))
-    ((one_cut rs ss x y first.short second.short (broken_is_end x broken_x) (broken_is_end y broken_y) (sym first.cut ∙ second.cut)).0) ∙ sym there
+    ((one_cut rs ss x y first.short second.short (broken_is_end x broken_x) (broken_is_end y broken_y) (sym first.cut
+    ∙ second.cut)).0) ∙ sym there
 
 shut_or_broken : (x y : List ℕ) → IsShut x → IsBroken y → x ≡ y → ⊥
 shut_or_broken [] y shut broken e = shut
@@ -63,4 +67,5 @@ shut_or_broken (gate ∷ x) (other ∷ y) shut broken e = shut (ap (λ (l : List
 pub never_both : NeverBoth
 never_both file rs place (x, first, shut) (ss, y, second, broken, at) =
     shut_or_broken x y shut broken
-    ((one_cut rs ss x y first.short second.short (shut_is_end x shut) (broken_is_end y broken) (sym first.cut ∙ second.cut)).1)
+    ((one_cut rs ss x y first.short second.short (shut_is_end x shut) (broken_is_end y broken) (sym first.cut
+    ∙ second.cut)).1)

@@ -52,6 +52,7 @@ IsMountFault before now other = ⊥
 -- what `mount` tells of what is read, which stays as it is but for a fault of the device
 abbrev pub Mounts : (file : ℕ) (old new : Disk) → Result (JournalState × List (List ℕ)) StoreFault → Type 0
 Mounts file old new (Ok m) = (new.reads ≡ old.reads) × (m.0.file ≡ file) × IsSettled m.0 new m.1
-Mounts file old new (Err (fault.BadStore bad place)) = (new.reads ≡ old.reads) × (bad ≡ file) × HasNoRecords (old.reads file) place
+Mounts file old new (Err (fault.BadStore bad place)) = (new.reads ≡ old.reads) × (bad ≡ file)
+    × HasNoRecords (old.reads file) place
 Mounts file old new (Err fault.NoMemory) = new.reads ≡ old.reads
 Mounts file old new (Err other) = Unit {0}

@@ -4,7 +4,8 @@ use Rattle.gate_journal.specs.Records.{HasRecords, HasNoRecords}
 
 -- a file is a journal of at most one list of records
 abbrev pub RecordsAreOne : Type 0
-RecordsAreOne = (file : List ℕ) (records others : List (List ℕ)) → HasRecords file records → HasRecords file others → records ≡ others
+RecordsAreOne = (file : List ℕ) (records others : List (List ℕ)) → HasRecords file records → HasRecords file others
+    → records ≡ others
 
 -- it is none for what stands at one place
 abbrev pub PlacesAreOne : Type 0
@@ -12,4 +13,5 @@ PlacesAreOne = (file : List ℕ) (place other : ℕ) → HasNoRecords file place
 
 -- and never both
 abbrev pub NeverBoth : Type 0
-NeverBoth = (file : List ℕ) (records : List (List ℕ)) (place : ℕ) → HasRecords file records → HasNoRecords file place → ⊥
+NeverBoth = (file : List ℕ) (records : List (List ℕ)) (place : ℕ) → HasRecords file records
+    → HasNoRecords file place → ⊥

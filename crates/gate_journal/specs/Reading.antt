@@ -1,5 +1,6 @@
 -- What is read of one record.
-use Rattle.std.specs.Prelude.{◌≡◌, ℕ, ◌+◌, ◌≤◌, List, ◌∷◌, ◌++◌, length, drop, Bool, true, false, Result, Ok, Err, Option, Some, None}
+use Rattle.std.specs.Prelude.{◌≡◌, ℕ, ◌+◌, ◌≤◌, List, ◌∷◌, ◌++◌, length, drop, Bool, true, false, Result, Ok, Err}
+use Rattle.std.specs.Prelude.{Option, Some, None}
 use Rattle.byteorder.specs.Endian.{big_bytes}
 use Rattle.gate_journal.specs.Records.{max_record, block, blocks, IsShut, IsBroken, HasRecords, HasNoRecords}
 use Rattle.gate_journal.specs.Calls.{IsMountFault}
@@ -39,7 +40,8 @@ TellsLength file place rest (Err wrong) = TellsBroken file place rest wrong
 -- of a record
 abbrev pub TellsRecord : (file place : ℕ) (rest : List ℕ) → Result (Option (List ℕ)) StoreFault → Type 0
 TellsRecord file place rest (Ok None) = IsShut rest
-TellsRecord file place rest (Ok (Some bytes)) = (length bytes ≤ max_record) × (rest ≡ block bytes ++ drop (5 + length bytes) rest)
+TellsRecord file place rest (Ok (Some bytes)) = (length bytes ≤ max_record)
+    × (rest ≡ block bytes ++ drop (5 + length bytes) rest)
 TellsRecord file place rest (Err wrong) = TellsBroken file place rest wrong
 
 -- of all records, up to the gate behind them

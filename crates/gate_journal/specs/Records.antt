@@ -1,5 +1,5 @@
--- What a file of records holds: blocks of a gate, a length of 32 bits and as many bytes, from place 0 on, while the gate is
--- open (1). Behind them stands one more gate, which isn't open; whatever stands behind that one is nothing.
+-- What a file of records holds: blocks of a gate, a length of 32 bits and as many bytes, from place 0 on, while the
+-- gate is open (1). Behind them stands one more gate, which isn't open; whatever stands behind that one is nothing.
 use Rattle.std.specs.Prelude.{◌≡◌, ◌≢◌, ℕ, ◌≤◌, List, [], ◌∷◌, ◌++◌, length, take, drop, ◌+◌, All, flat_map}
 use Rattle.byteorder.specs.Endian.{big_bytes}
 

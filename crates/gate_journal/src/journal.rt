@@ -25,7 +25,8 @@ ghost use Rattle.std.specs.Prelude.{
 ghost use Rattle.outside.specs.Streams.{HasCause, Rose};
 ghost use Rattle.outside.specs.Disk.{Image, Runs, Same, Stays, InFile, IsSafe};
 ghost use Rattle.gate_journal.specs.Records.{Appended, HasRecords};
-ghost use Rattle.gate_journal.specs.Calls.{Stands, IsSettled, HasEither, Anything, IsClearFault, IsAppendFault, IsMountFault, Mounts};
+ghost use Rattle.gate_journal.specs.Calls.{Stands, IsSettled, HasEither, Anything, IsClearFault, IsAppendFault};
+ghost use Rattle.gate_journal.specs.Calls.{IsMountFault, Mounts};
 ghost use Rattle.gate_journal.specs.declared.fault.StoreFault.TheVariants as fault;
 
 use crate::append_buf::AppendBuf;
@@ -82,8 +83,8 @@ fn append_at<V: Volume>(vol: &mut V, file: u8, end: u64, buf: &AppendBuf) -> Res
 }
 
 impl Journal {
-    /// Makes a file a journal without records: it is cut to 0 bytes, gets one closed gate, and is synced. The other files
-    /// are synced with it. It takes no memory, and fails with `DiskFault` alone.
+    /// Makes a file a journal without records: it is cut to 0 bytes, gets one closed gate, and is synced. The other
+    /// files are synced with it. It takes no memory, and fails with `DiskFault` alone.
     pub fn clear<V: Volume>(vol: &mut V, file: u8) -> Result<Journal, StoreFault>
         requires { file < 4 }
         ensures journal { IfOk result (λ j. j ≡ record { file = file; end = 0; failed = false }) }
@@ -109,9 +110,9 @@ impl Journal {
         }
     }
 
-    /// Opens the journal of a file, and gives its records. It begins with a sync and writes nothing, so a last gate that
-    /// is neither open nor closed stays until the next `append`. `BadStore` tells where a gate is missing, or the gate of
-    /// a record that is cut short or longer than 16777216 bytes.
+    /// Opens the journal of a file, and gives its records. It begins with a sync and writes nothing, so a last gate
+    /// that is neither open nor closed stays until the next `append`. `BadStore` tells where a gate is missing, or the
+    /// gate of a record that is cut short or longer than 16777216 bytes.
     pub fn mount<V: Volume>(
         alloc: Global,
         vol: &mut V,
@@ -154,11 +155,13 @@ impl Journal {
         ensures ok { V.tells → (records : List (List ℕ)) → IsSettled self.old (V.disk vol.old) records
             → OnOk result (IsSettled self.new (V.disk vol.new) (records ++ buf ∷ [])) }
         ensures each_moment { V.tells → (records : List (List ℕ)) → IsSettled self.old (V.disk vol.old) records
-            → (c : Image) → (V.disk vol.new).left_since (V.disk vol.old).moment c → HasEither records buf (c self.old.file) }
+            → (c : Image) → (V.disk vol.new).left_since (V.disk vol.old).moment c
+            → HasEither records buf (c self.old.file) }
         ensures runs { V.tells → (records : List (List ℕ)) → IsSettled self.old (V.disk vol.old) records
             → Runs (InFile self.old.file (λ _ c. HasEither records buf c)) (V.disk vol.old) (V.disk vol.new) }
         ensures written { V.tells → (records : List (List ℕ)) → IsSettled self.old (V.disk vol.old) records
-            → OnOk result (InFile self.old.file (Appended self.old.end buf) (V.disk vol.old).reads (V.disk vol.new).reads) }
+            → OnOk result (InFile self.old.file (Appended self.old.end buf) (V.disk vol.old).reads
+            (V.disk vol.new).reads) }
         ensures safe { OnOk result (IsSafe (V.disk vol.new)) }
         ensures file { self.new.file ≡ self.old.file }
         ensures working { OnOk result (self.new.failed ≡ false) }

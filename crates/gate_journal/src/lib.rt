@@ -1,5 +1,5 @@
-//! A list of records in a file of a volume that may lose power: each record stands behind a gate, which is opened once the
-//! record is kept.
+//! A list of records in a file of a volume that may lose power: each record stands behind a gate, which is opened once
+//! the record is kept.
 #![tactic(auto)]
 
 mod append_buf;

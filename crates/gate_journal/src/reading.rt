@@ -4,7 +4,8 @@ ghost use Rattle.std.specs.Prelude.{◌≡◌, ◌≤◌, ◌<◌, ◌+◌, ◌^
 ghost use Rattle.byteorder.specs.Endian.{big_number, big_bytes};
 ghost use Rattle.outside.specs.Streams.{HasCause};
 ghost use Rattle.outside.specs.Disk.{Stays};
-ghost use Rattle.gate_journal.specs.Reading.{TellsNothing, TellsGate, TellsLength, TellsRecord, TellsRecords, IsOpen, HasReadCause};
+ghost use Rattle.gate_journal.specs.Reading.{TellsNothing, TellsGate, TellsLength, TellsRecord, TellsRecords, IsOpen};
+ghost use Rattle.gate_journal.specs.Reading.{HasReadCause};
 
 use crate::fault::StoreFault;
 use byteorder::{BigEndian, ByteOrder};

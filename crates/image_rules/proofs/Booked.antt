@@ -1,15 +1,16 @@
--- The books of accounts.
-use Rattle.std.proofs.Common.{◌≡◌, ◌≢◌, refl, sym, ap, subst, ◌∙◌, ℕ, ◌<◌, min, Option}
-use Rattle.std.proofs.Common.{Some, None, Bool, IfSome, arith}
-use Rattle.std.proofs.lemmas.Int.{ints}
+-- The books of accounts and of lines.
+use Rattle.std.proofs.Common.{◌≡◌, ◌≢◌, refl, sym, ap, subst, ◌∙◌, ℕ, Option}
+use Rattle.std.proofs.Common.{Some, None, Bool, IfSome}
 use Rattle.std.proofs.lemmas.List.Elements.{All-weaker}
-use Rattle.std.specs.Prelude.{ℤ, pos, ◌+ℤ◌, IsTrue, if◌then◌else◌}
+use Rattle.std.specs.Prelude.{ℤ, pos, ◌+ℤ◌, ◌↔◌, IsTrue, if◌then◌else◌}
 use Rattle.std.specs.Cmp.{tied_itself}
 use Rattle.std.specs.Ordering.{is_eq}
 use Rattle.std.specs.List.{slice_get}
 use Rattle.std.specs.FinMap.{get, values}
 use Rattle.ledger_types.specs.declared.ids.AccountId.{AccountId}
+use Rattle.ledger_types.specs.declared.asset.TrustLineAsset.{TrustLineAsset}
 use Rattle.ledger_types.specs.declared.account.AccountEntry.{AccountEntry}
+use Rattle.ledger_types.specs.declared.trust_line.TrustLineEntry.{TrustLineEntry}
 use Rattle.ledger_types.specs.declared.entry.LedgerEntry.{LedgerEntry}
 use Rattle.ledger_types.specs.declared.entry.LedgerEntryBody.{LedgerEntryBody}
 use Rattle.ledger_types.specs.declared.entry.LedgerEntryBody.TheVariants as body
@@ -19,54 +20,42 @@ use Rattle.ledger_types.specs.Keys.{key_of, key_of_body}
 use Rattle.ledger_types.proofs.KeyOrdering.{keys_total}
 use Rattle.entry_map.specs.EntryMap.{EntryMap, IsKeyed}
 use Rattle.entry_sums.specs.Sums.{total, part, EachEntry}
-use Rattle.entry_sums.proofs.Summing.{total_none, total_only, total_plus}
+use Rattle.entry_sums.proofs.Summing.{total_none, total_only, total_plus, total_same}
 use Rattle.legal_rules.specs.EntryKeys.{for_account}
 use Rattle.legal_rules.specs.Legal.{view, pools_in, IsBooked}
 use Rattle.legal_rules.specs.Books.{counted, stated, stated_at}
 use Rattle.close_rules.specs.EntryRules.{AreOwned}
-use Rattle.image_rules.specs.declared.books.AccountBook.{AccountBook}
-use Rattle.image_rules.specs.declared.books.AccountBook.TheVariants as book
-use Rattle.image_rules.specs.Counts.{greatest_count, CountMap, IsCountOf}
-use Rattle.image_rules.specs.AccountBooks.{kind_of, itself, own_count, counted_itself, counted_else}
-use Rattle.image_rules.specs.AccountBooks.{AreCounts, Agrees, AgreesIn}
+use Rattle.image_rules.specs.declared.books.Book.{Book}
+use Rattle.image_rules.specs.declared.books.Book.TheVariants as book
+use Rattle.image_rules.specs.Counts.{CountMap, IsCountOf}
+use Rattle.image_rules.specs.Books.{kind_of, itself, own_count, counted_itself, counted_else}
+use Rattle.image_rules.specs.Books.{AreCounts, Agrees, AgreesIn}
 use Rattle.image_rules.proofs.Listed.{stands_at}
-use Rattle.image_rules.proofs.Naming.{named_of_needed, named_accounts, uncounted, counted_parts, none_itself}
+use Rattle.image_rules.proofs.Naming.{named_of_needed, IsElsewhere, named_elsewhere, uncounted, counted_parts}
+use Rattle.image_rules.proofs.Naming.{none_itself, counted_by_others}
 
 pub keyed_each : (m : EntryMap) → IsKeyed m → EachEntry (λ k e. key_of e ≡ k) m
 keyed_each m keyed k e there = subst (λ o. IfSome o (λ x. key_of x ≡ k)) there (keyed k)
 
--- ---- an account that states a count
+-- ---- a line that states a count
 
-exactly : (n count exact : ℕ) → n < 4294967296 → count ≡ min exact greatest_count → count ≡ n → n ≡ exact
-exactly n count exact small capped is = omega arith
-
-counted_exactly : (n count exact : ℕ) → n < 4294967296 → count ≡ min exact greatest_count → n ≡ exact → count ≡ n
-counted_exactly n count exact small capped is = omega arith
-
-pub states_count : (n count : ℕ) (stated sum : ℤ) → n < 4294967296 → stated ≡ pos n → IsCountOf count sum → count ≡ n
-    → stated ≡ sum
-states_count n count stated sum small is counts same =
-    is ∙ ap pos (exactly n count counts.exact small counts.capped same) ∙ sym counts.is
-
-same_number : (a b : ℕ) → pos a ≡ pos b → a ≡ b
-same_number a b is = omega (arith, ints)
-
-pub count_stated : (n count : ℕ) (stated sum : ℤ) → n < 4294967296 → stated ≡ pos n → IsCountOf count sum
-    → stated ≡ sum → count ≡ n
-count_stated n count stated sum small is counts same =
-    counted_exactly n count counts.exact small counts.capped
-    (same_number n counts.exact (sym is ∙ same ∙ counts.is))
+pub line_states : (count known : ℕ) (number states : ℤ) (answer : Bool)
+    → ((sum : ℤ) → IsCountOf count sum → (IsTrue answer ↔ (number ≡ sum))) → count ≡ known → states ≡ number
+    → (sum : ℤ) → IsCountOf known sum → (IsTrue answer ↔ (states ≡ sum))
+line_states count known number states answer says is same sum counts =
+    let told = says sum (subst (λ (n : ℕ). IsCountOf n sum) (sym is) counts) in
+    (λ yes. same ∙ told.0 yes, λ equal. told.1 (sym same ∙ equal))
 
 -- ---- what an account counts for itself
 
-own_part : (which : AccountBook) (e : LedgerEntry) (a : AccountEntry) → e.body ≡ body.Account a
+own_part : (which : Book) (e : LedgerEntry) (a : AccountEntry) → e.body ≡ body.Account a
     → counted_itself which (key.Account a.account_id) e ≡ pos (own_count which e)
 own_part which e a is =
     ap (λ b. for_account (key.Account a.account_id) (itself b) (own_count which e)) is
     ∙ ap (λ r. if is_eq r then pos (own_count which e) else pos 0) (tied_itself keys_total (key.Account a.account_id))
 
 -- what is counted for an account is what others count for it and what it counts itself
-pub total_parts : (which : AccountBook) (m : EntryMap) (e : LedgerEntry) (a : AccountEntry) → IsKeyed m
+pub total_parts : (which : Book) (m : EntryMap) (e : LedgerEntry) (a : AccountEntry) → IsKeyed m
     → get m (key_of e) ≡ Some e → e.body ≡ body.Account a
     → total (counted (view m) (kind_of which) (key_of e)) m
     ≡ (total (counted_else which (key.Account a.account_id)) m +ℤ pos (own_count which e))
@@ -81,17 +70,32 @@ total_parts which m e a keyed there is =
     (λ q x at apart. none_itself which k x (λ same. apart (sym (keyed_each m keyed q x at) ∙ same)))
     ∙ ap (part (counted_itself which k)) (ap (get m) (sym own_key) ∙ there) ∙ own_part which e a is)
 
+-- what is counted for a line others count
+pub total_line : (which : Book) (m : EntryMap) (e : LedgerEntry) (t : TrustLineEntry) → e.body ≡ body.TrustLine t
+    → total (counted (view m) (kind_of which) (key_of e)) m
+    ≡ total (counted_else which (key.TrustLine t.account_id t.asset)) m
+total_line which m e t is =
+    let k : LedgerKey = key.TrustLine t.account_id t.asset in
+    let own_key : key_of e ≡ k = ap key_of_body is in
+    ap (λ q. total (counted (view m) (kind_of which) q) m) own_key
+    ∙ total_same (counted (view m) (kind_of which) k) (counted_else which k) m
+    (λ q x there. counted_by_others which (view m) k x (no_account t.account_id t.asset))
+  where
+    no_account : (owner : AccountId) (held : TrustLineAsset) (id : AccountId)
+        → key.Account id ≢ key.TrustLine owner held
+    no_account owner held id same = cc
+
 -- ---- all entries
 
 -- an entry states what is counted under its own key
-abbrev pub IsRight : AccountBook → EntryMap → LedgerEntry → Type 0
+abbrev pub IsRight : Book → EntryMap → LedgerEntry → Type 0
 IsRight which m e = stated (kind_of which) e.body ≡ total (counted (view m) (kind_of which) (key_of e)) m
 
 -- and entries stand under their own keys
-abbrev pub IsRightKeyed : AccountBook → EntryMap → LedgerEntry → Type 0
+abbrev pub IsRightKeyed : Book → EntryMap → LedgerEntry → Type 0
 IsRightKeyed which m e = IsKeyed m × IsRight which m e
 
-module _ (which : AccountBook) (m : EntryMap) where
+module _ (which : Book) (m : EntryMap) where
   -- what needs it stands, so nothing names what doesn't
   absent_counts : (k : LedgerKey) → get m k ≡ None → AreOwned m → total (counted (view m) (kind_of which) k) m ≡ pos 0
   absent_counts k none owned = total_none (counted (view m) (kind_of which) k) m (λ q e there.
@@ -99,16 +103,15 @@ module _ (which : AccountBook) (m : EntryMap) where
       (All-weaker (λ r. get m r ≢ None) (λ r. r ≢ k) (λ r stands same. stands (ap (get m) same ∙ none)) _
       (owned.standing q e there))))
 
-  other_counts : (k : LedgerKey) → ((id : AccountId) → key.Account id ≢ k)
-      → total (counted (view m) (kind_of which) k) m ≡ pos 0
-  other_counts k other = total_none (counted (view m) (kind_of which) k) m (λ q e there.
-      uncounted which (view m) k e (named_accounts (λ r. r ≢ k) e other))
+  other_counts : (k : LedgerKey) → IsElsewhere k → total (counted (view m) (kind_of which) k) m ≡ pos 0
+  other_counts k elsewhere = total_none (counted (view m) (kind_of which) k) m (λ q e there.
+      uncounted which (view m) k e (named_elsewhere k elsewhere e))
 
   right_by : (e : LedgerEntry) (b : LedgerEntryBody) → e.body ≡ b → stated (kind_of which) b ≡ pos 0
-      → ((id : AccountId) → key.Account id ≢ key_of_body b) → IsRight which m e
-  right_by e b is none other =
+      → IsElsewhere (key_of_body b) → IsRight which m e
+  right_by e b is none elsewhere =
       ap (stated (kind_of which)) is ∙ none
-      ∙ sym (other_counts (key_of e) (λ id same. other id (same ∙ ap key_of_body is)))
+      ∙ sym (other_counts (key_of e) (subst IsElsewhere (sym (ap key_of_body is)) elsewhere))
 
   booked_at : (k : LedgerKey) (o : Option LedgerEntry) → get m k ≡ o → AreOwned m
       → EachEntry (λ q e. IsRightKeyed which m e) m
@@ -128,15 +131,17 @@ module _ (which : AccountBook) (m : EntryMap) where
 
 -- ---- what an answer on one entry says
 
--- what isn't an account states nothing
-states_none : (which : AccountBook) (b : LedgerEntryBody) → ((id : AccountId) → key.Account id ≢ key_of_body b)
-    → stated (kind_of which) b ≡ pos 0
-states_none which (body.Account a) other = absurd (other a.account_id refl)
-states_none book.Subentries b other = refl
-states_none book.Sponsoring b other = refl
-states_none book.Sponsored b other = refl
+-- what is neither an account nor a line states nothing
+states_none : (which : Book) (b : LedgerEntryBody) → IsElsewhere (key_of_body b) → stated (kind_of which) b ≡ pos 0
+states_none which (body.Account a) elsewhere = absurd (elsewhere.accounts a.account_id refl)
+states_none which (body.TrustLine t) elsewhere = absurd (elsewhere.lines t.account_id t.asset refl)
+states_none book.Subentries b elsewhere = refl
+states_none book.Sponsoring b elsewhere = refl
+states_none book.Sponsored b elsewhere = refl
+states_none book.Selling b elsewhere = refl
+states_none book.Buying b elsewhere = refl
 
-module _ (which : AccountBook) (m : EntryMap) (counts : CountMap) (i : ℕ) (e : LedgerEntry) (answer : Bool)
+module _ (which : Book) (m : EntryMap) (counts : CountMap) (i : ℕ) (e : LedgerEntry) (answer : Bool)
     (all : AreCounts which m counts) (keyed : IsKeyed m) (at : slice_get (values m) i ≡ Some e) where
   there : get m (key_of e) ≡ Some e
   there = stands_at m i e (keyed_each m keyed) at
@@ -144,9 +149,8 @@ module _ (which : AccountBook) (m : EntryMap) (counts : CountMap) (i : ℕ) (e :
   abbrev own : ℕ
   own = own_count which e
 
-  right_other : (b : LedgerEntryBody) → e.body ≡ b → ((id : AccountId) → key.Account id ≢ key_of_body b)
-      → IsRight which m e
-  right_other b is other = right_by which m e b is (states_none which b other) other
+  right_other : (b : LedgerEntryBody) → e.body ≡ b → IsElsewhere (key_of_body b) → IsRight which m e
+  right_other b is elsewhere = right_by which m e b is (states_none which b elsewhere) elsewhere
 
   right_in : (b : LedgerEntryBody) → e.body ≡ b → AgreesIn counts which own b answer → IsTrue answer
       → IsRight which m e
@@ -154,12 +158,19 @@ module _ (which : AccountBook) (m : EntryMap) (counts : CountMap) (i : ℕ) (e :
       ap (stated (kind_of which)) is
       ∙ (agrees (total (counted_else which (key.Account a.account_id)) m) (all (key.Account a.account_id))).0 said
       ∙ sym (total_parts which m e a keyed there is)
-  right_in (body.TrustLine line) is agrees said = right_other (body.TrustLine line) is (λ id same. cc)
-  right_in (body.Offer offer) is agrees said = right_other (body.Offer offer) is (λ id same. cc)
-  right_in (body.Data entry) is agrees said = right_other (body.Data entry) is (λ id same. cc)
+  right_in (body.TrustLine t) is agrees said =
+      ap (stated (kind_of which)) is
+      ∙ (agrees (total (counted_else which (key.TrustLine t.account_id t.asset)) m)
+      (all (key.TrustLine t.account_id t.asset))).0 said
+      ∙ sym (total_line which m e t is)
+  right_in (body.Offer offer) is agrees said =
+      right_other (body.Offer offer) is (record { accounts = λ id same. cc; lines = λ id x same. cc })
+  right_in (body.Data entry) is agrees said =
+      right_other (body.Data entry) is (record { accounts = λ id same. cc; lines = λ id x same. cc })
   right_in (body.ClaimableBalance balance) is agrees said =
-      right_other (body.ClaimableBalance balance) is (λ id same. cc)
-  right_in (body.LiquidityPool pool) is agrees said = right_other (body.LiquidityPool pool) is (λ id same. cc)
+      right_other (body.ClaimableBalance balance) is (record { accounts = λ id same. cc; lines = λ id x same. cc })
+  right_in (body.LiquidityPool pool) is agrees said =
+      right_other (body.LiquidityPool pool) is (record { accounts = λ id same. cc; lines = λ id x same. cc })
 
   pub right_of_answer : Agrees counts which e answer → IsTrue answer → IsRight which m e
   right_of_answer agrees said = right_in e.body refl agrees said
@@ -169,6 +180,10 @@ module _ (which : AccountBook) (m : EntryMap) (counts : CountMap) (i : ℕ) (e :
   answer_in (body.Account a) is agrees right =
       (agrees (total (counted_else which (key.Account a.account_id)) m) (all (key.Account a.account_id))).1
       (sym (ap (stated (kind_of which)) is) ∙ right ∙ total_parts which m e a keyed there is)
+  answer_in (body.TrustLine t) is agrees right =
+      (agrees (total (counted_else which (key.TrustLine t.account_id t.asset)) m)
+      (all (key.TrustLine t.account_id t.asset))).1
+      (sym (ap (stated (kind_of which)) is) ∙ right ∙ total_line which m e t is)
   answer_in other is agrees right = agrees
 
   pub answer_of_right : Agrees counts which e answer → IsRight which m e → IsTrue answer

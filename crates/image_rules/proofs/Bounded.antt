@@ -1,5 +1,5 @@
--- Neither offers nor pools nor lines of pool shares: what these can't break.
-use Rattle.std.proofs.Common.{◌≡◌, refl, sym, ap, ◌∙◌, Option, Some, None, [], arith}
+-- Neither pools nor lines of pool shares: what these can't break. And what offers have where they are in their ranges.
+use Rattle.std.proofs.Common.{◌≡◌, refl, sym, ap, ◌∙◌, ℕ, Option, Some, None, [], arith}
 use Rattle.std.proofs.lemmas.Int.{ints}
 use Rattle.std.specs.Prelude.{ℤ, pos, ◌≤ℤ◌}
 use Rattle.std.specs.FinMap.{get}
@@ -16,17 +16,17 @@ use Rattle.entry_sums.specs.Sums.{total, EachEntry}
 use Rattle.entry_sums.proofs.Summing.{total_none}
 use Rattle.legal_rules.specs.Needs.{pool_keys, holding_keys}
 use Rattle.legal_rules.specs.EntryKeys.{for_key}
-use Rattle.legal_rules.specs.Trades.{sells, buys}
 use Rattle.legal_rules.specs.PoolShares.{Pools, pool_named, shares_in, share_lines, uses_by, uses}
-use Rattle.legal_rules.specs.OfferIds.{offer_with, offer_with_in, AreOffersApart}
 use Rattle.legal_rules.specs.Bounds.{IsFilledOrEmpty}
-use Rattle.legal_rules.specs.Ranges.{IsEntryInRange}
-use Rattle.legal_rules.specs.Books.{Kind, Selling, Buying, Shares, ShareLines, Uses}
+use Rattle.legal_rules.specs.Ranges.{IsBodyInRange}
+use Rattle.legal_rules.specs.Books.{Kind, Shares, ShareLines, Uses}
 use Rattle.legal_rules.specs.Books.{counted, stated, stated_at}
-use Rattle.legal_rules.specs.Legal.{view, pools_in, IsBooked, AreLinesAuthorized}
+use Rattle.legal_rules.specs.Legal.{view, pools_in, IsBooked}
 use Rattle.close_rules.specs.State.{IsBuiltLine, IsBuiltBody, AreBuilt}
-use Rattle.close_rules.specs.EntryRules.{AreInRange, AreLiable, ArePoolsCounted}
-use Rattle.image_rules.specs.EntryTests.{IsUnbound, IsUnused}
+use Rattle.close_rules.specs.EntryRules.{AreInRange, ArePoolsCounted}
+use Rattle.image_rules.specs.EntryTests.{IsUnused}
+use Rattle.image_rules.specs.Terms.{AreTerms, HaveTerms}
+use Rattle.image_rules.proofs.Naming.{traded_keys}
 
 -- ---- a line that isn't of pool shares
 
@@ -44,14 +44,6 @@ no_uses_by pools k id (line.PoolShare pool) built = absurd built
 no_uses_by pools k id other built = refl
 
 -- ---- one entry
-
-no_selling : (k : LedgerKey) (b : LedgerEntryBody) → IsBuiltBody b → sells k b ≡ pos 0
-no_selling k (body.Offer offer) built = absurd built
-no_selling k other built = refl
-
-no_buying : (k : LedgerKey) (b : LedgerEntryBody) → IsBuiltBody b → buys k b ≡ pos 0
-no_buying k (body.Offer offer) built = absurd built
-no_buying k other built = refl
 
 no_shares : (k : LedgerKey) (b : LedgerEntryBody) → IsBuiltBody b → shares_in k b ≡ pos 0
 no_shares k (body.TrustLine held) built = ap (λ o. for_key k o held.balance) (no_pool_named held.asset built)
@@ -73,18 +65,10 @@ states_no_share_lines : (b : LedgerEntryBody) → IsBuiltBody b → stated Share
 states_no_share_lines (body.LiquidityPool pool) built = absurd built
 states_no_share_lines other built = refl
 
-no_offer : (id : ℤ) (b : LedgerEntryBody) → IsBuiltBody b → offer_with_in id b ≡ pos 0
-no_offer id (body.Offer offer) built = absurd built
-no_offer id other built = refl
-
-pub holds_nothing : (pools : Pools) (b : LedgerEntryBody) → IsBuiltBody b → holding_keys pools b ≡ []
-holds_nothing pools (body.TrustLine held) built = no_pool_keys pools held.account_id held.asset built
-holds_nothing pools (body.Offer offer) built = absurd built
-holds_nothing pools other built = refl
-
-no_lines : (m : EntryMap) (b : LedgerEntryBody) → IsBuiltBody b → AreLinesAuthorized m b
-no_lines m (body.Offer offer) built = absurd built
-no_lines m other built = tt
+-- no line needs a pool
+pub holds_traded : (pools : Pools) (b : LedgerEntryBody) → IsBuiltBody b → holding_keys pools b ≡ traded_keys b
+holds_traded pools (body.TrustLine held) built = no_pool_keys pools held.account_id held.asset built
+holds_traded pools other built = refl
 
 not_filled : (b : LedgerEntryBody) → IsBuiltBody b → IsFilledOrEmpty b
 not_filled (body.LiquidityPool pool) built = absurd built
@@ -105,28 +89,7 @@ stated_of_booked : (kind : Kind) (m : EntryMap) → ((k : LedgerKey) → total (
     → IsBooked kind m → EachEntry (λ q e. stated kind e.body ≡ pos 0) m
 stated_of_booked kind m counts booked k e there = sym (ap (stated_at kind) there) ∙ booked k ∙ counts k
 
-low_one : (x : ℤ) → x ≡ pos 0 → x ≤ℤ pos 1
-low_one x none = omega (arith, ints)
-
 module _ (m : EntryMap) (built : AreBuilt m) where
-  sold : (k : LedgerKey) → total (counted (view m) Selling k) m ≡ pos 0
-  sold k = total_none (counted (view m) Selling k) m (λ q e there. no_selling k e.body (built q e there))
-
-  bought : (k : LedgerKey) → total (counted (view m) Buying k) m ≡ pos 0
-  bought k = total_none (counted (view m) Buying k) m (λ q e there. no_buying k e.body (built q e there))
-
-  pub liable_of : EachEntry (λ k e. IsUnbound e.body) m → AreLiable m
-  liable_of each = record {
-    selling = booked_nothing Selling m sold (λ q e there. (each q e there).selling);
-    buying = booked_nothing Buying m bought (λ q e there. (each q e there).buying);
-  }
-
-  pub unbound_of : AreLiable m → EachEntry (λ k e. IsUnbound e.body) m
-  unbound_of liable k e there = record {
-    selling = stated_of_booked Selling m sold liable.selling k e there;
-    buying = stated_of_booked Buying m bought liable.buying k e there;
-  }
-
   used : (k : LedgerKey) → total (counted (view m) Uses k) m ≡ pos 0
   used k = total_none (counted (view m) Uses k) m (λ q e there. no_uses (pools_in m) k e.body (built q e there))
 
@@ -145,9 +108,15 @@ module _ (m : EntryMap) (built : AreBuilt m) where
   pub unused_of : ArePoolsCounted m → EachEntry (λ k e. IsUnused e.body) m
   unused_of counts k e there = stated_of_booked Uses m used counts.uses k e there
 
-  pub offers_apart : AreOffersApart m
-  offers_apart id = low_one (total (offer_with id) m)
-      (total_none (offer_with id) m (λ q e there. no_offer id e.body (built q e there)))
+-- ---- offers that are in their ranges
 
-  pub in_range_of : (h : LedgerHeader) → EachEntry (λ k e. IsEntryInRange h.id_pool e) m → AreInRange h m
-  in_range_of h each = record { entries = each; authorized = λ k e there. no_lines m e.body (built k e there) }
+not_below : (n : ℤ) → pos 1 ≤ℤ n → pos 0 ≤ℤ n
+not_below n le = omega (arith, ints)
+
+terms_in : (id_pool : ℕ) (b : LedgerEntryBody) → IsBodyInRange id_pool b → AreTerms b
+terms_in id_pool (body.Offer offer) range =
+    record { amount = not_below offer.amount range.amount; price = record { n = range.n; d = range.d } }
+terms_in id_pool other range = tt
+
+pub terms_of : (h : LedgerHeader) (m : EntryMap) → AreInRange h m → HaveTerms m
+terms_of h m range k e there = terms_in h.id_pool e.body (range.entries k e there).body

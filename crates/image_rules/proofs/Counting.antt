@@ -5,12 +5,10 @@ use Rattle.std.proofs.lemmas.Int.{ints}
 use Rattle.std.specs.Prelude.{ℤ, pos, ◌+ℤ◌, if◌then◌else◌}
 use Rattle.std.specs.Map.{lookup}
 use Rattle.std.specs.BTreeMap as tree
-use Rattle.ledger_types.specs.declared.ids.AccountId.{AccountId}
 use Rattle.ledger_types.specs.declared.key.LedgerKey.{LedgerKey}
-use Rattle.ledger_types.specs.declared.key.LedgerKey.TheVariants as key
 use Rattle.ledger_types.specs.KeyOrder.{key_cmp}
 use Rattle.entry_map.proofs.KeyMaps.{derived, derived_is, same_keys}
-use Rattle.legal_rules.specs.EntryKeys.{is_key, for_account}
+use Rattle.legal_rules.specs.EntryKeys.{is_key, for_key}
 use Rattle.image_rules.specs.Counts.{greatest_count, CountMap, count_at, IsCountOf, Adds}
 
 -- ---- numbers
@@ -78,10 +76,10 @@ one_added old new named k more sum false apart put was = record {
   capped = put ∙ was.capped;
 }
 
-pub added_for : (old new : CountMap) (id : AccountId) (more : ℕ) → AddsAt old new (key.Account id) more
-    → Adds old new (λ k. for_account k (Some id) more)
-added_for old new id more put k sum was =
-    one_added old new (key.Account id) k more sum (is_key (key.Account id) k) refl (put k) was
+pub added_for : (old new : CountMap) (named : LedgerKey) (more : ℕ) → AddsAt old new named more
+    → Adds old new (λ k. for_key k (Some named) (pos more))
+added_for old new named more put k sum was =
+    one_added old new named k more sum (is_key named k) refl (put k) was
 
 pub added_none : (counts : CountMap) (more : LedgerKey → ℤ) → ((k : LedgerKey) → more k ≡ pos 0)
     → Adds counts counts more
@@ -92,14 +90,15 @@ no_choice : (b : Bool) → ◌≡◌ {A = ℤ} (if b then pos 0 else pos 0) (pos
 no_choice true = refl
 no_choice false = refl
 
-nothing_for : (k : LedgerKey) (id : Option AccountId) → for_account k id 0 ≡ pos 0
+nothing_for : (k : LedgerKey) (named : Option LedgerKey) → for_key k named (pos 0) ≡ pos 0
 nothing_for k None = refl
-nothing_for k (Some id) = no_choice (is_key (key.Account id) k)
+nothing_for k (Some named) = no_choice (is_key named k)
 
-pub added_nothing : (counts : CountMap) (id : Option AccountId) (more : ℕ) → more ≡ 0
-    → Adds counts counts (λ k. for_account k id more)
-added_nothing counts id more is =
-    added_none counts (λ k. for_account k id more) (λ k. ap (for_account k id) is ∙ nothing_for k id)
+pub added_nothing : (counts : CountMap) (named : Option LedgerKey) (more : ℕ) → more ≡ 0
+    → Adds counts counts (λ k. for_key k named (pos more))
+added_nothing counts named more is =
+    added_none counts (λ k. for_key k named (pos more))
+    (λ k. ap (λ n. for_key k named (pos n)) is ∙ nothing_for k named)
 
 pub added_both : (old mid new : CountMap) (first second both : LedgerKey → ℤ)
     → ((k : LedgerKey) → both k ≡ (first k +ℤ second k)) → Adds old mid first → Adds mid new second → Adds old new both

@@ -6,3 +6,4 @@ pub mod Bounded
 mod Rising
 mod Apart
 mod Judged
+pub mod Distinct

@@ -1,4 +1,4 @@
--- What accounts are named by entries, and that nothing is counted for one that isn't.
+-- What accounts and lines are named by entries, and that nothing is counted for one that isn't.
 use Rattle.std.proofs.Common.{◌≡◌, ◌≢◌, refl, sym, ap, subst, ◌∙◌, ℕ, ◌+◌, Bool, true, false, cond, List, [], ◌∷◌}
 use Rattle.std.proofs.Common.{◌++◌, ◌<◌, map, length, take, get_or, All, Option, Some, None, arith}
 use Rattle.std.proofs.lemmas.Int.{ints}
@@ -9,9 +9,14 @@ use Rattle.std.proofs.lemmas.List.Filters.{length-filter_more}
 use Rattle.std.specs.Prelude.{ℤ, pos, ◌+ℤ◌, ◌↔◌, IsTrue, if◌then◌else◌}
 use Rattle.std.specs.List.{count_by, filter, flat_map}
 use Rattle.ledger_types.specs.declared.ids.AccountId.{AccountId}
+use Rattle.ledger_types.specs.declared.asset.Asset.{Asset}
+use Rattle.ledger_types.specs.declared.asset.Asset.TheVariants as asset
+use Rattle.ledger_types.specs.declared.asset.TrustLineAsset.{TrustLineAsset}
+use Rattle.ledger_types.specs.declared.asset.TrustLineAsset.TheVariants as line
 use Rattle.ledger_types.specs.declared.signer.Signer.{Signer}
 use Rattle.ledger_types.specs.declared.account.AccountEntry.{AccountEntry}
 use Rattle.ledger_types.specs.declared.account.AccountEntryExtensionV2.{AccountEntryExtensionV2}
+use Rattle.ledger_types.specs.declared.offer.OfferEntry.{OfferEntry}
 use Rattle.ledger_types.specs.declared.entry.LedgerEntry.{LedgerEntry}
 use Rattle.ledger_types.specs.declared.entry.LedgerEntryBody.{LedgerEntryBody}
 use Rattle.ledger_types.specs.declared.entry.LedgerEntryBody.TheVariants as body
@@ -22,15 +27,18 @@ use Rattle.entry_sums.proofs.Lookups.{apart_keys}
 use Rattle.entry_slots.specs.EntrySponsor.{sponsor_of}
 use Rattle.entry_slots.specs.AccountExtensions.{second_in, sponsorship_in, sponsorship_of}
 use Rattle.sponsor_rules.specs.Charge.{owner_of, multiplicity}
+use Rattle.sponsor_rules.specs.Payers.{is_same_account}
 use Rattle.sponsor_laws.specs.Sums.{is_there}
-use Rattle.legal_rules.specs.EntryKeys.{is_key, for_account}
+use Rattle.legal_rules.specs.EntryKeys.{is_key, for_key, for_account}
+use Rattle.legal_rules.specs.OfferLiabilities.{bound_of}
 use Rattle.legal_rules.specs.Reserves.{is_for, for_each, signer_sponsors_in, subentries_in, sponsored_in_entry}
-use Rattle.legal_rules.specs.Needs.{account_keys, needed_keys, holding_keys}
+use Rattle.legal_rules.specs.Needs.{account_keys, keys_in, needed_keys, holding_keys}
+use Rattle.legal_rules.specs.Trades.{holder, sells, buys}
 use Rattle.legal_rules.specs.PoolShares.{Pools}
 use Rattle.legal_rules.specs.Books.{View, counted}
-use Rattle.image_rules.specs.declared.books.AccountBook.{AccountBook}
-use Rattle.image_rules.specs.declared.books.AccountBook.TheVariants as book
-use Rattle.image_rules.specs.AccountBooks.{kind_of, itself, other_owner, own_count, counted_itself, counted_else}
+use Rattle.image_rules.specs.declared.books.Book.{Book}
+use Rattle.image_rules.specs.declared.books.Book.TheVariants as book
+use Rattle.image_rules.specs.Books.{kind_of, itself, other_owner, own_count, counted_itself, counted_else}
 use Rattle.image_rules.specs.Signers.{ArePayersOthers}
 
 -- ---- lists of keys, one behind another
@@ -60,11 +68,23 @@ flat_all P (o ∷ ids) all =
     All-cons (AllOf P) o ids (all_front P (account_keys o) (flat_map account_keys ids) all)
     (flat_all P ids (all_back P (account_keys o) (flat_map account_keys ids) all))
 
--- the keys of accounts that an entry names
+-- the keys of what an offer's seller has its assets in
+abbrev pub traded_keys : LedgerEntryBody → List LedgerKey
+traded_keys (body.Offer offer) =
+    keys_in (holder offer.seller_id offer.selling) ++ keys_in (holder offer.seller_id offer.buying)
+traded_keys other = []
+
+-- the keys of accounts and lines that an entry names
 pub record AllNamed (P : LedgerKey → Type 0) (e : LedgerEntry) : Type 0 where
   pub owner : All P (account_keys (owner_of e.body))
   pub sponsor : All P (account_keys (sponsor_of e))
   pub signers : All P (flat_map account_keys (signer_sponsors_in e.body))
+  pub traded : All P (traded_keys e.body)
+
+traded_of : (P : LedgerKey → Type 0) (pools : Pools) (b : LedgerEntryBody) → All P (holding_keys pools b)
+    → All P (traded_keys b)
+traded_of P pools (body.Offer offer) all = all
+traded_of P pools other all = All-nil P
 
 module _ (P : LedgerKey → Type 0) (pools : Pools) (e : LedgerEntry) where
   abbrev owners : List LedgerKey
@@ -87,13 +107,16 @@ module _ (P : LedgerKey → Type 0) (pools : Pools) (e : LedgerEntry) where
         owner = all_front P owners sponsors two;
         sponsor = all_back P owners sponsors two;
         signers = all_back P (owners ++ sponsors) signers three;
+        traded = traded_of P pools e.body (all_back P (owners ++ sponsors ++ signers) holding all);
       }
 
-  pub needed_of_named : holding ≡ [] → AllNamed P e → All P (needed_keys pools e)
-  needed_of_named none named =
+  pub held_of_needed : All P (needed_keys pools e) → All P holding
+  held_of_needed all = all_back P (owners ++ sponsors ++ signers) holding all
+
+  pub needed_of_all : All P owners → All P sponsors → All P signers → All P holding → All P (needed_keys pools e)
+  needed_of_all owns pays signs holds =
       All-append P (owners ++ sponsors ++ signers) holding
-      (All-append P (owners ++ sponsors) signers (All-append P owners sponsors named.owner named.sponsor) named.signers)
-      (subst (All P) (sym none) (All-nil P))
+      (All-append P (owners ++ sponsors) signers (All-append P owners sponsors owns pays) signs) holds
 
 -- ---- what answers say
 
@@ -104,19 +127,30 @@ flat_iff P answer ids named is h = (
   λ all. h.1 (flat_all P ids (subst (λ xs. All P (flat_map account_keys xs)) is all)),
 )
 
-pub needed_iff : (P : LedgerKey → Type 0) (pools : Pools) (e : LedgerEntry) (all owner sponsor payers : Bool)
-    → holding_keys pools e.body ≡ [] → (IsTrue all ↔ (IsTrue owner × IsTrue sponsor × IsTrue payers))
+pub needed_iff : (P : LedgerKey → Type 0) (pools : Pools) (e : LedgerEntry) (all owner sponsor payers holders : Bool)
+    → (IsTrue all ↔ (IsTrue owner × IsTrue sponsor × IsTrue payers × IsTrue holders))
     → (IsTrue owner ↔ All P (account_keys (owner_of e.body))) → (IsTrue sponsor ↔ All P (account_keys (sponsor_of e)))
     → (IsTrue payers ↔ All P (flat_map account_keys (signer_sponsors_in e.body)))
-    → (IsTrue all ↔ All P (needed_keys pools e))
-needed_iff P pools e all owner sponsor payers none three owns pays signs = (
-  λ said. let each = three.0 said in needed_of_named P pools e none (record {
-    owner = owns.0 each.0;
-    sponsor = pays.0 each.1;
-    signers = signs.0 each.2;
-  }),
+    → (IsTrue holders ↔ All P (holding_keys pools e.body)) → (IsTrue all ↔ All P (needed_keys pools e))
+needed_iff P pools e all owner sponsor payers holders four owns pays signs holds = (
+  λ said. let each = four.0 said in
+      needed_of_all P pools e (owns.0 each.0) (pays.0 each.1) (signs.0 each.2) (holds.0 each.3),
   λ needed. let named = named_of_needed P pools e needed in
-      three.1 (owns.1 named.owner, pays.1 named.sponsor, signs.1 named.signers),
+      four.1 (
+        owns.1 named.owner,
+        pays.1 named.sponsor,
+        signs.1 named.signers,
+        holds.1 (held_of_needed P pools e needed),
+      ),
+)
+
+-- two answers on the keys of one key each
+pub both_iff : (P : LedgerKey → Type 0) (first second both : Bool) (xs ys : List LedgerKey)
+    → (IsTrue both ↔ (IsTrue first × IsTrue second)) → (IsTrue first ↔ All P xs) → (IsTrue second ↔ All P ys)
+    → (IsTrue both ↔ All P (xs ++ ys))
+both_iff P first second both xs ys two one other = (
+  λ said. let each = two.0 said in All-append P xs ys (one.0 each.0) (other.0 each.1),
+  λ all. two.1 (one.1 (all_front P xs ys all), other.1 (all_back P xs ys all)),
 )
 
 -- ---- what isn't named isn't counted
@@ -130,6 +164,25 @@ none_for_account k None n others = refl
 none_for_account k (Some id) n others =
     ap (λ b. if b then pos n else pos 0)
     (apart_keys (key.Account id) k (All-head (IsOther k) (key.Account id) [] others))
+
+none_for_key : (k : LedgerKey) (o : Option LedgerKey) (n : ℤ) → All (IsOther k) (keys_in o) → for_key k o n ≡ pos 0
+none_for_key k None n others = refl
+none_for_key k (Some named) n others =
+    ap (λ b. if b then n else pos 0) (apart_keys named k (All-head (IsOther k) named [] others))
+
+unsold : (k : LedgerKey) (b : LedgerEntryBody) → All (IsOther k) (traded_keys b) → sells k b ≡ pos 0
+unsold k (body.Offer offer) others =
+    none_for_key k (holder offer.seller_id offer.selling) (pos (bound_of offer).wheat)
+    (all_front (IsOther k) (keys_in (holder offer.seller_id offer.selling))
+    (keys_in (holder offer.seller_id offer.buying)) others)
+unsold k other others = refl
+
+unbought : (k : LedgerKey) (b : LedgerEntryBody) → All (IsOther k) (traded_keys b) → buys k b ≡ pos 0
+unbought k (body.Offer offer) others =
+    none_for_key k (holder offer.seller_id offer.buying) (pos (bound_of offer).sheep)
+    (all_back (IsOther k) (keys_in (holder offer.seller_id offer.selling))
+    (keys_in (holder offer.seller_id offer.buying)) others)
+unbought k other others = refl
 
 none_kept : (k : LedgerKey) (ids : List (Option AccountId)) → All (IsOther k) (flat_map account_keys ids)
     → filter (is_for k) ids ≡ []
@@ -149,7 +202,7 @@ none_for_each k ids others =
 both_none : (a b : ℤ) → a ≡ pos 0 → b ≡ pos 0 → (a +ℤ b) ≡ pos 0
 both_none a b first second = omega (arith, ints)
 
-pub uncounted : (which : AccountBook) (v : View) (k : LedgerKey) (e : LedgerEntry) → AllNamed (IsOther k) e
+pub uncounted : (which : Book) (v : View) (k : LedgerKey) (e : LedgerEntry) → AllNamed (IsOther k) e
     → counted v (kind_of which) k e ≡ pos 0
 uncounted book.Subentries v k e others = none_for_account k (owner_of e.body) (subentries_in e.body) others.owner
 uncounted book.Sponsored v k e others = none_for_account k (owner_of e.body) (sponsored_in_entry e) others.owner
@@ -157,6 +210,8 @@ uncounted book.Sponsoring v k e others =
     both_none (for_account k (sponsor_of e) (multiplicity e.body)) (for_each k (signer_sponsors_in e.body))
     (none_for_account k (sponsor_of e) (multiplicity e.body) others.sponsor)
     (none_for_each k (signer_sponsors_in e.body) others.signers)
+uncounted book.Selling v k e others = unsold k e.body others.traded
+uncounted book.Buying v k e others = unbought k e.body others.traded
 
 -- ---- a key that isn't an account's
 
@@ -172,12 +227,39 @@ accounts_only P all (None ∷ ids) = accounts_only P all ids
 accounts_only P all (Some id ∷ ids) =
     All-cons P (key.Account id) (flat_map account_keys ids) (all id) (accounts_only P all ids)
 
-pub named_accounts : (P : LedgerKey → Type 0) (e : LedgerEntry) → ((id : AccountId) → P (key.Account id)) → AllNamed P e
-named_accounts P e all = record {
-  owner = account_only P all (owner_of e.body);
-  sponsor = account_only P all (sponsor_of e);
-  signers = accounts_only P all (signer_sponsors_in e.body);
-}
+-- a key under which neither an account nor a line stands
+pub record IsElsewhere (k : LedgerKey) : Type 0 where
+  pub accounts : (id : AccountId) → key.Account id ≢ k
+  pub lines : (id : AccountId) (x : TrustLineAsset) → key.TrustLine id x ≢ k
+
+module _ (k : LedgerKey) (elsewhere : IsElsewhere k) where
+  line_other : (id issuer : AccountId) (x : TrustLineAsset)
+      → All (IsOther k) (keys_in (if is_same_account issuer id then None else Some (key.TrustLine id x)))
+  line_other id issuer x = elim (is_same_account issuer id) as
+      (λ t. All (IsOther k) (keys_in (if t then None else Some (key.TrustLine id x)))) [
+        | true ↦ All-nil (IsOther k)
+        | false ↦ All-cons (IsOther k) (key.TrustLine id x) [] (elsewhere.lines id x) (All-nil (IsOther k))
+      ]
+
+  holder_other : (id : AccountId) (x : Asset) → All (IsOther k) (keys_in (holder id x))
+  holder_other id asset.Native = All-cons (IsOther k) (key.Account id) [] (elsewhere.accounts id) (All-nil (IsOther k))
+  holder_other id (asset.Alphanum4 code issuer) = line_other id issuer (line.Alphanum4 code issuer)
+  holder_other id (asset.Alphanum12 code issuer) = line_other id issuer (line.Alphanum12 code issuer)
+
+  traded_other : (b : LedgerEntryBody) → All (IsOther k) (traded_keys b)
+  traded_other (body.Offer offer) =
+      All-append (IsOther k) (keys_in (holder offer.seller_id offer.selling))
+      (keys_in (holder offer.seller_id offer.buying)) (holder_other offer.seller_id offer.selling)
+      (holder_other offer.seller_id offer.buying)
+  traded_other other = All-nil (IsOther k)
+
+  pub named_elsewhere : (e : LedgerEntry) → AllNamed (IsOther k) e
+  named_elsewhere e = record {
+    owner = account_only (IsOther k) elsewhere.accounts (owner_of e.body);
+    sponsor = account_only (IsOther k) elsewhere.accounts (sponsor_of e);
+    signers = accounts_only (IsOther k) elsewhere.accounts (signer_sponsors_in e.body);
+    traded = traded_other e.body;
+  }
 
 -- ---- no sponsors of signers
 
@@ -264,16 +346,27 @@ owned_parts k (body.Data data_entry) n = none_more (for_account k (Some data_ent
 owned_parts k (body.ClaimableBalance balance) n = none_more (pos 0)
 owned_parts k (body.LiquidityPool pool) n = none_more (pos 0)
 
-pub counted_parts : (which : AccountBook) (v : View) (k : LedgerKey) (e : LedgerEntry)
+pub counted_parts : (which : Book) (v : View) (k : LedgerKey) (e : LedgerEntry)
     → counted v (kind_of which) k e ≡ (counted_else which k e +ℤ counted_itself which k e)
 counted_parts book.Subentries v k e = owned_parts k e.body (subentries_in e.body)
 counted_parts book.Sponsored v k e = owned_parts k e.body (sponsored_in_entry e)
 counted_parts book.Sponsoring v k e =
     nothing_more k (itself e.body) (for_account k (sponsor_of e) (multiplicity e.body)
     +ℤ for_each k (signer_sponsors_in e.body))
+counted_parts book.Selling v k e = nothing_more k (itself e.body) (sells k e.body)
+counted_parts book.Buying v k e = nothing_more k (itself e.body) (buys k e.body)
+
+-- under a key that isn't an account's others count all
+pub counted_by_others : (which : Book) (v : View) (k : LedgerKey) (e : LedgerEntry)
+    → ((id : AccountId) → key.Account id ≢ k) → counted v (kind_of which) k e ≡ counted_else which k e
+counted_by_others which v k e other =
+    counted_parts which v k e
+    ∙ ap (λ n. counted_else which k e +ℤ n)
+    (none_for_account k (itself e.body) (own_count which e) (account_only (IsOther k) other (itself e.body)))
+    ∙ sym (none_more (counted_else which k e))
 
 -- an account counts nothing for another one
-pub none_itself : (which : AccountBook) (k : LedgerKey) (e : LedgerEntry) → key_of e ≢ k
+pub none_itself : (which : Book) (k : LedgerKey) (e : LedgerEntry) → key_of e ≢ k
     → counted_itself which k e ≡ pos 0
 none_itself which k e other = none_of e.body refl
   where
@@ -307,3 +400,19 @@ others_by_none a none =
       items = length-map a.signers (λ signer. None);
       others = All-map (λ s. s ≢ Some a.account_id) (λ signer. None) a.signers (λ k d lt same. cc);
     })
+
+-- ---- what an offer counts where its seller has its assets
+
+pub sold_at : (k : LedgerKey) (b : LedgerEntryBody) (offer : OfferEntry) (named : Option LedgerKey) (n : ℕ)
+    → b ≡ body.Offer offer → named ≡ holder offer.seller_id offer.selling → n ≡ (bound_of offer).wheat
+    → sells k b ≡ for_key k named (pos n)
+sold_at k b offer named n is at same =
+    ap (sells k) is ∙ ap (λ o. for_key k o (pos (bound_of offer).wheat)) (sym at)
+    ∙ ap (λ c. for_key k named (pos c)) (sym same)
+
+pub bought_at : (k : LedgerKey) (b : LedgerEntryBody) (offer : OfferEntry) (named : Option LedgerKey) (n : ℕ)
+    → b ≡ body.Offer offer → named ≡ holder offer.seller_id offer.buying → n ≡ (bound_of offer).sheep
+    → buys k b ≡ for_key k named (pos n)
+bought_at k b offer named n is at same =
+    ap (buys k) is ∙ ap (λ o. for_key k o (pos (bound_of offer).sheep)) (sym at)
+    ∙ ap (λ c. for_key k named (pos c)) (sym same)

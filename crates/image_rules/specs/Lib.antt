@@ -1,5 +1,7 @@
 pub mod EntryTests
 pub mod Signers
 pub mod Counts
-pub mod AccountBooks
+pub mod Books
 pub mod RuleLists
+pub mod Terms
+pub mod OfferSets

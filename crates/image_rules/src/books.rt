@@ -1,34 +1,47 @@
-//! The books of accounts: what each account states, and what all entries count for it. What an account counts for
-//! itself, its signers and its own reserves, is looked at in the account. What it counts for others stands in a tally.
+//! The books of accounts and of lines: what each states, and what all entries count for it. What an account counts for
+//! itself, its signers and its own reserves, is looked at in the account. What an entry counts for others stands in a
+//! tally.
 
 ghost use Rattle.std.specs.Prelude.{◌≡◌, ◌+◌, ◌+ℤ◌, ◌↔◌, ℤ, pos, count_by, IsTrue, IfOk, OnOk};
 ghost use Rattle.ledger_types.specs.declared.entry.LedgerEntryBody.TheVariants as body;
 ghost use Rattle.sponsor_laws.specs.Sums.{is_there};
 ghost use Rattle.legal_rules.specs.Reserves.{for_each, signer_sponsors_in, sponsored_in_entry};
+ghost use Rattle.legal_rules.specs.Trades.{sells, buys};
 ghost use Rattle.legal_rules.specs.Books.{stated};
 ghost use Rattle.legal_rules.specs.Legal.{IsBooked};
 ghost use Rattle.close_rules.specs.EntryRules.{AreOwned};
+ghost use Rattle.image_rules.specs.Terms.{AreTerms, HaveTerms};
 ghost use Rattle.image_rules.specs.Counts.{Adds, IsCountOf};
-ghost use Rattle.image_rules.specs.declared.books.AccountBook.TheVariants as book;
-ghost use Rattle.image_rules.specs.AccountBooks.{kind_of, own_count, counted_else, AreCounts, Agrees};
+ghost use Rattle.image_rules.specs.declared.books.Book.TheVariants as book;
+ghost use Rattle.image_rules.specs.Books.{kind_of, own_count, counted_else, AreCounts, Agrees};
 
-use crate::counts::{Tally, add_for, count_of};
+use crate::counts::{Tally, add_at, add_for, count_of};
+use crate::holders::holder;
+use crate::offers::{sheep_of, wheat_of};
 use crate::parts::{multiplicity, other_owner, sponsored_signers, sponsorship, subentries_in};
-use entry_slots::{num_sponsored, num_sponsoring, sponsor_in};
+use entry_slots::{
+    account_liabilities, line_liabilities, num_sponsored, num_sponsoring, sponsor_in,
+};
 use entry_table::EntryTable;
-use ledger_types::{AccountEntry, AccountId, LedgerEntry, LedgerEntryBody, LedgerKey};
+use ledger_types::{
+    AccountEntry, AccountId, LedgerEntry, LedgerEntryBody, LedgerKey, TrustLineEntry,
+};
 use std::alloc::{AllocError, Global};
 use std::collections::BTreeMap;
 
-/// A number that accounts state, and that all entries together count.
+/// A number that accounts state, or accounts and lines, and that all entries together count.
 #[derive(Clone, Copy)]
-pub enum AccountBook {
+pub enum Book {
     /// How many subentries an account has.
     Subentries,
     /// How many reserves an account pays as a sponsor.
     Sponsoring,
     /// How many reserves of an account others pay.
     Sponsored,
+    /// How much of what an account or a line holds offers may have to give.
+    Selling,
+    /// How much offers may put into an account or a line.
+    Buying,
 }
 
 /// Counts one for each account that is named.
@@ -81,21 +94,51 @@ fn add_paid_for(tally: &mut Tally, entry: &LedgerEntry) -> Result<(), AllocError
     add_for(tally, owner, sponsored_signers(&entry.body))
 }
 
+/// Counts what an offer may have to give, where its seller has it.
+fn add_sold(tally: &mut Tally, body: &LedgerEntryBody) -> Result<(), AllocError>
+    requires { AreTerms body.now }
+    ensures { OnOk result (Adds tally.old tally.new (λ k. sells k body.now)) }
+{
+    match body {
+        LedgerEntryBody::Offer(offer) => {
+            let named = holder(&offer.seller_id, &offer.selling);
+            add_at(tally, named, wheat_of(offer))
+        }
+        _ => Ok(()),
+    }
+}
+
+/// Counts what an offer may take in, where its seller will have it.
+fn add_bought(tally: &mut Tally, body: &LedgerEntryBody) -> Result<(), AllocError>
+    requires { AreTerms body.now }
+    ensures { OnOk result (Adds tally.old tally.new (λ k. buys k body.now)) }
+{
+    match body {
+        LedgerEntryBody::Offer(offer) => {
+            let named = holder(&offer.seller_id, &offer.buying);
+            add_at(tally, named, sheep_of(offer))
+        }
+        _ => Ok(()),
+    }
+}
+
 /// Counts what an entry counts for others in a book.
-fn add_entry(tally: &mut Tally, book: AccountBook, entry: &LedgerEntry) -> Result<(), AllocError>
+fn add_entry(tally: &mut Tally, book: Book, entry: &LedgerEntry) -> Result<(), AllocError>
+    requires { AreTerms entry.now.body }
     ensures { OnOk result (Adds tally.old tally.new (λ k. counted_else book k entry.now)) }
 {
     match book {
-        AccountBook::Subentries => {
-            add_for(tally, other_owner(&entry.body), subentries_in(&entry.body))
-        }
-        AccountBook::Sponsoring => add_payers(tally, entry),
-        AccountBook::Sponsored => add_paid_for(tally, entry),
+        Book::Subentries => { add_for(tally, other_owner(&entry.body), subentries_in(&entry.body)) }
+        Book::Sponsoring => add_payers(tally, entry),
+        Book::Sponsored => add_paid_for(tally, entry),
+        Book::Selling => add_sold(tally, &entry.body),
+        Book::Buying => add_bought(tally, &entry.body),
     }
 }
 
 /// What all entries count for others in a book.
-fn tally_of(alloc: Global, book: AccountBook, entries: &EntryTable) -> Result<Tally, AllocError>
+fn tally_of(alloc: Global, book: Book, entries: &EntryTable) -> Result<Tally, AllocError>
+    requires { HaveTerms entries.now }
     ensures { IfOk result (λ tally. AreCounts book entries.now tally) }
 {
     let mut tally = BTreeMap::new(alloc);
@@ -106,31 +149,55 @@ fn tally_of(alloc: Global, book: AccountBook, entries: &EntryTable) -> Result<Ta
 }
 
 /// What an account states in a book.
-fn stated_in(book: AccountBook, account: &AccountEntry) -> u32
-    ensures { stated (kind_of book) (body.Account account.now) ≡ pos result }
+fn stated_in(book: Book, account: &AccountEntry) -> i64
+    ensures { stated (kind_of book) (body.Account account.now) ≡ result }
 {
     match book {
-        AccountBook::Subentries => account.num_sub_entries,
-        AccountBook::Sponsoring => num_sponsoring(account),
-        AccountBook::Sponsored => num_sponsored(account),
+        Book::Subentries => i64::from(account.num_sub_entries),
+        Book::Sponsoring => i64::from(num_sponsoring(account)),
+        Book::Sponsored => i64::from(num_sponsored(account)),
+        Book::Selling => account_liabilities(account).selling,
+        Book::Buying => account_liabilities(account).buying,
+    }
+}
+
+/// What a line states in a book.
+fn stated_by_line(book: Book, line: &TrustLineEntry) -> i64
+    ensures { stated (kind_of book) (body.TrustLine line.now) ≡ result }
+{
+    match book {
+        Book::Subentries => 0,
+        Book::Sponsoring => 0,
+        Book::Sponsored => 0,
+        Book::Selling => line_liabilities(line).selling,
+        Book::Buying => line_liabilities(line).buying,
     }
 }
 
 /// A count and what an account counts for itself in a book.
-fn with_own(count: u64, book: AccountBook, entry: &LedgerEntry) -> u64
+fn with_own(count: u64, book: Book, entry: &LedgerEntry) -> u64
     ensures { (sum : ℤ) → IsCountOf count sum → IsCountOf result (sum +ℤ pos (own_count book entry.now)) }
 {
     match book {
-        AccountBook::Subentries => count.saturating_add(subentries_in(&entry.body)),
-        AccountBook::Sponsoring => count,
-        AccountBook::Sponsored => count
+        Book::Subentries => count.saturating_add(subentries_in(&entry.body)),
+        Book::Sponsoring => count,
+        Book::Sponsored => count
             .saturating_add(paid_for(entry))
             .saturating_add(sponsored_signers(&entry.body)),
+        Book::Selling => count,
+        Book::Buying => count,
     }
 }
 
-/// Whether an account states what is counted for it. What isn't an account states nothing.
-fn agrees(tally: &Tally, book: AccountBook, entry: &LedgerEntry) -> bool
+/// Whether a number is that of a count. A count that stopped at the greatest number of 64 bits is that of none.
+fn is_count(count: u64, number: i64) -> bool
+    ensures { (sum : ℤ) → IsCountOf count sum → (IsTrue result ↔ number ≡ sum) }
+{
+    i128::from(count) == i128::from(number)
+}
+
+/// Whether an account or a line states what is counted for it. What is neither states nothing.
+fn agrees(tally: &Tally, book: Book, entry: &LedgerEntry) -> bool
     ensures { Agrees tally.now book entry.now result }
 {
     match &entry.body {
@@ -138,14 +205,22 @@ fn agrees(tally: &Tally, book: AccountBook, entry: &LedgerEntry) -> bool
             let key = LedgerKey::Account {
                 account_id: account.account_id,
             };
-            with_own(count_of(tally, &key), book, entry) == u64::from(stated_in(book, account))
+            let count = with_own(count_of(tally, &key), book, entry);
+            is_count(count, stated_in(book, account))
+        }
+        LedgerEntryBody::TrustLine(line) => {
+            let key = LedgerKey::TrustLine {
+                account_id: line.account_id,
+                asset: line.asset,
+            };
+            is_count(count_of(tally, &key), stated_by_line(book, line))
         }
         _ => true,
     }
 }
 
-/// Whether each account states what is counted for it.
-fn do_all_agree(tally: &Tally, book: AccountBook, entries: &EntryTable) -> bool
+/// Whether each account and each line states what is counted for it.
+fn do_all_agree(tally: &Tally, book: Book, entries: &EntryTable) -> bool
     requires owned { AreOwned entries.now }
     requires counted { AreCounts book entries.now tally.now }
     ensures { IsTrue result ↔ IsBooked (kind_of book) entries.now }
@@ -158,9 +233,10 @@ fn do_all_agree(tally: &Tally, book: AccountBook, entries: &EntryTable) -> bool
     true
 }
 
-/// Whether each account states in a book what all entries count for it.
-pub fn is_booked(alloc: Global, book: AccountBook, entries: &EntryTable) -> Result<bool, AllocError>
-    requires { AreOwned entries.now }
+/// Whether each account and each line states in a book what all entries count for it.
+pub fn is_booked(alloc: Global, book: Book, entries: &EntryTable) -> Result<bool, AllocError>
+    requires owned { AreOwned entries.now }
+    requires terms { HaveTerms entries.now }
     ensures { IfOk result (λ kept. IsTrue kept ↔ IsBooked (kind_of book) entries.now) }
 {
     let tally = tally_of(alloc, book, entries)?;

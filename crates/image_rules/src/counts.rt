@@ -1,8 +1,9 @@
 //! Counts under keys.
 
-ghost use Rattle.std.specs.Prelude.{◌≡◌, ◌+◌, min, OnOk, if◌then◌else◌};
+ghost use Rattle.std.specs.Prelude.{◌≡◌, ◌+◌, pos, min, OnOk, option_map, if◌then◌else◌};
 ghost use Rattle.ledger_types.specs.declared.key.LedgerKey.{LedgerKey as AKey};
-ghost use Rattle.legal_rules.specs.EntryKeys.{is_key, for_account};
+ghost use Rattle.ledger_types.specs.declared.key.LedgerKey.TheVariants as key;
+ghost use Rattle.legal_rules.specs.EntryKeys.{is_key, for_key, for_account};
 ghost use Rattle.image_rules.specs.Counts.{greatest_count, count_at, Adds};
 
 use ledger_types::{AccountId, LedgerKey};
@@ -33,15 +34,32 @@ fn add(tally: &mut Tally, key: LedgerKey, more: u64) -> Result<(), AllocError>
     Ok(())
 }
 
-/// Counts more for an account, if one is named. To count nothing takes no place in the tally.
-pub fn add_for(tally: &mut Tally, id: Option<AccountId>, more: u64) -> Result<(), AllocError>
-    ensures { OnOk result (Adds tally.old tally.new (λ k. for_account k id more)) }
+/// Counts more for a key, if one is named. To count nothing takes no place in the tally.
+pub fn add_at(tally: &mut Tally, named: Option<LedgerKey>, more: u64) -> Result<(), AllocError>
+    ensures { OnOk result (Adds tally.old tally.new (λ k. for_key k named (pos more))) }
 {
     if more == 0 {
         return Ok(());
     }
-    match id {
+    match named {
         None => Ok(()),
-        Some(account_id) => add(tally, LedgerKey::Account { account_id }, more),
+        Some(key) => add(tally, key, more),
     }
+}
+
+/// The key of an account, if one is named.
+fn account_key(id: Option<AccountId>) -> Option<LedgerKey>
+    ensures { result ≡ option_map key.Account id }
+{
+    match id {
+        None => None,
+        Some(account_id) => Some(LedgerKey::Account { account_id }),
+    }
+}
+
+/// Counts more for an account, if one is named.
+pub fn add_for(tally: &mut Tally, id: Option<AccountId>, more: u64) -> Result<(), AllocError>
+    ensures { OnOk result (Adds tally.old tally.new (λ k. for_account k id more)) }
+{
+    add_at(tally, account_key(id), more)
 }

@@ -5,7 +5,6 @@ ghost use Rattle.entry_sums.specs.Sums.{EachEntry};
 ghost use Rattle.close_rules.specs.State.{IsBuiltLine, IsBuiltBody, AreBuilt};
 ghost use Rattle.image_rules.specs.EntryTests.{MayTake, Passes};
 
-use crate::liabilities::is_unbound;
 use crate::pools::is_unused;
 use crate::ranges::is_entry_in_range;
 use crate::sponsorship::do_reserves_fit;
@@ -16,12 +15,10 @@ use ledger_types::{LedgerEntry, LedgerEntryBody, TrustLineAsset};
 /// What may be asked of an entry.
 #[derive(Clone, Copy)]
 pub enum EntryTest {
-    /// It isn't an offer, a pool or a line of pool shares.
+    /// It isn't a pool or a line of pool shares.
     Built,
     /// It is in its ranges, where no offer has an id above this one.
     InRange { id_pool: u64 },
-    /// It states no liabilities.
-    Unbound,
     /// An account has at most 1000 subentries.
     Few,
     /// An account's subentries and the reserves that it pays as a sponsor fit 32 bits together.
@@ -40,7 +37,7 @@ fn is_built_line(asset: &TrustLineAsset) -> bool
     }
 }
 
-/// Whether an entry isn't an offer, a pool or a line of pool shares.
+/// Whether an entry isn't a pool or a line of pool shares.
 fn is_built(body: &LedgerEntryBody) -> bool
     ensures { IsTrue result ↔ IsBuiltBody body.now }
 {
@@ -49,6 +46,7 @@ fn is_built(body: &LedgerEntryBody) -> bool
         LedgerEntryBody::TrustLine(line) => is_built_line(&line.asset),
         LedgerEntryBody::Data(_) => true,
         LedgerEntryBody::ClaimableBalance(_) => true,
+        LedgerEntryBody::Offer(_) => true,
         _ => false,
     }
 }
@@ -61,7 +59,6 @@ fn passes(test: EntryTest, entry: &LedgerEntry) -> bool
     match test {
         EntryTest::Built => is_built(&entry.body),
         EntryTest::InRange { id_pool } => is_entry_in_range(id_pool, entry),
-        EntryTest::Unbound => is_unbound(&entry.body),
         EntryTest::Few => are_subentries_few(&entry.body),
         EntryTest::Fitting => do_reserves_fit(&entry.body),
         EntryTest::Unused => is_unused(&entry.body),
@@ -81,7 +78,7 @@ pub fn do_all_pass(test: EntryTest, entries: &EntryTable) -> bool
     true
 }
 
-/// Whether no entry is an offer, a pool or a line of pool shares.
+/// Whether no entry is a pool or a line of pool shares.
 pub fn are_built(entries: &EntryTable) -> bool
     ensures { IsTrue result ↔ AreBuilt entries.now }
 {

@@ -1,31 +1,20 @@
 //! Rule 9: what offers bind is bound where their sellers hold it.
 
-ghost use Rattle.std.specs.Prelude.{◌↔◌, IsTrue};
-ghost use Rattle.close_rules.specs.State.{AreBuilt};
-ghost use Rattle.close_rules.specs.EntryRules.{AreLiable};
-ghost use Rattle.image_rules.specs.EntryTests.{IsUnbound};
+ghost use Rattle.std.specs.Prelude.{◌↔◌, IsTrue, IfOk};
+ghost use Rattle.close_rules.specs.EntryRules.{AreOwned, AreLiable};
+ghost use Rattle.image_rules.specs.Terms.{HaveTerms};
 
-use crate::entry_tests::{EntryTest, do_all_pass};
-use entry_slots::{account_liabilities, line_liabilities};
+use crate::books::{Book, is_booked};
 use entry_table::EntryTable;
-use ledger_types::LedgerEntryBody;
+use std::alloc::{AllocError, Global};
 
-/// Whether an entry states no liabilities.
-pub fn is_unbound(body: &LedgerEntryBody) -> bool
-    ensures { IsTrue result ↔ IsUnbound body.now }
+/// Whether liabilities are those of all offers.
+pub fn are_liable(alloc: Global, entries: &EntryTable) -> Result<bool, AllocError>
+    requires owned { AreOwned entries.now }
+    requires terms { HaveTerms entries.now }
+    ensures { IfOk result (λ kept. IsTrue kept ↔ AreLiable entries.now) }
 {
-    let liabilities = match body {
-        LedgerEntryBody::Account(account) => account_liabilities(account),
-        LedgerEntryBody::TrustLine(line) => line_liabilities(line),
-        _ => return true,
-    };
-    liabilities.selling == 0 && liabilities.buying == 0
-}
-
-/// Whether liabilities are those of all offers. There is no offer, so they are 0.
-pub fn are_liable(entries: &EntryTable) -> bool
-    requires { AreBuilt entries.now }
-    ensures { IsTrue result ↔ AreLiable entries.now }
-{
-    do_all_pass(EntryTest::Unbound, entries)
+    let selling = is_booked(alloc, Book::Selling, entries)?;
+    let buying = is_booked(alloc, Book::Buying, entries)?;
+    Ok(selling && buying)
 }

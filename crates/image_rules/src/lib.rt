@@ -1,15 +1,19 @@
-//! The rules of a start image that are of its entries, judged in their order. So far entries are all but offers, pools
-//! and lines of pool shares.
+//! The rules of a start image that are of its entries, judged in their order. So far entries are all but pools and
+//! lines of pool shares.
 #![tactic(auto)]
 
+mod authorized;
 mod books;
 mod claimables;
 mod counts;
 mod entry_tests;
 mod fields;
+mod holders;
 mod liabilities;
 mod lines;
 mod lumens;
+mod offer_ids;
+mod offers;
 mod owners;
 mod parts;
 mod pools;

@@ -20,7 +20,7 @@ fn lumens_among(asset: &Asset, amount: i64) -> i64
     }
 }
 
-/// The lumens that an account or a claimable balance holds. Lines and data hold none.
+/// The lumens that an account or a claimable balance holds. Lines, offers and data hold none.
 fn lumens_in(body: &LedgerEntryBody) -> i64
     requires { IsBuiltBody body.now }
     ensures value { held_in Native body.now ≡ result }
@@ -30,6 +30,7 @@ fn lumens_in(body: &LedgerEntryBody) -> i64
     match body {
         LedgerEntryBody::Account(account) => account.balance,
         LedgerEntryBody::TrustLine(_) => 0,
+        LedgerEntryBody::Offer(_) => 0,
         LedgerEntryBody::Data(_) => 0,
         LedgerEntryBody::ClaimableBalance(balance) => lumens_among(&balance.asset, balance.amount),
         _ => unreachable!(),

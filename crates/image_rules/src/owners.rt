@@ -1,23 +1,27 @@
 //! Rule 8: what entries need stands, and offers have distinct ids.
 
-ghost use Rattle.std.specs.Prelude.{◌≢◌, ◌↔◌, None, All, IsTrue, IfOk};
+ghost use Rattle.std.specs.Prelude.{◌≢◌, ◌↔◌, ◌++◌, None, All, IsTrue, IfOk};
 ghost use Rattle.std.specs.List.{flat_map};
 ghost use Rattle.std.specs.FinMap.{get};
 ghost use Rattle.ledger_types.specs.declared.key.LedgerKey.TheVariants as key;
 ghost use Rattle.ledger_types.specs.Keys.{key_of, key_of_body};
 ghost use Rattle.sponsor_rules.specs.Charge as charge;
 ghost use Rattle.legal_rules.specs.Reserves.{signer_sponsors_in};
-ghost use Rattle.legal_rules.specs.Needs.{account_keys, needed_keys};
+ghost use Rattle.entry_sums.specs.Sums.{EachEntry};
+ghost use Rattle.legal_rules.specs.Needs.{account_keys, keys_in, holding_keys, needed_keys};
+ghost use Rattle.legal_rules.specs.Trades as spec;
 ghost use Rattle.legal_rules.specs.Legal.{pools_in};
 ghost use Rattle.close_rules.specs.State.{IsBuiltBody, AreBuilt};
 ghost use Rattle.close_rules.specs.EntryRules.{AreOwned};
 
+use crate::holders::holder;
+use crate::offer_ids::are_offers_apart;
 use crate::parts::{owner_of, sponsorship};
 use entry_map::Base;
 use entry_slots::sponsor_in;
 use entry_table::EntryTable;
-use ledger_types::{AccountId, LedgerEntry, LedgerEntryBody, LedgerKey};
-use std::alloc::AllocError;
+use ledger_types::{AccountId, LedgerEntry, LedgerEntryBody, LedgerKey, OfferEntry};
+use std::alloc::{AllocError, Global};
 
 /// Whether an account stands.
 fn has_account(entries: &EntryTable, account_id: AccountId) -> Result<bool, AllocError>
@@ -78,11 +82,47 @@ fn do_payers_stand(entries: &EntryTable, body: &LedgerEntryBody) -> Result<bool,
     }
 }
 
-/// Whether all three hold.
-fn are_all(owner: bool, sponsor: bool, payers: bool) -> bool
-    ensures { IsTrue result ↔ (IsTrue owner × IsTrue sponsor × IsTrue payers) }
+/// Whether something stands under a key, if one is named.
+fn is_key_there(entries: &EntryTable, named: Option<LedgerKey>) -> Result<bool, AllocError>
+    ensures { IfOk result (λ there. IsTrue there ↔ All (λ q. get entries.now q ≢ None) (keys_in named)) }
 {
-    owner && sponsor && payers
+    match named {
+        None => Ok(true),
+        Some(key) => {
+            let found = entries.find(&key)?;
+            Ok(found.is_some())
+        }
+    }
+}
+
+/// Whether what an offer's seller has its assets in stands.
+fn are_both_there(entries: &EntryTable, offer: &OfferEntry) -> Result<bool, AllocError>
+    ensures { IfOk result (λ there. IsTrue there ↔ All (λ q. get entries.now q ≢ None)
+        (keys_in (spec.holder offer.now.seller_id offer.now.selling)
+        ++ keys_in (spec.holder offer.now.seller_id offer.now.buying))) }
+{
+    let sold = is_key_there(entries, holder(&offer.seller_id, &offer.selling))?;
+    let bought = is_key_there(entries, holder(&offer.seller_id, &offer.buying))?;
+    Ok(sold && bought)
+}
+
+/// Whether what an entry trades in stands, if it is an offer. No line needs a pool.
+fn are_holders_there(entries: &EntryTable, body: &LedgerEntryBody) -> Result<bool, AllocError>
+    requires { IsBuiltBody body.now }
+    ensures { IfOk result (λ there.
+        IsTrue there ↔ All (λ q. get entries.now q ≢ None) (holding_keys (pools_in entries.now) body.now)) }
+{
+    match body {
+        LedgerEntryBody::Offer(offer) => are_both_there(entries, offer),
+        _ => Ok(true),
+    }
+}
+
+/// Whether all four hold.
+fn are_all(owner: bool, sponsor: bool, payers: bool, holders: bool) -> bool
+    ensures { IsTrue result ↔ (IsTrue owner × IsTrue sponsor × IsTrue payers × IsTrue holders) }
+{
+    owner && sponsor && payers && holders
 }
 
 /// Whether what an entry needs stands.
@@ -95,13 +135,15 @@ fn is_owned(entries: &EntryTable, entry: &LedgerEntry) -> Result<bool, AllocErro
     let owner = does_owner_stand(entries, &entry.body)?;
     let sponsor = stands(entries, sponsor_in(&entry.ext))?;
     let payers = do_payers_stand(entries, &entry.body)?;
-    Ok(are_all(owner, sponsor, payers))
+    let holders = are_holders_there(entries, &entry.body)?;
+    Ok(are_all(owner, sponsor, payers, holders))
 }
 
-/// Whether what each entry needs stands. There is no offer whose id another could have, and no line that needs a pool.
-pub fn are_owned(entries: &EntryTable) -> Result<bool, AllocError>
+/// Whether what each entry needs stands.
+fn are_all_owned(entries: &EntryTable) -> Result<bool, AllocError>
     requires { AreBuilt entries.now }
-    ensures { IfOk result (λ kept. IsTrue kept ↔ AreOwned entries.now) }
+    ensures { IfOk result (λ kept. IsTrue kept
+        ↔ EachEntry (λ k e. All (λ q. get entries.now q ≢ None) (needed_keys (pools_in entries.now) e)) entries.now) }
 {
     for place in 0..entries.len() {
         let owned = is_owned(entries, entries.entry(place))?;
@@ -110,4 +152,14 @@ pub fn are_owned(entries: &EntryTable) -> Result<bool, AllocError>
         }
     }
     Ok(true)
+}
+
+/// Whether what each entry needs stands, and offers have distinct ids.
+pub fn are_owned(alloc: Global, entries: &EntryTable) -> Result<bool, AllocError>
+    requires { AreBuilt entries.now }
+    ensures { IfOk result (λ kept. IsTrue kept ↔ AreOwned entries.now) }
+{
+    let owned = are_all_owned(entries)?;
+    let apart = are_offers_apart(alloc, entries)?;
+    Ok(owned && apart)
 }

@@ -6,7 +6,7 @@ ghost use Rattle.entry_slots.specs.AccountExtensions.{second_in};
 ghost use Rattle.sponsor_rules.specs.Charge as charge;
 ghost use Rattle.sponsor_laws.specs.Sums.{is_there};
 ghost use Rattle.legal_rules.specs.Reserves as spec;
-ghost use Rattle.image_rules.specs.AccountBooks as books;
+ghost use Rattle.image_rules.specs.Books as books;
 
 use ledger_types::{AccountEntry, AccountEntryExtensionV2, AccountId, LedgerEntryBody};
 use sponsor_rules::{Charge, charge_of};

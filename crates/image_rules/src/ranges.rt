@@ -1,14 +1,16 @@
 //! Rule 7: each entry is in its ranges.
 
-ghost use Rattle.std.specs.Prelude.{◌≢◌, ◌↔◌, None, IsTrue};
+ghost use Rattle.std.specs.Prelude.{◌≢◌, ◌↔◌, None, IsTrue, IfOk};
 ghost use Rattle.reserve_rules.specs.Reserve.{IsInRange};
 ghost use Rattle.legal_rules.specs.Ranges as spec;
 ghost use Rattle.close_rules.specs.State.{IsBuiltBody, AreBuilt};
 ghost use Rattle.close_rules.specs.EntryRules.{AreInRange};
 
+use crate::authorized::are_all_authorized;
 use crate::claimables::is_claimable_in_range;
 use crate::entry_tests::{EntryTest, do_all_pass};
 use crate::lines::is_line_in_range;
+use crate::offers::is_offer_in_range;
 use crate::parts::owner_of;
 use crate::room::fits_within;
 use crate::signers::are_signers_in_range;
@@ -17,6 +19,7 @@ use entry_table::EntryTable;
 use ledger_types::{
     AccountEntry, AccountId, DataEntry, LedgerEntry, LedgerEntryBody, LedgerHeader,
 };
+use std::alloc::AllocError;
 use valid_values::is_valid_text;
 
 /// Whether an account's balance and liabilities are in their ranges.
@@ -64,6 +67,7 @@ fn is_body_in_range(id_pool: u64, body: &LedgerEntryBody) -> bool
     match body {
         LedgerEntryBody::Account(account) => is_account_in_range(account),
         LedgerEntryBody::TrustLine(line) => is_line_in_range(line),
+        LedgerEntryBody::Offer(offer) => is_offer_in_range(id_pool, offer),
         LedgerEntryBody::Data(entry) => is_data_in_range(entry),
         LedgerEntryBody::ClaimableBalance(balance) => is_claimable_in_range(balance),
         _ => unreachable!(),
@@ -98,13 +102,15 @@ pub fn is_entry_in_range(id_pool: u64, entry: &LedgerEntry) -> bool
     body && paid
 }
 
-/// Whether each entry is in its ranges. There is no offer whose lines could lack authorisation.
-pub fn are_in_range(header: &LedgerHeader, entries: &EntryTable) -> bool
+/// Whether each entry is in its ranges, and the lines of offers are authorised.
+pub fn are_in_range(header: &LedgerHeader, entries: &EntryTable) -> Result<bool, AllocError>
     requires { AreBuilt entries.now }
-    ensures { IsTrue result ↔ AreInRange header.now entries.now }
+    ensures { IfOk result (λ kept. IsTrue kept ↔ AreInRange header.now entries.now) }
 {
     let test = EntryTest::InRange {
         id_pool: header.id_pool,
     };
-    do_all_pass(test, entries)
+    let within = do_all_pass(test, entries);
+    let authorized = are_all_authorized(entries)?;
+    Ok(within && authorized)
 }

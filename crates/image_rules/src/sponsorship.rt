@@ -3,8 +3,9 @@
 ghost use Rattle.std.specs.Prelude.{◌↔◌, IsTrue, IfOk};
 ghost use Rattle.legal_rules.specs.Bounds.{DoReservesFit};
 ghost use Rattle.close_rules.specs.EntryRules.{AreOwned, AreSponsorsCounted};
+ghost use Rattle.image_rules.specs.Terms.{HaveTerms};
 
-use crate::books::{AccountBook, is_booked};
+use crate::books::{Book, is_booked};
 use crate::entry_tests::{EntryTest, do_all_pass};
 use entry_slots::num_sponsoring;
 use entry_table::EntryTable;
@@ -25,11 +26,12 @@ pub fn do_reserves_fit(body: &LedgerEntryBody) -> bool
 
 /// Whether each account states how many reserves it pays and how many of its own others pay.
 pub fn are_sponsors_counted(alloc: Global, entries: &EntryTable) -> Result<bool, AllocError>
-    requires { AreOwned entries.now }
+    requires owned { AreOwned entries.now }
+    requires terms { HaveTerms entries.now }
     ensures { IfOk result (λ kept. IsTrue kept ↔ AreSponsorsCounted entries.now) }
 {
     let fits = do_all_pass(EntryTest::Fitting, entries);
-    let sponsoring = is_booked(alloc, AccountBook::Sponsoring, entries)?;
-    let sponsored = is_booked(alloc, AccountBook::Sponsored, entries)?;
+    let sponsoring = is_booked(alloc, Book::Sponsoring, entries)?;
+    let sponsored = is_booked(alloc, Book::Sponsored, entries)?;
     Ok(fits && sponsoring && sponsored)
 }

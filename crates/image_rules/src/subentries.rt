@@ -3,8 +3,9 @@
 ghost use Rattle.std.specs.Prelude.{◌↔◌, IsTrue, IfOk};
 ghost use Rattle.legal_rules.specs.Bounds.{AreSubentriesFew};
 ghost use Rattle.close_rules.specs.EntryRules.{AreOwned, AreSubentriesCounted};
+ghost use Rattle.image_rules.specs.Terms.{HaveTerms};
 
-use crate::books::{AccountBook, is_booked};
+use crate::books::{Book, is_booked};
 use crate::entry_tests::{EntryTest, do_all_pass};
 use entry_table::EntryTable;
 use ledger_types::LedgerEntryBody;
@@ -22,10 +23,11 @@ pub fn are_subentries_few(body: &LedgerEntryBody) -> bool
 
 /// Whether each account states how many subentries it has, and has few.
 pub fn are_subentries_counted(alloc: Global, entries: &EntryTable) -> Result<bool, AllocError>
-    requires { AreOwned entries.now }
+    requires owned { AreOwned entries.now }
+    requires terms { HaveTerms entries.now }
     ensures { IfOk result (λ kept. IsTrue kept ↔ AreSubentriesCounted entries.now) }
 {
     let few = do_all_pass(EntryTest::Few, entries);
-    let booked = is_booked(alloc, AccountBook::Subentries, entries)?;
+    let booked = is_booked(alloc, Book::Subentries, entries)?;
     Ok(few && booked)
 }

@@ -4,6 +4,7 @@ ghost use Rattle.std.specs.Prelude.{IfOk};
 ghost use Rattle.close_rules.specs.State.{AreBuilt};
 ghost use Rattle.close_rules.specs.EntryRules as spec;
 ghost use Rattle.image_rules.specs.RuleLists.{book_rules, sum_rules};
+ghost use Rattle.image_rules.specs.Terms.{HaveTerms};
 
 use crate::liabilities::are_liable;
 use crate::lumens::are_lumens_counted;
@@ -38,6 +39,7 @@ fn first_of_books(
 ) -> Result<Option<ImageRule>, AllocError>
     requires built { AreBuilt entries.now }
     requires owned { spec.AreOwned entries.now }
+    requires terms { HaveTerms entries.now }
     ensures { IfOk result (λ broken. spec.IsFirstBroken header.now entries.now book_rules broken) }
 {
     let alloc = header.scp_value.upgrades.allocator();
@@ -52,8 +54,8 @@ fn first_of_books(
     Ok(first_of_sums(header, entries))
 }
 
-/// The first rule of the entries behind a ledger that is broken, if one is. None of them is an offer, a pool or a line
-/// of pool shares.
+/// The first rule of the entries behind a ledger that is broken, if one is. None of them is a pool or a line of pool
+/// shares.
 pub fn first_broken(
     header: &LedgerHeader,
     entries: &EntryTable,
@@ -61,14 +63,17 @@ pub fn first_broken(
     requires { AreBuilt entries.now }
     ensures { IfOk result (λ broken. spec.IsFirstBroken header.now entries.now spec.entry_rules broken) }
 {
-    if !are_in_range(header, entries) {
+    let within = are_in_range(header, entries)?;
+    if !within {
         return Ok(Some(ImageRule::Entry));
     }
-    let owned = are_owned(entries)?;
+    let alloc = header.scp_value.upgrades.allocator();
+    let owned = are_owned(alloc, entries)?;
     if !owned {
         return Ok(Some(ImageRule::Owner));
     }
-    if !are_liable(entries) {
+    let liable = are_liable(alloc, entries)?;
+    if !liable {
         return Ok(Some(ImageRule::Liabilities));
     }
     first_of_books(header, entries)

@@ -25,7 +25,8 @@ use Rattle.legal_rules.proofs.Steps.{legal_as, same_id_at}
 use Rattle.legal_rules.specs.OneMore.{one_more, SubentriesCounted}
 use Rattle.legal_rules.proofs.Passed.{passed}
 
-counts_own : (t : Bool) → (((pos 0 +ℤ pos 0) +ℤ neg_ℤ (pos 0)) +ℤ ((if t then neg_ℤ (pos 1) else pos 0) +ℤ neg_ℤ (pos 0)))
+counts_own : (t : Bool)
+    → (((pos 0 +ℤ pos 0) +ℤ neg_ℤ (pos 0)) +ℤ ((if t then neg_ℤ (pos 1) else pos 0) +ℤ neg_ℤ (pos 0)))
     ≡ neg_ℤ (if t then pos 1 else pos 0)
 counts_own true = omega (arith, ints)
 counts_own false = omega (arith, ints)

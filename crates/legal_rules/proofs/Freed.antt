@@ -57,7 +57,8 @@ module _ (v : View) (id_pool : ℕ) (sum : ℤ) (m : EntryMap) (id : AccountId) 
   stated_more : (kind : Kind) (k : LedgerKey) → one_more id s kind k ≡ neg_ℤ (pos 1)
       → pos 1 ≤ℤ stated_at kind (get m k)
   stated_more kind k owed = states_more (total (counted v kind k) m) (one_more id s kind k) (stated_at kind (get m k))
-      (total_not_below (counted v kind k) m (λ q e there. counted_low id_pool v kind k e (legal.entries q e there).range))
+      (total_not_below (counted v kind k) m (λ q e there.
+      counted_low id_pool v kind k e (legal.entries q e there).range))
       (total_of v (IsEntryLegal id_pool) (one_more id s) sum m legal kind k) owed
 
   stands_more : (which : Count) (x : AccountId) → one_more id s (book_of which) (key.Account x) ≡ neg_ℤ (pos 1)
@@ -101,7 +102,8 @@ module _ (v : View) (id_pool : ℕ) (sum : ℤ) (m : EntryMap) (id : AccountId) 
   changed =
       let bounded = account_legal v id_pool (one_more id s) sum m id a legal owner.stands in
       let same = same_id_at m id a legal.keyed owner.stands in
-      owner_changed v id_pool sum (plus (plus (one_more id s) (payer_books 1 s)) (less (payer_books 1 None))) _ s None id
+      owner_changed v id_pool sum
+      (plus (plus (one_more id s) (payer_books 1 s)) (less (payer_books 1 None))) _ s None id
       a (without_subentry 1 s) m (map_after_releasing 1 s m)
       (exchanged v id_pool sum 1 s None (one_more id s) m legal payer_has (λ x is. absurd (cc))) owner.stands beside
       (beside_none (key.Account id))
@@ -121,7 +123,8 @@ module _ (v : View) (id_pool : ℕ) (sum : ℤ) (m : EntryMap) (id : AccountId) 
 
   -- The account has a subentry less, and books owe nothing.
   reserve_freed : IsLegalOwing v id_pool nothing_owed sum (map_after_discounting id 1 s m)
-  reserve_freed = legal_as v (IsEntryLegal id_pool) Released nothing_owed sum sum _ changed.legal (all_freed s refl) refl
+  reserve_freed = legal_as v (IsEntryLegal id_pool) Released nothing_owed sum sum _ changed.legal
+      (all_freed s refl) refl
 
 pub subentries_freed : SubentriesFreed
 subentries_freed v id_pool sum id sponsor m legal apart = reserve_freed v id_pool sum m id sponsor legal apart

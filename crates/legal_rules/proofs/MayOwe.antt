@@ -34,5 +34,6 @@ one_more_is_right id sponsor = record {
     sponsoring = λ k. for_nobody k sponsor 1;
   };
   trades = record { selling = λ k. omega (arith, ints); buying = λ k. omega (arith, ints) };
-  covered = λ k. fewer (is_key (key.Account id) k) (if is_there sponsor then 1 else 0) 1 (at_most_one (is_there sponsor));
+  covered = λ k. fewer (is_key (key.Account id) k) (if is_there sponsor then 1 else 0) 1
+      (at_most_one (is_there sponsor));
 }

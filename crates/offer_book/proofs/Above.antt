@@ -41,7 +41,8 @@ later_none false v o h = h
 pub found_first : (x : LedgerKey × LedgerEntry) (xs : Pairs) → find key_cmp x.0 (x ∷ xs) ≡ Some x.1
 found_first x xs = ap (λ o. cond (is_eq o) (Some x.1) (find key_cmp x.0 xs)) (tied_itself keys_total x.0)
 
-pub skipped : (k : LedgerKey) (x : LedgerKey × LedgerEntry) (xs : Pairs) → key_cmp k x.0 ≢ Less → above k (x ∷ xs) ≡ above k xs
+pub skipped : (k : LedgerKey) (x : LedgerKey × LedgerEntry) (xs : Pairs) → key_cmp k x.0 ≢ Less
+    → above k (x ∷ xs) ≡ above k xs
 skipped k x xs h = elim (key_cmp k x.0) as (λ r. r ≢ Less → cond (is_lt r) (x ∷ above k xs) (above k xs) ≡ above k xs) [
   | Less ↦ λ no. absurd (no refl)
   | Equal ↦ λ _. refl
@@ -77,13 +78,15 @@ below_higher k x q low lt = elim (key_cmp k x) as (λ r. key_cmp k x ≡ r → r
 apart : (o : Ordering) → o ≡ Greater → is_eq o ≡ false
 apart o e = ap is_eq e
 
-module _ (k : LedgerKey) (e : LedgerEntry) (x : LedgerKey × LedgerEntry) (xs : Pairs) (h : T (is_sorted key_cmp (x ∷ xs)))
+module _ (k : LedgerKey) (e : LedgerEntry) (x : LedgerKey
+    × LedgerEntry) (xs : Pairs) (h : T (is_sorted key_cmp (x ∷ xs)))
     (there : find key_cmp (key_of e) (x ∷ xs) ≡ Some e) where
   abbrev IsFirst : Type 0
   IsFirst = above k (x ∷ xs) ≡ (key_of e, e) ∷ above (key_of e) (x ∷ xs)
 
   found : key_cmp (key_of e) x.0 ≡ Greater → find key_cmp (key_of e) xs ≡ Some e
-  found back = sym (ap (λ b. cond b (Some x.1) (find key_cmp (key_of e) xs)) (apart (key_cmp (key_of e) x.0) back)) ∙ there
+  found back = sym (ap (λ b. cond b (Some x.1) (find key_cmp (key_of e) xs)) (apart (key_cmp (key_of e) x.0) back))
+      ∙ there
 
   past : key_cmp k x.0 ≢ Less → key_cmp (key_of e) x.0 ≡ Greater
       → above k xs ≡ (key_of e, e) ∷ above (key_of e) xs → IsFirst
@@ -103,7 +106,8 @@ module _ (k : LedgerKey) (e : LedgerEntry) (x : LedgerKey × LedgerEntry) (xs : 
       ∙ all_above (key_of e) xs (below_tied keys_total (key_of e) x.0 xs tied (first _ _ h))))
 
   here : key_cmp k x.0 ≡ Less
-      → ((q : LedgerKey) → key_cmp k q ≡ Less → find key_cmp q (x ∷ xs) ≢ None → key_cmp (key_of e) q ≢ Greater) → IsFirst
+      → ((q : LedgerKey) → key_cmp k q ≡ Less → find key_cmp q (x ∷ xs) ≢ None
+      → key_cmp (key_of e) q ≢ Greater) → IsFirst
   here up least = elim (key_cmp (key_of e) x.0) as (λ r. key_cmp (key_of e) x.0 ≡ r → IsFirst) [
     | Less ↦ λ lower. absurd (cc (
       there,
@@ -123,7 +127,8 @@ least_first : (k : LedgerKey) (e : LedgerEntry) (es : Pairs) → T (is_sorted ke
 least_first k e [] h there lt least = absurd (cc)
 least_first k e (x ∷ xs) h there lt least =
     let later = λ (low : key_cmp k x.0 ≢ Less).
-    let back : key_cmp (key_of e) x.0 ≡ Greater = greater keys_total x.0 (key_of e) (below_higher k x.0 (key_of e) low lt) in
+    let back : key_cmp (key_of e) x.0 ≡ Greater =
+    greater keys_total x.0 (key_of e) (below_higher k x.0 (key_of e) low lt) in
     past k e x xs h there low back (least_first k e xs (second _ _ h) (found k e x xs h there back) lt
     (λ q up some. least q up (not_none (eq_by_cmp key_cmp q x.0) x.1 (find key_cmp q xs) some))) in
     elim (key_cmp k x.0) as (λ r. key_cmp k x.0 ≡ r → above k (x ∷ xs) ≡ (key_of e, e) ∷ above (key_of e) (x ∷ xs)) [

@@ -37,7 +37,8 @@ same_account a b h = ap (λ k. record { 0 = k }) (exact_bytes a.0 b.0 h)
 account_itself : (a : AccountId) → account_cmp a a ≡ Equal
 account_itself a = tied_itself nat_list_cmp_total a.0
 
-pub offer_key : (b : LedgerEntryBody) (o : OfferEntry) → offer_in b ≡ Some o → key_of_body b ≡ key.Offer o.seller_id o.offer_id
+pub offer_key : (b : LedgerEntryBody) (o : OfferEntry) → offer_in b ≡ Some o
+    → key_of_body b ≡ key.Offer o.seller_id o.offer_id
 offer_key (body.Offer x) o h = let same : x ≡ o = cc in ap (λ (y : OfferEntry). key.Offer y.seller_id y.offer_id) same
 offer_key (body.Account a) o h = absurd (cc)
 offer_key (body.TrustLine a) o h = absurd (cc)
@@ -47,7 +48,8 @@ offer_key (body.LiquidityPool a) o h = absurd (cc)
 
 -- ---- one entry in front of others
 
-pub first_sold : (s : AccountId) (x : LedgerKey × LedgerEntry) (o : OfferEntry) (xs : Pairs) → offer_in x.1.body ≡ Some o
+pub first_sold : (s : AccountId) (x : LedgerKey × LedgerEntry) (o : OfferEntry) (xs : Pairs)
+    → offer_in x.1.body ≡ Some o
     → o.seller_id ≡ s → sold_in s (x ∷ xs) ≡ o ∷ sold_in s xs
 first_sold s x o xs is same = ap (λ y. sold_by s (cons_option y (offers_in (map (λ pair. pair.1) xs)))) is
     ∙ ap (λ b. cond b (o ∷ sold_in s xs) (sold_in s xs))
@@ -72,7 +74,8 @@ by_offer : (s : AccountId) (k : LedgerKey) (b : LedgerEntryBody) → key_of_body
 by_offer s k (body.Offer o) own never = elim (account_cmp o.seller_id s) as (λ r. account_cmp o.seller_id s ≡ r
     → cond (is_eq r) (o ∷ []) [] ≡ []) [
       | Less ↦ λ _. refl
-      | Equal ↦ λ e. absurd (never o.offer_id (sym own ∙ ap (λ a. key.Offer a o.offer_id) (same_account o.seller_id s e)))
+      | Equal ↦ λ e. absurd
+          (never o.offer_id (sym own ∙ ap (λ a. key.Offer a o.offer_id) (same_account o.seller_id s e)))
       | Greater ↦ λ _. refl
     ] refl
 by_offer s k (body.Account a) own never = refl
@@ -97,7 +100,8 @@ by_key s (body.LiquidityPool a) n none e = absurd (cc)
 between : (s a : AccountId) (x y : Ordering) → ordering_then (account_cmp s a) x ≡ Less
     → ordering_then (account_cmp a s) y ≡ Less → a ≡ s
 between s a x y up down = elim (account_cmp s a) as (λ r. account_cmp s a ≡ r → ordering_then r x ≡ Less → a ≡ s) [
-  | Less ↦ λ e _. absurd (cc (down, ap (λ r. ordering_then r y) (nat_list_cmp_total.antisymm a.0 s.0 ∙ ap ordering_reverse e)))
+  | Less ↦ λ e _. absurd
+      (cc (down, ap (λ r. ordering_then r y) (nat_list_cmp_total.antisymm a.0 s.0 ∙ ap ordering_reverse e)))
   | Equal ↦ λ e _. sym (same_account s a e)
   | Greater ↦ λ _ g. absurd (cc)
 ] refl up
@@ -194,7 +198,8 @@ with_first s x xs ys same = with_option s (offer_in x.1.body) (offers_in (map (�
 -- ---- all offers of an account have ids above 0
 
 pub low_key : (s : AccountId) (n : ℤ) → pos 1 ≤ℤ n → key_cmp (key.Offer s (pos 0)) (key.Offer s n) ≡ Less
-low_key s n h = ap (λ r. ordering_then r (int_cmp (pos 0) n)) (account_itself s) ∙ sym (int_cmp_is (pos 0) n Less (omega (arith, ints)))
+low_key s n h = ap (λ r. ordering_then r (int_cmp (pos 0) n)) (account_itself s)
+    ∙ sym (int_cmp_is (pos 0) n Less (omega (arith, ints)))
 
 low_by : (s : AccountId) (x : LedgerKey × LedgerEntry) (xs : Pairs) (b : LedgerEntryBody) → x.1.body ≡ b
     → key_of_body b ≡ x.0 → IfSome (offer_in b) (λ o. pos 1 ≤ℤ o.offer_id) → key_cmp (key.Offer s (pos 0)) x.0 ≢ Less

@@ -5,7 +5,7 @@ use Rattle.ledger_types.specs.declared.price.Liabilities.{Liabilities}
 use Rattle.offer_exchange.specs.declared.bounds.Bounds.{Bounds as BoundsOfCall}
 use Rattle.offer_exchange.specs.declared.trade.Exchanged.{Exchanged}
 use Rattle.offer_exchange.specs.declared.rounding.Rounding.{Rounding}
-use Rattle.offer_exchange.specs.Exchange.{Bounds, Amounts, wheat_stays, exchanged, liabilities}
+use Rattle.offer_exchange.specs.Exchange.{Bounds, Amounts, wheat_stays, exchanged, wanted, liabilities}
 
 -- bounds of at least 0
 pub record AreBounds (bounds : BoundsOfCall) : Type 0 where
@@ -41,3 +41,12 @@ bound_by price amount = liabilities (parts_of price).0 (parts_of price).1 (unsig
 pub record AreLiabilities (price : Price) (amount : ℤ) (answer : Liabilities) : Type 0 where
   pub selling : answer.selling ≡ pos (bound_by price amount).wheat
   pub buying : answer.buying ≡ pos (bound_by price amount).sheep
+
+abbrev pub wanted_by : Price → (send receive : ℤ) → Amounts
+wanted_by price send receive =
+    wanted (parts_of price).0 (parts_of price).1 (unsigned_abs send) (unsigned_abs receive)
+
+-- what an offer would bind that sends and receives so much at most
+pub record AreWanted (price : Price) (send receive : ℤ) (answer : Liabilities) : Type 0 where
+  pub selling : answer.selling ≡ pos (wanted_by price send receive).wheat
+  pub buying : answer.buying ≡ pos (wanted_by price send receive).sheep

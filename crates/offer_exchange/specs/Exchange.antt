@@ -108,6 +108,10 @@ offered send receive = record
 unfoldable pub adjusted : (n d send receive : ℕ) → ℕ
 adjusted n d send receive = (exchanged Normal n d (offered send receive)).wheat
 
+-- what an offer would bind that sends and receives so much at most
+abbrev pub wanted : (n d send receive : ℕ) → Amounts
+wanted n d send receive = table Normal n d (offered send receive)
+
 -- what an offer of so much wheat binds
 unfoldable pub liabilities : (n d amount : ℕ) → Amounts
-liabilities n d amount = table Normal n d (offered amount unlimited)
+liabilities n d amount = wanted n d amount unlimited

@@ -11,6 +11,6 @@ mod trade;
 mod zero_rules;
 
 pub use bounds::Bounds;
-pub use offers::{adjust, liabilities};
+pub use offers::{adjust, liabilities, wanted};
 pub use rounding::Rounding;
 pub use trade::{Exchanged, exchange};

@@ -151,6 +151,8 @@ pub fn put_all(
 }
 
 /// Applies an operation, or answers none where it may not be: its source doesn't stand, or the ledger is the last.
+/// ALLOW_TRUST and SET_TRUST_LINE_FLAGS aren't applied here: they ask for a legal ledger, which these small ones
+/// aren't.
 pub fn applied(
     op: &Operation,
     ctx: &mut Ctx,
@@ -188,9 +190,6 @@ fn applied_by_type(
         | OperationBody::EndSponsoringFutureReserves
         | OperationBody::RevokeSponsorship(_) => op_sponsor::apply(op, ctx, entries),
         OperationBody::ChangeTrust(_) => op_trust::apply(op, ctx, entries),
-        OperationBody::AllowTrust(_) | OperationBody::SetTrustLineFlags(_) => {
-            op_flags::apply(op, ctx, entries)
-        }
         OperationBody::CreateClaimableBalance(_)
         | OperationBody::ClaimClaimableBalance(_)
         | OperationBody::Clawback(_)

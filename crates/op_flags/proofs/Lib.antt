@@ -1,0 +1,2 @@
+pub mod OwnOffers
+pub mod Cancelling

@@ -1,3 +1,5 @@
+pub mod Revoking
+pub mod Standing
 pub mod LineFlags
 pub mod AllowTrust
 pub mod SetTrustLineFlags

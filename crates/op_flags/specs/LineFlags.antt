@@ -1,6 +1,6 @@
 -- Flags of a line that its asset's issuer changes, and what goes with an authorisation (TrustFlagsOpFrameBase in
 -- stellar-core; CAP-0018).
-use Rattle.std.specs.Prelude.{ℕ, pos, not, ◌&&◌, ◌||◌, ◌∷◌, [], Bool}
+use Rattle.std.specs.Prelude.{ℕ, pos, not, ◌&&◌, ◌∷◌, [], Bool, true, false}
 use Rattle.std.specs.Ordering.{int_eq}
 use Rattle.ledger_types.specs.declared.ids.AccountId.{AccountId}
 use Rattle.ledger_types.specs.declared.asset.Asset.{Asset}
@@ -9,13 +9,13 @@ use Rattle.op_types.specs.declared.operation_result.OperationResult.{OperationRe
 use Rattle.op_types.specs.declared.operation_result.OperationResult.TheVariants.{NotSupported}
 use Rattle.entry_map.specs.EntryMap.{EntryMap}
 use Rattle.entry_slots.specs.Lines.{with_line}
-use Rattle.entry_slots.specs.LineExtensions.{line_liabilities, use_count}
-use Rattle.entry_slots.specs.AccountExtensions.{is_nothing}
+use Rattle.entry_slots.specs.LineExtensions.{use_count}
 use Rattle.sponsor_rules.specs.declared.context.Ctx.{Ctx}
 use Rattle.op_form.specs.Done.{Attempt}
 use Rattle.op_form.specs.Assets.{line_asset_of}
 use Rattle.op_form.specs.Flags.{has_any}
 use Rattle.op_form.specs.Steps.{unless_refused, success}
+use Rattle.op_flags.specs.Revoking.{map_without_offers}
 
 -- a line with other flags
 abbrev pub with_flags : ℕ → TrustLineEntry → TrustLineEntry
@@ -29,13 +29,16 @@ authorizing = 3
 abbrev pub is_revoked : TrustLineEntry → (flags : ℕ) → Bool
 is_revoked line flags = has_any line.flags authorizing && not (has_any flags authorizing)
 
--- offers of the account bind the line, or pools use it
-abbrev pub is_in_use : TrustLineEntry → Bool
-is_in_use line = not (is_nothing (line_liabilities line)) || not (int_eq (use_count line) (pos 0))
+-- the account's offers in the asset go with an authorisation that is taken back
+abbrev pub map_after_revoking : AccountId → Asset → (revoked : Bool) → EntryMap → EntryMap
+map_after_revoking trustor held true m = map_without_offers trustor held m
+map_after_revoking trustor held false m = m
 
--- The line gets its new flags. With an authorisation that is taken back go the account's offers and pool shares in the
--- asset. That isn't supported yet: a line that any of them uses keeps what it has.
+-- The line gets its new flags. With an authorisation that is taken back the account's pool shares in the asset would go
+-- too. That isn't supported yet: a line that pools use keeps what it has.
 abbrev pub flagged : Ctx → AccountId → Asset → (flags : ℕ) → OperationResult → TrustLineEntry → EntryMap → Attempt
 flagged ctx trustor held flags succeeded line m =
-    unless_refused ((is_revoked line flags && is_in_use line, NotSupported) ∷ [])
-    (success ctx succeeded (with_line m trustor (line_asset_of held) (with_flags flags)) [])
+    let revoked = is_revoked line flags in
+    unless_refused ((revoked && not (int_eq (use_count line) (pos 0)), NotSupported) ∷ [])
+    (success ctx succeeded (with_line (map_after_revoking trustor held revoked m) trustor (line_asset_of held)
+    (with_flags flags)) [])

@@ -1,14 +1,13 @@
 //! ALLOW_TRUST.
 
-ghost use Rattle.std.specs.Prelude.{◌≡◌, Some, IfOk};
-ghost use Rattle.entry_slots.specs.Lines as lines;
-ghost use Rattle.op_form.specs.Assets.{line_asset_of as line_asset};
+ghost use Rattle.std.specs.Prelude.{◌≡◌, IfOk};
 ghost use Rattle.op_form.specs.Done.{Makes};
+ghost use Rattle.trade_cross.specs.Crossable.{IsCrossable};
 ghost use Rattle.op_flags.specs.AllowTrust as spec;
 
 use crate::line_flags::{AUTHORIZING, flag_line};
 use entry_map::{Base, Entries};
-use entry_slots::{LineSlot, load_account, load_line};
+use entry_slots::{load_account, load_line};
 use ledger_types::{AccountEntry, AccountId, Asset, TrustLineEntry};
 use op_form::{is_auth_revocable, is_authorized, line_asset_of};
 use op_types::{AllowTrustOp, AllowTrustResult, AssetCode, OperationResult, OperationResultTr};
@@ -25,6 +24,7 @@ pub fn allow_trust<B: Base>(
     ctx: &Ctx,
     entries: &mut Entries<'_, B>,
 ) -> Result<OperationResult, AllocError>
+    requires crossable { IsCrossable entries.old.current }
     ensures { IfOk result (λ r.
         Makes r ctx.now entries.old entries.new (spec.allow_trust ctx.now op.now entries.old.current)) }
 {
@@ -40,7 +40,7 @@ pub fn allow_trust<B: Base>(
     };
     match load_account(entries, &ctx.op_source)? {
         None => Ok(OperationResult::NoAccount),
-        Some(source) => allow_line(op, ctx, entries, &source.account, slot),
+        Some(source) => allow_line(op, ctx, entries, &source.account, &slot.line),
     }
 }
 
@@ -87,26 +87,25 @@ fn allow_line<B: Base>(
     ctx: &Ctx,
     entries: &mut Entries<'_, B>,
     source: &AccountEntry,
-    slot: LineSlot,
+    line: &TrustLineEntry,
 ) -> Result<OperationResult, AllocError>
-    requires { Some slot ≡ lines.line_slot_at entries.old.current op.now.trustor (
-        line_asset (spec.asset_allowed ctx.now op.now)) }
+    requires crossable { IsCrossable entries.old.current }
     ensures { IfOk result (λ r.
         Makes r ctx.now entries.old entries.new (
-        spec.line_allowed ctx.now op.now entries.old.current source.now slot.line)) }
+        spec.line_allowed ctx.now op.now entries.old.current source.now line.now)) }
 {
-    if !is_auth_revocable(source) && takes_back(op, &slot.line) {
+    if !is_auth_revocable(source) && takes_back(op, line) {
         return Ok(answer(AllowTrustResult::CantRevoke));
     }
     let asset = asset_with(&op.asset, &ctx.op_source);
-    let flags = allowed_flags(op, &slot.line);
+    let flags = allowed_flags(op, line);
     flag_line(
         entries,
         ctx,
         &op.trustor,
         &asset,
         flags,
-        slot,
+        line,
         answer(AllowTrustResult::Success),
     )
 }

@@ -4,6 +4,7 @@
 mod allow_trust;
 mod line_flags;
 mod operations;
+mod revoking;
 mod set_trust_line_flags;
 
 pub use operations::apply;

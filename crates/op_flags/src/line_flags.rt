@@ -5,11 +5,14 @@ ghost use Rattle.entry_map.specs.Undo.{with_current};
 ghost use Rattle.entry_slots.specs.Lines as lines;
 ghost use Rattle.op_form.specs.Assets.{line_asset_of as line_asset};
 ghost use Rattle.op_form.specs.Done.{Makes};
+ghost use Rattle.trade_cross.specs.Crossable.{IsCrossable};
 ghost use Rattle.op_flags.specs.LineFlags as spec;
 
+use crate::revoking::revoke_offers;
 use entry_map::{Base, Entries};
-use entry_slots::{LineSlot, line_liabilities, store_line, use_count};
+use entry_slots::{LineSlot, load_line, store_line, use_count};
 use ledger_types::{AccountId, Asset, TrustLineEntry};
+use op_form::line_asset_of;
 use op_types::OperationResult;
 use sponsor_rules::Ctx;
 use std::alloc::AllocError;
@@ -24,35 +27,68 @@ fn is_revoked(line: &TrustLineEntry, flags: u32) -> bool
     line.flags & AUTHORIZING != 0 && flags & AUTHORIZING == 0
 }
 
-/// Whether offers of the account bind a line, or pools use it.
-fn is_in_use(line: &TrustLineEntry) -> bool
-    ensures { result ≡ spec.is_in_use line.now }
+/// Where an authorisation is taken back, the account's offers in the asset go with it.
+fn revoke<B: Base>(
+    entries: &mut Entries<'_, B>,
+    ctx: &Ctx,
+    trustor: &AccountId,
+    asset: &Asset,
+    revoked: bool,
+) -> Result<(), AllocError>
+    requires crossable { IsCrossable entries.old.current }
+    ensures { OnOk result (
+        entries.new ≡
+        with_current entries.old (spec.map_after_revoking trustor.now asset.now revoked entries.old.current)) }
 {
-    let liabilities = line_liabilities(line);
-    liabilities.buying != 0 || liabilities.selling != 0 || use_count(line) != 0
+    if revoked {
+        revoke_offers(entries, ctx, trustor, asset)
+    } else {
+        Ok(())
+    }
 }
 
-/// Gives a line its new flags, and answers that this succeeded. Where an authorisation is taken back of a line that is
-/// in use, that isn't supported.
+/// Gives a line its new flags, and answers that this succeeded. Where an authorisation is taken back, the account's
+/// offers in the asset are removed first; of a line that pools use that isn't supported.
 pub fn flag_line<B: Base>(
     entries: &mut Entries<'_, B>,
     ctx: &Ctx,
     trustor: &AccountId,
     asset: &Asset,
     flags: u32,
-    slot: LineSlot,
+    line: &TrustLineEntry,
     succeeded: OperationResult,
 ) -> Result<OperationResult, AllocError>
-    requires { Some slot ≡ lines.line_slot_at entries.old.current trustor.now (line_asset asset.now) }
+    requires crossable { IsCrossable entries.old.current }
     ensures { IfOk result (λ r.
         Makes r ctx.now entries.old entries.new (
-        spec.flagged ctx.now trustor.now asset.now flags succeeded slot.line entries.old.current)) }
+        spec.flagged ctx.now trustor.now asset.now flags succeeded line.now entries.old.current)) }
 {
-    if is_revoked(&slot.line, flags) && is_in_use(&slot.line) {
+    let revoked = is_revoked(line, flags);
+    if revoked && use_count(line) != 0 {
         return Ok(OperationResult::NotSupported);
     }
-    store_flags(entries, trustor, asset, flags, slot)?;
+    revoke(entries, ctx, trustor, asset, revoked)?;
+    set_flags(entries, trustor, asset, flags)?;
     Ok(succeeded)
+}
+
+/// Gives the line other flags, if it stands. It is looked up here, since offers that were removed bound it.
+#[tactic(auto, unfolding(entry_slots::specs::Lines::with_line))]
+fn set_flags<B: Base>(
+    entries: &mut Entries<'_, B>,
+    trustor: &AccountId,
+    asset: &Asset,
+    flags: u32,
+) -> Result<(), AllocError>
+    ensures { OnOk result (
+        entries.new ≡
+        with_current entries.old (
+        lines.with_line entries.old.current trustor.now (line_asset asset.now) (spec.with_flags flags))) }
+{
+    let Some(slot) = load_line(entries, trustor, &line_asset_of(asset))? else {
+        return Ok(());
+    };
+    store_flags(entries, trustor, asset, flags, slot)
 }
 
 /// Stores the line that was loaded with other flags.

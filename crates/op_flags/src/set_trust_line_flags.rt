@@ -1,15 +1,14 @@
 //! SET_TRUST_LINE_FLAGS.
 
-ghost use Rattle.std.specs.Prelude.{◌≡◌, Some, IfOk};
-ghost use Rattle.entry_slots.specs.Lines as lines;
+ghost use Rattle.std.specs.Prelude.{◌≡◌, IfOk};
 ghost use Rattle.entry_slots.specs.Tests.{first_fault};
-ghost use Rattle.op_form.specs.Assets.{line_asset_of as line_asset};
 ghost use Rattle.op_form.specs.Done.{Makes};
+ghost use Rattle.trade_cross.specs.Crossable.{IsCrossable};
 ghost use Rattle.op_flags.specs.SetTrustLineFlags as spec;
 
 use crate::line_flags::{AUTHORIZING, flag_line};
 use entry_map::{Base, Entries};
-use entry_slots::{LineSlot, load_account, load_line};
+use entry_slots::{load_account, load_line};
 use ledger_types::{AccountEntry, TrustLineEntry};
 use op_form::{is_auth_revocable, is_issued_by, line_asset_of};
 use op_types::{OperationResult, OperationResultTr, SetTrustLineFlagsOp, SetTrustLineFlagsResult};
@@ -35,6 +34,7 @@ pub fn set_trust_line_flags<B: Base>(
     ctx: &Ctx,
     entries: &mut Entries<'_, B>,
 ) -> Result<OperationResult, AllocError>
+    requires crossable { IsCrossable entries.old.current }
     ensures { IfOk result (λ r.
         Makes r ctx.now entries.old entries.new (spec.set_trust_line_flags ctx.now op.now entries.old.current)) }
 {
@@ -46,7 +46,7 @@ pub fn set_trust_line_flags<B: Base>(
     };
     match load_account(entries, &ctx.op_source)? {
         None => Ok(OperationResult::NoAccount),
-        Some(source) => set_line(op, ctx, entries, &source.account, slot),
+        Some(source) => set_line(op, ctx, entries, &source.account, &slot.line),
     }
 }
 
@@ -118,15 +118,15 @@ fn set_line<B: Base>(
     ctx: &Ctx,
     entries: &mut Entries<'_, B>,
     source: &AccountEntry,
-    slot: LineSlot,
+    line: &TrustLineEntry,
 ) -> Result<OperationResult, AllocError>
-    requires { Some slot ≡ lines.line_slot_at entries.old.current op.now.trustor (line_asset op.now.asset) }
+    requires crossable { IsCrossable entries.old.current }
     ensures { IfOk result (λ r.
         Makes r ctx.now entries.old entries.new (
-        spec.line_set ctx.now op.now entries.old.current source.now slot.line)) }
+        spec.line_set ctx.now op.now entries.old.current source.now line.now)) }
 {
-    let flags = new_flags(op, &slot.line);
-    match refusal(source, &slot.line, flags) {
+    let flags = new_flags(op, line);
+    match refusal(source, line, flags) {
         Some(refusal) => Ok(refusal),
         None => flag_line(
             entries,
@@ -134,7 +134,7 @@ fn set_line<B: Base>(
             &op.trustor,
             &op.asset,
             flags,
-            slot,
+            line,
             answer(SetTrustLineFlagsResult::Success),
         ),
     }

@@ -43,6 +43,11 @@ abbrev pub ShiftsLegal : ℕ → (Asset → ℤ) → (old new : EntryMap) → Ty
 ShiftsLegal id_pool shift old new = (v : View) (sum : ℤ) → IsLegalOwing v id_pool nothing_owed sum old
     → IsLegalOwing v id_pool nothing_owed (sum +ℤ shift v.asset) new
 
+-- The same where ids are drawn up to `next`.
+abbrev pub DrawsLegal : (id_pool next : ℕ) → (Asset → ℤ) → (old new : EntryMap) → Type 0
+DrawsLegal id_pool next shift old new = (v : View) (sum : ℤ) → IsLegalOwing v id_pool nothing_owed sum old
+    → IsLegalOwing v next nothing_owed (sum +ℤ shift v.asset) new
+
 abbrev pub AreEachAfter : ℕ → (old new : EntryMap) → Type 0
 AreEachAfter base old new = (id : AccountId) → IsAfter base (account_at old id) (account_at new id)
 
@@ -82,30 +87,40 @@ module _ (ctx : Ctx) (m : EntryMap) (under : IsUnderway ctx m) (more : Increase)
       entries_legal (view m) ctx.id_pool (total (held asset.Native) m +ℤ shift asset.Native) new
       (shifts (view m) (total (held asset.Native) m) under.settled.legal)
 
-  -- the entries are left so, with what the moves issue, in a context with the same terms
-  pub lawful_moved : (done : Done) → ShiftsLegal ctx.id_pool (λ x. issued x done.moves) m done.entries
+  -- the entries are left so, with what the moves issue and the ids that are drawn, in a context with the same terms
+  pub lawful_drawn : (done : Done) → DrawsLegal ctx.id_pool done.ctx.id_pool (λ x. issued x done.moves) m done.entries
       → AreEachAfter ctx.base_reserve m done.entries → HoldsMore more m done.entries → Tells more done.moves
-      → KeepsTerms ctx done.ctx → done.ctx.id_pool ≡ ctx.id_pool
+      → KeepsTerms ctx done.ctx → AreDrawn 1 ctx.id_pool done.ctx.id_pool
       → AreSponsorshipsSound done.ctx done.entries → IsLawful ctx m done
-  lawful_moved done shifts each holds tells terms pool sound =
-      let legal = shifted_after (λ x. issued x done.moves) done.entries shifts in
+  lawful_drawn done shifts each holds tells terms drawn sound =
+      let legal : AreEntriesLegal done.ctx.id_pool done.entries =
+      entries_legal (view m) done.ctx.id_pool (total (held asset.Native) m +ℤ issued asset.Native done.moves)
+      done.entries (shifts (view m) (total (held asset.Native) m) under.settled.legal) in
       let told = told_by more m done.entries done.moves holds tells in
       record {
         legal = record {
-          settled = record {
-            legal = subst (λ n. AreEntriesLegal n done.entries) (sym pool) legal;
-          };
+          settled = record { legal = legal };
           sponsorships = sound;
           seq = subst (λ n. n < 2147483647) (sym terms.seq) under.seq;
         };
         terms = terms;
-        ids = none_drawn 1 ctx.id_pool done.ctx.id_pool pool;
+        ids = drawn;
         lumens = lumens_told_by m done.entries done.moves under.settled.legal.keyed legal.keyed told;
         told = told;
         supply = λ x. (shifts (view_of x m) (total (held x) m) (owing_of x ctx.id_pool m under.settled.legal)).supply;
         reserves = λ id a stands. covered_as ctx m id a (same_id_at done.entries id a legal.keyed stands)
             ((each id).covered a stands);
       }
+
+  -- the same where no id is drawn
+  pub lawful_moved : (done : Done) → ShiftsLegal ctx.id_pool (λ x. issued x done.moves) m done.entries
+      → AreEachAfter ctx.base_reserve m done.entries → HoldsMore more m done.entries → Tells more done.moves
+      → KeepsTerms ctx done.ctx → done.ctx.id_pool ≡ ctx.id_pool
+      → AreSponsorshipsSound done.ctx done.entries → IsLawful ctx m done
+  lawful_moved done shifts each holds tells terms pool sound =
+      lawful_drawn done
+      (subst (λ n. DrawsLegal ctx.id_pool n (λ x. issued x done.moves) m done.entries) (sym pool) shifts) each holds
+      tells terms (none_drawn 1 ctx.id_pool done.ctx.id_pool pool) sound
 
   -- the same where nothing is issued
   pub lawful_by : (done : Done) → KeepsLegal ctx.id_pool m done.entries
@@ -118,7 +133,7 @@ module _ (ctx : Ctx) (m : EntryMap) (under : IsUnderway ctx m) (more : Increase)
       (plus_none sum sum (issued v.asset done.moves) refl (none v.asset)) (keeps v sum legal)) each holds tells
       terms pool sound
 
-  sound_after : (new : EntryMap) → ((id : AccountId) → HasAccount m id → HasAccount new id)
+  pub sound_after : (new : EntryMap) → ((id : AccountId) → HasAccount m id → HasAccount new id)
       → AreSponsorshipsSound ctx new
   sound_after new stand = record {
     once = under.sponsorships.once;

@@ -21,8 +21,12 @@ pub mod SignerWeights
 pub mod SetOptions
 pub mod Merging
 pub mod TrustLines
+pub mod Revoked
 pub mod LineFlags
 pub mod Clawbacks
 pub mod NewBalances
 pub mod Claims
+pub mod TradeMoves
+pub mod Sales
+pub mod ManageOffers
 pub mod AllOperations

@@ -1,18 +1,21 @@
 -- ALLOW_TRUST and SET_TRUST_LINE_FLAGS are lawful.
 use Rattle.std.proofs.Common.{◌≡◌, ◌≢◌, refl, sym, ap, subst, ◌∙◌, ℕ, zero, suc, ◌%◌, ◌^◌, ◌<◌, ◌≤◌, Bool, true, false}
-use Rattle.std.proofs.Common.{not, ◌&&◌, ◌||◌, ◌∷◌, [], nat_eq, nat_lt, bit_and, bit_or, bit_xor, Some, Ok}
-use Rattle.std.proofs.Common.{arith}
-use Rattle.std.proofs.lemmas.Bool.Decides.{Decides-int_eq}
+use Rattle.std.proofs.Common.{not, ◌&&◌, ◌||◌, ◌∷◌, [], nat_eq, nat_lt, bit_and, bit_or, bit_xor, Option, Some, None}
+use Rattle.std.proofs.Common.{Ok, arith}
+use Rattle.std.proofs.lemmas.Int.{ints}
 use Rattle.std.proofs.lemmas.Nat.{or_lt, xor_lt, and_le_l}
-use Rattle.std.specs.Prelude.{pos, ◌-ℤ◌}
+use Rattle.std.specs.FinMap.{get}
+use Rattle.std.specs.Prelude.{ℤ, pos, ◌+ℤ◌, ◌-ℤ◌}
 use Rattle.std.specs.Ordering.{int_eq, is_eq}
 use Rattle.ledger_types.specs.declared.ids.AccountId.{AccountId}
-use Rattle.ledger_types.specs.declared.price.Liabilities.{Liabilities}
 use Rattle.ledger_types.specs.declared.asset.Asset.{Asset}
 use Rattle.ledger_types.specs.declared.asset.Asset.TheVariants as asset
 use Rattle.ledger_types.specs.declared.asset.TrustLineAsset.{TrustLineAsset}
 use Rattle.ledger_types.specs.declared.trust_line.TrustLineEntry.{TrustLineEntry}
+use Rattle.ledger_types.specs.declared.entry.LedgerEntry.{LedgerEntry}
+use Rattle.ledger_types.specs.declared.entry.LedgerEntryBody.{LedgerEntryBody}
 use Rattle.ledger_types.specs.declared.entry.LedgerEntryBody.TheVariants as body
+use Rattle.ledger_types.specs.declared.key.LedgerKey.TheVariants as key
 use Rattle.ledger_types.specs.KeyOrder.{asset_cmp}
 use Rattle.op_types.specs.declared.operation_result.OperationResult.{OperationResult}
 use Rattle.op_types.specs.declared.operation_result.OperationResult.TheVariants.{NoAccount, NotSupported}
@@ -23,16 +26,21 @@ use Rattle.op_types.specs.declared.trust_results.SetTrustLineFlagsResult.TheVari
 use Rattle.valid_values.specs.Assets.{is_valid_asset}
 use Rattle.entry_map.specs.EntryMap.{EntryMap}
 use Rattle.entry_slots.specs.Accounts.{account_at}
-use Rattle.entry_slots.specs.AccountExtensions.{is_nothing}
 use Rattle.entry_slots.specs.LineExtensions.{line_liabilities, use_count}
-use Rattle.entry_slots.specs.Lines.{line_at, with_line}
+use Rattle.entry_slots.specs.Lines.{line_in, line_of, line_at, with_line_in, with_line_of, with_line}
 use Rattle.entry_slots.specs.Tests.{Tests}
+use Rattle.entry_sums.specs.Sums.{total}
 use Rattle.sponsor_rules.specs.declared.context.Ctx.{Ctx}
 use Rattle.sponsor_rules.specs.Payers.{is_same_account}
+use Rattle.legal_rules.specs.ChangeLaws.{KeepsLineBooks}
+use Rattle.legal_rules.specs.Holdings.{none_more}
 use Rattle.legal_rules.specs.Legal.{view}
-use Rattle.legal_rules.specs.Owing.{nothing_owed, IsBoundRightly}
-use Rattle.legal_rules.specs.Ranges.{AreLineFlags}
-use Rattle.legal_rules.specs.Supply.{of_asset}
+use Rattle.legal_rules.specs.Owing.{nothing_owed, IsBoundRightly, IsLegalOwing}
+use Rattle.legal_rules.specs.Ranges.{AreLineFlags, IsTrustLineInRange}
+use Rattle.legal_rules.specs.Supply.{of_asset, held as held_of}
+use Rattle.legal_rules.proofs.Leaving.{Leaves, leaves_itself, keeps_both}
+use Rattle.legal_rules.proofs.LinesLeft.{IsLegalLine, line_legal}
+use Rattle.legal_rules.proofs.Passed.{first_passed, neither}
 use Rattle.op_form.specs.Assets.{is_native, is_issued_by, line_asset_of, line_of_asset}
 use Rattle.op_form.specs.Done.{Done}
 use Rattle.op_form.specs.Flags.{has_any, is_auth_revocable}
@@ -41,17 +49,12 @@ use Rattle.op_flags.specs.LineFlags as flags
 use Rattle.op_flags.specs.AllowTrust as allowing
 use Rattle.op_flags.specs.SetTrustLineFlags as setting
 use Rattle.op_laws.specs.Laws.{IsLawful, AreLawful}
-use Rattle.op_laws.specs.Moves.{issued}
-use Rattle.op_laws.specs.Underway.{IsUnderway}
-use Rattle.op_laws.proofs.Amounts.{shifts_as}
-use Rattle.op_laws.proofs.Lawful.{lawful_with}
-use Rattle.legal_rules.proofs.LinesLeft.{line_legal}
+use Rattle.op_laws.specs.Underway.{AreEntriesLegal, IsUnderway}
+use Rattle.op_laws.proofs.Lawful.{KeepsLegal, lawful_still}
 use Rattle.op_laws.proofs.LineChanges.{line_shifted, line_kept}
-use Rattle.op_laws.proofs.Lumens.{nothing_issued}
-use Rattle.legal_rules.specs.Holdings.{none_more}
-use Rattle.op_laws.proofs.Told.{tells_nothing}
+use Rattle.op_laws.proofs.Revoked.{revoked_legal, revoked_left, revoked_unbound}
+use Rattle.op_laws.proofs.Settled.{entries_legal}
 use Rattle.op_laws.proofs.Tests.{went_on, went_after_some}
-use Rattle.legal_rules.proofs.Passed.{first_passed, neither}
 use Rattle.op_laws.proofs.TrustLines.{no_less, same_zero, not_true}
 
 -- ---- numbers up to 7
@@ -122,63 +125,71 @@ are_flags asset.Native issued f both = absurd (cc)
 are_flags (asset.Alphanum4 code issuer) issued f both = both
 are_flags (asset.Alphanum12 code issuer) issued f both = both
 
--- ---- a line that isn't in use
+-- ---- what is left where an authorisation is taken back
 
-neither_is : (a b : Bool) → (a && b) ≡ true → (a ≡ true) × (b ≡ true)
-neither_is true true h = (refl, refl)
-neither_is true false h = absurd (cc)
-neither_is false b h = absurd (cc)
+abbrev AreNone : TrustLineEntry → Type 0
+AreNone t = ((line_liabilities t).selling ≡ pos 0) × ((line_liabilities t).buying ≡ pos 0)
 
-nothing_is : (l : Liabilities) → is_nothing l ≡ true → (l.selling ≡ pos 0) × (l.buying ≡ pos 0)
-nothing_is l h =
-    let both = neither_is (int_eq l.buying (pos 0)) (int_eq l.selling (pos 0)) h in
-    ((Decides-int_eq l.selling (pos 0)).0 both.1, (Decides-int_eq l.buying (pos 0)).0 both.0)
+-- a line that keeps an authorisation had one, or is bound by no offer
+still_unbound : (t : TrustLineEntry) (f : ℕ) (had has : Bool) → has_any t.flags 3 ≡ had → has_any f 3 ≡ has
+    → (had && not has) ≡ false → t.flags ≤ 7 → f ≤ 7 → IsBoundRightly (body.TrustLine t) → f % 4 ≡ 0 → AreNone t
+still_unbound t f true true was now test le also bound none = let off = (masked f also).1 none in absurd (cc)
+still_unbound t f true false was now test le also bound none = absurd (cc)
+still_unbound t f false has was now test le also bound none = bound ((masked t.flags le).0 was)
 
-idle_is : (t : TrustLineEntry) → flags.is_in_use t ≡ false
-    → ((line_liabilities t).selling ≡ pos 0) × ((line_liabilities t).buying ≡ pos 0)
-idle_is t h =
-    let both = neither (not (is_nothing (line_liabilities t))) (not (int_eq (use_count t) (pos 0))) h in
-    nothing_is (line_liabilities t) (not_true (is_nothing (line_liabilities t)) both.0)
+-- legal, with what accounts had; a line that is to have no authorisation is bound by no offer
+record IsReady (ctx : Ctx) (m : EntryMap) (trustor : AccountId) (held : Asset) (f : ℕ) (now : EntryMap) : Type 0 where
+  legal : KeepsLegal ctx.id_pool m now
+  left : Leaves ctx.base_reserve none_more m now
+  bound : (t : TrustLineEntry) → line_at now trustor (line_asset_of held) ≡ Some t
+      → IsBoundRightly (body.TrustLine (flags.with_flags f t))
 
-still_unbound : (t : TrustLineEntry) (f : ℕ) (had has used : Bool) → has_any t.flags 3 ≡ had → has_any f 3 ≡ has
-    → flags.is_in_use t ≡ used → ((had && not has) && used) ≡ false → t.flags ≤ 7 → f ≤ 7
-    → IsBoundRightly (body.TrustLine t) → f % 4 ≡ 0
-    → ((line_liabilities t).selling ≡ pos 0) × ((line_liabilities t).buying ≡ pos 0)
-still_unbound t f had true used was now is test le also bound none =
-    let off = (masked f also).1 none in absurd (cc)
-still_unbound t f true false true was now is test le also bound none = absurd (cc)
-still_unbound t f true false false was now is test le also bound none = idle_is t is
-still_unbound t f false false used was now is test le also bound none = bound ((masked t.flags le).0 was)
+no_line_in : (m : EntryMap) (e : LedgerEntry) (change : TrustLineEntry → TrustLineEntry) (b : LedgerEntryBody)
+    → line_in b ≡ None → with_line_in m e change b ≡ m
+no_line_in m e change (body.TrustLine t) none = absurd (cc)
+no_line_in m e change other none = refl
+
+no_line_of : (m : EntryMap) (change : TrustLineEntry → TrustLineEntry) (o : Option LedgerEntry) → line_of o ≡ None
+    → with_line_of m change o ≡ m
+no_line_of m change None none = refl
+no_line_of m change (Some e) none = no_line_in m e change e.body none
+
+-- a line that doesn't stand isn't changed
+no_line_changed : (m : EntryMap) (id : AccountId) (a : TrustLineAsset) (change : TrustLineEntry → TrustLineEntry)
+    → line_at m id a ≡ None → with_line m id a change ≡ m
+unfolding line_at with_line
+no_line_changed m id a change none = no_line_of m change (get m (key.TrustLine id a)) none
+
+nothing_shifted : (sum n : ℤ) → n ≡ pos 0 → (sum +ℤ n) ≡ sum
+nothing_shifted sum n none = omega (arith, ints)
 
 module _ (ctx : Ctx) (m : EntryMap) (under : IsUnderway ctx m) (trustor : AccountId) (held : Asset)
-    (issued_asset : is_native held ≡ false) (t : TrustLineEntry)
-    (there : line_at m trustor (line_asset_of held) ≡ Some t) where
+    (issued_asset : is_native held ≡ false) where
   abbrev its : TrustLineAsset
   its = line_asset_of held
 
-  old_flags : (t.flags ≤ 7) × (t.flags % 4 ≢ 3)
-  old_flags =
-      let was = line_legal (view m) ctx.id_pool nothing_owed _ m trustor its t under.settled.legal there in
-      flags_in held issued_asset t.flags (subst (λ a. AreLineFlags a t.flags) was.asset was.range.flags)
+  abbrev m_sum : ℤ
+  m_sum = total (held_of asset.Native) m
 
-  flagged_lawful : (f : ℕ) (succeeded : OperationResult) (done : Done) → (f ≤ 7) × (f % 4 ≢ 3)
-      → flags.flagged ctx trustor held f succeeded t m ≡ Ok done → IsLawful ctx m done
-  flagged_lawful f succeeded done known is =
-      let new = with_line m trustor its (flags.with_flags f) in
-      let went = went_on ((flags.is_revoked t f && flags.is_in_use t, NotSupported) ∷ [])
-      (success ctx succeeded new []) done is in
-      let test = first_passed (flags.is_revoked t f && flags.is_in_use t) NotSupported [] went.0 in
-      let also = went.1 in
-      let made : Done = record { result = succeeded; entries = new; ctx = ctx; moves = [] } in
-      let same : made ≡ done = cc in
-      let was = line_legal (view m) ctx.id_pool nothing_owed _ m trustor its t under.settled.legal there in
-      subst (IsLawful ctx m) same (lawful_with ctx m under none_more succeeded new []
-      (shifts_as ctx.id_pool (λ x. of_asset x held (t.balance -ℤ t.balance)) (λ x. issued x []) m new
-      (λ x. ap (λ n. of_asset x held n) (no_less t.balance) ∙ same_zero (is_eq (asset_cmp x held))
-      ∙ sym (nothing_issued x))
-      (line_shifted ctx.id_pool m trustor held issued_asset (flags.with_flags f) t there
-      (record { id = refl; asset = refl; liabilities = refl; uses = refl })
-      (record {
+  -- ---- the line gets its flags
+
+  module _ (now : EntryMap) (f : ℕ) (known : (f ≤ 7) × (f % 4 ≢ 3)) (ready : IsReady ctx m trustor held f now) where
+    abbrev new : EntryMap
+    new = with_line now trustor its (flags.with_flags f)
+
+    now_legal : AreEntriesLegal ctx.id_pool now
+    now_legal = entries_legal (view m) ctx.id_pool m_sum now (ready.legal (view m) m_sum under.settled.legal)
+
+    -- of a line that stands
+    module _ (t : TrustLineEntry) (there : line_at now trustor its ≡ Some t) where
+      keeps : KeepsLineBooks t (flags.with_flags f t)
+      keeps = record { id = refl; asset = refl; liabilities = refl; uses = refl }
+
+      was : IsLegalLine trustor its t
+      was = line_legal (view now) ctx.id_pool nothing_owed _ now trustor its t now_legal there
+
+      range : IsTrustLineInRange (flags.with_flags f t)
+      range = record {
         range = record {
           balance = was.range.range.balance;
           buying = was.range.range.buying;
@@ -191,12 +202,74 @@ module _ (ctx : Ctx) (m : EntryMap) (under : IsUnderway ctx m) (trustor : Accoun
         held = was.range.held;
         flags = subst (λ a. AreLineFlags a f) (sym was.asset) (are_flags held issued_asset f known);
         uses = was.range.uses;
-      })
-      (still_unbound t f (has_any t.flags 3) (has_any f 3) (flags.is_in_use t) refl refl refl test.0 old_flags.0 known.0
-      was.bound)))
-      (line_kept ctx.id_pool m trustor held issued_asset (flags.with_flags f) t there
-      (record { id = refl; asset = refl; liabilities = refl; uses = refl }) ctx.base_reserve under.settled.legal.keyed
-      refl) tells_nothing)
+      }
+
+      flags_legal : KeepsLegal ctx.id_pool now new
+      flags_legal v sum legal = subst (λ n. IsLegalOwing v ctx.id_pool nothing_owed n new)
+          (nothing_shifted sum (of_asset v.asset held (t.balance -ℤ t.balance))
+          (ap (λ n. of_asset v.asset held n) (no_less t.balance) ∙ same_zero (is_eq (asset_cmp v.asset held))))
+          (line_shifted ctx.id_pool now trustor held issued_asset (flags.with_flags f) t there keeps range
+          (ready.bound t there) v sum legal)
+
+      flags_left : Leaves ctx.base_reserve none_more now new
+      flags_left = line_kept ctx.id_pool now trustor held issued_asset (flags.with_flags f) t there keeps
+          ctx.base_reserve now_legal.keyed refl
+
+    keeps_by : (o : Option TrustLineEntry) → line_at now trustor its ≡ o
+        → KeepsLegal ctx.id_pool now new × Leaves ctx.base_reserve none_more now new
+    keeps_by None none =
+        let same = sym (no_line_changed now trustor its (flags.with_flags f) none) in (
+          λ v sum legal. subst (IsLegalOwing v ctx.id_pool nothing_owed sum) same legal,
+          subst (Leaves ctx.base_reserve none_more now) same (leaves_itself ctx.base_reserve now now_legal.keyed),
+        )
+    keeps_by (Some t) there = (flags_legal t there, flags_left t there)
+
+    both : KeepsLegal ctx.id_pool now new × Leaves ctx.base_reserve none_more now new
+    both = keeps_by (line_at now trustor its) refl
+
+    flags_lawful : (succeeded : OperationResult)
+        → IsLawful ctx m (record { result = succeeded; entries = new; ctx = ctx; moves = [] })
+    flags_lawful succeeded = lawful_still ctx m under succeeded new
+        (λ v sum legal. both.0 v sum (ready.legal v sum legal))
+        (keeps_both ctx.base_reserve m now new ready.left both.1)
+
+  -- ---- before that
+
+  module _ (t : TrustLineEntry) (there : line_at m trustor its ≡ Some t) where
+    old : IsLegalLine trustor its t
+    old = line_legal (view m) ctx.id_pool nothing_owed _ m trustor its t under.settled.legal there
+
+    old_flags : (t.flags ≤ 7) × (t.flags % 4 ≢ 3)
+    old_flags = flags_in held issued_asset t.flags (subst (λ a. AreLineFlags a t.flags) old.asset old.range.flags)
+
+    ready_by : (f : ℕ) → f ≤ 7 → (revoked : Bool) → flags.is_revoked t f ≡ revoked
+        → IsReady ctx m trustor held f (flags.map_after_revoking trustor held revoked m)
+    ready_by f low true is = record {
+      legal = λ v sum legal. revoked_legal v ctx.id_pool sum m legal trustor held;
+      left = revoked_left (view m) ctx.id_pool m_sum m under.settled.legal trustor held ctx.base_reserve;
+      bound = λ u here none. revoked_unbound (view m) ctx.id_pool m_sum m under.settled.legal trustor held u here;
+    }
+    ready_by f low false is = record {
+      legal = λ v sum legal. legal;
+      left = leaves_itself ctx.base_reserve m under.settled.legal.keyed;
+      bound = λ u here none.
+          let same : t ≡ u = cc in
+          subst AreNone same
+          (still_unbound t f (has_any t.flags 3) (has_any f 3) refl refl is old_flags.0 low old.bound none);
+    }
+
+    flagged_lawful : (f : ℕ) (succeeded : OperationResult) (done : Done) → (f ≤ 7) × (f % 4 ≢ 3)
+        → flags.flagged ctx trustor held f succeeded t m ≡ Ok done → IsLawful ctx m done
+    flagged_lawful f succeeded done known is =
+        let revoked = flags.is_revoked t f in
+        let now = flags.map_after_revoking trustor held revoked m in
+        let new = with_line now trustor its (flags.with_flags f) in
+        let went = went_on ((revoked && not (int_eq (use_count t) (pos 0)), NotSupported) ∷ [])
+        (success ctx succeeded new []) done is in
+        let also = went.1 in
+        let made : Done = record { result = succeeded; entries = new; ctx = ctx; moves = [] } in
+        let same : made ≡ done = cc in
+        subst (IsLawful ctx m) same (flags_lawful now f known (ready_by f known.0 revoked refl) succeeded)
 
 -- ---- ALLOW_TRUST
 

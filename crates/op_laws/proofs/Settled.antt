@@ -34,12 +34,14 @@ use Rattle.legal_rules.specs.Legal.{view, pools_in}
 use Rattle.legal_rules.specs.Owing.{weight, nothing_owed, IsEntryLegal, IsLegalOwing}
 use Rattle.legal_rules.proofs.Bounded.{account_legal}
 use Rattle.legal_rules.proofs.Covered.{sponsored_at_most, account_states}
+use Rattle.legal_rules.proofs.Given.{sponsors_ready}
 use Rattle.legal_rules.proofs.Legality.{owing_nothing_of, legal_of, view_of}
 use Rattle.legal_rules.proofs.Liable.{line_entry}
 use Rattle.legal_rules.proofs.Numbers.{taken_off}
+use Rattle.op_offers.proofs.OutOfBook.{nothing_right}
 use Rattle.op_laws.specs.Underway.{AreEntriesLegal}
 use Rattle.op_laws.specs.Steps.{LegalSettles, SettledLegal, SettledAccounts, SettledReady, SettledInRange, SettledHeld}
-use Rattle.op_laws.specs.Steps.{SettledFew, SettledAmounts}
+use Rattle.op_laws.specs.Steps.{SettledCrossable, SettledFew, SettledAmounts, UnderwayManageable}
 
 -- ---- other views
 
@@ -123,6 +125,16 @@ settled_in_range id_pool m settled = record {
   lines = λ id held t stands. line_in_range id_pool m id held t settled.legal stands;
 }
 
+pub settled_crossable : SettledCrossable
+settled_crossable id_pool m settled = record {
+  view = view m;
+  id_pool = id_pool;
+  owed = nothing_owed;
+  sum = total (held asset.Native) m;
+  legal = settled.legal;
+  right = nothing_right;
+}
+
 -- ---- what is held
 
 sum_not_below : (a b : ℤ) → pos 0 ≤ℤ a → pos 0 ≤ℤ b → pos 0 ≤ℤ (a +ℤ b)
@@ -180,3 +192,16 @@ settled_amounts id_pool m settled = record {
 pub settled_held : SettledHeld
 settled_held id_pool m settled = total_not_below (held asset.Native) m
     (λ k e there. in_not_below asset.Native id_pool e.body (settled.legal.entries k e there).range.body)
+
+-- ---- what operations on offers ask for
+
+pub underway_manageable : UnderwayManageable
+underway_manageable ctx m under stands ids = record {
+  view = view m;
+  sum = total (held asset.Native) m;
+  legal = under.settled.legal;
+  ids = ids;
+  ready = settled_ready ctx.id_pool m under.settled;
+  source = stands;
+  sponsor = sponsors_ready ctx m ctx.op_source under.sponsorships;
+}

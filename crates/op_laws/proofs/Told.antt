@@ -215,6 +215,14 @@ more_both : (d e : Increase) (x : Asset) (o : Option LedgerKey)
 more_both d e x None = refl
 more_both d e x (Some k) = refl
 
+-- moves behind moves tell of what both do
+pub tells_both : (d e : Increase) (moves more : List Move) → Tells d moves → Tells e more
+    → Tells (both_more d e) (moves ++ more)
+tells_both d e moves more first next x q other =
+    more_both d e x (place_of x q)
+    ∙ (λ i. first x q other i +ℤ next x q other i)
+    ∙ sym (gained_behind x q moves more)
+
 given_and_taken : (t f : Bool) (n : ℤ) → ((if t then n else pos 0) +ℤ (if f then neg_ℤ n else pos 0))
     ≡ (((if t then n else pos 0) -ℤ (if f then n else pos 0)) +ℤ pos 0)
 given_and_taken true true n = omega (arith, ints)

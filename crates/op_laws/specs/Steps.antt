@@ -1,5 +1,5 @@
 -- That fees, sequence numbers and signers that are used up leave settled entries.
-use Rattle.std.specs.Prelude.{◌≡◌, ◌≢◌, ℕ, ◌≤◌, ℤ, pos, neg_ℤ, ◌+ℤ◌, ◌≤ℤ◌, [], length, Some}
+use Rattle.std.specs.Prelude.{◌≡◌, ◌≢◌, ℕ, ◌+◌, ◌≤◌, ℤ, pos, neg_ℤ, ◌+ℤ◌, ◌≤ℤ◌, [], length, Some}
 use Rattle.ledger_types.specs.declared.ids.AccountId.{AccountId}
 use Rattle.ledger_types.specs.declared.ids.Hash.{Hash}
 use Rattle.ledger_types.specs.declared.asset.Asset.{Asset}
@@ -7,18 +7,21 @@ use Rattle.ledger_types.specs.declared.asset.Asset.TheVariants as asset
 use Rattle.ledger_types.specs.declared.header.LedgerHeader.{LedgerHeader}
 use Rattle.ledger_types.specs.declared.account.AccountEntry.{AccountEntry}
 use Rattle.entry_map.specs.EntryMap.{EntryMap}
-use Rattle.entry_slots.specs.Accounts.{account_at}
+use Rattle.entry_slots.specs.Accounts.{account_at, HasAccount}
 use Rattle.entry_sums.specs.Sums.{total}
 use Rattle.reserve_rules.specs.Reserve.{greatest_i64}
+use Rattle.sponsor_rules.specs.declared.context.Ctx.{Ctx}
 use Rattle.sponsor_rules.specs.Signers.{map_after_removing_preauth}
 use Rattle.legal_rules.specs.Headers.{IsHeaderInRange}
 use Rattle.legal_rules.specs.Legal.{IsLegal}
 use Rattle.legal_rules.specs.Payments.{with_paid, with_seq_num}
 use Rattle.legal_rules.specs.Supply.{held, lumens_of}
 use Rattle.legal_rules.specs.Ranges.{IsAccountInRange}
+use Rattle.trade_cross.specs.Crossable.{IsCrossable}
 use Rattle.op_form.specs.Premises.{AccountsAreReady, BalancesAreInRange, AreAmountsLow}
+use Rattle.op_offers.specs.Calls.{IsManageable}
 use Rattle.op_laws.specs.Laws.{AllLawful}
-use Rattle.op_laws.specs.Underway.{IsSettled, LeavesSettled}
+use Rattle.op_laws.specs.Underway.{IsSettled, IsUnderway, LeavesSettled}
 
 -- a legal state is settled
 abbrev pub LegalSettles : Type 0
@@ -60,6 +63,10 @@ SettledReady = (id_pool : ℕ) (m : EntryMap) → IsSettled id_pool m → Accoun
 abbrev pub SettledInRange : Type 0
 SettledInRange = (id_pool : ℕ) (m : EntryMap) → IsSettled id_pool m → BalancesAreInRange m
 
+-- books of offers can be crossed, and offers removed
+abbrev pub SettledCrossable : Type 0
+SettledCrossable = (id_pool : ℕ) (m : EntryMap) → IsSettled id_pool m → IsCrossable m
+
 -- each account has at most 20 signers (MAX_SIGNERS in Stellar-ledger-entries.x)
 pub record AreSignersFew (m : EntryMap) : Type 0 where
   pub few : (id : AccountId) (account : AccountEntry) → account_at m id ≡ Some account → length account.signers ≤ 20
@@ -75,6 +82,11 @@ SettledAmounts = (id_pool : ℕ) (m : EntryMap) → IsSettled id_pool m → AreA
 abbrev pub SettledHeld : Type 0
 SettledHeld = (id_pool : ℕ) (m : EntryMap) → IsSettled id_pool m → pos 0 ≤ℤ total (held asset.Native) m
 
+-- what holds before each operation is what those on offers ask for, where one more id can be drawn
+abbrev pub UnderwayManageable : Type 0
+UnderwayManageable = (ctx : Ctx) (m : EntryMap) → IsUnderway ctx m → HasAccount m ctx.op_source
+    → pos (ctx.id_pool + 1) ≤ℤ greatest_i64 → IsManageable ctx m
+
 -- all that the transactions of a set stand on
 pub record TransactionLaws : Type 0 where
   pub operations : AllLawful
@@ -85,5 +97,7 @@ pub record TransactionLaws : Type 0 where
   pub few : SettledFew
   pub ready : SettledReady
   pub in_range : SettledInRange
+  pub crossable : SettledCrossable
   pub amounts : SettledAmounts
   pub held : SettledHeld
+  pub manageable : UnderwayManageable

@@ -5,6 +5,7 @@ ghost use Rattle.op_account.specs.AccountMerge.{account_merge};
 ghost use Rattle.op_account.specs.BumpSequence.{bump_sequence};
 ghost use Rattle.op_options.specs.SetOptions.{set_options};
 ghost use Rattle.op_options.specs.ManageData.{manage_data};
+ghost use Rattle.op_offers.specs.Operations.{attempt_of};
 ghost use Rattle.op_payment.specs.Payment.{payment};
 ghost use Rattle.op_sponsor.specs.BeginSponsoringFutureReserves.{begin_sponsoring};
 ghost use Rattle.op_sponsor.specs.RevokeSponsorship.{revoke_sponsorship};
@@ -18,6 +19,10 @@ ghost use Rattle.op_flags.specs.SetTrustLineFlags.{set_trust_line_flags};
 ghost use Rattle.op_trust.specs.ChangeTrust.{change_trust};
 ghost use Rattle.op_laws.specs.Laws.{AreLawful, AreLawfulWhere, AllLawful, IsBumpFit, IsLimitFit};
 ghost use Rattle.op_laws.specs.Laws.{AreClaimantsFew};
+ghost use Rattle.op_types.specs.declared.offer_ops.ManageSellOfferOp.{ManageSellOfferOp};
+ghost use Rattle.op_types.specs.declared.offer_ops.CreatePassiveSellOfferOp.{CreatePassiveSellOfferOp};
+ghost use Rattle.op_types.specs.declared.offer_ops.ManageBuyOfferOp.{ManageBuyOfferOp};
+ghost use Rattle.op_types.specs.declared.operation.OperationBody.TheVariants as body;
 
 /// Each CREATE_ACCOUNT that succeeds is lawful.
 pub fn create_account_is_lawful()
@@ -97,6 +102,21 @@ pub fn revoke_sponsorship_is_lawful()
 /// Each END_SPONSORING_FUTURE_RESERVES that succeeds is lawful.
 pub fn end_sponsoring_is_lawful()
     ensures { AreLawful (λ ctx (_ : Unit {0}) m. end_sponsoring ctx m) }
+{}
+
+/// Each MANAGE_SELL_OFFER that succeeds is lawful.
+pub fn manage_sell_offer_is_lawful()
+    ensures { AreLawful (λ ctx (op : ManageSellOfferOp) m. attempt_of ctx (body.ManageSellOffer op) m) }
+{}
+
+/// Each CREATE_PASSIVE_SELL_OFFER that succeeds is lawful.
+pub fn create_passive_sell_offer_is_lawful()
+    ensures { AreLawful (λ ctx (op : CreatePassiveSellOfferOp) m. attempt_of ctx (body.CreatePassiveSellOffer op) m) }
+{}
+
+/// Each MANAGE_BUY_OFFER that succeeds is lawful.
+pub fn manage_buy_offer_is_lawful()
+    ensures { AreLawful (λ ctx (op : ManageBuyOfferOp) m. attempt_of ctx (body.ManageBuyOffer op) m) }
 {}
 
 /// Every operation is lawful, whether it succeeds or fails.

@@ -42,6 +42,11 @@ pub fn settled_in_range()
     ensures { spec.SettledInRange }
 {}
 
+/// Settled entries are such that books of offers can be crossed, and offers removed.
+pub fn settled_crossable()
+    ensures { spec.SettledCrossable }
+{}
+
 /// Each account of settled entries has at most 20 signers.
 pub fn settled_few()
     ensures { spec.SettledFew }
@@ -57,6 +62,11 @@ pub fn settled_held()
     ensures { spec.SettledHeld }
 {}
 
+/// What holds before an operation is what those on offers ask for, where one more id can be drawn.
+pub fn underway_manageable()
+    ensures { spec.UnderwayManageable }
+{}
+
 /// All laws that the transactions of a set stand on.
 pub fn transaction_laws()
     ensures { spec.TransactionLaws }
@@ -69,6 +79,8 @@ pub fn transaction_laws()
     settled_few();
     settled_ready();
     settled_in_range();
+    settled_crossable();
     settled_amounts();
     settled_held();
+    underway_manageable();
 }

@@ -3,3 +3,4 @@ pub mod Selling
 pub mod Managing
 pub mod Operations
 pub mod SellingLaws
+pub mod Calls

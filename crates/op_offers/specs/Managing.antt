@@ -18,11 +18,9 @@ use Rattle.sponsor_rules.specs.declared.context.Ctx.{Ctx}
 use Rattle.sponsor_rules.specs.declared.fault.AddFault.{AddFault}
 use Rattle.sponsor_rules.specs.Adding.{sponsored_entry, map_after_counting_subentry}
 use Rattle.sponsor_rules.specs.Payers.{open_sponsor}
-use Rattle.sponsor_rules.specs.Removing.{map_after_removing}
 use Rattle.op_form.specs.Flags.{is_authorized}
 use Rattle.legal_rules.specs.Trades.{holder}
-use Rattle.legal_rules.specs.Binding.{releasing}
-use Rattle.trade_cross.specs.Crossing.{offer_key}
+use Rattle.trade_cross.specs.Cancelling.{map_after_cancelling}
 use Rattle.op_offers.specs.declared.fault.OfferFault.{OfferFault}
 use Rattle.op_offers.specs.declared.fault.OfferFault.TheVariants as fault
 use Rattle.op_offers.specs.declared.ask.Ask.{Ask}
@@ -123,9 +121,10 @@ made ctx ask m = unless_lines m ctx.op_source ask (with_reserve ctx ask
 
 abbrev pub old_asked : Ctx → Ask → OfferEntry → LedgerEntry → Asked
 old_asked ctx ask old e =
+    let offer = offer_asked ctx.op_source ask old.offer_id old.flags in
     record {
-      offer = offer_asked ctx.op_source ask old.offer_id old.flags;
-      entry = e;
+      offer = offer;
+      entry = record e { body = body.Offer offer };
       sells = limit ask.sells;
       buys = limit ask.buys;
     }
@@ -135,10 +134,6 @@ changed ctx ask old e m =
     unless_lines m ctx.op_source ask
     (of_sold Changed (old_asked ctx ask old e) ctx.id_pool ctx.id_pool
     (sold ctx.base_reserve (old_asked ctx ask old e) (map_without_offer old m)))
-
--- an offer that is removed lets go of what it binds, and its reserve is freed
-abbrev pub map_after_cancelling : OfferEntry → EntryMap → EntryMap
-map_after_cancelling old m = map_after_removing (offer_key old) (releasing old m)
 
 abbrev pub managed_old : Ctx → Ask → LedgerEntry → LedgerEntryBody → EntryMap → Result Managed OfferFault
 managed_old ctx ask e (body.Offer old) m =

@@ -89,6 +89,9 @@ attempt_of_managed ctx answer (Ok (Traded kind asked done id_pool)) =
     (success_answer answer done.crossed.atoms (effect_of kind asked done.amount)) done.entries
     (moves_of ctx.op_source done.crossed.atoms)
 
+abbrev pub done_of_managed : Ctx → Answer → EntryMap → Result Managed OfferFault → Done
+done_of_managed ctx answer m managed = done_of ctx m (attempt_of_managed ctx answer managed)
+
 -- Operations of other types are those of other crates.
 abbrev pub attempt_of : Ctx → OperationBody → EntryMap → Attempt
 attempt_of ctx (body.ManageSellOffer op) m = attempt_of_managed ctx (answer_of kind.Sell) (managed ctx

@@ -17,7 +17,7 @@ use Rattle.entry_slots.specs.Tests.{Tests, unless_first}
 use Rattle.reserve_rules.specs.Reserve.{available, line_available}
 use Rattle.sponsor_rules.specs.Removing.{map_after_discounting}
 use Rattle.offer_exchange.specs.declared.rounding.Rounding.TheVariants.{Normal}
-use Rattle.offer_exchange.specs.Exchange.{unlimited, offered, table, adjusted}
+use Rattle.offer_exchange.specs.Exchange.{unlimited, wanted, adjusted}
 use Rattle.legal_rules.specs.Trades.{holder}
 use Rattle.legal_rules.specs.Binding.{acquiring, releasing}
 use Rattle.trade_cross.specs.declared.crossed.CrossEnd.{CrossEnd}
@@ -84,29 +84,37 @@ has_at base m other = None
 
 abbrev pub wanted_tests : ℕ → Asked → EntryMap → Tests OfferFault
 wanted_tests base asked m =
-    let wanted = table Normal (unsigned_abs asked.offer.price.n) (unsigned_abs asked.offer.price.d)
-    (offered (limit_of asked.sells) (limit_of asked.buys)) in
+    let all = wanted (unsigned_abs asked.offer.price.n) (unsigned_abs asked.offer.price.d)
+    (limit_of asked.sells) (limit_of asked.buys) in
     let room = most_taken m (source_takes_at asked) in
-    (nat_eq room 0 || nat_lt room wanted.sheep, fault.LineFull)
-    ∷ (is_short_of (pos wanted.wheat) (has_at base m (source_gives_at asked)), fault.Underfunded)
+    (nat_eq room 0 || nat_lt room all.sheep, fault.LineFull)
+    ∷ (is_short_of (pos all.wheat) (has_at base m (source_gives_at asked)), fault.Underfunded)
     ∷ []
 
 -- ---- crossing
 
--- the source sends what it sells and receives what it buys
-abbrev pub trade_of : ℕ → Asked → EntryMap → Trade
-trade_of base asked m =
+-- the source sends what it sells and receives what it buys, of which it can give and take so much at most
+abbrev pub trade_within : Asked → (gives takes : ℕ) → Trade
+trade_within asked gives takes =
     record {
       sheep = asked.offer.selling;
       wheat = asked.offer.buying;
-      sheep_send = pos (capped asked.sells 0 (most_given base m (source_gives_at asked)));
-      wheat_receive = pos (capped asked.buys 0 (most_taken m (source_takes_at asked)));
+      sheep_send = pos (capped asked.sells 0 gives);
+      wheat_receive = pos (capped asked.buys 0 takes);
       rounding = Normal;
       greatest = Some (inverse asked.offer.price);
       passive = nat_eq asked.offer.flags 1;
       crossings = most_crossings;
       taker = asked.offer.seller_id;
     }
+
+abbrev pub trade_of : ℕ → Asked → EntryMap → Trade
+trade_of base asked m =
+    trade_within asked (most_given base m (source_gives_at asked)) (most_taken m (source_takes_at asked))
+
+-- the offers of the other side are crossed
+abbrev pub crossed_by : ℕ → Asked → EntryMap → Crossing
+crossed_by base asked m = converted base (trade_of base asked m) m
 
 -- what the source gave goes, and what it took comes
 abbrev pub settled : Asked → Crossing → EntryMap
@@ -116,12 +124,19 @@ settled asked done =
 
 -- ---- what is left of it
 
+-- what is still offered behind a trade that moved so much, of which its owner can give and take so much at most
+abbrev pub left_within : Asked → (sheep wheat gives takes : ℕ) → ℕ
+left_within asked sheep wheat gives takes =
+    adjusted (unsigned_abs asked.offer.price.n) (unsigned_abs asked.offer.price.d) (capped asked.sells sheep gives)
+    (capped asked.buys wheat takes)
+
+abbrev pub amount_left : ℕ → Asked → (sheep wheat : ℕ) → CrossEnd → EntryMap → ℕ
+amount_left base asked sheep wheat Converted m = 0
+amount_left base asked sheep wheat other m =
+    left_within asked sheep wheat (most_given base m (source_gives_at asked)) (most_taken m (source_takes_at asked))
+
 abbrev pub left_of : ℕ → Asked → Crossing → CrossEnd → EntryMap → ℕ
-left_of base asked done Converted m = 0
-left_of base asked done other m =
-    adjusted (unsigned_abs asked.offer.price.n) (unsigned_abs asked.offer.price.d)
-    (capped asked.sells done.sheep (most_given base m (source_gives_at asked)))
-    (capped asked.buys done.wheat (most_taken m (source_takes_at asked)))
+left_of base asked done end m = amount_left base asked done.sheep done.wheat end m
 
 abbrev pub offer_left : Asked → ℕ → OfferEntry
 offer_left asked amount = record asked.offer { amount = pos amount }
@@ -156,4 +171,4 @@ after_tests (Ok m) next = next m
 unfoldable pub sold : ℕ → Asked → EntryMap → Result Sold OfferFault
 sold base asked m =
     after_tests (unless_first (wanted_tests base asked m) m) (λ m.
-    let done = converted base (trade_of base asked m) m in by_end base asked done done.end)
+    let done = crossed_by base asked m in by_end base asked done done.end)

@@ -30,7 +30,7 @@ pub fn answer(kind: Kind, code: ManageOfferResult) -> OperationResult
     }
 }
 
-/// The code of a fault that isn't one of the reserve or of too many crossings.
+/// The code of a fault that isn't one of the reserve, of too many crossings or of memory.
 fn code_of(fault: OfferFault) -> ManageOfferResult
     ensures { result ≡ spec.code_of fault }
 {
@@ -44,7 +44,9 @@ fn code_of(fault: OfferFault) -> ManageOfferResult
         OfferFault::LineFull => ManageOfferResult::LineFull,
         OfferFault::NothingToSell | OfferFault::Underfunded => ManageOfferResult::Underfunded,
         OfferFault::CrossSelf => ManageOfferResult::CrossSelf,
-        OfferFault::Reserve(_) | OfferFault::TooMany => ManageOfferResult::LowReserve,
+        OfferFault::Reserve(_) | OfferFault::TooMany | OfferFault::NoMemory => {
+            ManageOfferResult::LowReserve
+        }
     }
 }
 

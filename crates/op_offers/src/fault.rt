@@ -1,6 +1,10 @@
 //! Why an operation on offers fails.
 
+ghost use Rattle.std.specs.Prelude.{◌≡◌};
+ghost use Rattle.op_offers.specs.declared.fault.OfferFault.TheVariants.{NoMemory};
+
 use sponsor_rules::AddFault;
+use std::alloc::AllocError;
 
 /// Why an operation on offers fails, by its steps in their order (ManageOfferOpFrameBase in stellar-core).
 #[derive(Clone, Copy)]
@@ -29,4 +33,14 @@ pub enum OfferFault {
     CrossSelf,
     /// More offers would be crossed than an operation may.
     TooMany,
+    /// Memory was refused. The map may only be dropped.
+    NoMemory,
+}
+
+impl From<AllocError> for OfferFault {
+    ghost from_gives = { λ _ fault. fault ≡ NoMemory };
+
+    fn from(_: AllocError) -> OfferFault {
+        OfferFault::NoMemory
+    }
 }

@@ -3,10 +3,17 @@
 
 mod answers;
 mod ask;
+mod asked;
+mod cross;
 mod fault;
+mod keep;
 pub mod laws;
+mod limits;
 mod lines;
+mod manage;
+mod operations;
+mod sell;
+mod source;
+mod wanted;
 
-pub use answers::{Kind, answer, fault_answer};
-pub use ask::{Ask, ask_passively, ask_to_buy, ask_to_sell, inverse, is_malformed};
-pub use fault::OfferFault;
+pub use operations::apply;

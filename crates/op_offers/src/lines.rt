@@ -2,8 +2,10 @@
 
 ghost use Rattle.std.specs.Prelude.{◌≡◌, Some, IfOk};
 ghost use Rattle.legal_rules.specs.Trades.{holder};
+ghost use Rattle.op_offers.specs.Calls.{IsTested};
 ghost use Rattle.op_offers.specs.Managing as spec;
 
+use crate::ask::Ask;
 use crate::fault::OfferFault;
 use entry_map::{Base, Entries};
 use entry_slots::load_line;
@@ -35,7 +37,7 @@ fn buy_line_fault(line: &TrustLineEntry) -> Option<OfferFault>
 }
 
 /// Why the source can't give what is sold, if it can't. Lumens and what it issues need no line.
-pub fn sell_fault<B: Base>(
+fn sell_fault<B: Base>(
     entries: &Entries<'_, B>,
     source: &AccountId,
     asset: &Asset,
@@ -52,7 +54,7 @@ pub fn sell_fault<B: Base>(
 }
 
 /// Why the source can't take what is bought, if it can't.
-pub fn buy_fault<B: Base>(
+fn buy_fault<B: Base>(
     entries: &Entries<'_, B>,
     source: &AccountId,
     asset: &Asset,
@@ -66,4 +68,21 @@ pub fn buy_fault<B: Base>(
         None => Ok(Some(OfferFault::BuyNoTrust)),
         Some(slot) => Ok(buy_line_fault(&slot.line)),
     }
+}
+
+/// Whether the source's lines let it give what is sold and take what is bought.
+pub fn test_lines<B: Base>(
+    entries: &Entries<'_, B>,
+    source: &AccountId,
+    ask: &Ask,
+) -> Result<(), OfferFault>
+    ensures { IsTested result entries.now.current source.now ask.now }
+{
+    if let Some(fault) = sell_fault(entries, source, &ask.selling)? {
+        return Err(fault);
+    }
+    if let Some(fault) = buy_fault(entries, source, &ask.buying)? {
+        return Err(fault);
+    }
+    Ok(())
 }

@@ -1,9 +1,12 @@
 -- A disk in memory after a crash that fills what is pending with one byte.
-use Rattle.std.proofs.Common.{◌≡◌, ◌≢◌, ℕ, ◌-◌, ◌≤◌, ◌==◌, if◌then◌else◌, List, [], ◌∷◌, length, take, replicate, Bool, true, false, zero, suc, refl, sym, ◌∙◌, ap, subst, arith, length-take}
+use Rattle.std.proofs.Common.{◌≡◌, ◌≢◌, ℕ, ◌-◌, ◌≤◌, ◌==◌, if◌then◌else◌, List, [], ◌∷◌, length, take, replicate, Bool}
+use Rattle.std.proofs.Common.{true, false, zero, suc, refl, sym, ◌∙◌, ap, subst, arith, length-take}
 use Rattle.std.proofs.lemmas.List.{length-replicate, get_or_past}
 use Rattle.std.proofs.lemmas.Bool.{eq-eqb, ne_eqb}
 use Rattle.outside.specs.Disk.{Image, InFile, Torn, CutShort}
-use Rattle.outside.specs.MemDisk.{DiskState, Standing, FileLeft, image_of, written, with_file, fill_range, fill_write, fill_cut, fill_call, fill_calls, filled, same_file, AreOfFiles, after_call, after_calls, at_first, now_standing}
+use Rattle.outside.specs.MemDisk.{DiskState, Standing, FileLeft, image_of, written, with_file, fill_range, fill_write}
+use Rattle.outside.specs.MemDisk.{fill_cut, fill_call, fill_calls, filled, same_file, AreOfFiles, after_call}
+use Rattle.outside.specs.MemDisk.{after_calls, at_first, now_standing}
 use Rattle.outside.specs.declared.call.Call.{Call}
 use Rattle.outside.specs.declared.call.Call.TheVariants.{Write, Cut, Sync}
 use Rattle.outside.specs.MemLaws.{torn_piece, cut_by, length-written}
@@ -31,7 +34,8 @@ module _ (file : ℕ) (change : FileLeft → FileLeft) (read : List ℕ → List
   read_alter true x bytes same is = ap read is ∙ sym same
   read_alter false x bytes same is = is
 
-  long_alter : (b : Bool) (x : FileLeft) → length (change x).left ≡ length (change x).reads → length x.left ≡ length x.reads
+  long_alter : (b : Bool) (x : FileLeft) → length (change x).left ≡ length (change x).reads
+      → length x.left ≡ length x.reads
       → length ((if b then change x else x).left) ≡ length ((if b then change x else x).reads)
   long_alter true x after before = after
   long_alter false x after before = before
@@ -48,7 +52,8 @@ module _ (file : ℕ) (change : FileLeft → FileLeft) (read : List ℕ → List
       (λ k. (f k).left),
       h.may,
       record {
-        here = subst (λ (x : FileLeft). how (f file).left x.left) (sym (pick_same file (change (f file)) (f file))) (step (f file));
+        here = subst (λ (x : FileLeft).
+            how (f file).left x.left) (sym (pick_same file (change (f file)) (f file))) (step (f file));
         others = λ k other. ap (λ (x : FileLeft). x.left) (pick_other k file (change (f k)) (f k) other);
       },
     );
@@ -70,10 +75,13 @@ long_filled fill at piece x same = omega (
 
 -- a range may be left with the same byte throughout
 torn_filled : (fill at n : ℕ) (old : List ℕ) → Torn at n old (fill_range fill at n old)
-torn_filled fill at n old = subst (λ (m : ℕ). Torn at m old (fill_range fill at n old)) (length-replicate n fill) (torn_piece fill at (replicate n fill) old)
+torn_filled fill at n old =
+    subst (λ (m : ℕ). Torn at m old (fill_range fill at n old)) (length-replicate n fill)
+    (torn_piece fill at (replicate n fill) old)
 
 torn_filled_within : (fill at n : ℕ) (old : List ℕ) → Torn at n old (take (length old) (fill_range fill at n old))
-torn_filled_within fill at n old = subst (λ (m : ℕ). Torn at m old (take (length old) (fill_range fill at n old))) (length-replicate n fill)
+torn_filled_within fill at n old =
+    subst (λ (m : ℕ). Torn at m old (take (length old) (fill_range fill at n old))) (length-replicate n fill)
     (torn_within fill at (replicate n fill) old)
 
 long_within : (fill at n : ℕ) (x : FileLeft) → length x.left ≡ length x.reads
@@ -84,7 +92,8 @@ follow_call : (fill : ℕ) (call : Call) (s : Standing) (f : ℕ → FileLeft) �
     → Follows (after_call call s) (λ k. fill_call fill k call (f k))
 follow_call fill (Write file at piece true) s f h =
     altered file (fill_write fill at piece.items true) (written 0 at piece.items) (Torn at (length piece.items)) s f
-    (with_file file (written 0 at piece.items) s.reads) h (λ k. refl) (λ x. refl) (λ x. torn_filled fill at (length piece.items) x.left)
+    (with_file file (written 0 at piece.items) s.reads) h (λ k. refl) (λ x. refl) (λ x.
+    torn_filled fill at (length piece.items) x.left)
     (λ x same. long_filled fill at piece.items x same)
 follow_call fill (Write file at piece false) s f h =
     altered file (fill_write fill at piece.items false) (λ l. l) (Torn at (length piece.items)) s f s.reads h
@@ -102,9 +111,11 @@ follow_call fill Sync s f h = record { reads = h.reads; may = λ i k. sym (h.rea
 follow_calls : (fill : ℕ) (calls : List Call) (s : Standing) (f : ℕ → FileLeft) → Follows s f
     → Follows (after_calls calls s) (λ k. fill_calls fill k calls (f k))
 follow_calls fill [] s f h = h
-follow_calls fill (call ∷ calls) s f h = follow_calls fill calls (after_call call s) (λ k. fill_call fill k call (f k)) (follow_call fill call s f h)
+follow_calls fill (call ∷ calls) s f h =
+    follow_calls fill calls (after_call call s) (λ k. fill_call fill k call (f k)) (follow_call fill call s f h)
 
-follow_all : (fill : ℕ) (disk : DiskState) → Follows (now_standing disk) (λ k. fill_calls fill k disk.log (same_file (image_of disk.start k)))
+follow_all : (fill : ℕ) (disk : DiskState)
+    → Follows (now_standing disk) (λ k. fill_calls fill k disk.log (same_file (image_of disk.start k)))
 follow_all fill disk = follow_calls fill disk.log (at_first disk.start) (λ k. same_file (image_of disk.start k))
     (record { reads = λ k. refl; may = refl; long = λ k. refl })
 
@@ -113,22 +124,26 @@ pub filled_is_left : (fill : ℕ) (disk : DiskState) → (now_standing disk).may
 filled_is_left fill disk = (follow_all fill disk).may
 
 -- with the present lengths
-pub length-filled : (fill : ℕ) (disk : DiskState) (k : ℕ) → length (filled fill disk k) ≡ length ((now_standing disk).reads k)
+pub length-filled : (fill : ℕ) (disk : DiskState) (k : ℕ)
+    → length (filled fill disk k) ≡ length ((now_standing disk).reads k)
 length-filled fill disk k = let h = follow_all fill disk in h.long k ∙ sym (ap length (h.reads k))
 
 -- no call is of a file beyond the last
-untouched : (fill file : ℕ) (calls : List Call) (f : FileLeft) → 4 ≤ file → AreOfFiles calls → f ≡ same_file [] → fill_calls fill file calls f ≡ same_file []
+untouched : (fill file : ℕ) (calls : List Call) (f : FileLeft) → 4 ≤ file → AreOfFiles calls → f ≡ same_file []
+    → fill_calls fill file calls f ≡ same_file []
 untouched fill file [] f beyond all is = is
 untouched fill file (Write other at piece done ∷ calls) f beyond all is =
     untouched fill file calls (fill_call fill file (Write other at piece done) f) beyond all.1
-    (pick_other file other (fill_write fill at piece.items done f) f (λ (e : file ≡ other). absurd (omega (arith, all.0))) ∙ is)
+    (pick_other file other (fill_write fill at piece.items done f) f (λ (e : file ≡ other).
+    absurd (omega (arith, all.0))) ∙ is)
 untouched fill file (Cut other size done ∷ calls) f beyond all is =
     untouched fill file calls (fill_call fill file (Cut other size done) f) beyond all.1
     (pick_other file other (fill_cut fill size done f) f (λ (e : file ≡ other). absurd (omega (arith, all.0))) ∙ is)
 untouched fill file (Sync ∷ calls) f beyond all is =
     untouched fill file calls (fill_call fill file Sync f) beyond all.1 (ap (λ (x : FileLeft). same_file x.reads) is)
 
-none_left : (fill : ℕ) (disk : DiskState) → AreOfFiles disk.log → length disk.start ≡ 4 → (file : ℕ) → 4 ≤ file → filled fill disk file ≡ []
+none_left : (fill : ℕ) (disk : DiskState) → AreOfFiles disk.log → length disk.start ≡ 4 → (file : ℕ) → 4 ≤ file
+    → filled fill disk file ≡ []
 none_left fill disk all four file beyond =
     ap (λ (x : FileLeft). x.left) (untouched fill file disk.log (same_file (image_of disk.start file)) beyond all
     (ap same_file (get_or_past disk.start file [] (omega arith))))
@@ -141,9 +156,11 @@ four_left fill disk all four a b c d p q r s zero = p
 four_left fill disk all four a b c d p q r s (suc zero) = q
 four_left fill disk all four a b c d p q r s (suc (suc zero)) = r
 four_left fill disk all four a b c d p q r s (suc (suc (suc zero))) = s
-four_left fill disk all four a b c d p q r s (suc (suc (suc (suc k)))) = sym (none_left fill disk all four (suc (suc (suc (suc k)))) (omega arith))
+four_left fill disk all four a b c d p q r s (suc (suc (suc (suc k)))) =
+    sym (none_left fill disk all four (suc (suc (suc (suc k)))) (omega arith))
 
-pub crashed_reads : (fill : ℕ) (disk seen : DiskState) (log : List Call) → seen ≡ disk → AreOfFiles seen.log → length disk.start ≡ 4
+pub crashed_reads : (fill : ℕ) (disk seen : DiskState) (log : List Call) → seen ≡ disk → AreOfFiles seen.log
+    → length disk.start ≡ 4
     → log ≡ [] → (a b c d : List ℕ)
     → a ≡ filled fill disk 0 → b ≡ filled fill disk 1 → c ≡ filled fill disk 2 → d ≡ filled fill disk 3
     → (after_calls log (at_first (a ∷ b ∷ c ∷ d ∷ []))).reads ≡ filled fill disk

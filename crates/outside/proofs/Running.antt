@@ -24,7 +24,8 @@ since_by : {first second both : Image → Image → Type 0} (old mid : Disk) (t 
     → ((d e : Image) → first d e → both d e) → Runs first old mid → t ≤ old.moment
     → mid.left_since t c ⊎ ((d : Image) × mid.may_leave d × second d c)
     → old.left_since t c ⊎ ((d : Image) × old.may_leave d × both d c)
-since_by {first} {second} {both} old mid t c joins alone r le (inl before) = widen_since {step = first} {wider = both} old mid c t alone (r.since t c le before)
+since_by {first} {second} {both} old mid t c joins alone r le (inl before) =
+    widen_since {step = first} {wider = both} old mid c t alone (r.since t c le before)
 since_by {first} {second} {both} old mid t c joins alone r le (inr (e, may, s)) =
     let x = r.crash e may in inr (x.0, x.1, joins x.0 e c x.1 may x.2 s)
 

@@ -1,5 +1,5 @@
--- A volume as a disk that may lose power: what it reads, and what a crash may leave of it. Between two syncs a crash may
--- leave any bytes in what was written or cut since, and any length between the least and the greatest since.
+-- A volume as a disk that may lose power: what it reads, and what a crash may leave of it. Between two syncs a crash
+-- may leave any bytes in what was written or cut since, and any length between the least and the greatest since.
 use Rattle.std.specs.Prelude.{◌≡◌, ◌≢◌, ℕ, ◌+◌, ◌≤◌, min, max, List, [], ◌++◌, length, take, drop, ◌⊎◌}
 
 -- the bytes of each file, by its number
@@ -16,8 +16,8 @@ pub record Disk : Type 1 where
   -- what a crash at some moment from that one on might have left, during a call or between two
   pub left_since : ℕ → Image → Type 0
 
--- Time goes on: what a crash may leave now stands in this relation to what one might have left before, and a crash since
--- an earlier moment might have left what one before might have left, or such an image.
+-- Time goes on: what a crash may leave now stands in this relation to what one might have left before, and a crash
+-- since an earlier moment might have left what one before might have left, or such an image.
 pub record Runs (step : Image → Image → Type 0) (old new : Disk) : Type 0 where
   pub later : old.moment ≤ new.moment
   pub crash : (c : Image) → new.may_leave c → (d : Image) × old.may_leave d × step d c
@@ -48,7 +48,8 @@ pub record InFile (file : ℕ) (change : List ℕ → List ℕ → Type 0) (d c 
 abbrev pub Wrote : (at : ℕ) (piece old new : List ℕ) → Type 0
 Wrote at piece old new = new ≡ take at old ++ piece ++ drop (at + length piece) old
 
--- what a crash may leave of a write of n bytes: any bytes in its range and behind the old end, and a length up to its end
+-- what a crash may leave of a write of n bytes: any bytes in its range and behind the old end, and a length up to its
+-- end
 pub record Torn (at n : ℕ) (d c : List ℕ) : Type 0 where
   pub before : take (min at (length d)) c ≡ take (min at (length d)) d
   pub after : drop (at + n) c ≡ drop (at + n) d

@@ -1,5 +1,6 @@
 -- A disk in memory, as the list of its calls: by it the disk tells what a crash might have left at each moment.
-use Rattle.std.specs.Prelude.{◌≡◌, ℕ, ◌+◌, ◌-◌, ◌<◌, ◌≤◌, ◌==◌, Bool, true, false, if◌then◌else◌, List, [], ◌∷◌, ◌++◌, length, take, drop, map, slice_index_or, replicate}
+use Rattle.std.specs.Prelude.{◌≡◌, ℕ, ◌+◌, ◌-◌, ◌<◌, ◌≤◌, ◌==◌, Bool, true, false, if◌then◌else◌, List, [], ◌∷◌, ◌++◌}
+use Rattle.std.specs.Prelude.{length, take, drop, map, slice_index_or, replicate}
 use Rattle.std.specs.Global.{Vec}
 use Rattle.outside.specs.Disk.{Image, Disk, InFile, Torn, CutShort}
 use Rattle.outside.specs.declared.call.Call.{Call}

@@ -7,10 +7,11 @@ use crate::failed::Failed;
 use crate::volume::Volume;
 use std::fs::Files;
 
-/// The files `image0`, `image1`, `journal0` and `journal1` of the directory `ledger-store`, in that order. A file that isn't
-/// there has no bytes, is passed over by a sync, and is made, with the directory, by the first write or cut. A sync reaches
-/// the files, the directory where a file was made since the last one, and the directory's parent where the directory was.
-/// Each error of the system is a fault, and so is a read that gives no byte. It tells nothing of its bytes.
+/// The files `image0`, `image1`, `journal0` and `journal1` of the directory `ledger-store`, in that order. A file that
+/// isn't there has no bytes, is passed over by a sync, and is made, with the directory, by the first write or cut. A
+/// sync reaches the files, the directory where a file was made since the last one, and the directory's parent where
+/// the directory was. Each error of the system is a fault, and so is a read that gives no byte. It tells nothing of
+/// its bytes.
 #[derive(Drop)]
 pub struct DirVolume<R: Files> {
     directory: Directory<R>,

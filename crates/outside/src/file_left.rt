@@ -7,8 +7,8 @@ use crate::mem_disk::write_piece;
 use std::alloc::{AllocError, Global};
 use std::marker::Model;
 
-// A file as it is read, and as a crash leaves it that puts a byte in the place of each that was written or cut since the
-// last sync.
+// A file as it is read, and as a crash leaves it that puts a byte in the place of each that was written or cut since
+// the last sync.
 #[derive(Drop)]
 struct FileLeft {
     bytes: Vec<u8>,

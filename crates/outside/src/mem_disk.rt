@@ -1,7 +1,9 @@
-ghost use Rattle.std.specs.Prelude.{◌≡◌, ◌<◌, ◌≤◌, ◌≢◌, [], ◌∷◌, ◌++◌, ℕ, List, Bool, true, length, take, IfOk, OnOk, OnErr, IsTrue};
+ghost use Rattle.std.specs.Prelude.{◌≡◌, ◌<◌, ◌≤◌, ◌≢◌, [], ◌∷◌, ◌++◌, ℕ, List, Bool, true, length, take, IfOk, OnOk};
+ghost use Rattle.std.specs.Prelude.{OnErr, IsTrue};
 ghost use Rattle.outside.specs.Disk.{Image, Runs, Same, InFile, Torn, Wrote, CutShort, IsSafe};
 ghost use Rattle.outside.specs.MemDisk as spec;
-ghost use Rattle.outside.specs.MemDisk.{image_of, items_of, written, with_file, disk_of, now_standing, after_call, filled};
+ghost use Rattle.outside.specs.MemDisk.{image_of, items_of, written, with_file, disk_of, now_standing, after_call};
+ghost use Rattle.outside.specs.MemDisk.{filled};
 
 use crate::call::Call;
 use crate::file_left::file_left;
@@ -165,8 +167,8 @@ impl MemDisk {
         self.note(Call::Sync)
     }
 
-    // A file in one content that a crash may leave: it is as long as it is read, and has the byte `fill` in the place of
-    // each that was written or cut since the last sync.
+    // A file in one content that a crash may leave: it is as long as it is read, and has the byte `fill` in the place
+    // of each that was written or cut since the last sync.
     fn file_left(&self, alloc: Global, fill: u8, file: u8) -> Result<Vec<u8>, AllocError>
         requires { file < 4 }
         ensures left { IfOk result (λ left. left.items ≡ filled fill self.now file) }
@@ -187,6 +189,7 @@ impl MemDisk {
             self.file_left(alloc, fill, 3)?,
         ];
         let files = copy_files(alloc, &start)?;
+        // Brings what is kept of the log into view.
         let _ = &self.log;
         Ok(MemDisk {
             start,

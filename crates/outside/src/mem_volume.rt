@@ -1,4 +1,5 @@
-ghost use Rattle.std.specs.Prelude.{◌≡◌, ◌≢◌, ◌<◌, ◌≤◌, ◌+◌, ◌^◌, [], ℕ, List, length, take, drop, IfOk, OnOk, IsErr, Some, None};
+ghost use Rattle.std.specs.Prelude.{◌≡◌, ◌≢◌, ◌<◌, ◌≤◌, ◌+◌, ◌^◌, [], ℕ, List, length, take, drop, IfOk, OnOk, IsErr};
+ghost use Rattle.std.specs.Prelude.{Some, None};
 ghost use Rattle.outside.specs.Streams.{HasCause, Rose};
 ghost use Rattle.outside.specs.Disk.{Image, Stays, Runs, Same, InFile, Torn, Wrote, CutShort, IsSafe};
 ghost use Rattle.outside.specs.MemDisk.{disk_of, filled};
@@ -12,9 +13,9 @@ use crate::volume::Volume;
 use std::alloc::{AllocError, Global};
 use std::marker::Model;
 
-/// A volume in memory, for tests. It keeps the list of its writes, cuts and syncs, by which it tells what a crash might
-/// have left at each moment, and fails where it is told to. Each call of the five counts, from 1 on. A growth that memory
-/// refuses is a fault.
+/// A volume in memory, for tests. It keeps the list of its writes, cuts and syncs, by which it tells what a crash
+/// might have left at each moment, and fails where it is told to. Each call of the five counts, from 1 on. A growth
+/// that memory refuses is a fault.
 #[derive(Drop)]
 pub struct MemVolume {
     alloc: Global,
@@ -81,8 +82,9 @@ impl MemVolume {
         }
     }
 
-    /// One content that a crash now may leave, as a volume with nothing pending that fails only where memory is refused:
-    /// the present lengths, and the byte `fill` in the place of each that was written or cut since the last sync.
+    /// One content that a crash now may leave, as a volume with nothing pending that fails only where memory is
+    /// refused: the present lengths, and the byte `fill` in the place of each that was written or cut since the last
+    /// sync.
     pub fn crashed(&self, fill: u8) -> Result<MemVolume, AllocError>
         ensures filled { IfOk result (λ v. (disk_of v.disk).reads ≡ filled fill self.now.disk) }
         ensures image { IfOk result (λ v. (disk_of self.now.disk).may_leave (disk_of v.disk).reads) }

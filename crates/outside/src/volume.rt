@@ -4,9 +4,9 @@ ghost use Rattle.outside.specs.Disk.{Image, Disk, Runs, Same, Stays, InFile, Tor
 
 use crate::failed::Failed;
 
-/// Four files, numbered 0 to 3, that may lose power. Between two syncs a crash may leave any bytes in each range that was
-/// written or cut since and behind the old end, and any length between the least and the greatest since. Bytes outside
-/// those ranges stay. A call that failed counts its range as written.
+/// Four files, numbered 0 to 3, that may lose power. Between two syncs a crash may leave any bytes in each range that
+/// was written or cut since and behind the old end, and any length between the least and the greatest since. Bytes
+/// outside those ranges stay. A call that failed counts its range as written.
 pub trait Volume {
     // Inhabited where the volume tells its bytes.
     ghost tells: { Type 0 };
@@ -24,7 +24,8 @@ pub trait Volume {
         ensures stays { Stays (disk self.old) (disk self.new) }
         ensures cause { HasCause (faults self.old) (faults self.new) result };
 
-    /// Reads into the front of `buf` what stands from `at` on, and answers how many bytes it gave: at least 1 where `buf`
+    /// Reads into the front of `buf` what stands from `at` on, and answers how many bytes it gave: at least 1 where
+    /// `buf`
     /// isn't empty.
     fn read_at(&mut self, file: u8, at: u64, buf: &mut [u8]) -> Result<usize, Failed>
         requires file { file < 4 }

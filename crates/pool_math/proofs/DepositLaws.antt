@@ -1,5 +1,6 @@
 -- What deposits ask for, and that it is fair.
-use Rattle.std.proofs.Common.{◌≡◌, refl, sym, ap, subst, ℤ, pos, ◌≤ℤ◌, unsigned_abs, Option, Some, None, ℕ, ◌+◌, ◌-◌, ◌*◌, ◌/◌, ◌^◌, ◌<◌, ◌≤◌, min, arith}
+use Rattle.std.proofs.Common.{◌≡◌, refl, sym, ap, subst, ℤ, pos, ◌≤ℤ◌, unsigned_abs, Option, Some, None, ℕ, ◌+◌, ◌-◌}
+use Rattle.std.proofs.Common.{◌*◌, ◌/◌, ◌^◌, ◌<◌, ◌≤◌, min, arith}
 use Rattle.std.proofs.Math.Nat.{div-lt_iff_lt-mul, div-mul-le_self, lt-div-mul-add, mul-le-mul, mul-le-mul_right}
 use Rattle.std.proofs.Math.Nat.{one-le-mul, mul-zero, lt_of_not-le, min-le_left, min-le_right}
 use Rattle.std.proofs.lemmas.Nat.{le-div, mul-lt}
@@ -15,7 +16,8 @@ use Rattle.pool_math.specs.Laws.{IsFairDeposit}
 -- the root of a product of two numbers of 63 bits has 63 bits
 pub root_small : (root a b : ℕ) → a < 2 ^ 63 → b < 2 ^ 63 → root * root ≤ a * b → root < 2 ^ 63
 root_small root a b small_a small_b root_of =
-    lt_of_not-le (λ (large : 2 ^ 63 ≤ root). past (mul-le-mul large large) (mul-lt a b (2 ^ 63) (2 ^ 63) small_a small_b))
+    lt_of_not-le (λ (large : 2 ^ 63 ≤ root).
+    past (mul-le-mul large large) (mul-lt a b (2 ^ 63) (2 ^ 63) small_a small_b))
   where
     past : 2 ^ 63 * 2 ^ 63 ≤ root * root → a * b < 2 ^ 63 * 2 ^ 63 → ⊥
     past most less = omega arith
@@ -94,7 +96,8 @@ first_answers a b total max_a max_b d none some_a some_b whole root no_debt all_
     let most_b : unsigned_abs d.b ≡ unsigned_abs max_b = ap unsigned_abs all_b in (
       ((λ empty. (root, (most_a, most_b))), λ some. absurd (past no_total some)),
       first_fair (unsigned_abs a) (unsigned_abs b) (unsigned_abs total) (unsigned_abs max_a) (unsigned_abs max_b)
-          (numbers_of d) (whole.a.1 no_total) (whole.b.1 no_total) (omega (arith, ints)) (omega (arith, ints)) most_a most_b,
+          (numbers_of d) (whole.a.1 no_total) (whole.b.1 no_total) (omega (arith, ints))
+          (omega (arith, ints)) most_a most_b,
       record { shares = no_debt; a = above d.a max_a all_a some_a; b = above d.b max_b all_b some_b },
     )
   where

@@ -48,7 +48,8 @@ taken_as x y want divisor is =
     ap (λ n. (n + (divisor - 1)) / divisor) product ∙ ap (λ d. ceil_div (10000 * x * want) d) left
 
 -- so much at least has to be taken that the product of the reserves doesn't fall
-taken_grows : (x taken want rest : ℕ) → 1 ≤ rest → 10000 * x * want + (rest * 9970 - 1) < taken * (rest * 9970) + rest * 9970
+taken_grows : (x taken want rest : ℕ) → 1 ≤ rest
+    → 10000 * x * want + (rest * 9970 - 1) < taken * (rest * 9970) + rest * 9970
     → x * (want + rest) ≤ (x + taken) * rest
 taken_grows x taken want rest some least = omega arith
 

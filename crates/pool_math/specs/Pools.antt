@@ -1,5 +1,6 @@
--- What a liquidity pool of constant product gives and takes, in whole numbers without bounds (CAP-0038; exchangeWithPool,
--- LiquidityPoolDepositOpFrame and LiquidityPoolWithdrawOpFrame in stellar-core). The fee is 30 of 10000.
+-- What a liquidity pool of constant product gives and takes, in whole numbers without bounds (CAP-0038;
+-- exchangeWithPool, LiquidityPoolDepositOpFrame and LiquidityPoolWithdrawOpFrame in stellar-core). The fee is 30 of
+-- 10000.
 use Rattle.std.specs.Prelude.{◌≡◌, ℕ, ◌+◌, ◌-◌, ◌*◌, ◌/◌, ◌<◌, ◌≤◌, min, nat_eq, if◌then◌else◌}
 use Rattle.wide_math.specs.Root.{IsRoot}
 

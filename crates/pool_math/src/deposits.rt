@@ -61,7 +61,8 @@ fn later_deposit(a: u64, b: u64, total: u64, max_a: u64, max_b: u64) -> Option<D
     requires total { 1 ≤ total }
     requires max_a { max_a < 2 ^ 63 }
     requires max_b { max_b < 2 ^ 63 }
-    ensures value { let d = spec.later_deposit a b total max_a max_b in SomeIff result (d.shares ≤ greatest) (signed d) }
+    ensures value { let d =
+        spec.later_deposit a b total max_a max_b in SomeIff result (d.shares ≤ greatest) (signed d) }
     ensures fair { IsFairDeposit a b total max_a max_b (spec.later_deposit a b total max_a max_b) }
 {
     let least = shares_for(a, total, max_a).min(shares_for(b, total, max_b));
@@ -76,7 +77,8 @@ fn later_deposit(a: u64, b: u64, total: u64, max_a: u64, max_b: u64) -> Option<D
     })
 }
 
-/// The deposit of at most `max_a` and `max_b`, each at least 1, into a pool that has `a` and `b` of its assets and `total`
+/// The deposit of at most `max_a` and `max_b`, each at least 1, into a pool that has `a` and `b` of its assets and
+/// `total`
 /// shares, either all above 0 or all 0. `None` comes exactly where there are shares, and what either asset would give
 /// exceeds the greatest i64.
 pub fn deposit(a: i64, b: i64, total: i64, max_a: i64, max_b: i64) -> Option<Deposited>

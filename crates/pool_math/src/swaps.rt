@@ -52,9 +52,9 @@ fn taken_for(x: i64, y: i64, want: i64) -> Option<i64>
     scaled_div(x, want, PARTS, in_parts(y - want, COUNTED), Round::Up)
 }
 
-/// What a pool that has `x` of one asset and `y` of the other gives of the other for `put` of the one, rounded down. Each
-/// is at least 0. `None` comes exactly where the pool is empty, where it would have more of the one than the greatest
-/// i64, or where nothing would be given.
+/// What a pool that has `x` of one asset and `y` of the other gives of the other for `put` of the one, rounded down.
+/// Each is at least 0. `None` comes exactly where the pool is empty, where it would have more of the one than the
+/// greatest i64, or where nothing would be given.
 pub fn swap_in(x: i64, y: i64, put: i64) -> Option<i64>
     requires x { pos 0 ≤ℤ x }
     requires y { pos 0 ≤ℤ y }
@@ -73,9 +73,9 @@ pub fn swap_in(x: i64, y: i64, put: i64) -> Option<i64>
     }
 }
 
-/// What a pool that has `x` of one asset and `y` of the other takes of the one for `want` of the other, rounded up. Each
-/// is at least 0. `None` comes exactly where the pool is empty, where it hasn't more than is wanted, or where it would
-/// have more of the one than the greatest i64.
+/// What a pool that has `x` of one asset and `y` of the other takes of the one for `want` of the other, rounded up.
+/// Each is at least 0. `None` comes exactly where the pool is empty, where it hasn't more than is wanted, or where it
+/// would have more of the one than the greatest i64.
 pub fn swap_out(x: i64, y: i64, want: i64) -> Option<i64>
     requires x { pos 0 ≤ℤ x }
     requires y { pos 0 ≤ℤ y }

@@ -18,8 +18,8 @@ fn withdrawn(reserve: u64, total: u64, shares: u64) -> u64
     (shares as u128 * reserve as u128 / total as u128) as u64
 }
 
-/// What `shares` of `total` give of an asset of which the pool has `reserve`, rounded down. No shares give nothing, also
-/// where there are none.
+/// What `shares` of `total` give of an asset of which the pool has `reserve`, rounded down. No shares give nothing,
+/// also where there are none.
 pub fn withdraw(reserve: i64, total: i64, shares: i64) -> i64
     requires reserve { pos 0 ≤ℤ reserve }
     requires shares { pos 0 ≤ℤ shares }

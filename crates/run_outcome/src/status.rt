@@ -24,7 +24,7 @@ pub enum Status {
     BadInput { at: u128 },
     /// 10: the image breaks this rule, the first one that it breaks.
     BadImage { rule: ImageRule },
-    /// 10: the image has an offer, a pool or a line of pool shares.
+    /// 10: the image has a pool or a line of pool shares.
     ImageNotBuilt,
 }
 

@@ -18,9 +18,11 @@
 //!
 //! Both print how many bytes the merge has, or both files together.
 //!
-//!     speed book COUNT              makes a map of so many offers, a thousand of them changed, and goes through their book
+//!     speed book COUNT              makes a map of so many offers, a thousand of them changed, and goes through their
+//! book
 //!     speed book-base COUNT         makes the map alone
-//!     speed head COUNT              makes a map whose so many best offers are erased, and asks for its best 10,000 times
+//!     speed head COUNT              makes a map whose so many best offers are erased, and asks for its best 10,000
+//! times
 //!     speed head-base COUNT         makes the map alone
 //!     speed index COUNT PAIRS       makes an index of so many offers, and 100 times the one behind a batch of 100
 //!     speed index-base COUNT PAIRS  makes the index alone

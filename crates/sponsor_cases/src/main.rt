@@ -1,8 +1,8 @@
-//! Runs the cases in `cases.txt` in a folder: what is counted after each step of a story of entries and sponsorship, and
-//! which fault is answered. A line that isn't understood ends the program.
+//! Runs the cases in `cases.txt` in a folder: what is counted after each step of a story of entries and sponsorship,
+//! and which fault is answered. A line that isn't understood ends the program.
 //!
-//! The folder is the program's one argument, or `data` where there is none. `sponsor_cases.py` writes the cases. What is
-//! wanted (`stdout`) was worked out by hand.
+//! The folder is the program's one argument, or `data` where there is none. `sponsor_cases.py` writes the cases. What
+//! is wanted (`stdout`) was worked out by hand.
 #![tactic(auto)]
 
 mod asking;

@@ -1,5 +1,5 @@
-//! Cases, read line by line, each in a ledger of its own. Values are in hexadecimal, as XDR, and accounts are named: the
-//! owner, the sponsor, the other and the new one.
+//! Cases, read line by line, each in a ledger of its own. Values are in hexadecimal, as XDR, and accounts are named:
+//! the owner, the sponsor, the other and the new one.
 //!
 //!     say TEXT                          is printed, and what the lines behind it tell, up to `end`
 //!     entry ENTRY                       is put

@@ -97,9 +97,9 @@ fn add_subentry<B: Base>(
     Ok(())
 }
 
-/// Counts a line, an offer or data more for its owner, and for that account's open sponsor if it has one. So a reserve is
-/// paid before it is known what stands for it: an offer may still be filled as it comes. `multiplicity` is the number of
-/// reserves, at most 2. Where it answers a fault other than `NoMemory`, nothing has changed.
+/// Counts a line, an offer or data more for its owner, and for that account's open sponsor if it has one. So a reserve
+/// is paid before it is known what stands for it: an offer may still be filled as it comes. `multiplicity` is the
+/// number of reserves, at most 2. Where it answers a fault other than `NoMemory`, nothing has changed.
 pub fn count_subentry<B: Base>(
     entries: &mut Entries<'_, B>,
     ctx: &Ctx,

@@ -59,8 +59,8 @@ fn remove_charge<B: Base>(
     }
 }
 
-/// Counts a line, an offer or data less for its owner and for its sponsor, if it has one. `multiplicity` is the number of
-/// reserves.
+/// Counts a line, an offer or data less for its owner and for its sponsor, if it has one. `multiplicity` is the number
+/// of reserves.
 pub fn discount_subentry<B: Base>(
     entries: &mut Entries<'_, B>,
     multiplicity: u64,

@@ -6,4 +6,5 @@ use Rattle.gate_journal.specs.Calls.{JournalState, IsSettled}
 
 -- the journal has failed, or stands for some records
 abbrev pub IsReady : JournalState → VolumeState → Type 0
-IsReady journal vol = (journal.failed ≡ true) ⊎ ((records : List (List ℕ)) × IsSettled journal (disk_of vol.disk) records)
+IsReady journal vol = (journal.failed ≡ true)
+    ⊎ ((records : List (List ℕ)) × IsSettled journal (disk_of vol.disk) records)

@@ -82,7 +82,8 @@ module _ (m : EntryMap) (keyed : IsKeyed m) where
 
     both_at : (q : LedgerKey) → q ≡ k → get (altered k g now) q ≡ get (altered k joined m) q
     both_at q same =
-        ap (get (altered k g now)) same ∙ altered_at now now_keyed k g keeps ∙ ap (mapped g) (altered_at m keyed k h also)
+        ap (get (altered k g now)) same ∙ altered_at now now_keyed k g keeps
+        ∙ ap (mapped g) (altered_at m keyed k h also)
         ∙ both_of (get m k) ∙ sym (altered_at m keyed k joined (keeps_both g h keeps also))
         ∙ ap (get (altered k joined m)) (sym same)
 
@@ -96,7 +97,8 @@ module _ (m : EntryMap) (keyed : IsKeyed m) where
         (λ q. either (get (altered k g now) q ≡ get (altered k joined m) q) q k (both_at q) (both_beside q))
 
   -- changes under two keys may be swapped
-  module _ (k l : LedgerKey) (g h : LedgerEntry → LedgerEntry) (keeps : KeepsKeys g) (also : KeepsKeys h) (apart : k ≢ l)
+  module _ (k l : LedgerKey) (g h : LedgerEntry
+      → LedgerEntry) (keeps : KeepsKeys g) (also : KeepsKeys h) (apart : k ≢ l)
     where
       abbrev with_h : EntryMap
       with_h = altered l h m
@@ -137,7 +139,8 @@ module _ (m : EntryMap) (keyed : IsKeyed m) where
 
       pub altered_swapped : altered k g (altered l h m) ≡ altered l h (altered k g m)
       altered_swapped = same_map keys_total keys_exact one two
-          (λ q. either (get one q ≡ get two q) q k (at_first q) (λ beside. either (get one q ≡ get two q) q l (at_second q)
+          (λ q. either (get one q ≡ get two q) q k (at_first q) (λ beside.
+          either (get one q ≡ get two q) q l (at_second q)
           (further q beside)))
 
 -- changes that come to the same for what stands

@@ -26,7 +26,8 @@ use Rattle.legal_rules.proofs.Covered.{not_above_balance}
 use Rattle.legal_rules.proofs.Liable.{stored, line_stored}
 use Rattle.legal_rules.proofs.Places.{kept_elsewhere}
 use Rattle.legal_rules.proofs.Releasing.{bound_in_range, line_in_range}
-use Rattle.trade_cross.specs.Holdings.{at_least_nothing, most_given, most_taken, account_gives, account_takes, line_gives}
+use Rattle.trade_cross.specs.Holdings.{at_least_nothing, most_given, most_taken, account_gives, account_takes}
+use Rattle.trade_cross.specs.Holdings.{line_gives}
 use Rattle.trade_cross.specs.Holdings.{line_takes, line_paid, paying}
 use Rattle.legal_rules.specs.Holdings.{IsKeyed}
 use Rattle.trade_cross.specs.Accounts.{Related}
@@ -70,7 +71,8 @@ module _ (R : AccountEntry → AccountEntry → Type 0) (S : TrustLineEntry → 
 pub held_bound : (m : EntryMap) → IsKeyed m → (k : Option LedgerKey) (selling buying : ℤ) → CanBind m k selling buying
     → (q : Option LedgerKey) → IsHeld m q → IsHeld (binding k selling buying m) q
 held_bound m keyed k selling buying can q held = held_still m (binding k selling buying m)
-    (binding_relates AnyAccount SameFlags (λ a. tt) (λ t. refl) m keyed k selling buying can (λ a. tt) (λ t. refl)) q held
+    (binding_relates AnyAccount SameFlags (λ a. tt) (λ t. refl) m keyed k selling buying can (λ a.
+    tt) (λ t. refl)) q held
 
 pub held_paid : (m : EntryMap) → IsKeyed m → (k : Option LedgerKey) (n : ℤ) → CanPay m k n → (q : Option LedgerKey)
     → IsHeld m q → IsHeld (paying k n m) q

@@ -1,6 +1,7 @@
 -- The offer at the head of a book stands.
 use Rattle.std.proofs.Common.{◌≡◌, refl, sym, ap, subst, ◌∙◌, true, T, All, List, [], ◌∷◌, Some}
-use Rattle.std.proofs.lemmas.List.Elements.{All-nil, All-cons, All-head, All-tail, All-weaker, All-filter, filter_passes}
+use Rattle.std.proofs.lemmas.List.Elements.{All-nil, All-cons, All-head, All-tail, All-weaker, All-filter}
+use Rattle.std.proofs.lemmas.List.Elements.{filter_passes}
 use Rattle.std.specs.List.{filter, cons_option}
 use Rattle.std.specs.Prelude.{map}
 use Rattle.std.specs.FinMap.{get, entries, entries_sorted, get-entries}
@@ -28,7 +29,8 @@ each_found : (es : List (LedgerKey × LedgerEntry)) → T (is_sorted key_cmp es)
 each_found [] sorted = All-nil (λ p. find key_cmp p.0 [] ≡ Some p.1)
 each_found (e ∷ es) sorted = All-cons (λ p. find key_cmp p.0 (e ∷ es) ≡ Some p.1) e es (found_first e es)
     (All-weaker (λ p. find key_cmp p.0 es ≡ Some p.1) (λ p. find key_cmp p.0 (e ∷ es) ≡ Some p.1)
-    (λ p there. found_later e es p.0 p.1 (first_of_both _ _ sorted) there) es (each_found es (second_of_both _ _ sorted)))
+    (λ p there. found_later e es p.0 p.1 (first_of_both _ _ sorted) there) es
+    (each_found es (second_of_both _ _ sorted)))
 
 entries_stand : (m : EntryMap) → All (λ p. get m p.0 ≡ Some p.1) (entries m)
 entries_stand m = All-weaker (λ p. find key_cmp p.0 (entries m) ≡ Some p.1) (λ p. get m p.0 ≡ Some p.1)
@@ -82,7 +84,8 @@ module _ (m : EntryMap) (keyed : IsKeyed m) (selling buying : Asset) where
 
   head_stands : (os : List OfferEntry) (o : OfferEntry) → All IsOffer os → head os ≡ Some o → IsOffer o
   head_stands [] o all is = absurd (cc)
-  head_stands (first ∷ others) o all is = let same : first ≡ o = cc in subst IsOffer same (All-head IsOffer first others all)
+  head_stands (first ∷ others) o all is = let same : first ≡ o =
+      cc in subst IsOffer same (All-head IsOffer first others all)
 
   -- The best offer stands.
   pub best_stands : (o : OfferEntry) → best m selling buying ≡ Some o → IsOffer o

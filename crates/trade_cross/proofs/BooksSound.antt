@@ -40,7 +40,8 @@ summed_low x y first second = omega (arith, ints)
 
 sum_low : (id : ℤ) (es : Pairs) → pos 0 ≤ℤ sum_over (offer_with id) es
 sum_low id [] = omega (arith, ints)
-sum_low id (e ∷ es) = summed_low (offer_with id e.1) (sum_over (offer_with id) es) (counted_low e.1.body id) (sum_low id es)
+sum_low id (e ∷ es) =
+    summed_low (offer_with id e.1) (sum_over (offer_with id) es) (counted_low e.1.body id) (sum_low id es)
 
 itself : (id : ℤ) → is_eq (int_cmp id id) ≡ true
 itself id = grind (arith, ints)

@@ -1,5 +1,6 @@
 -- Crossing keeps a state legal.
-use Rattle.std.proofs.Common.{◌≡◌, refl, sym, subst, ℕ, ◌+◌, ◌-◌, ◌≤◌, zero, suc, Bool, true, false, Option, Some, None, arith}
+use Rattle.std.proofs.Common.{◌≡◌, refl, sym, subst, ℕ, ◌+◌, ◌-◌, ◌≤◌, zero, suc, Bool, true, false, Option, Some, None}
+use Rattle.std.proofs.Common.{arith}
 use Rattle.std.proofs.lemmas.Int.{ints}
 use Rattle.std.specs.Prelude.{ℤ, pos, ◌+ℤ◌, if◌then◌else◌}
 use Rattle.ledger_types.specs.declared.offer.OfferEntry.{OfferEntry}
@@ -15,7 +16,8 @@ use Rattle.trade_cross.specs.declared.trade.Trade.{Trade}
 use Rattle.trade_cross.specs.declared.turn.Turn.{Turn}
 use Rattle.trade_cross.specs.declared.turn.Turn.TheVariants.{Ends, Meets}
 use Rattle.trade_cross.specs.Crossing.{Left}
-use Rattle.trade_cross.specs.Crossing.{is_too_dear, turn_at, is_used_up, turn, Crossing, ended, at_limit, joined, left_after}
+use Rattle.trade_cross.specs.Crossing.{is_too_dear, turn_at, is_used_up, turn, Crossing, ended, at_limit, joined}
+use Rattle.trade_cross.specs.Crossing.{left_after}
 use Rattle.trade_cross.specs.Crossing.{Step, step, atom_of, crossed}
 use Rattle.sponsor_rules.proofs.Ids.{apart_accounts}
 use Rattle.trade_cross.specs.Accounts.{Passes}

@@ -111,11 +111,13 @@ line_buys None some is = absurd (omega (arith, ints))
 line_buys (Some ext) some is = absurd (cc)
 
 extended_account : (of : LedgerEntryBody) (a : AccountEntry) → account_in of ≡ Some a → a.ext ≢ None → IsExtended of
-extended_account (body.Account b) a is some = let same : b ≡ a = cc in subst (λ (x : AccountEntry). x.ext ≢ None) (sym same) some
+extended_account (body.Account b) a is some = let same : b ≡ a =
+    cc in subst (λ (x : AccountEntry). x.ext ≢ None) (sym same) some
 extended_account other a is some = absurd (cc)
 
 extended_line : (of : LedgerEntryBody) (t : TrustLineEntry) → line_in of ≡ Some t → t.ext ≢ None → IsExtended of
-extended_line (body.TrustLine u) t is some = let same : u ≡ t = cc in subst (λ (x : TrustLineEntry). x.ext ≢ None) (sym same) some
+extended_line (body.TrustLine u) t is some = let same : u ≡ t =
+    cc in subst (λ (x : TrustLineEntry). x.ext ≢ None) (sym same) some
 extended_line other t is some = absurd (cc)
 
 module _ (m : EntryMap) (n : ℕ) (some : 1 ≤ n) where

@@ -1,5 +1,5 @@
 -- That the sums of the changes by which an offer is crossed fit 64 bits.
-use Rattle.std.proofs.Common.{◌≡◌, refl, sym, ap, subst, ◌∙◌, ◌≤◌, Option, Some, None, arith}
+use Rattle.std.proofs.Common.{◌≡◌, refl, sym, ap, subst, ◌∙◌, Option, Some, None, arith}
 use Rattle.std.proofs.lemmas.Int.{ints}
 use Rattle.std.specs.Prelude.{ℤ, pos, ◌+ℤ◌, ◌≤ℤ◌}
 use Rattle.ledger_types.specs.declared.ids.AccountId.{AccountId}
@@ -132,4 +132,5 @@ module _ (m : EntryMap) (keyed : IsKeyed m) (owner : AccountId) (w s : Option Le
   second_by (Some other) is high = tt
 
   pub second_fits : SellsWithin d s → DoesChangeFit (changing w c m) s d
-  second_fits high = subst (λ n. DoesChangeFit n s d) (sym (changed_altered m keyed owner w own_w c)) (second_by s refl high)
+  second_fits high = subst (λ n. DoesChangeFit n s d) (sym (changed_altered m keyed owner w own_w c))
+      (second_by s refl high)

@@ -19,3 +19,6 @@ pub mod HoldersApart
 pub mod StepIs
 pub mod StepPlanned
 pub mod Progressed
+pub mod Bonds
+pub mod Cancelled
+pub mod CancelledLeft

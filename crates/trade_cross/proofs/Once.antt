@@ -17,7 +17,8 @@ use Rattle.trade_cross.specs.Plans.{giving_change, taking_change}
 use Rattle.trade_cross.specs.Holdings.{paying}
 use Rattle.trade_cross.specs.Places.{changing}
 use Rattle.trade_cross.specs.declared.holding.Change.{Change}
-use Rattle.trade_cross.proofs.Altering.{altered_opt, AreApart, KeepsKeys, keeps_both, opt_keyed, opt_elsewhere, opt_both}
+use Rattle.trade_cross.proofs.Altering.{altered_opt, AreApart, KeepsKeys, keeps_both, opt_keyed, opt_elsewhere}
+use Rattle.trade_cross.proofs.Altering.{opt_both}
 use Rattle.trade_cross.proofs.Altering.{opt_swapped, opt_as}
 use Rattle.trade_cross.proofs.Extended.{IsExtended, entry_once, entry_twice}
 use Rattle.trade_cross.proofs.Changing.{over, resized_body, bound_entry, paid_entry, changed_entry}
@@ -83,7 +84,8 @@ module _ (m : EntryMap) (keyed : IsKeyed m) (o : OfferEntry) (apart : AreApart (
   given = altered_opt w (paid_entry (neg_ℤ (pos a.wheat))) released
 
   given_keyed : IsKeyed given
-  given_keyed = opt_keyed released released_keyed w (paid_entry (neg_ℤ (pos a.wheat))) (paid_keeps (neg_ℤ (pos a.wheat)))
+  given_keyed = opt_keyed released released_keyed w (paid_entry (neg_ℤ (pos a.wheat)))
+      (paid_keeps (neg_ℤ (pos a.wheat)))
 
   abbrev pub giver : EntryMap
   giver = altered_opt w gives_entry m

@@ -222,7 +222,8 @@ module _ (base : ℕ) (x : AccountId) (m : EntryMap) (keyed : IsKeyed m) where
   erasing_passes : (o : OfferEntry) → Passes base x m (erase m (offer_key o))
   unfolding line_at
   erasing_passes o = record {
-    account = related_same (IsEased base) (eased_itself base) _ _ (sym (erase_beside m (offer_key o) x (λ same. absurd (cc))));
+    account = related_same (IsEased base) (eased_itself base) _ _
+        (sym (erase_beside m (offer_key o) x (λ same. absurd (cc))));
     lines = λ held. line_kept held;
     offers = erased_offer (offer_key o);
   }

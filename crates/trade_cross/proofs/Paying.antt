@@ -32,7 +32,8 @@ use Rattle.legal_rules.proofs.Changed.{line_changed}
 use Rattle.legal_rules.proofs.Covered.{not_above_balance}
 use Rattle.legal_rules.proofs.Paid.{paid_legal}
 use Rattle.legal_rules.proofs.Steps.{legal_as}
-use Rattle.trade_cross.specs.Holdings.{at_least_nothing, most_given, most_taken, account_gives, account_takes, line_gives}
+use Rattle.trade_cross.specs.Holdings.{at_least_nothing, most_given, most_taken, account_gives, account_takes}
+use Rattle.trade_cross.specs.Holdings.{line_gives}
 use Rattle.trade_cross.specs.Holdings.{line_takes, line_paid, paying}
 use Rattle.legal_rules.proofs.LinesLeft.{line_legal}
 use Rattle.trade_cross.specs.CrossingLaws.{kept_at}

@@ -18,9 +18,11 @@ use Rattle.trade_cross.specs.declared.trade.Trade.{Trade}
 use Rattle.trade_cross.specs.declared.turn.Turn.{Turn}
 use Rattle.trade_cross.specs.declared.turn.Turn.TheVariants.{Ends, Meets}
 use Rattle.trade_cross.specs.Crossable.{IsCrossable}
-use Rattle.trade_cross.specs.Crossing.{Left, Crossing, Step, step, turn, ended, joined, at_limit, left_after, crossed, converted, atom_of}
+use Rattle.trade_cross.specs.Crossing.{Left, Crossing, Step, step, turn, ended, joined, at_limit, left_after, crossed}
+use Rattle.trade_cross.specs.Crossing.{converted, atom_of}
 use Rattle.trade_cross.specs.Plans.{left_in}
-use Rattle.trade_cross.specs.Progressing.{atom_of_plan, noted, DoesNoteFit, IsWithin, IsCrossing, behind, in_all, Advances}
+use Rattle.trade_cross.specs.Progressing.{atom_of_plan, noted, DoesNoteFit, IsWithin, IsCrossing, behind, in_all}
+use Rattle.trade_cross.specs.Progressing.{Advances}
 use Rattle.trade_cross.specs.Steps.{IsMoved}
 use Rattle.trade_cross.proofs.CrossedLegal.{met}
 use Rattle.trade_cross.proofs.StepLegal.{step_legal, step_sheep, step_wheat}

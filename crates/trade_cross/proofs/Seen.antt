@@ -1,6 +1,6 @@
 -- What an offer's owner can give and take, as it is seen in the entries that stand before the offer's liabilities are
 -- released, and behind the trade.
-use Rattle.std.proofs.Common.{◌≡◌, ◌≢◌, ap, ◌∙◌, ◌-◌, Option, Some, None}
+use Rattle.std.proofs.Common.{◌≡◌, ◌≢◌, ap, ◌∙◌, Option, Some, None}
 use Rattle.std.specs.FinMap.{get}
 use Rattle.ledger_types.specs.declared.ids.AccountId.{AccountId}
 use Rattle.ledger_types.specs.declared.asset.TrustLineAsset.{TrustLineAsset}

@@ -28,7 +28,8 @@ use Rattle.trade_cross.specs.declared.holding.Change.{Change}
 use Rattle.trade_cross.specs.Accounts.{IsHeld}
 use Rattle.trade_cross.specs.Crossing.{seller_gives_at, seller_takes_at, map_after_trade}
 use Rattle.trade_cross.specs.Plans.{giving_change, taking_change}
-use Rattle.trade_cross.specs.Holdings.{at_least_nothing, most_given, most_taken, account_gives, account_takes, line_gives}
+use Rattle.trade_cross.specs.Holdings.{at_least_nothing, most_given, most_taken, account_gives, account_takes}
+use Rattle.trade_cross.specs.Holdings.{line_gives}
 use Rattle.trade_cross.specs.Holdings.{line_takes}
 use Rattle.trade_cross.specs.Places.{changed_account, changed_line}
 use Rattle.trade_cross.specs.Sides.{facts_give_with, facts_take_with, line_gives_with, line_takes_with, given_with}
@@ -51,7 +52,8 @@ bought_back : (g b x : ℤ) (n : ℕ) → ((g -ℤ b -ℤ x) +ℤ pos n) ≡ (g 
 bought_back g b x n = omega (arith, ints)
 
 -- less a number that is there
-pub less_there : (x y : ℤ) (n : ℕ) → n ≤ at_least_nothing x → y ≡ (x -ℤ pos n) → at_least_nothing y ≡ at_least_nothing x - n
+pub less_there : (x y : ℤ) (n : ℕ) → n ≤ at_least_nothing x → y ≡ (x -ℤ pos n)
+    → at_least_nothing y ≡ at_least_nothing x - n
 less_there (pos k) (pos j) n le is = omega (arith, ints)
 less_there (pos k) other n le is = absurd (omega (arith, ints))
 less_there other (pos j) n le is = absurd (omega (arith, ints))
@@ -129,7 +131,8 @@ module _ (base : ℕ) (m : EntryMap) (keyed : IsKeyed m) (o : OfferEntry)
   given_by None is held = refl
   given_by (Some (key.Account id)) is held =
       ap (λ x. facts_give_with base (pos wheat) (facts_in x)) held.1
-      ∙ ap at_least_nothing (sold_back held.0.balance (min_balance held.0 base) (account_liabilities held.0).selling wheat
+      ∙ ap at_least_nothing
+      (sold_back held.0.balance (min_balance held.0 base) (account_liabilities held.0).selling wheat
       ∙ sym (bound_available base (neg_ℤ (pos wheat)) (pos 0) held.0))
       ∙ sym (ap (account_gives base) (giver_released id held.0 is held.1))
   given_by (Some (key.TrustLine id x)) is held =
@@ -178,28 +181,32 @@ module _ (base : ℕ) (m : EntryMap) (keyed : IsKeyed m) (o : OfferEntry)
         → account_at t id ≡ Some (changed_account gives_change x)
     giver_then id x is stands = ap (λ n. account_at n id) (gone_altered m keyed o apart a)
         ∙ account_first m keyed w s apart (changed_account gives_change) (changed_account takes_change)
-        (changed_line gives_change) (changed_line takes_change) (changed_keeps gives_change) (changed_keeps takes_change)
+        (changed_line gives_change) (changed_line takes_change) (changed_keeps gives_change)
+        (changed_keeps takes_change)
         id x is stands
 
     pub giver_line_then : (id : AccountId) (y : TrustLineAsset) (x : TrustLineEntry) → w ≡ Some (key.TrustLine id y)
         → line_at m id y ≡ Some x → line_at t id y ≡ Some (changed_line gives_change x)
     giver_line_then id y x is stands = ap (λ n. line_at n id y) (gone_altered m keyed o apart a)
         ∙ line_first m keyed w s apart (changed_account gives_change) (changed_account takes_change)
-        (changed_line gives_change) (changed_line takes_change) (changed_keeps gives_change) (changed_keeps takes_change)
+        (changed_line gives_change) (changed_line takes_change) (changed_keeps gives_change)
+        (changed_keeps takes_change)
         id y x is stands
 
     pub taker_then : (id : AccountId) (x : AccountEntry) → s ≡ Some (key.Account id) → account_at m id ≡ Some x
         → account_at t id ≡ Some (changed_account takes_change x)
     taker_then id x is stands = ap (λ n. account_at n id) (gone_altered m keyed o apart a)
         ∙ account_second m keyed w s apart (changed_account gives_change) (changed_account takes_change)
-        (changed_line gives_change) (changed_line takes_change) (changed_keeps gives_change) (changed_keeps takes_change)
+        (changed_line gives_change) (changed_line takes_change) (changed_keeps gives_change)
+        (changed_keeps takes_change)
         id x is stands
 
     pub taker_line_then : (id : AccountId) (y : TrustLineAsset) (x : TrustLineEntry) → s ≡ Some (key.TrustLine id y)
         → line_at m id y ≡ Some x → line_at t id y ≡ Some (changed_line takes_change x)
     taker_line_then id y x is stands = ap (λ n. line_at n id y) (gone_altered m keyed o apart a)
         ∙ line_second m keyed w s apart (changed_account gives_change) (changed_account takes_change)
-        (changed_line gives_change) (changed_line takes_change) (changed_keeps gives_change) (changed_keeps takes_change)
+        (changed_line gives_change) (changed_line takes_change) (changed_keeps gives_change)
+        (changed_keeps takes_change)
         id y x is stands
 
     given_then_by : (k : Option LedgerKey) → w ≡ k → IsHeld m k → a.wheat ≤ most_given base r k

@@ -48,7 +48,8 @@ use Rattle.trade_cross.proofs.Passing.{holder_own}
 use Rattle.trade_cross.proofs.Paying.{within}
 use Rattle.trade_cross.proofs.SeenSides.{giver_then}
 use Rattle.trade_cross.proofs.StepLegal.{IsOpen, its_range, covered_then, trade_open, release_open, lets}
-use Rattle.trade_cross.proofs.StepLegal.{offer_rests, sells_fit, account_keeps, line_keeps, same_given, enough, in_bounds}
+use Rattle.trade_cross.proofs.StepLegal.{offer_rests, sells_fit, account_keeps, line_keeps, same_given, enough}
+use Rattle.trade_cross.proofs.StepLegal.{in_bounds}
 
 -- what is legal is in its ranges
 pub all_in_range : (v : View) (id_pool : ℕ) (owed : Owed) (sum : ℤ) (m : EntryMap) → IsLegalOwing v id_pool owed sum m
@@ -110,7 +111,8 @@ module _ (v : View) (id_pool base : ℕ) (owed : Owed) (right : IsOwedRightly ow
 
     unsold_same : (x : LedgerKey) → s ≡ Some x → get unsold x ≡ get m x
     unsold_same x is =
-        ap (λ n. get n x) (bound_altered m legal.keyed o.seller_id w (holder_own o.seller_id o.selling) less_wheat (pos 0))
+        ap (λ n. get n x) (bound_altered m legal.keyed o.seller_id w
+        (holder_own o.seller_id o.selling) less_wheat (pos 0))
         ∙ opt_elsewhere m legal.keyed w (bound_entry less_wheat (pos 0)) (bound_keeps less_wheat (pos 0)) x
         (λ same. apart x same is)
 
@@ -172,8 +174,10 @@ module _ (v : View) (id_pool base : ℕ) (owed : Owed) (right : IsOwedRightly ow
 
         once_range : AreAllInRange (once (suc j))
         once_range = record {
-          accounts = λ id x there. after_range.accounts id x (account_keeps (once (suc j)) o new still refl refl id ∙ there);
-          lines = λ id y x there. after_range.lines id y x (line_keeps (once (suc j)) o new still refl refl id y ∙ there);
+          accounts = λ id x there.
+              after_range.accounts id x (account_keeps (once (suc j)) o new still refl refl id ∙ there);
+          lines = λ id y x there.
+              after_range.lines id y x (line_keeps (once (suc j)) o new still refl refl id y ∙ there);
         }
 
         -- so much more can be sold
@@ -206,18 +210,22 @@ module _ (v : View) (id_pool base : ℕ) (owed : Owed) (right : IsOwedRightly ow
           → DoesChangeFit m w (giving_change o a rest)
           × DoesChangeFit (changing w (giving_change o a rest) m) s (taking_change o a rest)
       fits_by amount zero stays is = (
-        first_fits m legal.keyed o.seller_id w s (holder_own o.seller_id o.selling) (holder_own o.seller_id o.buying) apart
+        first_fits m legal.keyed o.seller_id w s (holder_own o.seller_id o.selling)
+            (holder_own o.seller_id o.buying) apart
             (giving_change o a 0) (taking_change o a 0) gone_range
             (λ id x at there more. absurd (falls (bound_of o).wheat more)),
-        second_fits m legal.keyed o.seller_id w s (holder_own o.seller_id o.selling) (holder_own o.seller_id o.buying) apart
+        second_fits m legal.keyed o.seller_id w s (holder_own o.seller_id o.selling)
+            (holder_own o.seller_id o.buying) apart
             (giving_change o a 0) (taking_change o a 0) gone_range
             (λ id x at there more. absurd (rises_not more)),
       )
       fits_by amount (suc j) false is = absurd (cc)
       fits_by amount (suc j) true is = (
-        first_fits m legal.keyed o.seller_id w s (holder_own o.seller_id o.selling) (holder_own o.seller_id o.buying) apart
+        first_fits m legal.keyed o.seller_id w s (holder_own o.seller_id o.selling)
+            (holder_own o.seller_id o.buying) apart
             (giving_change o a (suc j)) (taking_change o a (suc j)) (once_range amount j is) (sells_within amount j is),
-        second_fits m legal.keyed o.seller_id w s (holder_own o.seller_id o.selling) (holder_own o.seller_id o.buying) apart
+        second_fits m legal.keyed o.seller_id w s (holder_own o.seller_id o.selling)
+            (holder_own o.seller_id o.buying) apart
             (giving_change o a (suc j)) (taking_change o a (suc j)) (once_range amount j is)
             (λ id x at there more. absurd (rises_not more)),
       )

@@ -15,7 +15,8 @@ use Rattle.legal_rules.specs.Binding.{binding, acquiring, releasing}
 use Rattle.legal_rules.specs.Books.{View}
 use Rattle.legal_rules.specs.Owing.{Owed, IsLegalOwing}
 use Rattle.trade_cross.specs.Holdings.{most_given, most_taken, paying}
-use Rattle.trade_cross.specs.Crossing.{atom_of, Left, seller_gives_at, seller_takes_at, amount_at, meeting, map_after_trade}
+use Rattle.trade_cross.specs.Crossing.{atom_of, Left, seller_gives_at, seller_takes_at, amount_at, meeting}
+use Rattle.trade_cross.specs.Crossing.{map_after_trade}
 use Rattle.trade_cross.specs.Crossing.{with_amount, offer_key, map_after_rest, step_by, step}
 use Rattle.legal_rules.specs.OneMore.{IsOwedRightly}
 use Rattle.trade_cross.proofs.Left.{giving_left, taking_left, releasing_left, selling_left, buying_left}
@@ -77,7 +78,8 @@ module _ (v : View) (id_pool base : ℕ) (owed : Owed) (right : IsOwedRightly ow
           (binding_passes base x o.seller_id apart bound bound_keyed (seller_takes_at o) (pos 0) _
           (holder_own o.seller_id o.buying) (buys v id_pool base owed right o sum m open_ j amount is)))
 
-    rest_left_by : (amount rest : ℕ) → amount_at base m o amount ≡ rest → Leaves base none_more m (map_after_rest o rest m)
+    rest_left_by : (amount rest : ℕ) → amount_at base m o amount ≡ rest
+        → Leaves base none_more m (map_after_rest o rest m)
     rest_left_by amount zero is = gone_left
     rest_left_by amount (suc j) is = rests_left j amount is
 

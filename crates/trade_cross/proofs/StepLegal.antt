@@ -35,11 +35,13 @@ use Rattle.legal_rules.specs.OfferLaws.{trade_books}
 use Rattle.legal_rules.specs.Owing.{Owed, plus, less, beside_reserves, weighed, IsEntryLegal, IsLegalOwing}
 use Rattle.legal_rules.specs.Ranges.{IsOfferInRange}
 use Rattle.legal_rules.proofs.Kept.{subentry_removed_so}
-use Rattle.legal_rules.proofs.OffersKept.{acquiring_legal, binding_legal, unbound_if, offer_changed, offer_entry, with_offer_is, with_offer_body}
+use Rattle.legal_rules.proofs.OffersKept.{acquiring_legal, binding_legal, unbound_if, offer_changed, offer_entry}
+use Rattle.legal_rules.proofs.OffersKept.{with_offer_is, with_offer_body}
 use Rattle.legal_rules.proofs.OffersKept.{IsOfferEntry}
 use Rattle.legal_rules.proofs.Releasing.{releasing_legal, can_release}
 use Rattle.legal_rules.proofs.Steps.{legal_as}
-use Rattle.trade_cross.specs.Holdings.{most_given, most_taken, paying, account_gives, account_takes, line_gives, line_takes}
+use Rattle.trade_cross.specs.Holdings.{most_given, most_taken, paying, account_gives, account_takes, line_gives}
+use Rattle.trade_cross.specs.Holdings.{line_takes}
 use Rattle.trade_cross.specs.Crossing.{Left, seller_gives_at, seller_takes_at, amount_at, meeting, map_after_trade}
 use Rattle.trade_cross.specs.Crossing.{with_amount, offer_key, map_after_rest, step_by, step, atom_of}
 use Rattle.legal_rules.specs.OneMore.{IsOwedRightly}
@@ -174,7 +176,8 @@ module _ (v : View) (id_pool base : ℕ) (owed : Owed) (right : IsOwedRightly ow
     -- an offer that goes leaves what was owed before
     pub offer_gone : IsLegalOwing v id_pool owed sum (map_after_removing (offer_key o) m)
     offer_gone = legal_as v (IsEntryLegal id_pool) _ owed _ sum _
-        (subentry_removed_so v id_pool owed_then sum o.seller_id 1 (offer_key o) e m open_.legal settled_then there refl)
+        (subentry_removed_so v id_pool owed_then sum o.seller_id 1
+        (offer_key o) e m open_.legal settled_then there refl)
         (λ kind k. taken_off (owed kind k) (trade_books o kind k) _ (offer_books v its_entry.0 o kind k))
         (nothing_off sum)
 
@@ -252,14 +255,16 @@ module _ (v : View) (id_pool base : ℕ) (owed : Owed) (right : IsOwedRightly ow
       abbrev pub bound_now : EntryMap
       bound_now = binding (seller_gives_at o) (pos (bound_of new).wheat) (pos 0) now
 
-      pub legal_bound : IsLegalOwing v id_pool (plus owed_now (unbound_if (seller_gives_at o) (pos (bound_of new).wheat) (pos 0)))
+      pub legal_bound : IsLegalOwing v id_pool
+          (plus owed_now (unbound_if (seller_gives_at o) (pos (bound_of new).wheat) (pos 0)))
           sum bound_now
       legal_bound = binding_legal v id_pool owed_now sum now (seller_gives_at o) (pos (bound_of new).wheat) (pos 0)
           legal_now sells
 
       pub buys : CanBind bound_now (seller_takes_at o) (pos 0) (pos (bound_of new).sheep)
       buys = can_buy v id_pool base _ sum bound_now legal_bound (bound_of new).sheep (seller_takes_at o)
-          (held_bound now legal_now.keyed (seller_gives_at o) (pos (bound_of new).wheat) (pos 0) sells (seller_takes_at o)
+          (held_bound now legal_now.keyed (seller_gives_at o) (pos (bound_of new).wheat) (pos 0) sells
+          (seller_takes_at o)
           (same_held m o new open_.stands refl refl (seller_takes_at o) open_.takes))
           (at_most (bound_of new).sheep (most_taken now (seller_takes_at o)) _
           (subst (λ x. x ≤ most_taken now (seller_takes_at o)) (sym sheep_is)
@@ -287,9 +292,11 @@ module _ (v : View) (id_pool base : ℕ) (owed : Owed) (right : IsOwedRightly ow
   -- ---- the trade
 
   module _ (sum : ℤ) (m : EntryMap) (open_ : IsOpen v id_pool owed sum m o) (a : Amounts)
-      (enough : a.wheat ≤ most_given base m (seller_gives_at o)) (fits : a.sheep ≤ most_taken m (seller_takes_at o)) where
+      (enough : a.wheat ≤ most_given base m (seller_gives_at o))
+      (fits : a.sheep ≤ most_taken m (seller_takes_at o)) where
     pub gives : CanPay m (seller_gives_at o) (neg_ℤ (pos a.wheat))
-    gives = can_give v id_pool base owed_then sum m open_.legal a.wheat covered_then (seller_gives_at o) open_.gives enough
+    gives = can_give v id_pool base owed_then sum m open_.legal a.wheat covered_then
+        (seller_gives_at o) open_.gives enough
 
     abbrev pub given : EntryMap
     given = paying (seller_gives_at o) (neg_ℤ (pos a.wheat)) m
@@ -326,9 +333,11 @@ module _ (v : View) (id_pool base : ℕ) (owed : Owed) (right : IsOwedRightly ow
           (kept_at v.asset (seller_takes_at o) o.buying (pos a.sheep)));
       stands = still_stands;
       gives = held_paid given legal_given.keyed (seller_takes_at o) (pos a.sheep) takes (seller_gives_at o)
-          (held_paid m open_.legal.keyed (seller_gives_at o) (neg_ℤ (pos a.wheat)) gives (seller_gives_at o) open_.gives);
+          (held_paid m open_.legal.keyed (seller_gives_at o) (neg_ℤ (pos a.wheat)) gives
+          (seller_gives_at o) open_.gives);
       takes = held_paid given legal_given.keyed (seller_takes_at o) (pos a.sheep) takes (seller_takes_at o)
-          (held_paid m open_.legal.keyed (seller_gives_at o) (neg_ℤ (pos a.wheat)) gives (seller_takes_at o) open_.takes);
+          (held_paid m open_.legal.keyed (seller_gives_at o) (neg_ℤ (pos a.wheat)) gives
+          (seller_takes_at o) open_.takes);
     }
 
   -- ---- what is released

@@ -27,7 +27,8 @@ use Rattle.trade_cross.specs.Crossing.{seller_gives_at, seller_takes_at, meeting
 use Rattle.trade_cross.specs.Crossing.{step_by}
 use Rattle.trade_cross.specs.Holdings.{most_given, most_taken}
 use Rattle.trade_cross.specs.Places.{place_key, changing, DoesChangeFit}
-use Rattle.trade_cross.specs.Plans.{left_in, price_n, price_d, bounds_of, amounts_of, rest_by, rest_of, still_most, IsPlan}
+use Rattle.trade_cross.specs.Plans.{left_in, price_n, price_d, bounds_of, amounts_of, rest_by, rest_of, still_most}
+use Rattle.trade_cross.specs.Plans.{IsPlan}
 use Rattle.trade_cross.specs.Plans.{giving_change, taking_change, map_with_rest, moved_by, gives_in, takes_in}
 use Rattle.trade_cross.specs.Plans.{map_of, IsCarried}
 use Rattle.trade_cross.specs.Sides.{given_with, taken_with, still_most as still_under, IsInRangeAt}
@@ -39,7 +40,7 @@ use Rattle.trade_cross.proofs.StepIs.{all_in_range, apart, range, gives_held, ta
 use Rattle.trade_cross.proofs.StepIs.{step_is}
 use Rattle.trade_cross.proofs.StepLegal.{IsOpen, owed_then, covered_then, release_open}
 
-in_range_at : (m : EntryMap) → AreAllInRange m → (k : Option LedgerKey) → IsInRangeAt m k
+pub in_range_at : (m : EntryMap) → AreAllInRange m → (k : Option LedgerKey) → IsInRangeAt m k
 in_range_at m all None = tt
 in_range_at m all (Some (key.Account id)) = all.accounts id
 in_range_at m all (Some (key.TrustLine id x)) = λ t there. (all.lines id x t there).0
@@ -221,7 +222,9 @@ module _ (v : View) (id_pool base : ℕ) (owed : Owed) (right : IsOwedRightly ow
       pub is_moved : IsMoved plan (step base rounding (left_in left) o m)
       unfolding step
       is_moved = record {
-        wheat = wheat_is ∙ ap (λ (x : Amounts). pos x.wheat) (sym (amounts_of_step (wheat_stays (price_n o) (price_d o) b)));
-        sheep = sheep_is ∙ ap (λ (x : Amounts). pos x.sheep) (sym (amounts_of_step (wheat_stays (price_n o) (price_d o) b)));
+        wheat = wheat_is ∙ ap (λ (x : Amounts).
+            pos x.wheat) (sym (amounts_of_step (wheat_stays (price_n o) (price_d o) b)));
+        sheep = sheep_is ∙ ap (λ (x : Amounts).
+            pos x.sheep) (sym (amounts_of_step (wheat_stays (price_n o) (price_d o) b)));
         stays = stays_is ∙ sym (stays_of_step (wheat_stays (price_n o) (price_d o) b));
       }

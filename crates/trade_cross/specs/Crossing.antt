@@ -1,6 +1,7 @@
 -- A taker crosses the book of a pair: it sends sheep and receives wheat, offer by offer (convertWithOffers and
 -- crossOfferV10 in stellar-core; CAP-0003).
-use Rattle.std.specs.Prelude.{ℕ, ◌+◌, ◌-◌, zero, suc, pos, neg_ℤ, unsigned_abs, nat_eq, Bool, true, false, ◌||◌, ◌&&◌, min}
+use Rattle.std.specs.Prelude.{ℕ, ◌+◌, ◌-◌, zero, suc, pos, neg_ℤ, unsigned_abs, nat_eq, Bool, true, false, ◌||◌, ◌&&◌}
+use Rattle.std.specs.Prelude.{min}
 use Rattle.std.specs.Prelude.{List, [], ◌∷◌, Option, Some, None, if◌then◌else◌}
 use Rattle.std.specs.Ordering.{is_lt, is_eq}
 use Rattle.ledger_types.specs.declared.price.Price.{Price}

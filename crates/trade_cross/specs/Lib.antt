@@ -8,3 +8,5 @@ pub mod Plans
 pub mod Steps
 pub mod Crossable
 pub mod Progressing
+pub mod Amounts
+pub mod Cancelling

@@ -39,7 +39,8 @@ changing other change m = m
 
 -- ---- what fits
 
--- A number rises by delta, which may be below 0: it falls to 0 at least, and where it rises, not above 64 bits with a sign.
+-- A number rises by delta, which may be below 0: it falls to 0 at least, and where it rises, not above 64 bits with a
+-- sign.
 pub record DoesFit (number delta : ℤ) : Type 0 where
   pub low : pos 0 ≤ℤ (number +ℤ delta)
   pub high : pos 1 ≤ℤ delta → (number +ℤ delta) ≤ℤ greatest_i64

@@ -1,4 +1,5 @@
--- What crossing one offer comes to, by what its owner can give and take, and the changes that it makes holder by holder.
+-- What crossing one offer comes to, by what its owner can give and take, and the changes that it makes holder by
+-- holder.
 use Rattle.std.specs.Prelude.{◌≡◌, ℕ, ◌-◌, zero, suc, ℤ, pos, neg_ℤ, ◌-ℤ◌, ◌≤ℤ◌, min, unsigned_abs, Bool}
 use Rattle.std.specs.Prelude.{if◌then◌else◌}
 use Rattle.ledger_types.specs.declared.price.Liabilities.{Liabilities}
@@ -76,7 +77,8 @@ rest_of rounding o sides left =
     rest_by o sides b.wheat_send a.wheat a.sheep (wheat_stays (price_n o) (price_d o) b)
 
 -- what an offer moves and what rests of it
-pub record IsPlan (rounding : Rounding) (o : OfferEntry) (sides : Sides) (left : LeftOfCall) (plan : Plan) : Type 0 where
+pub record IsPlan (rounding : Rounding) (o : OfferEntry) (sides : Sides) (left : LeftOfCall)
+    (plan : Plan) : Type 0 where
   pub wheat : plan.wheat ≡ pos (amounts_of rounding o sides left).wheat
   pub sheep : plan.sheep ≡ pos (amounts_of rounding o sides left).sheep
   pub stays : plan.wheat_stays ≡ wheat_stays (price_n o) (price_d o) (bounds_of o sides left)

@@ -1,5 +1,6 @@
 -- How far a trade has come, and what one more turn adds to it.
-use Rattle.std.specs.Prelude.{◌≡◌, ℕ, ◌+◌, ◌-◌, ℤ, pos, ◌+ℤ◌, ◌-ℤ◌, ◌≤ℤ◌, unsigned_abs, [], ◌∷◌, ◌++◌, Option, Some, None}
+use Rattle.std.specs.Prelude.{◌≡◌, ℕ, ◌+◌, ◌-◌, pos, ◌+ℤ◌, ◌-ℤ◌, ◌≤ℤ◌, unsigned_abs, [], ◌∷◌, ◌++◌, Option, Some}
+use Rattle.std.specs.Prelude.{None}
 use Rattle.ledger_types.specs.declared.claim_atom.ClaimAtom.{ClaimAtom}
 use Rattle.ledger_types.specs.declared.claim_atom.ClaimAtom.TheVariants as atom
 use Rattle.ledger_types.specs.declared.offer.OfferEntry.{OfferEntry}

@@ -9,10 +9,11 @@ ghost use Rattle.trade_cross.specs.Places.{DoesChangeFit, changing, place_key};
 ghost use Rattle.trade_cross.specs.Plans as spec;
 
 use crate::holding::{Change, change_holding};
+use crate::keys::offer_key;
 use crate::plan::{Plan, Sides};
 use entry_map::{Base, Entries};
 use entry_slots::{OfferSlot, load_offer, store_offer};
-use ledger_types::{LedgerKey, Liabilities, OfferEntry};
+use ledger_types::{Liabilities, OfferEntry};
 use offer_exchange::liabilities;
 use sponsor_rules::{Ctx, remove_entry};
 use std::alloc::AllocError;
@@ -61,8 +62,8 @@ fn taking_change(plan: Plan, bound: i64, rest: i64) -> Change
     }
 }
 
-/// Changes each of the two holders once, and then the offer: what rests of it stays in its place, and where nothing rests
-/// it is removed with its reserve.
+/// Changes each of the two holders once, and then the offer: what rests of it stays in its place, and where nothing
+/// rests it is removed with its reserve.
 pub fn carry_out<B: Base>(
     entries: &mut Entries<'_, B>,
     ctx: &Ctx,
@@ -106,11 +107,7 @@ fn keep_rest<B: Base>(
     if rest > 0 {
         return resize(entries, offer, rest);
     }
-    let key = LedgerKey::Offer {
-        seller_id: offer.seller_id,
-        offer_id: offer.offer_id,
-    };
-    remove_entry(entries, ctx, &key)
+    remove_entry(entries, ctx, &offer_key(offer))
 }
 
 /// Gives an offer that stands another amount.

@@ -20,11 +20,11 @@ use ledger_types::OfferEntry;
 use sponsor_rules::Ctx;
 use std::alloc::{AllocError, Global};
 
-/// Crosses the book of offers that sell wheat for sheep, offer by offer, until one of the taker's bounds is used up, the book
-/// is, or the next offer isn't crossed. Sellers give and take; what the taker itself has is left as it is. The offers that
-/// are crossed away are removed with their reserves, and one whose wheat stays keeps what its owner can still give
-/// (convertWithOffers in stellar-core). Rounding, prices and amounts are those of CAP-0003. Where memory is refused the map
-/// may only be dropped.
+/// Crosses the book of offers that sell wheat for sheep, offer by offer, until one of the taker's bounds is used up,
+/// the book is, or the next offer isn't crossed. Sellers give and take; what the taker itself has is left as it is.
+/// The offers that are crossed away are removed with their reserves, and one whose wheat stays keeps what its owner
+/// can still give (convertWithOffers in stellar-core). Rounding, prices and amounts are those of CAP-0003. Where
+/// memory is refused the map may only be dropped.
 pub fn convert<B: Base>(
     alloc: Global,
     entries: &mut Entries<'_, B>,

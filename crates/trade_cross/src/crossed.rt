@@ -18,8 +18,8 @@ pub enum CrossEnd {
     TooMany,
 }
 
-/// What was sent and received in all, and each offer that was crossed, in order. The taker's own entries haven't changed
-/// yet.
+/// What was sent and received in all, and each offer that was crossed, in order. The taker's own entries haven't
+/// changed yet.
 #[derive(Drop)]
 pub struct Crossed {
     pub sheep: i64,

@@ -2,10 +2,13 @@
 //! stellar-core; CAP-0003).
 #![tactic(auto)]
 
+mod amounts;
+mod cancel;
 mod carry;
 mod conversion;
 mod crossed;
 mod holding;
+mod keys;
 pub mod laws;
 mod place;
 mod plan;
@@ -15,6 +18,9 @@ mod step;
 mod trade;
 mod turn;
 
+pub use amounts::{acquire, most_given, most_taken, pay, release, take};
+pub use cancel::cancel_offer;
 pub use conversion::convert;
 pub use crossed::{CrossEnd, Crossed};
+pub use place::{Place, place_of};
 pub use trade::Trade;

@@ -15,8 +15,8 @@ pub struct Left {
     pub wheat_receive: i64,
 }
 
-/// Where an offer's owner has its two assets, and what it can give and take of them at most, each at least 0, once it is
-/// released from what the offer binds.
+/// Where an offer's owner has its two assets, and what it can give and take of them at most, each at least 0, once it
+/// is released from what the offer binds.
 #[derive(Clone, Copy)]
 pub struct Sides {
     pub gives_at: Place,
@@ -69,8 +69,8 @@ fn still(place: Place, most: i64, moved: i64) -> i64
     }
 }
 
-/// How much rests of an offer of so much, at least 0: where wheat stays it is adjusted to what its owner can give and take
-/// then.
+/// How much rests of an offer of so much, at least 0: where wheat stays it is adjusted to what its owner can give and
+/// take then.
 fn rest_of(offer: &OfferEntry, sides: Sides, amount: i64, moved: Exchanged) -> i64
     requires priced { IsPriced offer.now.price }
     requires amount { pos 0 ≤ℤ amount }

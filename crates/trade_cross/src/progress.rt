@@ -9,8 +9,8 @@ use item_list::ItemList;
 use ledger_types::{ClaimAtom, OfferEntry};
 use std::alloc::AllocError;
 
-/// What was sent and received so far, each offer that was crossed, and what is left of the taker's bounds and of the offers
-/// that it may cross.
+/// What was sent and received so far, each offer that was crossed, and what is left of the taker's bounds and of the
+/// offers that it may cross.
 #[derive(Drop)]
 pub struct Progress {
     pub left: Left,

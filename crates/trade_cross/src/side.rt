@@ -36,7 +36,7 @@ fn with_released(number: i128, released: i64) -> i64
 }
 
 /// What an account can give of an asset, once it is released from so much that it would give, at least 0.
-pub fn most_given<B: Base>(
+pub fn most_given_with<B: Base>(
     entries: &Entries<'_, B>,
     base_reserve: u32,
     id: &AccountId,
@@ -108,7 +108,7 @@ fn a_line_gives(line: &TrustLineEntry, released: i64) -> i64
 }
 
 /// What an account can take of an asset, once it is released from so much that it would take, at least 0.
-pub fn most_taken<B: Base>(
+pub fn most_taken_with<B: Base>(
     entries: &Entries<'_, B>,
     id: &AccountId,
     place: Place,

@@ -11,15 +11,15 @@ ghost use Rattle.trade_cross.specs.Steps as spec;
 use crate::carry::carry_out;
 use crate::place::place_of;
 use crate::plan::{Left, Plan, Sides, plan_of};
-use crate::side::{most_given, most_taken};
+use crate::side::{most_given_with, most_taken_with};
 use entry_map::{Base, Entries};
 use ledger_types::{Liabilities, OfferEntry};
 use offer_exchange::{Rounding, liabilities};
 use sponsor_rules::Ctx;
 use std::alloc::AllocError;
 
-/// Where an offer's owner has its two assets, and what it can give and take of them at most once it is released from what
-/// the offer binds.
+/// Where an offer's owner has its two assets, and what it can give and take of them at most once it is released from
+/// what the offer binds.
 fn sides_of<B: Base>(
     entries: &Entries<'_, B>,
     base_reserve: u32,
@@ -32,14 +32,14 @@ fn sides_of<B: Base>(
 {
     let gives_at = place_of(&offer.seller_id, &offer.selling);
     let takes_at = place_of(&offer.seller_id, &offer.buying);
-    let gives = most_given(
+    let gives = most_given_with(
         entries,
         base_reserve,
         &offer.seller_id,
         gives_at,
         bound.selling,
     )?;
-    let takes = most_taken(entries, &offer.seller_id, takes_at, bound.buying)?;
+    let takes = most_taken_with(entries, &offer.seller_id, takes_at, bound.buying)?;
     Ok(Sides {
         gives_at,
         gives,
@@ -48,7 +48,8 @@ fn sides_of<B: Base>(
     })
 }
 
-/// Crosses an offer that stands: its owner's two holders are looked at and changed once each, and the offer shrinks or goes.
+/// Crosses an offer that stands: its owner's two holders are looked at and changed once each, and the offer shrinks or
+/// goes.
 pub fn cross_offer<B: Base>(
     entries: &mut Entries<'_, B>,
     ctx: &Ctx,

@@ -2,6 +2,7 @@
 
 ghost use Rattle.std.specs.Prelude.{◌<◌, IfOk};
 ghost use Rattle.entry_slots.specs.Accounts.{HasAccount};
+ghost use Rattle.trade_cross.specs.Crossable.{IsCrossable};
 ghost use Rattle.op_form.specs.Sequences.{last_seq};
 ghost use Rattle.op_form.specs.Done.{Does};
 ghost use Rattle.op_form.specs.Premises as premises;
@@ -24,6 +25,7 @@ pub(crate) fn apply_operation<B: Base>(
     requires source { HasAccount entries.old.current ctx.old.op_source }
     requires ready { premises.AccountsAreReady entries.old.current }
     requires in_range { premises.BalancesAreInRange entries.old.current }
+    requires crossable { IsCrossable entries.old.current }
     requires amounts { premises.AreAmountsLow entries.old.current }
     ensures { IfOk result (λ answer. Does answer ctx.new entries.old entries.new
         (spec.any_operation ctx.old operation.now.body entries.old.current)) }

@@ -18,4 +18,5 @@ returns g c is = IfOk-weaker c.with_offer.result _ _
     (λ index made. put_made c.args.layered.now.current c.args.offers.now c.in_ok-left.left index c.args.entry.now
     c.in-Some.offer.now c.in_ok-old.old is (sym c.offer_in.ensures ∙ ap option_copied c.in-Some.is)
     c.with_offer.ensures.narrow
-    (c.in_ok-old.ensures.found ∙ ap (get c.args.layered.now.current) c.in_ok-key.ensures) c.in_ok-left.ensures made) c.with_offer.ensures.value
+    (c.in_ok-old.ensures.found ∙ ap (get c.args.layered.now.current) c.in_ok-key.ensures) c.in_ok-left.ensures made)
+    c.with_offer.ensures.value

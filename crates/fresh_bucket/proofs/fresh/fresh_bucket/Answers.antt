@@ -32,7 +32,8 @@ pub of_file_to_merge-requires : goal.of_file_to_merge-requires
 of_file_to_merge-requires c =
     let r = c.requires in
     let t = told_file c.args.version c.ranges.version.fits r.0 r.1 c.args.batch.now r.2 r.3 r.4 r.5
-    (items_at c.in_ok-row.row.items) c.in_ok-row.ensures (items_at c.as_slice.result.now) c.in_ok-file.file.items (ap items_at c.as_slice.ensures.value)
+    (items_at c.in_ok-row.row.items) c.in_ok-row.ensures (items_at c.as_slice.result.now) c.in_ok-file.file.items
+    (ap items_at c.as_slice.ensures.value)
     c.in_ok-file.ensures in
     (bucket_of c.args.version (items_at c.in_ok-row.row.items), t.0, t.1)
 
@@ -40,17 +41,20 @@ pub returns-clause-fresh : goal.returns-clause-fresh
 returns-clause-fresh c before after x keyed =
     let r = c.requires in
     let t = told_file c.args.version c.ranges.version.fits r.0 r.1 c.args.batch.now r.2 r.3 r.4 r.5
-    (items_at c.in_ok-row.row.items) c.in_ok-row.ensures (items_at c.as_slice.result.now) c.in_ok-file.file.items (ap items_at c.as_slice.ensures.value)
+    (items_at c.in_ok-row.row.items) c.in_ok-row.ensures (items_at c.as_slice.result.now) c.in_ok-file.file.items
+    (ap items_at c.as_slice.ensures.value)
     c.in_ok-file.ensures in
     IfOk-weaker c.of_file_to_merge.result _ _ (λ made is. subst (IsFresh before after) (sym is)
-    (is_fresh before after c.args.batch.now x (items_at c.in_ok-row.row.items) c.in_ok-row.ensures c.args.version keyed))
+    (is_fresh before after c.args.batch.now x
+    (items_at c.in_ok-row.row.items) c.in_ok-row.ensures c.args.version keyed))
     (c.of_file_to_merge.ensures (bucket_of c.args.version (items_at c.in_ok-row.row.items)) t.0 t.1)
 
 pub returns-clause-version : goal.returns-clause-version
 returns-clause-version c =
     let r = c.requires in
     let t = told_file c.args.version c.ranges.version.fits r.0 r.1 c.args.batch.now r.2 r.3 r.4 r.5
-    (items_at c.in_ok-row.row.items) c.in_ok-row.ensures (items_at c.as_slice.result.now) c.in_ok-file.file.items (ap items_at c.as_slice.ensures.value)
+    (items_at c.in_ok-row.row.items) c.in_ok-row.ensures (items_at c.as_slice.result.now) c.in_ok-file.file.items
+    (ap items_at c.as_slice.ensures.value)
     c.in_ok-file.ensures in
     IfOk-weaker c.of_file_to_merge.result _ _ (λ made is. ap version_of is)
     (c.of_file_to_merge.ensures (bucket_of c.args.version (items_at c.in_ok-row.row.items)) t.0 t.1)

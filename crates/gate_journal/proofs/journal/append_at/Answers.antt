@@ -6,7 +6,8 @@ use Rattle.gate_journal.proofs.journal.append_at.Goals as goal
 
 pub returns-in-Err-clause-runs : goal.returns-in-Err-clause-runs
 returns-in-Err-clause-runs g c = λ told records stands.
-    first_write (g.V.Volume.disk c.args.vol.now) (g.V.Volume.disk c.write_and_sync.new.vol) c.args.file c.args.end (length c.piece.result.now)
+    first_write (g.V.Volume.disk c.args.vol.now) (g.V.Volume.disk c.write_and_sync.new.vol) c.args.file c.args.end
+    (length c.piece.result.now)
     records c.args.buf.now stands c.write_and_sync.ensures.runs
 
 pub returns-clause-ok : goal.returns-clause-ok
@@ -19,7 +20,9 @@ returns-clause-ok g c = λ told records stands.
     let behind = drop (end + 1 + length (framed bytes)) (old.reads file) in
     let wrote = c.in-Ok.ensures.written told (reach (old.reads file) records end stands.place stands.holds) in
     let stage = staged_by old mid file end records bytes c.piece.result.now c.piece.ensures.piece stands wrote in
-    on_ok c.write_and_sync-2.result (c.write_and_sync-2.ensures.written told (reach_staged records bytes behind (mid.reads file) end stands.place stage))
+    on_ok c.write_and_sync-2.result
+    (c.write_and_sync-2.ensures.written told
+    (reach_staged records bytes behind (mid.reads file) end stands.place stage))
     (λ gate. one_more records bytes behind end (mid.reads file) _ c.piece.ensures.short stands.place stage gate.here)
 
 pub returns-clause-written : goal.returns-clause-written
@@ -33,7 +36,9 @@ returns-clause-written g c = λ told records stands.
     let behind = drop (end + 1 + length (framed bytes)) (old.reads file) in
     let wrote = c.in-Ok.ensures.written told (reach (old.reads file) records end stands.place stands.holds) in
     let stage = staged_by old mid file end records bytes c.piece.result.now c.piece.ensures.piece stands wrote in
-    on_ok c.write_and_sync-2.result (c.write_and_sync-2.ensures.written told (reach_staged records bytes behind (mid.reads file) end stands.place stage))
+    on_ok c.write_and_sync-2.result
+    (c.write_and_sync-2.ensures.written told
+    (reach_staged records bytes behind (mid.reads file) end stands.place stage))
     (λ gate. appended_by old mid new file end records bytes c.piece.result.now stands stage wrote gate)
 
 pub returns-clause-runs : goal.returns-clause-runs
@@ -48,4 +53,5 @@ returns-clause-runs g c = λ told records stands.
     let wrote = c.in-Ok.ensures.written told (reach (old.reads file) records end stands.place stands.holds) in
     let stage = staged_by old mid file end records bytes c.piece.result.now c.piece.ensures.piece stands wrote in
     both_writes old mid new file end records bytes behind c.piece.ensures.short stands.place stage c.in-Ok.ensures.safe
-    (first_write old mid file end (length c.piece.result.now) records bytes stands c.write_and_sync.ensures.runs) c.write_and_sync-2.ensures.runs
+    (first_write old mid file end (length c.piece.result.now) records bytes stands c.write_and_sync.ensures.runs)
+    c.write_and_sync-2.ensures.runs

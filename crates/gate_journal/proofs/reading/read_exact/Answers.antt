@@ -6,7 +6,13 @@ use Rattle.gate_journal.proofs.Pieces.{read_more}
 use Rattle.gate_journal.proofs.reading.read_exact.Goals as goal
 
 pub loop-done-init : goal.loop-done-init
-loop-done-init g c = record { within = omega arith; bytes = λ told. refl; stays = stays_none (g.V.Volume.disk c.args.vol.now); later = omega arith }
+loop-done-init g c = record {
+  within = omega arith;
+  bytes = λ told. refl;
+  stays =
+      stays_none (g.V.Volume.disk c.args.vol.now);
+  later = omega arith;
+}
 
 pub read_at-requires-clause-within : goal.read_at-requires-clause-within
 read_at-requires-clause-within g c = λ told.
@@ -23,10 +29,18 @@ loop-done-preserved g c =
     let mid = g.V.Volume.disk c.loop-done.vol in
     let new = g.V.Volume.disk c.read_at.new.self in
     record {
-      within = omega (arith, c.in-Ok.ensures.most, c.split_at_mut-rest.ensures.front_len, length-append front c.read_at.new.buf);
+      within = omega (
+        arith,
+        c.in-Ok.ensures.most,
+        c.split_at_mut-rest.ensures.front_len,
+        length-append front
+            c.read_at.new.buf,
+      );
       bytes = λ told.
-          let same = ap (λ (f : Image). take c.in-Ok.count (drop (c.args.at + c.loop-done.done) (f c.args.file))) (c.read_at.ensures.stays.reads ∙ before.stays.reads) in
-          read_more c.loop-done.done c.in-Ok.count c.args.at front c.read_at.new.buf (reads c.args.file) (sym c.split_at_mut-rest.ensures.front_len)
+          let same = ap (λ (f : Image). take c.in-Ok.count (drop (c.args.at + c.loop-done.done) (f c.args.file)))
+          (c.read_at.ensures.stays.reads ∙ before.stays.reads) in
+          read_more c.loop-done.done c.in-Ok.count c.args.at front c.read_at.new.buf (reads c.args.file)
+          (sym c.split_at_mut-rest.ensures.front_len)
           (c.split_at_mut-rest.ensures.front ∙ before.bytes told) (c.in-Ok.ensures.bytes told ∙ same);
       stays = stays_more old mid new before.stays c.read_at.ensures.stays;
       later = omega (arith, before.later, c.read_at.ensures.cause.later);
@@ -34,14 +48,21 @@ loop-done-preserved g c =
 
 pub returns-in-Err-clause-stays : goal.returns-in-Err-clause-stays
 returns-in-Err-clause-stays g c =
-    stays_more (g.V.Volume.disk c.args.vol.now) (g.V.Volume.disk c.loop-done.vol) (g.V.Volume.disk c.read_at.new.self) c.loop-done.invariant.stays c.read_at.ensures.stays
+    stays_more (g.V.Volume.disk c.args.vol.now) (g.V.Volume.disk c.loop-done.vol)
+    (g.V.Volume.disk c.read_at.new.self) c.loop-done.invariant.stays c.read_at.ensures.stays
 
 pub returns-in-Err-clause-cause : goal.returns-in-Err-clause-cause
-returns-in-Err-clause-cause g c = record { later = omega (arith, c.loop-done.invariant.later, c.read_at.ensures.cause.later); failed = omega (arith, c.loop-done.invariant.later, c.in-Err.ensures.cause.failed) }
+returns-in-Err-clause-cause g c =
+    record {
+      later = omega (arith, c.loop-done.invariant.later, c.read_at.ensures.cause.later);
+      failed =
+          omega (arith, c.loop-done.invariant.later, c.in-Err.ensures.cause.failed);
+    }
 
 pub returns-clause-bytes : goal.returns-clause-bytes
 returns-clause-bytes g c = λ told.
-    let done : c.loop-done.done ≡ length c.loop-done.buf = omega (arith, c.loop-done.invariant.within, c.loop-done-test.false) in
+    let done : c.loop-done.done ≡ length c.loop-done.buf =
+    omega (arith, c.loop-done.invariant.within, c.loop-done-test.false) in
     sym (take_all c.loop-done.done c.loop-done.buf (omega arith)) ∙ c.loop-done.invariant.bytes told
     ∙ ap (λ (n : ℕ). take n (drop c.args.at ((g.V.Volume.disk c.args.vol.now).reads c.args.file))) done
 

@@ -8,7 +8,8 @@ use Rattle.gate_journal.proofs.reading.read_records.Goals as goal
 
 pub loop-fault-init : goal.loop-fault-init
 loop-fault-init g c = record {
-  read = λ told. subst (λ records. ReadTo ((g.V.Volume.disk c.args.vol.now).reads c.args.file) records 0) (sym c.new-records.ensures)
+  read = λ told. subst (λ records. ReadTo ((g.V.Volume.disk c.args.vol.now).reads c.args.file) records 0)
+      (sym c.new-records.ensures)
       (read_none ((g.V.Volume.disk c.args.vol.now).reads c.args.file));
   stays = stays_none (g.V.Volume.disk c.args.vol.now);
   later = omega arith;
@@ -16,7 +17,8 @@ loop-fault-init g c = record {
 }
 
 pub next_record-requires-clause-size : goal.next_record-requires-clause-size
-next_record-requires-clause-size g c = λ told. c.requires.size told ∙ ap (λ (f : Image). length (f c.args.file)) (sym c.loop-fault.invariant.stays.reads)
+next_record-requires-clause-size g c = λ told. c.requires.size told
+    ∙ ap (λ (f : Image). length (f c.args.file)) (sym c.loop-fault.invariant.stays.reads)
 
 pub returns-in-Err-clause-told : goal.returns-in-Err-clause-told
 returns-in-Err-clause-told g c = λ told.
@@ -28,13 +30,15 @@ returns-in-Err-clause-told g c = λ told.
 
 pub returns-in-Err-clause-stays : goal.returns-in-Err-clause-stays
 returns-in-Err-clause-stays g c =
-    stays_more (g.V.Volume.disk c.args.vol.now) (g.V.Volume.disk c.loop-fault.vol) (g.V.Volume.disk c.next_record.new.vol)
+    stays_more (g.V.Volume.disk c.args.vol.now) (g.V.Volume.disk c.loop-fault.vol)
+    (g.V.Volume.disk c.next_record.new.vol)
     c.loop-fault.invariant.stays c.next_record.ensures.stays
 
 pub returns-in-Err-clause-cause : goal.returns-in-Err-clause-cause
 returns-in-Err-clause-cause g c = (
   omega (arith, c.loop-fault.invariant.later, c.in-Err.ensures.cause.0),
-  fault_since (g.V.Volume.faults c.args.vol.now) (g.V.Volume.faults c.loop-fault.vol) (g.V.Volume.faults c.next_record.new.vol) c.in-Err.fault
+  fault_since (g.V.Volume.faults c.args.vol.now) (g.V.Volume.faults c.loop-fault.vol)
+      (g.V.Volume.faults c.next_record.new.vol) c.in-Err.fault
       c.loop-fault.invariant.later c.in-Err.ensures.cause.1,
 )
 
@@ -49,7 +53,8 @@ returns-in-Ok-None-clause-told g c = λ told.
 
 pub returns-in-Ok-None-clause-stays : goal.returns-in-Ok-None-clause-stays
 returns-in-Ok-None-clause-stays g c =
-    stays_more (g.V.Volume.disk c.args.vol.now) (g.V.Volume.disk c.loop-fault.vol) (g.V.Volume.disk c.next_record.new.vol)
+    stays_more (g.V.Volume.disk c.args.vol.now) (g.V.Volume.disk c.loop-fault.vol)
+    (g.V.Volume.disk c.next_record.new.vol)
     c.loop-fault.invariant.stays c.next_record.ensures.stays
 
 pub returns-in-Ok-None-clause-cause : goal.returns-in-Ok-None-clause-cause
@@ -57,7 +62,8 @@ returns-in-Ok-None-clause-cause g c = omega (arith, c.loop-fault.invariant.later
 
 pub returns-in-Err-push-clause-stays : goal.returns-in-Err-push-clause-stays
 returns-in-Err-push-clause-stays g c =
-    stays_more (g.V.Volume.disk c.args.vol.now) (g.V.Volume.disk c.loop-fault.vol) (g.V.Volume.disk c.next_record.new.vol)
+    stays_more (g.V.Volume.disk c.args.vol.now) (g.V.Volume.disk c.loop-fault.vol)
+    (g.V.Volume.disk c.next_record.new.vol)
     c.loop-fault.invariant.stays c.next_record.ensures.stays
 
 pub returns-in-Err-push-clause-cause : goal.returns-in-Err-push-clause-cause
@@ -79,9 +85,11 @@ loop-fault-preserved g c =
           let there = subst (λ (rest : List ℕ). TellsRecord c.args.file end rest (Ok (Some c.in-Ok-Some.record))) same
           (rw c.in-Ok-Some.field-0-is at (c.in-Ok-Some.ensures.told told)) in
           subst (λ records. ReadTo file records (end + (5 + c.len.result))) (sym c.in-Ok.ensures.ok)
-          (read_one file c.loop-fault.records c.in-Ok-Some.record end (end + (5 + c.len.result)) (c.loop-fault.invariant.read told) there.0 there.1
+          (read_one file c.loop-fault.records c.in-Ok-Some.record end (end + (5 + c.len.result))
+          (c.loop-fault.invariant.read told) there.0 there.1
           (ap (λ (n : ℕ). end + (5 + n)) c.len.ensures));
-      stays = stays_more (g.V.Volume.disk c.args.vol.now) (g.V.Volume.disk c.loop-fault.vol) (g.V.Volume.disk c.next_record.new.vol)
+      stays = stays_more (g.V.Volume.disk c.args.vol.now) (g.V.Volume.disk c.loop-fault.vol)
+          (g.V.Volume.disk c.next_record.new.vol)
           c.loop-fault.invariant.stays c.next_record.ensures.stays;
       later = omega (arith, c.loop-fault.invariant.later, c.in-Ok-Some.ensures.cause);
       within = omega (arith, within.1, c.len.ensures);

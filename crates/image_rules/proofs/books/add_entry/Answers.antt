@@ -1,6 +1,6 @@
 use Rattle.std.proofs.Common.{subst, sym, OnOk}
 use Rattle.image_rules.specs.Counts.{Adds}
-use Rattle.image_rules.specs.AccountBooks.{counted_else}
+use Rattle.image_rules.specs.Books.{counted_else}
 use Rattle.image_rules.proofs.books.add_entry.Goals as goal
 
 pub returns-in-Sponsoring : goal.returns-in-Sponsoring

@@ -1,7 +1,7 @@
 use Rattle.std.proofs.lemmas.Result.{on_ok_weaker}
 use Rattle.legal_rules.specs.EntryKeys.{for_account}
-use Rattle.image_rules.specs.declared.books.AccountBook.TheVariants as book
-use Rattle.image_rules.specs.AccountBooks.{counted_else}
+use Rattle.image_rules.specs.declared.books.Book.TheVariants as book
+use Rattle.image_rules.specs.Books.{counted_else}
 use Rattle.image_rules.proofs.Counting.{added_both}
 use Rattle.image_rules.proofs.Naming.{sponsored_sum}
 use Rattle.image_rules.proofs.books.add_paid_for.Goals as goal

@@ -1,8 +1,14 @@
 use Rattle.std.proofs.Common.{subst, sym, arith}
 use Rattle.image_rules.specs.Counts.{count_at, IsCountOf}
-use Rattle.image_rules.specs.AccountBooks.{counted_else}
-use Rattle.image_rules.proofs.Listed.{sum_before, sum_more, sum_of_all}
+use Rattle.image_rules.specs.Books.{counted_else}
+use Rattle.image_rules.specs.Terms.{AreTerms}
+use Rattle.image_rules.proofs.Listed.{holds_at, sum_before, sum_more, sum_of_all}
 use Rattle.image_rules.proofs.books.tally_of.Goals as goal
+
+pub add_entry-requires : goal.add_entry-requires
+add_entry-requires c =
+    holds_at (λ x. AreTerms x.body) c.args.entries.now c.loop-place.place c.entry.result.now c.requires
+    c.entry.ensures.entry
 
 pub loop-place-preserved : goal.loop-place-preserved
 loop-place-preserved c k =

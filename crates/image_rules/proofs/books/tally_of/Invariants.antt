@@ -1,6 +1,6 @@
 use Rattle.ledger_types.specs.declared.key.LedgerKey.{LedgerKey}
 use Rattle.image_rules.specs.Counts.{count_at, IsCountOf}
-use Rattle.image_rules.specs.AccountBooks.{counted_else}
+use Rattle.image_rules.specs.Books.{counted_else}
 use Rattle.image_rules.proofs.Listed.{sum_before}
 use Rattle.image_rules.proofs.books.tally_of.Given as goal
 

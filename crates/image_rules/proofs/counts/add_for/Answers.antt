@@ -1,16 +1,10 @@
-use Rattle.std.proofs.Common.{subst, sym, OnOk}
-use Rattle.std.proofs.lemmas.Result.{on_ok_weaker}
-use Rattle.legal_rules.specs.EntryKeys.{for_account}
+use Rattle.std.proofs.Common.{subst, OnOk}
+use Rattle.std.specs.Prelude.{pos}
+use Rattle.legal_rules.specs.EntryKeys.{for_key}
 use Rattle.image_rules.specs.Counts.{Adds}
-use Rattle.image_rules.proofs.Counting.{added_for, added_nothing}
 use Rattle.image_rules.proofs.counts.add_for.Goals as goal
 
-pub returns-then-more-eq0 : goal.returns-then-more-eq0
-returns-then-more-eq0 c = added_nothing c.args.tally.now c.args.id c.args.more c.if-more-eq0.true
-
-pub returns-in-Some : goal.returns-in-Some
-returns-in-Some c =
-    subst (λ o. OnOk c.add.result (Adds c.args.tally.now c.add.new.tally (λ k. for_account k o c.args.more)))
-    (sym c.in-Some.is)
-    (on_ok_weaker c.add.result (added_for c.args.tally.now c.add.new.tally c.in-Some.account_id c.args.more)
-    c.add.ensures)
+pub returns : goal.returns
+returns c =
+    subst (λ o. OnOk c.add_at.result (Adds c.args.tally.now c.add_at.new.tally (λ k. for_key k o (pos c.args.more))))
+    c.account_key.ensures c.add_at.ensures

@@ -3,7 +3,6 @@ use Rattle.std.specs.FinMap.{get}
 use Rattle.ledger_types.specs.declared.key.LedgerKey.{LedgerKey}
 use Rattle.legal_rules.specs.Needs.{account_keys}
 use Rattle.legal_rules.specs.Legal.{pools_in}
-use Rattle.image_rules.proofs.Bounded.{holds_nothing}
 use Rattle.image_rules.proofs.Naming.{needed_iff}
 use Rattle.image_rules.proofs.owners.is_owned.Goals as goal
 
@@ -13,6 +12,6 @@ returns c =
     let m = c.args.entries.now in
     let e = c.args.entry.now in
     needed_iff P (pools_in m) e c.are_all.result c.in_ok-owner.owner c.in_ok-sponsor.sponsor c.in_ok-payers.payers
-    (holds_nothing (pools_in m) e.body c.requires.built) c.are_all.ensures c.in_ok-owner.ensures
+    c.in_ok-holders.holders c.are_all.ensures c.in_ok-owner.ensures
     (subst (λ o. IsTrue c.in_ok-sponsor.sponsor ↔ All P (account_keys o)) c.sponsor_in.ensures c.in_ok-sponsor.ensures)
-    c.in_ok-payers.ensures
+    c.in_ok-payers.ensures c.in_ok-holders.ensures

@@ -1,9 +1,10 @@
-use Rattle.image_rules.proofs.Bounded.{in_range_of}
 use Rattle.image_rules.proofs.ranges.are_in_range.Goals as goal
 
-pub returns : goal.returns
-returns c =
-    let m = c.args.entries.now in (
-      λ said. in_range_of m c.requires c.args.header.now (c.do_all_pass.ensures.0 said),
-      λ range. c.do_all_pass.ensures.1 range.entries,
-    )
+pub returns-then-within : goal.returns-then-within
+returns-then-within c = (
+  λ said. record {
+    entries = c.do_all_pass-within.ensures.0 c.if-within.true;
+    authorized = c.in_ok-authorized.ensures.0 said;
+  },
+  λ range. c.in_ok-authorized.ensures.1 range.authorized,
+)

@@ -13,7 +13,8 @@ returns g c sound priced =
     let m = c.args.self.now.current in
     let index : IsIndexOf m c.self.inside.offers = subst (λ (u : Undo). IsIndexOf u.current c.self.inside.offers)
     c.self.view_is (c.self.invariant c.if-self.false).now in
-    c.offer_of.ensures ∙ ap offer_of (c.in_ok-entry.ensures.found ∙ ap (get c.self.inside.layered.current) c.offer_key.ensures
+    c.offer_of.ensures ∙ ap offer_of (c.in_ok-entry.ensures.found
+    ∙ ap (get c.self.inside.layered.current) c.offer_key.ensures
     ∙ ap (λ (u : Undo). get u.current (Offer c.in-Some.name.0 c.in-Some.name.1)) c.self.view_is)
     ∙ named_offer m (next_offer m c.args.selling.now c.args.buying.now c.args.after)
     c.in-Some.name

@@ -1,7 +1,8 @@
 use Rattle.std.proofs.Common.{sym, ◌∙◌}
 use Rattle.entry_map.proofs.Pairs.{other_pair, same_asset}
 use Rattle.entry_map.proofs.index.OfferIndex.next_place.Goals as goal
-use Rattle.entry_map.proofs.index.OfferIndex.next_place.Goals.{else-is_same-via-then-is_same+else-is_same-2, else-is_same-via-else-is_same}
+use Rattle.entry_map.proofs.index.OfferIndex.next_place.Goals.{else-is_same-via-then-is_same+else-is_same-2}
+use Rattle.entry_map.proofs.index.OfferIndex.next_place.Goals.{else-is_same-via-else-is_same}
 
 pub returns-then-is_same-2 : goal.returns-then-is_same-2
 returns-then-is_same-2 c = record {

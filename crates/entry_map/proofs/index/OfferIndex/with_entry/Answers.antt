@@ -26,4 +26,5 @@ returns-in-Some-clause-value c = IfOk-weaker c.with_offer.result _ _
 pub returns-in-Some-clause-map : goal.returns-in-Some-clause-map
 returns-in-Some-clause-map c m is none = IfOk-weaker c.with_offer.result _ _
     (λ index made. index_new m c.args.self.now index c.args.entry.now c.in-Some.offer.now is none
-    (sym c.offer_in.ensures ∙ ap option_copied c.in-Some.is) c.with_offer.ensures.narrow made) c.with_offer.ensures.value
+    (sym c.offer_in.ensures ∙ ap option_copied c.in-Some.is) c.with_offer.ensures.narrow made)
+    c.with_offer.ensures.value

@@ -9,7 +9,8 @@ entry-requires c =
 
 pub returns-clause-entry : goal.returns-clause-entry
 returns-clause-entry c =
-    value_in c.self.inside.tree c.args.self.now c.args.place c.self.invariant.rows.rises c.self.view_is ∙ c.entry.ensures
+    value_in c.self.inside.tree c.args.self.now c.args.place c.self.invariant.rows.rises c.self.view_is
+    ∙ c.entry.ensures
 
 pub returns-clause-keyed : goal.returns-clause-keyed
 returns-clause-keyed c = keyed_row c.self.inside.tree c.args.self.now c.self.invariant.rows c.self.view_is

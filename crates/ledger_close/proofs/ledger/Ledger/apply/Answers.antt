@@ -31,7 +31,8 @@ next-requires c =
     let s = state_of l.network l.header l.levels.pairs l.entries in
     let closing = c.args.closing.now in (
       (applied_in s closing).entries,
-      applied_index s closing c.in_ok-entries.entries c.apply_set_in_order.new.entries c.in-Ok.done c.in_ok-offers.offers
+      applied_index s closing c.in_ok-entries.entries c.apply_set_in_order.new.entries c.in-Ok.done
+          c.in_ok-offers.offers
           c.in_ok-entries.ensures c.in-Ok.ensures.answer c.in_ok-offers.ensures,
       applied_batch s closing c.in_ok-entries.entries c.apply_set_in_order.new.entries c.in-Ok.done c.in_ok-batch.batch
           c.in_ok-entries.ensures c.in-Ok.ensures.answer c.in_ok-batch.ensures,

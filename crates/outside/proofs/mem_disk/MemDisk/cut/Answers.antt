@@ -18,7 +18,8 @@ pub returns-clause-cut : goal.returns-clause-cut
 returns-clause-cut c = on_ok c.put.result c.put.ensures.noted (λ is done.
     let old = c.args.self.now in
     let call = Cut c.args.file c.args.size c.args.done in
-    changed c.args.file (take c.args.size) (λ before after. after ≡ take c.args.size before) (now_standing old).reads (now_standing c.put.new.self).reads
+    changed c.args.file (take c.args.size) (λ before after.
+    after ≡ take c.args.size before) (now_standing old).reads (now_standing c.put.new.self).reads
     (reads_pushed old call c.put.new.self is ∙ if_done c.args.done _ _ done) refl)
 
 pub returns-clause-runs : goal.returns-clause-runs

@@ -13,9 +13,12 @@ invariant_of-self-2 c =
     let log = c.push.new.self.items in
     let reads : image_of (items_of (set c.self.inside.files k next)) ≡ (after_calls log (at_first start)).reads =
     image_set c.self.inside.files k next within
-    ∙ ap (λ (image : Image). with_file k (λ _. next.items) image) (c.self.invariant.1 ∙ ap (λ (v : DiskState). (now_standing v).reads) c.self.view_is)
+    ∙ ap (λ (image : Image). with_file k (λ _. next.items) image) (c.self.invariant.1
+    ∙ ap (λ (v : DiskState). (now_standing v).reads) c.self.view_is)
     ∙ ap (λ file. with_file file (λ _. next.items) (now_standing c.args.self.now).reads) c.from.ensures
-    ∙ sym (reads_push start c.self.inside.log.items c.args.call log c.args.self.now _ c.self.view_is c.in_ok-push.ensures.items c.requires.reads) in (
-      of_files_push c.self.inside.log.items c.args.call log c.in_ok-push.ensures.items c.self.invariant.0 c.requires.call,
+    ∙ sym (reads_push start c.self.inside.log.items c.args.call log c.args.self.now _ c.self.view_is
+    c.in_ok-push.ensures.items c.requires.reads) in (
+      of_files_push c.self.inside.log.items c.args.call log c.in_ok-push.ensures.items
+          c.self.invariant.0 c.requires.call,
       reads,
     )

@@ -8,7 +8,8 @@ use Rattle.outside.proofs.mem_disk.MemDisk.sync.Goals as goal
 
 pub returns-clause-safe : goal.returns-clause-safe
 returns-clause-safe c = on_ok c.note.result c.note.ensures.noted (λ is.
-    λ image may. may_pushed c.args.self.now Sync c.note.new.self is image may ∙ sym (reads_pushed c.args.self.now Sync c.note.new.self is))
+    λ image may. may_pushed c.args.self.now Sync c.note.new.self is image may
+    ∙ sym (reads_pushed c.args.self.now Sync c.note.new.self is))
 
 pub returns-clause-runs : goal.returns-clause-runs
 returns-clause-runs c =

@@ -1,0 +1,20 @@
+use Rattle.std.proofs.Common.{refl, arith}
+use Rattle.legal_rules.specs.Legal.{AreLinesAuthorized}
+use Rattle.image_rules.proofs.Listed.{holds_of_all, holds_at}
+use Rattle.image_rules.proofs.authorized.are_all_authorized.Goals as goal
+
+pub returns-then-not-authorized : goal.returns-then-not-authorized
+returns-then-not-authorized c =
+    let m = c.args.entries.now in (
+      λ no. absurd (cc),
+      λ all.
+          let holds = c.in_ok-authorized.ensures.1 (holds_at (λ e. AreLinesAuthorized m e.body) m c.loop-place.place
+          c.entry.result.now all c.entry.ensures.entry) in cc,
+    )
+
+pub returns : goal.returns
+returns c =
+    let m = c.args.entries.now in (
+      λ _. holds_of_all (λ e. AreLinesAuthorized m e.body) m c.loop-place.place (omega arith) c.loop-place.invariant,
+      λ _. refl,
+    )

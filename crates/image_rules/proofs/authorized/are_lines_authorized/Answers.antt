@@ -1,0 +1,9 @@
+use Rattle.std.proofs.Common.{subst, sym}
+use Rattle.std.specs.Prelude.{◌↔◌, IsTrue, IfOk}
+use Rattle.legal_rules.specs.Legal.{AreLinesAuthorized}
+use Rattle.image_rules.proofs.authorized.are_lines_authorized.Goals as goal
+
+pub returns-in-Offer : goal.returns-in-Offer
+returns-in-Offer c =
+    subst (λ b. IfOk c.are_both_authorized.result (λ kept. IsTrue kept ↔ AreLinesAuthorized c.args.entries.now b))
+    (sym c.in-Offer.is) c.are_both_authorized.ensures

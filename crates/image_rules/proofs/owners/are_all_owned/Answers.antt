@@ -1,0 +1,35 @@
+use Rattle.std.proofs.Common.{◌≢◌, None, All, refl, arith}
+use Rattle.std.specs.FinMap.{get}
+use Rattle.legal_rules.specs.Needs.{needed_keys}
+use Rattle.legal_rules.specs.Legal.{pools_in}
+use Rattle.close_rules.specs.State.{IsBuiltBody}
+use Rattle.image_rules.proofs.Listed.{holds_of_all, holds_at, stands_at}
+use Rattle.image_rules.proofs.Booked.{keyed_each}
+use Rattle.image_rules.proofs.owners.are_all_owned.Goals as goal
+
+pub is_owned-requires : goal.is_owned-requires
+is_owned-requires c =
+    let m = c.args.entries.now in
+    let e = c.entry.result.now in
+    let there = stands_at m c.loop-place.place e (keyed_each m c.entry.ensures.keyed) c.entry.ensures.entry in
+    record {
+      built = holds_at (λ x. IsBuiltBody x.body) m c.loop-place.place e c.requires c.entry.ensures.entry;
+      stands = λ none. cc (there, none);
+    }
+
+pub returns-then-not-owned : goal.returns-then-not-owned
+returns-then-not-owned c =
+    let m = c.args.entries.now in (
+      λ no. absurd (cc),
+      λ standing.
+          let holds = c.in_ok-owned.ensures.1 (holds_at (λ e. All (λ q. get m q ≢ None) (needed_keys (pools_in m) e)) m
+          c.loop-place.place c.entry.result.now standing c.entry.ensures.entry) in cc,
+    )
+
+pub returns : goal.returns
+returns c =
+    let m = c.args.entries.now in (
+      λ _. holds_of_all (λ e. All (λ q. get m q ≢ None) (needed_keys (pools_in m) e)) m c.loop-place.place (omega arith)
+          c.loop-place.invariant,
+      λ _. refl,
+    )

@@ -1,0 +1,75 @@
+-- The books of accounts and of lines.
+use Rattle.std.specs.Prelude.{◌≡◌, ◌↔◌, ℕ, Bool, IsTrue, ℤ, pos, ◌+ℤ◌, Option, Some, None}
+use Rattle.ledger_types.specs.declared.ids.AccountId.{AccountId}
+use Rattle.ledger_types.specs.declared.entry.LedgerEntry.{LedgerEntry}
+use Rattle.ledger_types.specs.declared.entry.LedgerEntryBody.{LedgerEntryBody}
+use Rattle.ledger_types.specs.declared.entry.LedgerEntryBody.TheVariants as body
+use Rattle.ledger_types.specs.declared.key.LedgerKey.{LedgerKey}
+use Rattle.ledger_types.specs.declared.key.LedgerKey.TheVariants as key
+use Rattle.entry_map.specs.EntryMap.{EntryMap}
+use Rattle.entry_slots.specs.EntrySponsor.{sponsor_of}
+use Rattle.entry_sums.specs.Sums.{Weight, total}
+use Rattle.sponsor_rules.specs.Charge.{multiplicity, owner_of}
+use Rattle.legal_rules.specs.EntryKeys.{for_account}
+use Rattle.legal_rules.specs.Reserves.{subentries_in, signer_sponsors_in, sponsored_in_entry, for_each}
+use Rattle.legal_rules.specs.Trades.{sells, buys}
+use Rattle.legal_rules.specs.Books.{Kind, Subentries, Sponsoring, Sponsored, Selling, Buying, stated}
+use Rattle.image_rules.specs.declared.books.Book.{Book}
+use Rattle.image_rules.specs.declared.books.Book.TheVariants as book
+use Rattle.image_rules.specs.Counts.{CountMap, count_at, IsCountOf}
+
+abbrev pub kind_of : Book → Kind
+kind_of book.Subentries = Subentries
+kind_of book.Sponsoring = Sponsoring
+kind_of book.Sponsored = Sponsored
+kind_of book.Selling = Selling
+kind_of book.Buying = Buying
+
+-- ---- what an entry counts for itself, and what it counts for others
+
+-- the account that an entry is
+abbrev pub itself : LedgerEntryBody → Option AccountId
+itself (body.Account a) = Some a.account_id
+itself other = None
+
+-- the owner of what isn't an account
+abbrev pub other_owner : LedgerEntryBody → Option AccountId
+other_owner (body.Account a) = None
+other_owner other = owner_of other
+
+-- how much an account counts in a book of which it is the owner itself
+abbrev pub own_count : Book → LedgerEntry → ℕ
+own_count book.Subentries e = subentries_in e.body
+own_count book.Sponsoring e = 0
+own_count book.Sponsored e = sponsored_in_entry e
+own_count book.Selling e = 0
+own_count book.Buying e = 0
+
+abbrev pub counted_itself : Book → LedgerKey → Weight
+counted_itself which k e = for_account k (itself e.body) (own_count which e)
+
+abbrev pub counted_else : Book → LedgerKey → Weight
+counted_else book.Subentries k e = for_account k (other_owner e.body) (subentries_in e.body)
+counted_else book.Sponsoring k e =
+    for_account k (sponsor_of e) (multiplicity e.body) +ℤ for_each k (signer_sponsors_in e.body)
+counted_else book.Sponsored k e = for_account k (other_owner e.body) (sponsored_in_entry e)
+counted_else book.Selling k e = sells k e.body
+counted_else book.Buying k e = buys k e.body
+
+-- what all entries count for others, for each key
+abbrev pub AreCounts : Book → EntryMap → CountMap → Type 0
+AreCounts which m counts = (k : LedgerKey) → IsCountOf (count_at counts k) (total (counted_else which k) m)
+
+-- whether an account states the sum that is counted for it by itself and by others, and a line what is counted for it
+-- by others; what is neither has no say
+abbrev pub AgreesIn : CountMap → Book → ℕ → LedgerEntryBody → Bool → Type 0
+AgreesIn counts which own (body.Account a) answer =
+    (sum : ℤ) → IsCountOf (count_at counts (key.Account a.account_id)) sum
+    → (IsTrue answer ↔ (stated (kind_of which) (body.Account a) ≡ (sum +ℤ pos own)))
+AgreesIn counts which own (body.TrustLine t) answer =
+    (sum : ℤ) → IsCountOf (count_at counts (key.TrustLine t.account_id t.asset)) sum
+    → (IsTrue answer ↔ (stated (kind_of which) (body.TrustLine t) ≡ sum))
+AgreesIn counts which own other answer = IsTrue answer
+
+abbrev pub Agrees : CountMap → Book → LedgerEntry → Bool → Type 0
+Agrees counts which e answer = AgreesIn counts which (own_count which e) e.body answer

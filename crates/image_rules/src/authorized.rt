@@ -1,0 +1,77 @@
+//! The lines of offers are authorised (CAP-0018).
+
+ghost use Rattle.std.specs.Prelude.{◌↔◌, ◌++◌, All, IsTrue, IfOk};
+ghost use Rattle.std.specs.FinMap.{get};
+ghost use Rattle.entry_slots.specs.Lines.{line_of};
+ghost use Rattle.entry_sums.specs.Sums.{EachEntry};
+ghost use Rattle.legal_rules.specs.Needs.{keys_in};
+ghost use Rattle.legal_rules.specs.Trades as spec;
+ghost use Rattle.legal_rules.specs.Legal.{IsAuthorized, AreLinesAuthorized};
+
+use crate::holders::holder;
+use entry_map::Base;
+use entry_table::EntryTable;
+use ledger_types::{LedgerEntry, LedgerEntryBody, LedgerKey, OfferEntry};
+use std::alloc::AllocError;
+
+/// Whether an entry, if it is a line, carries AUTHORIZED 1 or AUTHORIZED_TO_MAINTAIN_LIABILITIES 2.
+fn is_authorized(entry: &Option<LedgerEntry>) -> bool
+    ensures { IsTrue result ↔ IsAuthorized (line_of entry.now) }
+{
+    match entry {
+        None => true,
+        Some(entry) => match &entry.body {
+            LedgerEntryBody::TrustLine(line) => line.flags % 4 != 0,
+            _ => true,
+        },
+    }
+}
+
+/// Whether what stands under a key, if one is named, is authorised.
+fn is_key_authorized(entries: &EntryTable, named: Option<LedgerKey>) -> Result<bool, AllocError>
+    ensures { IfOk result (λ kept.
+        IsTrue kept ↔ All (λ k. IsAuthorized (line_of (get entries.now k))) (keys_in named)) }
+{
+    match named {
+        None => Ok(true),
+        Some(key) => {
+            let found = entries.find(&key)?;
+            Ok(is_authorized(&found))
+        }
+    }
+}
+
+/// Whether the lines in which an offer's seller has its assets are authorised, where they stand.
+fn are_both_authorized(entries: &EntryTable, offer: &OfferEntry) -> Result<bool, AllocError>
+    ensures { IfOk result (λ kept. IsTrue kept ↔ All (λ k. IsAuthorized (line_of (get entries.now k)))
+        (keys_in (spec.holder offer.now.seller_id offer.now.selling)
+        ++ keys_in (spec.holder offer.now.seller_id offer.now.buying))) }
+{
+    let sold = is_key_authorized(entries, holder(&offer.seller_id, &offer.selling))?;
+    let bought = is_key_authorized(entries, holder(&offer.seller_id, &offer.buying))?;
+    Ok(sold && bought)
+}
+
+/// Whether the lines that an entry trades in, if it is an offer, are authorised.
+fn are_lines_authorized(entries: &EntryTable, body: &LedgerEntryBody) -> Result<bool, AllocError>
+    ensures { IfOk result (λ kept. IsTrue kept ↔ AreLinesAuthorized entries.now body.now) }
+{
+    match body {
+        LedgerEntryBody::Offer(offer) => are_both_authorized(entries, offer),
+        _ => Ok(true),
+    }
+}
+
+/// Whether the lines that offers trade in are authorised.
+pub fn are_all_authorized(entries: &EntryTable) -> Result<bool, AllocError>
+    ensures { IfOk result (λ kept.
+        IsTrue kept ↔ EachEntry (λ k e. AreLinesAuthorized entries.now e.body) entries.now) }
+{
+    for place in 0..entries.len() {
+        let authorized = are_lines_authorized(entries, &entries.entry(place).body)?;
+        if !authorized {
+            return Ok(false);
+        }
+    }
+    Ok(true)
+}

@@ -1,0 +1,196 @@
+-- Offers that are removed one after the other: what is left is legal, all accounts keep what they have, no other offer
+-- comes, and none of those that were removed stands.
+use Rattle.std.proofs.Common.{◌≡◌, ◌≢◌, refl, sym, ap, subst, ◌∙◌, ℕ, Bool, true, false, cond, List, [], ◌∷◌, All}
+use Rattle.std.proofs.Common.{Some, None, suc, ◌+◌, ◌<◌, ◌≤◌, length, drop, get_or, drop-cons, arith}
+use Rattle.std.proofs.lemmas.List.{drop_all}
+use Rattle.std.proofs.lemmas.List.Elements.{All-nil, All-cons, All-head, All-tail, All-weaker}
+use Rattle.std.specs.FinMap.{get}
+use Rattle.std.specs.List.{filter}
+use Rattle.std.specs.Prelude.{ℤ, if◌then◌else◌}
+use Rattle.ledger_types.specs.declared.asset.Asset.{Asset}
+use Rattle.ledger_types.specs.declared.offer.OfferEntry.{OfferEntry}
+use Rattle.ledger_types.specs.declared.entry.LedgerEntry.{LedgerEntry}
+use Rattle.entry_map.specs.EntryMap.{EntryMap}
+use Rattle.entry_map.specs.Undo.{Undo, with_current}
+use Rattle.entry_map.proofs.KeyMaps.{same_keys, same_itself}
+use Rattle.entry_slots.specs.Offers.{offer_of, offer_at}
+use Rattle.legal_rules.specs.Books.{View}
+use Rattle.legal_rules.specs.EntryKeys.{is_key}
+use Rattle.legal_rules.specs.Holdings.{none_more}
+use Rattle.legal_rules.specs.OneMore.{IsOwedRightly}
+use Rattle.legal_rules.specs.Owing.{Owed, IsLegalOwing}
+use Rattle.legal_rules.proofs.Leaving.{Leaves, leaves_itself, keeps_both}
+use Rattle.trade_cross.specs.Cancelling.{map_after_cancelling}
+use Rattle.trade_cross.specs.Crossable.{IsCrossable}
+use Rattle.trade_cross.specs.Crossing.{offer_key}
+use Rattle.trade_cross.proofs.Cancelled.{cancelled_keeps}
+use Rattle.trade_cross.proofs.CancelledLeft.{cancelling_left, cancelling_takes, cancelling_beside}
+use Rattle.op_flags.specs.Revoking.{trades_in, map_after_cancelling_all}
+use Rattle.op_flags.specs.Standing.{IsThere, AreStanding, map_after_one}
+
+other_keys : (o x : OfferEntry) → o.offer_id ≢ x.offer_id → offer_key x ≢ offer_key o
+other_keys o x apart same = apart (cc)
+
+-- what holds of each and another thing that holds of each
+both_of : (P Q : OfferEntry → Type 0) (os : List OfferEntry) → All P os → All Q os → All (λ o. P o × Q o) os
+both_of P Q [] ps qs = All-nil (λ o. P o × Q o)
+both_of P Q (o ∷ os) ps qs = All-cons (λ x. P x × Q x) o os (All-head P o os ps, All-head Q o os qs)
+    (both_of P Q os (All-tail P o os ps) (All-tail Q o os qs))
+
+abbrev pub IsGone : EntryMap → OfferEntry → Type 0
+IsGone m o = get m (offer_key o) ≡ None
+
+module _ (v : View) (id_pool : ℕ) (owed : Owed) (right : IsOwedRightly owed) (sum : ℤ) where
+  abbrev IsLegal : EntryMap → Type 0
+  IsLegal m = IsLegalOwing v id_pool owed sum m
+
+  -- ---- one offer
+
+  module _ (o : OfferEntry) (m : EntryMap) (legal : IsLegal m) (stands : IsThere m o) where
+    abbrev then_ : EntryMap
+    then_ = map_after_cancelling o m
+
+    one_legal : IsLegal then_
+    one_legal = cancelled_keeps v id_pool 0 owed sum o m legal right stands
+
+    still : (x : OfferEntry) → o.offer_id ≢ x.offer_id → IsThere m x → IsThere then_ x
+    unfolding offer_at
+    still x apart there =
+        ap offer_of (cancelling_beside v id_pool owed sum o m legal right stands x (other_keys o x apart)) ∙ there
+
+    -- no offer comes
+    one_stood : (x : OfferEntry) (e : LedgerEntry) → get then_ (offer_key x) ≡ Some e → get m (offer_key x) ≡ Some e
+    one_stood x e there = elim (is_key (offer_key x) (offer_key o)) as (λ t. is_key (offer_key x) (offer_key o) ≡ t
+        → get m (offer_key x) ≡ Some e) [
+          | true ↦ λ tied.
+              let same : offer_key x ≡ offer_key o = same_keys _ _ tied in
+              let gone : get then_ (offer_key x) ≡ None =
+              ap (get then_) same ∙ cancelling_takes v id_pool owed sum o m legal right stands in
+              absurd (cc)
+          | false ↦ λ apart. sym (cancelling_beside v id_pool owed sum o m legal right stands x (λ same.
+              let tied : is_key (offer_key x) (offer_key o) ≡ true = ap (λ k. is_key k (offer_key o)) same
+              ∙ same_itself (offer_key o) in absurd (cc))) ∙ there
+        ] refl
+
+  pub next_standing : (o : OfferEntry) (os : List OfferEntry) (m : EntryMap) → IsLegal m → AreStanding m (o ∷ os)
+      → AreStanding (map_after_cancelling o m) os
+  next_standing o os m legal all =
+      let stands = All-head (IsThere m) o os all.there in
+      record {
+        there = All-weaker (λ x. IsThere m x × (o.offer_id ≢ x.offer_id)) (IsThere (map_after_cancelling o m))
+            (λ x both. still o m legal stands x both.1 both.0) os
+            (both_of (IsThere m) (λ x. o.offer_id ≢ x.offer_id) os (All-tail (IsThere m) o os all.there) all.apart.0);
+        apart = all.apart.1;
+      }
+
+  -- ---- all of them
+
+  pub all_legal : (os : List OfferEntry) (m : EntryMap) → IsLegal m → AreStanding m os
+      → IsLegal (map_after_cancelling_all os m)
+  all_legal [] m legal all = legal
+  all_legal (o ∷ os) m legal all = all_legal os (map_after_cancelling o m)
+      (one_legal o m legal (All-head (IsThere m) o os all.there)) (next_standing o os m legal all)
+
+  pub all_left : (base : ℕ) (os : List OfferEntry) (m : EntryMap) → IsLegal m → AreStanding m os
+      → Leaves base none_more m (map_after_cancelling_all os m)
+  all_left base [] m legal all = leaves_itself base m legal.keyed
+  all_left base (o ∷ os) m legal all =
+      let stands = All-head (IsThere m) o os all.there in
+      let now = map_after_cancelling o m in
+      keeps_both base m now (map_after_cancelling_all os now)
+      (cancelling_left v id_pool owed sum o m legal right stands base)
+      (all_left base os now (one_legal o m legal stands) (next_standing o os m legal all))
+
+  -- An offer that stands behind them stood before.
+  pub all_stood : (os : List OfferEntry) (m : EntryMap) → IsLegal m → AreStanding m os → (x : OfferEntry)
+      → (e : LedgerEntry) → get (map_after_cancelling_all os m) (offer_key x) ≡ Some e → get m (offer_key x) ≡ Some e
+  all_stood [] m legal all x e there = there
+  all_stood (o ∷ os) m legal all x e there =
+      let stands = All-head (IsThere m) o os all.there in
+      one_stood o m legal stands x e (all_stood os (map_after_cancelling o m) (one_legal o m legal stands)
+      (next_standing o os m legal all) x e there)
+
+  not_there : (os : List OfferEntry) (m : EntryMap) → IsLegal m → AreStanding m os → (x : OfferEntry)
+      → get m (offer_key x) ≡ None → get (map_after_cancelling_all os m) (offer_key x) ≡ None
+  not_there os m legal all x none = elim (get (map_after_cancelling_all os m) (offer_key x)) as (λ q.
+      get (map_after_cancelling_all os m) (offer_key x) ≡ q → q ≡ None) [
+        | None ↦ λ is. refl
+        | Some e ↦ λ is. let was = all_stood os m legal all x e is in absurd (cc)
+      ] refl
+
+  -- None of them stands any more.
+  pub all_gone : (os : List OfferEntry) (m : EntryMap) → IsLegal m → AreStanding m os
+      → All (IsGone (map_after_cancelling_all os m)) os
+  all_gone [] m legal all = All-nil (IsGone m)
+  all_gone (o ∷ os) m legal all =
+      let stands = All-head (IsThere m) o os all.there in
+      let now = map_after_cancelling o m in
+      let legal_now = one_legal o m legal stands in
+      let next = next_standing o os m legal all in
+      All-cons (IsGone (map_after_cancelling_all os now)) o os
+      (not_there os now legal_now next o (cancelling_takes v id_pool owed sum o m legal right stands))
+      (all_gone os now legal_now next)
+
+-- ---- offer by offer
+
+-- Of some offers those are still to be looked at that are left; the others in the asset are removed.
+pub record AreLeft (held : Asset) (offers left : List OfferEntry) (old now : Undo) : Type 0 where
+  pub crossable : IsCrossable now.current
+  pub standing : AreStanding now.current left
+  pub kept : now ≡ with_current old now.current
+  pub rest : map_after_cancelling_all (filter (trades_in held) left) now.current
+      ≡ map_after_cancelling_all (filter (trades_in held) offers) old.current
+
+-- the others stand behind one that was looked at
+rest_standing : (held : Asset) (o : OfferEntry) (os : List OfferEntry) (m : EntryMap) → IsCrossable m
+    → AreStanding m (o ∷ os) → (t : Bool)
+    → AreStanding (if t then map_after_cancelling o m else m) os
+rest_standing held o os m c all true = next_standing c.view c.id_pool c.owed c.right c.sum o os m c.legal all
+rest_standing held o os m c all false = record { there = All-tail (IsThere m) o os all.there; apart = all.apart.1 }
+
+rest_same : (held : Asset) (o : OfferEntry) (os : List OfferEntry) (m : EntryMap) (t : Bool)
+    → map_after_cancelling_all (filter (trades_in held) os) (if t then map_after_cancelling o m else m)
+    ≡ map_after_cancelling_all (cond t (o ∷ filter (trades_in held) os) (filter (trades_in held) os)) m
+rest_same held o os m true = refl
+rest_same held o os m false = refl
+
+pub one_less : (held : Asset) (offers : List OfferEntry) (o : OfferEntry) (os : List OfferEntry) (old now new : Undo)
+    → AreLeft held offers (o ∷ os) old now → new ≡ with_current now (map_after_one held o now.current)
+    → IsCrossable new.current → AreLeft held offers os old new
+one_less held offers o os old now new left is crossable = record {
+  crossable = crossable;
+  standing = subst (λ m. AreStanding m os) (sym current_is)
+      (rest_standing held o os now.current left.crossable left.standing (trades_in held o));
+  kept = is ∙ ap (λ u. with_current u (map_after_one held o now.current)) left.kept
+      ∙ ap (with_current old) (sym current_is);
+  rest = ap (map_after_cancelling_all (filter (trades_in held) os)) current_is
+      ∙ rest_same held o os now.current (trades_in held o) ∙ left.rest;
+}
+  where
+    current_is : new.current ≡ map_after_one held o now.current
+    current_is = ap (λ (u : Undo). u.current) is
+
+-- ---- by the place of an offer
+
+pub this_stands : (offers : List OfferEntry) (i : ℕ) (d : OfferEntry) (m : EntryMap) → i < length offers
+    → AreStanding m (drop i offers) → IsThere m (get_or offers i d)
+this_stands offers i d m lt all = All-head (IsThere m) (get_or offers i d) (drop (suc i) offers)
+    (subst (All (IsThere m)) (drop-cons offers i d lt) all.there)
+
+pub one_further : (held : Asset) (offers : List OfferEntry) (i : ℕ) (d : OfferEntry) (old now new : Undo)
+    → i < length offers → AreLeft held offers (drop i offers) old now
+    → new ≡ with_current now (map_after_one held (get_or offers i d) now.current) → IsCrossable new.current
+    → AreLeft held offers (drop (i + 1) offers) old new
+one_further held offers i d old now new lt left is crossable =
+    let next : suc i ≡ i + 1 = omega arith in
+    subst (λ n. AreLeft held offers (drop n offers) old new) next
+    (one_less held offers (get_or offers i d) (drop (suc i) offers) old now new
+    (subst (λ os. AreLeft held offers os old now) (drop-cons offers i d lt) left) is crossable)
+
+-- none is left
+pub all_looked_at : (held : Asset) (offers : List OfferEntry) (i : ℕ) (old now : Undo) → length offers ≤ i
+    → AreLeft held offers (drop i offers) old now
+    → now ≡ with_current old (map_after_cancelling_all (filter (trades_in held) offers) old.current)
+all_looked_at held offers i old now le left =
+    let last = subst (λ os. AreLeft held offers os old now) (drop_all i offers le) left in
+    last.kept ∙ ap (with_current old) last.rest

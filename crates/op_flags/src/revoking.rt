@@ -1,0 +1,93 @@
+//! Offers that go with an authorisation that is taken back.
+
+ghost use Rattle.std.specs.Prelude.{◌≡◌, Some, OnOk};
+ghost use Rattle.std.specs.List.{filter};
+ghost use Rattle.std.specs.Ordering.{is_eq};
+ghost use Rattle.ledger_types.specs.KeyOrder.{asset_cmp};
+ghost use Rattle.entry_map.specs.Undo.{with_current};
+ghost use Rattle.entry_slots.specs.Offers.{offer_at};
+ghost use Rattle.trade_cross.specs.Crossable.{IsCrossable};
+ghost use Rattle.op_flags.specs.Revoking as spec;
+ghost use Rattle.op_flags.specs.Standing.{AreStanding, map_after_one};
+
+use entry_map::{Base, Entries};
+use ledger_types::{AccountId, Asset, OfferEntry};
+use offer_book::of_account;
+use sponsor_rules::Ctx;
+use std::alloc::AllocError;
+use std::cmp::Ordering;
+use trade_cross::cancel_offer;
+
+/// Whether two assets are the same.
+fn is_same(a: &Asset, b: &Asset) -> bool
+    ensures { result ≡ is_eq (asset_cmp a.now b.now) }
+{
+    match a.cmp(b) {
+        Ordering::Equal => true,
+        _ => false,
+    }
+}
+
+/// Whether an offer sells or buys an asset.
+fn trades_in(offer: &OfferEntry, asset: &Asset) -> bool
+    ensures { result ≡ spec.trades_in asset.now offer.now }
+{
+    is_same(&offer.selling, asset) || is_same(&offer.buying, asset)
+}
+
+/// Removes an offer that stands, if it sells or buys the asset.
+fn cancel_trading<B: Base>(
+    entries: &mut Entries<'_, B>,
+    ctx: &Ctx,
+    asset: &Asset,
+    offer: &OfferEntry,
+) -> Result<(), AllocError>
+    requires crossable { IsCrossable entries.old.current }
+    requires stands { offer_at entries.old.current offer.now.seller_id offer.now.offer_id ≡ Some offer.now }
+    ensures entries { OnOk result (
+        entries.new ≡ with_current entries.old (map_after_one asset.now offer.now entries.old.current)) }
+    ensures crossable { OnOk result (IsCrossable entries.new.current) }
+{
+    if trades_in(offer, asset) {
+        cancel_offer(entries, ctx, offer)
+    } else {
+        Ok(())
+    }
+}
+
+/// Removes those of some offers that sell or buy the asset, one after the other. They all stand, with distinct ids.
+fn cancel_all<B: Base>(
+    entries: &mut Entries<'_, B>,
+    ctx: &Ctx,
+    asset: &Asset,
+    offers: &[OfferEntry],
+) -> Result<(), AllocError>
+    requires crossable { IsCrossable entries.old.current }
+    requires standing { AreStanding entries.old.current offers.now }
+    ensures { OnOk result (
+        entries.new ≡
+        with_current entries.old (
+        spec.map_after_cancelling_all (filter (spec.trades_in asset.now) offers.now) entries.old.current)) }
+{
+    for offer in offers {
+        cancel_trading(entries, ctx, asset, offer)?;
+    }
+    Ok(())
+}
+
+/// Removes the offers of an account that sell or buy an asset, in rising order of their ids.
+#[tactic(auto, unfolding(crate::specs::Revoking::map_without_offers))]
+pub fn revoke_offers<B: Base>(
+    entries: &mut Entries<'_, B>,
+    ctx: &Ctx,
+    trustor: &AccountId,
+    asset: &Asset,
+) -> Result<(), AllocError>
+    requires crossable { IsCrossable entries.old.current }
+    ensures { OnOk result (
+        entries.new ≡
+        with_current entries.old (spec.map_without_offers trustor.now asset.now entries.old.current)) }
+{
+    let offers = of_account(ctx.sponsorships.allocator(), entries, trustor)?;
+    cancel_all(entries, ctx, asset, &offers)
+}

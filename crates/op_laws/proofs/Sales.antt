@@ -1,0 +1,116 @@
+-- An operation that sells an offer is lawful, by what it does before the sale.
+use Rattle.std.proofs.Common.{◌≡◌, refl, ap, subst, ◌∙◌, ℕ, ◌+◌, ◌≤◌, zero, suc, Ok, arith}
+use Rattle.std.specs.Prelude.{ℤ, pos, neg_ℤ, ◌+ℤ◌}
+use Rattle.ledger_types.specs.declared.asset.Asset.{Asset}
+use Rattle.ledger_types.specs.declared.asset.Asset.TheVariants as asset
+use Rattle.op_types.specs.declared.operation_result.OperationResult.{OperationResult}
+use Rattle.entry_map.specs.EntryMap.{EntryMap}
+use Rattle.entry_slots.specs.EntrySponsor.{sponsor_of}
+use Rattle.entry_sums.specs.Sums.{total}
+use Rattle.sponsor_rules.specs.declared.context.Ctx.{Ctx}
+use Rattle.legal_rules.specs.Books.{View}
+use Rattle.legal_rules.specs.Holdings.{none_more, both_more, more_at}
+use Rattle.legal_rules.specs.Legal.{view}
+use Rattle.legal_rules.specs.OneMore.{one_more}
+use Rattle.legal_rules.specs.Owing.{nothing_owed, IsLegalOwing}
+use Rattle.legal_rules.specs.Sponsorships.{AreSponsorshipsSound}
+use Rattle.legal_rules.specs.Supply.{held}
+use Rattle.legal_rules.proofs.Leaving.{Leaves, leaves_as, keeps_then}
+use Rattle.trade_cross.specs.CrossingLaws.{kept_at, kept_in, more_in, AreTraded}
+use Rattle.op_form.specs.Done.{Done}
+use Rattle.op_offers.specs.Managing.{drawn}
+use Rattle.op_offers.specs.Operations.{moves_of}
+use Rattle.op_offers.specs.Selling.{Asked, source_gives_at, source_takes_at, trade_of, Sold, sold}
+use Rattle.op_offers.specs.SellingLaws.{IsAskedRightly}
+use Rattle.op_offers.proofs.Sold.{selling_keeps}
+use Rattle.op_offers.proofs.SoldLeft.{selling_left_so, selling_traded}
+use Rattle.op_laws.specs.Laws.{IsLawful}
+use Rattle.op_laws.specs.Moves.{issued}
+use Rattle.op_laws.specs.Underway.{IsUnderway, AreDrawn}
+use Rattle.op_laws.proofs.Issued.{plus_assoc}
+use Rattle.op_laws.proofs.Lawful.{DrawsLegal, lawful_drawn, sound_after}
+use Rattle.op_laws.proofs.TradeMoves.{moved_by, moves_tell, moved_more, moved_supply}
+
+-- one id is drawn at most
+one_drawn : (id_pool next amount : ℕ) → id_pool ≤ next → next ≤ id_pool + 1
+    → AreDrawn 1 id_pool (drawn id_pool next amount)
+one_drawn id_pool next zero low high = record { low = omega arith; high = omega arith }
+one_drawn id_pool next (suc n) low high = record { low = low; high = high }
+
+-- What holds before a sale: the offer is counted and out of the book, its id is free, and its source holds both assets.
+pub record IsReady (ctx : Ctx) (next : ℕ) (asked : Asked) (old m : EntryMap) : Type 0 where
+  pub counted : (v : View) (sum : ℤ) → IsLegalOwing v ctx.id_pool nothing_owed sum old
+      → IsLegalOwing v ctx.id_pool (one_more asked.offer.seller_id (sponsor_of asked.entry)) sum m
+  pub left : Leaves ctx.base_reserve none_more old m
+  pub right : IsAskedRightly next asked m
+  pub low : ctx.id_pool ≤ next
+  pub high : next ≤ ctx.id_pool + 1
+
+module _ (ctx : Ctx) (next : ℕ) (asked : Asked) (old m : EntryMap) (under : IsUnderway ctx old)
+    (ready : IsReady ctx next asked old m) (s : Sold) (sale : sold ctx.base_reserve asked m ≡ Ok s) where
+  abbrev after : Ctx
+  after = record ctx { id_pool = drawn ctx.id_pool next s.amount }
+
+  its_legal : IsLegalOwing (view old) ctx.id_pool (one_more asked.offer.seller_id (sponsor_of asked.entry))
+      (total (held asset.Native) old) m
+  its_legal = ready.counted (view old) (total (held asset.Native) old) under.settled.legal
+
+  traded : AreTraded (trade_of ctx.base_reserve asked m) s.crossed
+  traded = selling_traded (view old) ctx.id_pool next ctx.base_reserve (total (held asset.Native) old) asked m
+      its_legal ready.low ready.right s sale
+
+  abbrev source_kept : Asset → ℤ
+  source_kept x =
+      kept_at x (source_gives_at asked) asked.offer.selling (neg_ℤ (pos s.crossed.sheep))
+      +ℤ kept_at x (source_takes_at asked) asked.offer.buying (pos s.crossed.wheat)
+
+  shifts : DrawsLegal ctx.id_pool after.id_pool (λ x. issued x (moves_of asked.offer.seller_id s.crossed.atoms)) old
+      s.entries
+  shifts v sum legal = subst (λ n. IsLegalOwing v after.id_pool nothing_owed n s.entries)
+      (plus_assoc sum (kept_in v.asset s.crossed.atoms) (source_kept v.asset)
+      ∙ ap (λ n. sum +ℤ n)
+      (moved_supply (trade_of ctx.base_reserve asked m) asked.offer.seller_id s.crossed traded v.asset))
+      (selling_keeps v ctx.id_pool next ctx.base_reserve sum asked m s (ready.counted v sum legal) ready.low
+      ready.right sale)
+
+  leaves : Leaves ctx.base_reserve (moved_by asked.offer.seller_id s.crossed.atoms) old s.entries
+  leaves = keeps_then ctx.base_reserve (moved_by asked.offer.seller_id s.crossed.atoms) old m s.entries ready.left
+      (leaves_as ctx.base_reserve
+      (both_more (more_in s.crossed.atoms)
+      (both_more (more_at (source_gives_at asked) asked.offer.selling (neg_ℤ (pos s.crossed.sheep)))
+      (more_at (source_takes_at asked) asked.offer.buying (pos s.crossed.wheat))))
+      (moved_by asked.offer.seller_id s.crossed.atoms) m s.entries
+      (selling_left_so (view old) ctx.id_pool next ctx.base_reserve (total (held asset.Native) old) asked m its_legal
+      ready.low ready.right s sale)
+      (moved_more (trade_of ctx.base_reserve asked m) asked.offer.seller_id s.crossed traded))
+
+  sound : AreSponsorshipsSound after s.entries
+  sound =
+      let here = sound_after ctx old under none_more s.entries leaves.stand in
+      record { once = here.once; other = here.other; stand = here.stand }
+
+  pub sale_is_lawful : (result : OperationResult) → IsLawful ctx old (record {
+    result = result;
+    entries = s.entries;
+    ctx = after;
+    moves = moves_of asked.offer.seller_id s.crossed.atoms;
+  })
+  sale_is_lawful result =
+      let done : Done = record {
+        result = result;
+        entries = s.entries;
+        ctx = after;
+        moves = moves_of asked.offer.seller_id s.crossed.atoms;
+      } in
+      lawful_drawn ctx old under (moved_by asked.offer.seller_id s.crossed.atoms) done shifts leaves.each leaves.holds
+      (moves_tell asked.offer.seller_id s.crossed.atoms)
+      (record {
+        seq = refl;
+        version = refl;
+        base_reserve = refl;
+        flags = refl;
+        close_time = refl;
+        tx_source = refl;
+        tx_seq = refl;
+      })
+      (one_drawn ctx.id_pool next s.amount ready.low ready.high) sound

@@ -1,0 +1,33 @@
+-- That what is managed in a child, and kept, is what the operation does.
+use Rattle.std.proofs.Common.{◌≡◌, ap, Ok, Err}
+use Rattle.std.specs.Prelude.{Result}
+use Rattle.entry_map.specs.Undo.{Undo, opened, kept}
+use Rattle.sponsor_rules.specs.declared.context.Ctx.{Ctx}
+use Rattle.op_form.specs.Done.{Does}
+use Rattle.op_offers.specs.declared.fault.OfferFault.{OfferFault}
+use Rattle.op_offers.specs.declared.manage.Managed.{Managed as ManagedOfCall}
+use Rattle.op_offers.specs.Calls.{IsManaging}
+use Rattle.op_offers.specs.Managing.{Managed, Traded, Removed}
+use Rattle.op_offers.specs.Operations.{Answer, success_answer, done_of_managed}
+
+-- the same children are open
+pub saved_is : (ctx : Ctx) (answer : ManagedOfCall) (old new : Undo) (managed : Result Managed OfferFault)
+    → IsManaging ctx (Ok answer) old new managed → new.saved ≡ old.saved
+saved_is ctx answer old new (Ok done) is = ap (λ (u : Undo). u.saved) is.entries
+saved_is ctx answer old new (Err other) is = absurd is
+
+pub kept_does : (ctx : Ctx) (how : Answer) (answer : ManagedOfCall) (old new : Undo)
+    (managed : Result Managed OfferFault) → IsManaging ctx (Ok answer) (opened old) new managed
+    → Does (success_answer how answer.atoms answer.effect) (record ctx { id_pool = answer.id_pool }) old (kept new)
+    (done_of_managed ctx how old.current managed)
+kept_does ctx how answer old new (Err other) is = absurd is
+kept_does ctx how answer old new (Ok (Removed m)) is = record {
+  result_is = λ i. success_answer how (is.atoms i) (is.effect i);
+  entries_are = ap kept is.entries;
+  ctx_is = λ i. record ctx { id_pool = is.id_pool i };
+}
+kept_does ctx how answer old new (Ok (Traded kind asked done id_pool)) is = record {
+  result_is = λ i. success_answer how (is.atoms i) (is.effect i);
+  entries_are = ap kept is.entries;
+  ctx_is = λ i. record ctx { id_pool = is.id_pool i };
+}

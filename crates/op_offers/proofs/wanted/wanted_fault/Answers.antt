@@ -1,0 +1,10 @@
+use Rattle.std.proofs.Common.{sym, subst}
+use Rattle.trade_cross.specs.Sides.{IsInRangeAt}
+use Rattle.op_offers.specs.Calls.{asked_in}
+use Rattle.op_offers.proofs.Ready.{gives_range}
+use Rattle.op_offers.proofs.wanted.wanted_fault.Goals as goal
+
+pub is_short-requires : goal.is_short-requires
+is_short-requires g c =
+    subst (IsInRangeAt c.args.entries.now.current) (sym c.gives_at.ensures)
+    (gives_range (asked_in c.args.asked.now) c.args.entries.now.current c.requires.sellable)

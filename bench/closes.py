@@ -9,17 +9,19 @@ state say: both are then run in turn, and the last lines tell what PROGRAM takes
 Images of 1,000, 10,000 and 100,000 accounts are opened, and then 50 records of 100 transactions are handed in one by one, of two mixes.
 One is of accounts: payments, new accounts, options, data, sequence numbers, data that another account pays for, and merges. The other is
 of assets: lines that are made and changed, what is issued, paid and redeemed in them, authorisations taken back and given, claimable
-balances made, claimed and clawed back, and clawback. What the program prints is compared with what the ledger in Python beside
-`close_cases` says.
+balances made, claimed and clawed back, and clawback. A third mix, of offers (`trading.py`), is run behind images of 10,000 and 100,000
+offers in 20 books. What the program prints is compared with what the ledger in Python beside `close_cases` says. Images of 98 and 980
+offers of one account are opened too; it can't have more than 1,000 subentries.
 
 The script prints processor time and peak memory of opening; then the processor time of closing without the longest close, ledgers and
 transactions a second of it, and the longest close by itself, which is the one in which a deep level is merged; each close by the least
 of several runs. A close is measured from when its record is handed in until the program waits for the next one. Last it tells how much
-longer closing takes behind 100,000 accounts than behind 1,000, and all of a run than sha256sum of the same input.
+longer closing takes behind 100,000 accounts than behind 1,000, with the mix of offers than with that of accounts, and behind ten times
+the offers, and all of a run than sha256sum of the same input.
 
-Exit status: 0 where all is well, 1 where ten times the accounts take more than 15 times as long to open, or closing takes more than
-twice as long behind 100,000 accounts as behind 1,000, 2 where a run fails or prints another text. Linux (it reads /proc), Python 3.9
-or later, its standard library, and sha256sum.
+Exit status: 0 where all is well, 1 where ten times the accounts or the offers take more than 15 times as long to open, closing takes more
+than twice as long behind 100,000 accounts as behind 1,000, or ten times the offers change the time of closing by more than a fifth, 2
+where a run fails or prints another text. Linux (it reads /proc), Python 3.9 or later, its standard library, and sha256sum.
 """
 
 import os
@@ -33,34 +35,44 @@ from measuring import TOP, built, run, stop
 sys.path[:0] = [f"{TOP}/crates/close_cases", f"{TOP}/crates/tx_cases"]
 import ledger_model as model  # noqa: E402
 import set_cases as sets  # noqa: E402
+from trading import TAKERS, Taker, market  # noqa: E402
 
 LEDGERS, SIZE = 50, 100
 # how many accounts send, of a mix of assets
 SENDERS = 500
 # AUTH_REVOCABLE and AUTH_CLAWBACK_ENABLED
 CLAWING = 10
-GREATEST_RATIO, GREATEST_GROWTH = 15, 2
+GREATEST_RATIO, GREATEST_GROWTH, GREATEST_CHANGE = 15, 2, 1.2
 BALANCE = 1_000_000_000
 NETWORK = "Test SDF Network ; September 2015"
 SEQ = 630
 
 
-def image(count, flags):
-    """An image of so many accounts with these flags, half of them in the curr of the fifth level and half in its snap."""
-    rows = []
-    for number in range(count):
-        entry = model.ENTRY.read(model.Text(sets.Account(number, BALANCE, flags=flags).xdr()))
-        rows.append(model.row(model.INIT, entry))
+def image(entries, coins, ids=0):
+    """An image of entries, half of them in the curr of the fifth level and half in its snap."""
+    rows = sorted((model.row(model.INIT, entry) for entry in entries), key=lambda item: item[0])
     buckets = [model.EMPTY] * 22
     buckets[8], buckets[9] = (model.Bucket(18, rows[half::2]) for half in (0, 1))
     levels = model.Levels(buckets, SEQ).hash
     header = dict(
         version=18, previous=bytes(32), value={"set": bytes(32), "time": 1000, "upgrades": [], "ext": (0, None)}, results=bytes(32),
-        levels=levels, seq=SEQ, coins=count * BALANCE, pool=0, inflation=0, ids=0, base_fee=100, reserve=5_000_000, most=1000,
+        levels=levels, seq=SEQ, coins=coins, pool=0, inflation=0, ids=ids, base_fee=100, reserve=5_000_000, most=1000,
         skips={name: bytes(32) for name in "abcd"}, ext=(0, None),
     )
     files = b"".join(model.u64(len(bucket.file)) + bucket.file for bucket in buckets)
     return b"SLI1" + model.marked(model.HEADER.write(header)) + files
+
+
+def accounts(count, flags):
+    """An image of so many accounts with these flags."""
+    entries = [model.ENTRY.read(model.Text(sets.Account(number, BALANCE, flags=flags).xdr())) for number in range(count)]
+    return image(entries, count * BALANCE)
+
+
+def offers(sellers, each, takers):
+    """An image of so many sellers with so many offers each, and of so many who have none."""
+    entries, coins = market(sellers, each, takers)
+    return image(entries, coins, sellers * each)
 
 
 class Sender:
@@ -68,6 +80,9 @@ class Sender:
 
     def __init__(self, count, senders):
         self.count, self.senders, self.place, self.numbers, self.made = count, senders, 0, {}, count
+
+    def look(self, ledger):
+        pass
 
     def turn(self):
         self.place = (self.place + 7) % self.senders
@@ -124,6 +139,7 @@ def story(data, sender):
     ledger = model.ledger_of(model.sha(NETWORK.encode()), *model.cut_image(model.Text(data)))
     records, lines = [], []
     for number in range(LEDGERS):
+        sender.look(ledger)
         listed = [sender.transaction((number + place) % 11).xdr() for place in range(SIZE)]
         digest = model.sha(ledger.hash + b"".join(sorted(listed, key=model.sha)))
         value = digest + model.u64(1005 + 5 * number) + model.u32(0) + model.u32(0)
@@ -203,9 +219,9 @@ def least(runs):
     return min(it[0] for it in runs), max(it[1] for it in runs), sum(closes) - max(closes), max(closes)
 
 
-def tell(name, count, mix, size, done, opening, peak, closing, longest):
+def tell(name, count, what, size, done, opening, peak, closing, longest):
     print(
-        f"{name}{count:7} accounts, {mix}: image of {size / 1e6:.2f} MB opened in {opening * 1e3:.1f} ms"
+        f"{name}{count:7} {what}: image of {size / 1e6:.2f} MB opened in {opening * 1e3:.1f} ms"
         f" ({size / opening / 1e6:.1f} MB/s), {peak / 1e3:.1f} MB of memory, {peak * 1e3 / size:.1f} times the image;"
         f" {LEDGERS - 1} ledgers of {SIZE} transactions in {closing * 1e3:.1f} ms: {(LEDGERS - 1) / closing:.0f} ledgers and"
         f" {(LEDGERS - 1) * SIZE / closing:.0f} transactions a second ({done} of {LEDGERS * SIZE} succeed); the longest close"
@@ -214,43 +230,84 @@ def tell(name, count, mix, size, done, opening, peak, closing, longest):
     )
 
 
-def main():
-    programs = sys.argv[1:] or [built("ledger")]
-    results = {}
-    with tempfile.TemporaryDirectory() as folder:
-        source = os.path.join(folder, "input")
-        for count, mix in [(count, mix) for count in (1_000, 10_000, 100_000) for mix in ("assets", "accounts")]:
-            data = image(count, CLAWING if mix == "assets" else 0)
-            sender = Holder(count, SENDERS) if mix == "assets" else Sender(count, count // 2)
-            records, wanted = story(data, sender)
-            with open(source, "wb") as file:
-                file.write(data + b"".join(records))
-            hashed, _, _ = run(["sha256sum", source], 3, folder)
-            done = sum(line.startswith("tx ") and line.split()[-1] in "01" for line in wanted.splitlines())
-            runs = {program: [] for program in programs}
-            for _ in range(3 if count == 100_000 else 7):
-                for program in programs:
-                    runs[program].append(watched(program, data, records, wanted))
-            for program in programs:
-                found = least(runs[program])
-                results[program, count, mix] = found
-                name = f"{program}: " if len(programs) > 1 else ""
-                tell(name, count, mix, len(data), done, *found)
-                whole = found[0] + found[2] + found[3]
-                print(f"    all of it takes {whole / max(hashed, 1e-9):.1f} times as long as sha256sum of the input", flush=True)
-    main_one, fails = programs[0], False
-    for mix in ("assets", "accounts"):
-        small, middle, large = [results[main_one, count, mix] for count in (1_000, 10_000, 100_000)]
+def given(count, mix):
+    """The image of a mix, and who makes its transactions."""
+    if mix == "offers":
+        return offers(count // 20, 20, TAKERS), Taker(count)
+    if mix == "accounts, assets":
+        return accounts(count, CLAWING), Holder(count, SENDERS)
+    return accounts(count, 0), Sender(count, count // 2)
+
+
+ASSET_MIX, ACCOUNT_MIX, OFFER_MIX = "accounts, assets", "accounts, accounts", "offers"
+RUNS = [(count, mix) for count in (1_000, 10_000, 100_000) for mix in (ASSET_MIX, ACCOUNT_MIX)] + [
+    (count, OFFER_MIX) for count in (10_000, 100_000)
+]
+
+
+def measured(programs, count, mix, folder):
+    """What each program takes of one mix."""
+    data, sender = given(count, mix)
+    records, wanted = story(data, sender)
+    source = os.path.join(folder, "input")
+    with open(source, "wb") as file:
+        file.write(data + b"".join(records))
+    hashed, _, _ = run(["sha256sum", source], 3, folder)
+    done = sum(line.startswith("tx ") and line.split()[-1] in "01" for line in wanted.splitlines())
+    runs = {program: [] for program in programs}
+    for _ in range(3 if count == 100_000 else 7):
+        for program in programs:
+            runs[program].append(watched(program, data, records, wanted))
+    results = {program: least(runs[program]) for program in programs}
+    for program, found in results.items():
+        tell(f"{program}: " if len(programs) > 1 else "", count, mix, len(data), done, *found)
+        whole = found[0] + found[2] + found[3]
+        print(f"    all of it takes {whole / max(hashed, 1e-9):.1f} times as long as sha256sum of the input", flush=True)
+    return results
+
+
+def opened(program, data):
+    """The least processor time of opening an image, of several runs."""
+    ledger = model.ledger_of(model.sha(NETWORK.encode()), *model.cut_image(model.Text(data)))
+    wanted = f"end {SEQ} {ledger.hash.hex()}\n"
+    return min(watched(program, data, [], wanted)[0] for _ in range(15))
+
+
+def watch_accounts(results):
+    """Whether more accounts cost little enough."""
+    fine = True
+    for mix in (ASSET_MIX, ACCOUNT_MIX):
+        small, middle, large = [results[count, mix] for count in (1_000, 10_000, 100_000)]
         ratios, growth = (middle[0] / small[0], large[0] / middle[0]), large[2] / small[2]
         print(f"{mix}: ten times the accounts take {ratios[0]:.1f} and {ratios[1]:.1f} times as long to open;"
               f" closing takes {growth:.2f} times as long behind 100,000 accounts as behind 1,000")
-        fails = fails or max(ratios) > GREATEST_RATIO or growth > GREATEST_GROWTH
+        fine = fine and max(ratios) <= GREATEST_RATIO and growth <= GREATEST_GROWTH
+    return fine
+
+
+def watch_offers(program, results):
+    """Whether more offers cost little enough."""
+    small, large, plain = results[10_000, OFFER_MIX], results[100_000, OFFER_MIX], results[10_000, ACCOUNT_MIX]
+    few, many = [opened(program, offers(1, each, 0)) for each in (98, 980)]
+    opening, change = (large[0] / small[0], many / few), large[2] / small[2]
+    print(f"offers: closing takes {small[2] / plain[2]:.2f} times as long as with the mix of accounts; ten times the offers take"
+          f" {change:.2f} times as long to close over and {opening[0]:.1f} times as long to open, those of one account {opening[1]:.1f} times")
+    return max(opening) <= GREATEST_RATIO and 1 / GREATEST_CHANGE <= change <= GREATEST_CHANGE
+
+
+def main():
+    programs = sys.argv[1:] or [built("ledger")]
+    with tempfile.TemporaryDirectory() as folder:
+        found = {(count, mix): measured(programs, count, mix, folder) for count, mix in RUNS}
+    results = {program: {key: value[program] for key, value in found.items()} for program in programs}
+    fine = watch_accounts(results[programs[0]])
+    fine = watch_offers(programs[0], results[programs[0]]) and fine
     for other in programs[1:]:
-        for count, mix in [(count, mix) for count in (1_000, 10_000, 100_000) for mix in ("assets", "accounts")]:
-            new, old = results[main_one, count, mix], results[other, count, mix]
-            print(f"{count:7} accounts, {mix}, of {other}: opening {new[0] / old[0]:.2f}, its memory {new[1] / old[1]:.2f}, closing"
+        for count, mix in RUNS:
+            new, old = results[programs[0]][count, mix], results[other][count, mix]
+            print(f"{count:7} {mix}, of {other}: opening {new[0] / old[0]:.2f}, its memory {new[1] / old[1]:.2f}, closing"
                   f" {new[2] / old[2]:.2f}, the longest close {new[3] / old[3]:.2f}")
-    sys.exit(fails)
+    sys.exit(not fine)
 
 
 if __name__ == "__main__":

@@ -832,14 +832,13 @@ def not_built():
     case("not built: none of these", Story(legal).close(first, wants=[sets.failed(*results)]), "end 6", 1)
     for name, op in [
         ("PATH_PAYMENT_STRICT_RECEIVE", sets.path_payment("b", 1)), ("PATH_PAYMENT_STRICT_SEND", sets.path_payment("b", 1, kind=13)),
-        ("MANAGE_SELL_OFFER", sets.sell_offer(1)), ("CREATE_PASSIVE_SELL_OFFER", sets.passive_offer(1)),
-        ("MANAGE_BUY_OFFER", sets.sell_offer(1, kind=12)), ("LIQUIDITY_POOL_DEPOSIT", sets.deposit(ID, 1)),
-        ("LIQUIDITY_POOL_WITHDRAW", sets.withdraw(ID, 1)), ("CHANGE_TRUST of shares", sets.trust_pool(sets.LUMENS, USD)),
+        ("LIQUIDITY_POOL_DEPOSIT", sets.deposit(ID, 1)), ("LIQUIDITY_POOL_WITHDRAW", sets.withdraw(ID, 1)),
+        ("CHANGE_TRUST of shares", sets.trust_pool(sets.LUMENS, USD)),
         ("CHANGE_TRUST of shares that are no pool's", sets.trust_pool(USD, USD, 0)),
     ]:
         case(f"not built: {name}", Story(legal).refused(first, sent("a", 2, NOTHING, op, fee=200)), "refused 6 NotBuilt 1")
     pooled = sent("b", 1, sets.trust_pool(sets.LUMENS, USD))
-    bump = sets.bumped("b", 200, sent("a", 1, sets.sell_offer(1)))
+    bump = sets.bumped("b", 200, sent("a", 1, sets.path_payment("b", 1, kind=13)))
     old = sets.First(sets.Tx("b", 1, [sets.path_payment("a", 1)]), [])
     for name, listed, place in [
         ("the third", [first, sent("b", 1, pay("a", 1)), pooled, bump], 2), ("in a fee bump", [first, bump, pooled], 1),

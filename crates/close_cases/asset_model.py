@@ -1,13 +1,12 @@
 """Issued assets of a ledger of protocol 18: trust lines and claimable balances, their ranges, and the operations on them, beside those
-of `ledger_model.py`. After CAP-0018, CAP-0023, CAP-0033, CAP-0035 and stellar-core. There are no pools, and no operation on offers.
+of `ledger_model.py`. After CAP-0018, CAP-0023, CAP-0033, CAP-0035 and stellar-core. There are no pools.
 """
 
-from entry_model import (
-    GREATEST, NOT_SUPPORTED, available, add_subentry, count, i32, i64, liabilities, muxed_key, rank_of_key, refuse, remove_subentry, sha,
-    sponsor_of, test_payer, u32, with_sponsor,
+from entry_model import (  # noqa: F401  (some names are for the scripts that use this model)
+    GREATEST, NATIVE, NOT_SUPPORTED, available, add_subentry, change, count, i32, i64, is_asset, issuer_of, liabilities, line_rank,
+    muxed_key, refuse, remove_subentry, sha, sponsor_of, test_payer, u32, with_sponsor,
 )
-
-NATIVE = (0, None)
+from trade_model import revoke_offers
 
 # flags of accounts, and of lines
 REQUIRED, REVOCABLE, CLAWBACK = 1, 2, 8
@@ -16,32 +15,9 @@ AUTHORIZED, MAINTAIN, CAN_BE_CLAWED = 1, 2, 4
 # ---- assets
 
 
-def issuer_of(asset):
-    """Who issues an asset; nobody issues lumens."""
-    return asset[1]["issuer"][1] if asset[0] in (1, 2) else None
-
-
-def is_asset(asset):
-    """Whether an asset is lumens, or has a code of letters and digits: 1 to 4 of them, or 5 to 12, and zeros behind them."""
-    if asset[0] == 0:
-        return True
-    code = asset[1]["code"].rstrip(b"\0")
-    return len(code) >= {1: 1, 2: 5}[asset[0]] and code.isalnum() and code.isascii()
-
-
 def can_have_line(account_id, asset):
     """Whether an account may have a line of an asset that isn't a pool's share."""
     return asset[0] != 0 and is_asset(asset) and asset[1]["issuer"] != account_id
-
-
-def line_rank(name, asset):
-    return rank_of_key((1, {"id": (0, name), "asset": asset}))
-
-
-def change(layer, rank, **fields):
-    """Puts an entry again, with other fields of its body."""
-    entry = layer.get(rank)
-    layer.put({**entry, "body": (entry["body"][0], {**entry["body"][1], **fields})})
 
 
 def line_of(layer, name, asset):
@@ -184,6 +160,15 @@ def change_trust(frame, layer, source, op):
         change(layer, rank, limit=limit)
 
 
+def set_authorisation(layer, name, asset, flags):
+    """Sets a line's flags. Where it loses its authorisation wholly, the account's offers in the asset go."""
+    rank = line_rank(name, asset)
+    was = layer.get(rank)["body"][1]["flags"]
+    change(layer, rank, flags=flags)
+    if was & 3 and not flags & 3:
+        revoke_offers(layer, name, asset)
+
+
 def allow_trust(frame, layer, source, op):
     trustor, wanted = op["trustor"][1], op["authorize"]
     asset = (op["asset"][0], {"code": op["asset"][1], "issuer": (0, source)})
@@ -192,7 +177,7 @@ def allow_trust(frame, layer, source, op):
     refuse(line is None, -2)
     is_less = wanted == 0 or wanted == MAINTAIN and line["flags"] & AUTHORIZED
     refuse(is_less and not layer.account(source)["flags"] & REVOCABLE, -4)
-    change(layer, line_rank(trustor, asset), flags=line["flags"] & ~3 | wanted)
+    set_authorisation(layer, trustor, asset, line["flags"] & ~3 | wanted)
 
 
 def set_line_flags(frame, layer, source, op):
@@ -205,7 +190,7 @@ def set_line_flags(frame, layer, source, op):
     is_less = old & AUTHORIZED and not new & AUTHORIZED or old & MAINTAIN and not new & 3
     refuse(is_less and not layer.account(source)["flags"] & REVOCABLE, -3)
     refuse(new & 3 == 3, -4)
-    change(layer, line_rank(trustor, asset), flags=new)
+    set_authorisation(layer, trustor, asset, new)
 
 
 def clawback(frame, layer, source, op):

@@ -390,6 +390,34 @@ def available(account, reserve):
     return account["balance"] - kept - liabilities(account)["selling"]
 
 
+# ---- assets
+
+NATIVE = (0, None)
+
+
+def issuer_of(asset):
+    """Who issues an asset; nobody issues lumens."""
+    return asset[1]["issuer"][1] if asset[0] in (1, 2) else None
+
+
+def is_asset(asset):
+    """Whether an asset is lumens, or has a code of letters and digits: 1 to 4 of them, or 5 to 12, and zeros behind them."""
+    if asset[0] == 0:
+        return True
+    code = asset[1]["code"].rstrip(b"\0")
+    return len(code) >= {1: 1, 2: 5}[asset[0]] and code.isalnum() and code.isascii()
+
+
+def line_rank(name, asset):
+    return rank_of_key((1, {"id": (0, name), "asset": asset}))
+
+
+def change(layer, rank, **fields):
+    """Puts an entry again, with other fields of its body."""
+    entry = layer.get(rank)
+    layer.put({**entry, "body": (entry["body"][0], {**entry["body"][1], **fields})})
+
+
 # ---- sponsorship
 
 
@@ -401,7 +429,7 @@ class Refused(Exception):
         self.code, self.is_own = code, is_own
 
 
-NOT_SUPPORTED, TOO_MANY_SUBENTRIES, TOO_MANY_SPONSORING = (Refused(code, False) for code in (-3, -4, -6))
+NOT_SUPPORTED, TOO_MANY_SUBENTRIES, EXCEEDED_WORK_LIMIT, TOO_MANY_SPONSORING = (Refused(code, False) for code in (-3, -4, -5, -6))
 
 
 def refuse(holds, code):
@@ -410,12 +438,12 @@ def refuse(holds, code):
 
 
 class Frame:
-    """What the operations of a transaction share: the closing ledger, open sponsorships from the sponsored to the sponsor, and what the
-    ids are made from that an operation draws: the transaction's source and number, and the operation's place."""
+    """What the operations of a transaction share: the closing ledger, open sponsorships from the sponsored to the sponsor, the greatest
+    id of offers so far, and what other ids are made from: the transaction's source and number, and the operation's place."""
 
     def __init__(self, header, time, source, number):
         self.reserve, self.seq, self.time, self.open = header["reserve"], header["seq"] + 1, time, {}
-        self.source, self.number, self.place = source, number, 0
+        self.source, self.number, self.place, self.ids = source, number, 0, header["ids"]
 
 
 def count(layer, name, subs=0, sponsored=0, sponsoring=0):

@@ -9,6 +9,7 @@ bind in `offer_model.py`.
 
 import asset_model as assets
 import offer_model as offers
+import trade_model as trades
 from entry_model import (  # noqa: F401  (some names are for the scripts that use this ledger)
     DEAD, ENTRY, GREATEST, HEADER, INIT, ITEM, LIVE, META, RECORD, U32, U64, UPGRADE, Frame, Layer, Refused, Text, Wrong, account_key,
     add_signer, add_subentry, available, count, i32, i64, is_text, key_of, liabilities, many, marked, move, muxed_key, place_of,
@@ -254,7 +255,7 @@ def revoke(frame, layer, source, op):
     refuse(entry is None, -1)
     if kind == 4:
         return assets.revoke_claimable(frame, layer, source, entry)
-    name, payer = key["id"][1], sponsor_of(entry)
+    name, payer = key["seller" if kind == 2 else "id"][1], sponsor_of(entry)
     refuse((name if payer is None else payer) != source, -2)
     is_moved, payer = move(frame, layer, name, 2 if kind == 0 else 1, payer, frame.open.get(source), -3)
     if is_moved:
@@ -263,7 +264,7 @@ def revoke(frame, layer, source, op):
 
 OPERATIONS = {
     0: create_account, 5: set_options, 8: merge, 10: manage_data, 11: bump_sequence, 16: begin_sponsoring, 17: end_sponsoring, 18: revoke,
-    **assets.OPERATIONS,
+    **assets.OPERATIONS, **trades.OPERATIONS,
 }
 
 
@@ -288,20 +289,22 @@ def run_operation(frame, layer, source, op):
         return i32(-2), False
     if kind == 9:
         return i32(-3), False
-    child, before = Layer(layer), dict(frame.open)
+    child, before = Layer(layer), (dict(frame.open), frame.ids)
     try:
         payload = OPERATIONS[kind](frame, child, source, body) or b""
     except Refused as fault:
-        frame.open = before
+        frame.open, frame.ids = before
         return (i32(0) + i32(kind) if fault.is_own else b"") + i32(fault.code), False
     child.commit()
     return i32(0) + i32(kind) + i32(0) + payload, True
 
 
 def default_result(op):
-    """The result of an operation that isn't run: no lumens moved by ACCOUNT_MERGE, no payouts of INFLATION, an id of zeros."""
-    kind = op["body"][0]
-    return i32(0) + i32(kind) + i32(0) + {8: i64(0), 9: u32(0), 14: i32(0) + NO_HASH}.get(kind, b"")
+    """The result of an operation that isn't run: an offer that is deleted and met none, no lumens moved by ACCOUNT_MERGE, no payouts of
+    INFLATION, an id of zeros."""
+    kind, deleted = op["body"][0], many([]) + i32(trades.DELETED)
+    zeros = {3: deleted, 4: deleted, 12: deleted, 8: i64(0), 9: u32(0), 14: i32(0) + NO_HASH}
+    return i32(0) + i32(kind) + i32(0) + zeros.get(kind, b"")
 
 
 # ---- signatures
@@ -414,6 +417,7 @@ def run_transaction(header, time, layer, tx, source, signatures, pays=True, is_f
     if frame.open:
         return i32(-14)
     child.commit()
+    header["ids"] = frame.ids
     return i32(0) + results
 
 
@@ -518,7 +522,8 @@ class Ledger:
     """A ledger behind its last close."""
 
     def __init__(self, network, header, levels, entries):
-        self.network, self.header, self.levels, self.entries, self.outcomes = network, header, levels, entries, {}
+        self.network, self.header, self.levels, self.outcomes = network, header, levels, {}
+        self.entries = trades.Entries(entries)
         self.hash = sha(HEADER.write(header))
 
     def close(self, data):
@@ -550,6 +555,8 @@ class Ledger:
             if top.account(sent.payer) is None:
                 raise BadRecord(f"FeeSourceMissing {listed.index(sent)}")
         lines, results, fees, base, self.outcomes = [], [], [], set_fee(header, listed), {}
+        # the header of the transactions, in which ids are drawn
+        header = dict(header)
         for sent in order:
             balance = top.account(sent.payer)["balance"]
             fees.append(min(balance, sent.bid, base * max(1, sent.size)))
@@ -563,7 +570,7 @@ class Ledger:
         self.levels.add(seq, self.fresh(top, seq, upgrade["version"]))
         self.header = with_skips({
             **upgrade, "previous": self.hash, "value": value, "seq": seq, "results": sha(many(results)), "pool": header["pool"] + sum(fees),
-            "levels": self.levels.hash,
+            "ids": header["ids"], "levels": self.levels.hash,
         })
         self.hash = sha(HEADER.write(self.header))
         return "".join(lines) + f"closed {seq} {self.hash.hex()} {len(lines)} {done}\n"

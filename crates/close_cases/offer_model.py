@@ -1,24 +1,42 @@
 """Offers of a ledger of protocol 18: their ranges, what they bind, and where. After CAP-0003 and OfferExchange of stellar-core."""
 
-from asset_model import is_asset, issuer_of, line_rank
-from entry_model import GREATEST, account_key
+from entry_model import GREATEST, account_key, is_asset, issuer_of, line_rank
+
+
+def table(price, wheat_send, wheat_receive, sheep_send, sheep_receive):
+    """The wheat and the sheep that a trade moves before its zero rules, and whether wheat stays (exchangeV10WithoutPriceErrorThresholds)."""
+    n, d = price["n"], price["d"]
+    worth, paid = min(wheat_send * n, sheep_receive * d), min(sheep_send * d, wheat_receive * n)
+    if worth > paid:
+        if n > d:
+            wheat = paid // n
+            return wheat, -(-wheat * n // d), True
+        sheep = paid // d
+        return sheep * d // n, sheep, True
+    if n > d:
+        wheat = worth // n
+        return wheat, wheat * n // d, False
+    sheep = worth // d
+    return -(-sheep * d // n), sheep, False
+
+
+def exchange(price, *bounds):
+    """The same with the zero rules (exchangeV10 with NORMAL rounding)."""
+    wheat, sheep, stays = table(price, *bounds)
+    worth, paid = wheat * price["n"], sheep * price["d"]
+    if not wheat or not sheep or 100 * abs(worth - paid) > worth:
+        return 0, 0, stays
+    return wheat, sheep, stays
+
+
+def adjusted(price, send, receive):
+    """What an offer can really sell, of which it can send and take so much (adjustOffer)."""
+    return exchange(price, send, GREATEST, GREATEST, receive)[0]
 
 
 def bound(offer):
-    """What an offer may have to give and what it may take in: exchangeV10WithoutPriceErrorThresholds with no bound but its amount."""
-    n, d = offer["price"]["n"], offer["price"]["d"]
-    wheat, sheep = min(offer["amount"] * n, GREATEST * d), min(GREATEST * d, GREATEST * n)
-    if wheat > sheep:
-        if n > d:
-            given = sheep // n
-            return given, -(-given * n // d)
-        taken = sheep // d
-        return taken * d // n, taken
-    if n > d:
-        given = wheat // n
-        return given, given * n // d
-    taken = wheat // d
-    return -(-taken * d // n), taken
+    """What an offer may have to give and what it may take in."""
+    return table(offer["price"], offer["amount"], GREATEST, GREATEST, GREATEST)[:2]
 
 
 def is_offer_in_range(offer, ids):

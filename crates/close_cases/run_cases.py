@@ -15,6 +15,7 @@ import sys
 from ledger_model import DEAD, GREATEST, HEADER, INIT, LIVE, NO_HASH, catchup, i32, marked, sha, u32, u64
 import set_cases as sets  # ledger_model puts its folder first
 from asset_cases import PARTS as ASSET_PARTS
+from offer_cases import PARTS as OFFER_PARTS
 from case_tools import (
     A_WITH_D, CASES, LUMEN, META_18, NETWORK, NO_RESULTS, A, Account, B, C, D, Data, Story, bucket, case, entry, header_of, image,
     image_bytes, items, key, offer, pool, predicate, raw, sent, sponsored, upgrade, var, with_counts, with_liabilities,
@@ -179,7 +180,7 @@ def rules_at_once():
     case("rule 7 and a pool", image([wrong, pool(sha(b"an id"))]), "10 bad image not built")
 
 
-SELL = sets.sell_offer(1, buying=sets.asset("USD", "b"))
+PATH = sets.path_payment("b", 1)
 
 
 def bad_records():
@@ -213,7 +214,7 @@ def bad_records():
     # the first predicate of an operation begins at 168, and each level of it has 8 bytes
     deepest, deeper = (sets.create_claimable(1, [("b", predicate(levels))]) for levels in (32, 33))
     bad("a predicate of 33 levels", lambda story: story.record(sent("a", 1, deeper)), "BadXdr 424 TooDeep")
-    bad("a predicate of 32 levels", lambda story: story.record(sent("a", 1, SELL, deepest)), "NotBuilt 0")
+    bad("a predicate of 32 levels", lambda story: story.record(sent("a", 1, PATH, deepest)), "NotBuilt 0")
 
 
 def terms():
@@ -266,9 +267,9 @@ def upgrades():
 
 def set_faults():
     legal = image([A, B])
-    second = Story(legal).refused(sent("a", 1, NOTHING), sent("b", 1, NOTHING, SELL))
-    case("an offer in the second transaction", second, "refused 6 NotBuilt 1")
-    case("two offers", Story(legal).refused(sent("b", 2, SELL), sent("a", 1, SELL)), "refused 6 NotBuilt 0")
+    second = Story(legal).refused(sent("a", 1, NOTHING), sent("b", 1, NOTHING, PATH))
+    case("a path payment in the second transaction", second, "refused 6 NotBuilt 1")
+    case("two path payments", Story(legal).refused(sent("b", 2, PATH), sent("a", 1, PATH)), "refused 6 NotBuilt 0")
     story = Story(legal)
     strangers = [sent("a", 1, NOTHING), *(sent(name, 1, NOTHING) for name in "wxyz")]
     spelled = [envelope.xdr() for envelope in strangers]
@@ -291,7 +292,7 @@ def faults_at_once():
     last = Story(image([A], seq=2**31 - 1))
     case("faults: no record, behind the last ledger", Story(last.data).add(last.record() + b"\0"), "refused 2147483648 BadXdr 88 Trailing")
     case("faults: another number behind the last ledger", Story(last.data).refused(seq=3), "refused 2147483648 SeqEnd")
-    one, lost = sent("a", 1, SELL), sent("z", 1, SELL)
+    one, lost = sent("a", 1, PATH), sent("z", 1, PATH)
     for name, fault, end in [
         ("number, ledger before", dict(seq=9, previous=NO_HASH), "WrongSeq 6 9"),
         ("ledger before, hash of the set", dict(previous=NO_HASH, digest=NO_HASH), f"WrongPrevious {here} {zero}"),
@@ -420,7 +421,7 @@ def compare(folder):
 # what makes cases, with what their names begin with
 PARTS = [
     ("", [forms, header_rules, file_rules, entry_rules, rules_at_once, bad_records, terms, upgrades, set_faults, faults_at_once, closes]),
-    ("assets ", ASSET_PARTS),
+    ("assets ", ASSET_PARTS), ("trades ", OFFER_PARTS),
 ]
 
 

@@ -101,8 +101,9 @@ def by(*names):
 class Account:
     """An account. It has one hash-x signer of its own secret, weight 1, unless signers are given."""
 
-    def __init__(self, name, balance, seq=0, signers=None, thresholds=(0, 1, 1, 1), domain=b"", data=0, counts=None, flags=0):
+    def __init__(self, name, balance, seq=0, signers=None, thresholds=(0, 1, 1, 1), domain=b"", data=0, counts=None, flags=0, bound=None):
         self.fields = dict(name=name, balance=balance, seq=seq, thresholds=thresholds, domain=domain, data=data, counts=counts, flags=flags)
+        self.fields["bound"] = bound
         self.fields["signers"] = [hash_x(secret_of(name))] if signers is None else signers
 
     def but(self, **changes):
@@ -124,7 +125,7 @@ class Account:
         f = self.fields
         signers = sorted(f["signers"])
         if f["counts"] is None:
-            ext = u32(0)
+            ext = bound_by(f["bound"])
         else:
             sponsored, sponsoring = f["counts"]
             nobody = many([u32(0) for _ in signers])
@@ -132,6 +133,11 @@ class Account:
         account = u32(0) + key(self.name) + i64(f["balance"]) + i64(f["seq"]) + u32(len(signers) + f["data"]) + u32(0)
         account += u32(f["flags"]) + var(f["domain"]) + bytes(f["thresholds"]) + many([spelled_signer(s) for s in signers]) + ext
         return u32(2) + u32(0) + account + u32(0)
+
+
+def bound_by(amounts):
+    """The extension of an account or a line whose offers buy and sell so much, or of one that never had an offer."""
+    return u32(0) if amounts is None else u32(1) + i64(amounts[0]) + i64(amounts[1]) + u32(0)
 
 
 class Data:
@@ -159,16 +165,36 @@ LUMENS, USD = u32(0), asset("USD", "z")
 class Line:
     """A trust line, which is authorised unless other flags are given."""
 
-    def __init__(self, name, balance, limit=GREATEST, line=USD, flags=1, sponsor=None):
+    def __init__(self, name, balance, limit=GREATEST, line=USD, flags=1, sponsor=None, bound=None):
         self.name, self.balance, self.limit, self.line, self.flags, self.sponsor = name, balance, limit, line, flags, sponsor
+        self.bound = bound
 
     @property
     def key(self):
         return (1, key(self.name), self.line)
 
     def xdr(self):
-        body = u32(0) + key(self.name) + self.line + i64(self.balance) + i64(self.limit) + u32(self.flags) + u32(0)
+        body = u32(0) + key(self.name) + self.line + i64(self.balance) + i64(self.limit) + u32(self.flags) + bound_by(self.bound)
         return u32(2) + u32(1) + body + with_sponsor(self.sponsor)
+
+
+class Offer:
+    """An offer at a price of 1."""
+
+    def __init__(self, name, number, amount, selling=LUMENS, buying=USD, flags=0):
+        self.name, self.number, self.amount, self.selling, self.buying, self.flags = name, number, amount, selling, buying, flags
+
+    @property
+    def key(self):
+        return (2, key(self.name), self.number)
+
+    @property
+    def body(self):
+        amounts = self.selling + self.buying + i64(self.amount) + u32(1) + u32(1)
+        return u32(0) + key(self.name) + i64(self.number) + amounts + u32(self.flags) + u32(0)
+
+    def xdr(self):
+        return u32(2) + u32(2) + self.body + u32(0)
 
 
 class Claimable:
@@ -448,6 +474,16 @@ def ran(kind, code, moved=None):
     return u32(0) + u32(kind) + i32(code) + (b"" if moved is None else i64(moved))
 
 
+def offered(kind, atoms=(), left=None):
+    """The result of an operation on an offer: what it took of other offers, and the offer that it made, if one is left."""
+    return ran(kind, 0) + many(list(atoms)) + (u32(2) if left is None else u32(0) + left.body)
+
+
+def taken(name, number, sold, amount, bought, cost):
+    """What was taken of another account's offer."""
+    return u32(1) + u32(0) + key(name) + i64(number) + sold + i64(amount) + bought + i64(cost)
+
+
 def set_aside(digest):
     """The result of a CREATE_CLAIMABLE_BALANCE that made a balance under an id."""
     return ran(14, 0) + u32(0) + digest
@@ -456,6 +492,7 @@ def set_aside(digest):
 CREATE, PAYMENT, OPTIONS, TRUST, ALLOW, MERGE, DATA, BUMP, SET_ASIDE, CLAIM, BEGIN, END, REVOKE, CLAW, CLAW_CLAIMABLE, FLAGS = (
     0, 1, 5, 6, 7, 8, 10, 11, 14, 15, 16, 17, 18, 19, 20, 21,
 )
+SELL, PASSIVE, BUY = 3, 4, 12
 
 OP_BAD_AUTH = i32(-1)
 OP_NO_ACCOUNT = i32(-2)
@@ -1002,23 +1039,51 @@ def claimables():
          [A, left.but(balance=999_999_800, seq=2, counts=(0, 0))])
 
 
+def offers():
+    """Sets with operations on offers."""
+    paid = A.but(balance=999_999_900, seq=1)
+    codes = [
+        ("sell", SELL, sell_offer(1), -3), ("sell_below_0", SELL, sell_offer(-1), -1), ("sell_for_itself", SELL, sell_offer(1, USD, USD), -1),
+        ("sell_without_line", SELL, sell_offer(1, USD, LUMENS), -2), ("passive", PASSIVE, passive_offer(1), -3),
+        ("passive_of_nothing", PASSIVE, passive_offer(0), -1), ("passive_without_line", PASSIVE, passive_offer(1, USD, LUMENS), -2),
+        ("buy", BUY, sell_offer(1, kind=12), -3), ("buy_below_0", BUY, sell_offer(-1, kind=12), -1),
+        ("buy_without_line", BUY, sell_offer(1, USD, LUMENS, kind=12), -2),
+    ]
+    for name, kind, op, number in codes:
+        case(f"offer_{name}", [A], [sent("a", 1, op)], [(100, failed(ran(kind, number)))], 100, [paid])
+    # lumens for USD, and nobody has USD to give
+    for name, kind, op, flags in [("sell", SELL, sell_offer(700), 0), ("passive", PASSIVE, passive_offer(700), 1),
+                                  ("buy", BUY, sell_offer(700, kind=12), 0)]:
+        offer = Offer("a", 1, 700, flags=flags)
+        case(f"offer_made_{name}", [A, Z], [sent("a", 1, change_trust(), op, fee=200)],
+             [(200, ok(ran(TRUST, 0), offered(kind, left=offer)))], 200,
+             [A.but(balance=999_999_800, seq=1, data=2, bound=(0, 700)), Line("a", 0, bound=(700, 0)), offer, Z])
+    # b gets 60 USD from their issuer, and sells them to a
+    issued = [change_trust(source="b"), payment("b", 60, "z", USD)]
+    atom = taken("a", 1, LUMENS, 60, USD, 60)
+    for name, kind, op in [("sell", SELL, sell_offer(60, USD, LUMENS, source="b")), ("buy", BUY, sell_offer(60, USD, LUMENS, source="b", kind=12))]:
+        case(f"offer_taken_by_{name}", [A, B, Z], [sent("a", 1, change_trust(), sell_offer(700), *issued, op, fee=500, signers="abz")],
+             [(500, ok(ran(TRUST, 0), offered(SELL, left=Offer("a", 1, 700)), ran(TRUST, 0), ran(PAYMENT, 0), offered(kind, [atom])))], 500,
+             [A.but(balance=999_999_440, seq=1, data=2, bound=(0, 640)), Line("a", 60, bound=(640, 0)), Offer("a", 1, 640),
+              B.but(balance=1_000_000_060, data=1), Line("b", 0), Z])
+
+
 def refusals():
     """Sets that are refused, and states that are none."""
     fine = sent("a", 1, NOTHING)
-    selling = sent("a", 2, NOTHING, sell_offer(1))
+    unbuilt = sent("a", 2, NOTHING, path_payment("b", 1))
     lost = sent("z", 1, NOTHING)
-    case("not_built", [A, B], [fine, selling], fault="operation not built in transaction 1")
-    case("not_built_before_fee_source", [A, B], [lost, fine, selling, sent("b", 1, sell_offer(1))],
+    case("not_built", [A, B], [fine, unbuilt], fault="operation not built in transaction 1")
+    case("not_built_before_fee_source", [A, B], [lost, fine, unbuilt, sent("b", 1, path_payment("a", 1))],
          fault="operation not built in transaction 2")
     # the first in the list, though it is applied later
-    case("not_built_first_listed", [A, B], [selling, sent("b", 1, sell_offer(1))], fault="operation not built in transaction 0")
-    case("not_built_inner", [A, B], [fine, bumped("b", 200, selling)], fault="operation not built in transaction 1")
-    case("not_built_first_version", [A, B], [First(Tx("a", 1, [sell_offer(1)]), [])], fault="operation not built in transaction 0")
+    case("not_built_first_listed", [A, B], [unbuilt, sent("b", 1, path_payment("a", 1))], fault="operation not built in transaction 0")
+    case("not_built_inner", [A, B], [fine, bumped("b", 200, unbuilt)], fault="operation not built in transaction 1")
+    case("not_built_first_version", [A, B], [First(Tx("a", 1, [path_payment("b", 1)]), [])], fault="operation not built in transaction 0")
     pool = sha(b"a pool")
     for name, op in [
-        ("path_receive", path_payment("b", 1)), ("path_send", path_payment("b", 1, kind=13)), ("sell", sell_offer(1)),
-        ("passive", passive_offer(1)), ("buy", sell_offer(1, kind=12)), ("deposit", deposit(pool, 1)), ("withdraw", withdraw(pool, 1)),
-        ("pool_shares", trust_pool(LUMENS, USD)),
+        ("path_receive", path_payment("b", 1)), ("path_send", path_payment("b", 1, kind=13)), ("deposit", deposit(pool, 1)),
+        ("withdraw", withdraw(pool, 1)), ("pool_shares", trust_pool(LUMENS, USD)),
     ]:
         built = sent("a", 1, payment("b", 1, asset=USD), change_trust(), fee=200)
         case(f"not_built_{name}", [A, B], [built, sent("a", 2, op)], fault="operation not built in transaction 1")
@@ -1067,8 +1132,8 @@ def thousand():
 
 
 def main():
-    for part in (one_transaction, fees, early_checks, signatures, balances, operations, lines, claimables, first_version, fee_bumps,
-                 preauthorised, order, refusals, thousand):
+    for part in (one_transaction, fees, early_checks, signatures, balances, operations, lines, claimables, offers, first_version,
+                 fee_bumps, preauthorised, order, refusals, thousand):
         part()
     folder = os.path.join(os.path.dirname(os.path.abspath(__file__)), "data")
     with open(os.path.join(folder, "cases.txt"), "w", encoding="ascii") as table:

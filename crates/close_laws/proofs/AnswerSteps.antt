@@ -1,5 +1,5 @@
 -- What an operation answers: results that keep the bounds on lengths, step by step.
-use Rattle.std.proofs.Common.{◌≡◌, ℕ, refl, [], ◌∷◌, Option, Some, None, Result, Ok, Err, Bool, true, false}
+use Rattle.std.proofs.Common.{[], ◌∷◌, Option, Some, None, Result, Ok, Err, Bool, true, false}
 use Rattle.std.proofs.Common.{if◌then◌else◌}
 use Rattle.op_types.specs.declared.operation_result.OperationResult.{OperationResult}
 use Rattle.op_types.specs.declared.operation_result.OperationResult.TheVariants as operation
@@ -31,7 +31,7 @@ pub not_supported : IsAnswer operation.NotSupported
 unfolding operation_result
 not_supported = record { within = tt }
 
-charged : (found : AddFault) (low : OperationResult) → IsAnswer low → IsAnswer (fault_result found low)
+pub charged : (found : AddFault) (low : OperationResult) → IsAnswer low → IsAnswer (fault_result found low)
 unfolding operation_result
 charged fault.TooManySubentries low answers = record { within = tt }
 charged fault.TooManySponsoring low answers = record { within = tt }
@@ -51,9 +51,9 @@ pub record Answers {A : Type 0} (P : A → Type 0) (made : Result A OperationRes
 abbrev pub Any : {A : Type 0} → A → Type 0
 Any a = Unit {0}
 
--- what answers, and draws no ids
-abbrev pub IsDone : (ids : ℕ) → Done → Type 0
-IsDone ids done = IsAnswer done.result × (done.ctx.id_pool ≡ ids)
+-- what answers
+abbrev pub IsDone : Done → Type 0
+IsDone done = IsAnswer done.result
 
 -- each test finds a result that can be written
 abbrev pub AllAnswer : Tests OperationResult → Type 0
@@ -95,12 +95,12 @@ pub step_answers : {A B : Type 0} (P : B → Type 0) (made : Result A OperationR
 step_answers P (Err result) next made answers = record { ends = made.ends }
 step_answers P (Ok a) next made answers = answers a
 
-pub either_answers : (ids : ℕ) (b : Bool) (x y : Attempt) → Answers (IsDone ids) x → Answers (IsDone ids) y
-    → Answers (IsDone ids) (if b then x else y)
-either_answers ids true x y here there = here
-either_answers ids false x y here there = there
+pub either_answers : (b : Bool) (x y : Attempt) → Answers IsDone x → Answers IsDone y
+    → Answers IsDone (if b then x else y)
+either_answers true x y here there = here
+either_answers false x y here there = there
 
-pub done_answers : (ctx : Ctx) (m : EntryMap) (attempt : Attempt) → Answers (IsDone ctx.id_pool) attempt
-    → IsDone ctx.id_pool (done_of ctx m attempt)
+pub done_answers : (ctx : Ctx) (m : EntryMap) (attempt : Attempt) → Answers IsDone attempt
+    → IsDone (done_of ctx m attempt)
 done_answers ctx m (Ok done) answers = answers.ends
-done_answers ctx m (Err result) answers = (answers.ends, refl)
+done_answers ctx m (Err result) answers = answers.ends

@@ -47,7 +47,7 @@ unless_bytes (Some fault) m each = tt
 
 -- ---- adding
 
-sponsored_bytes : (sponsor : Option AccountId) (e : LedgerEntry) → AreEntryBytes e → IsIdIf sponsor
+pub sponsored_bytes : (sponsor : Option AccountId) (e : LedgerEntry) → AreEntryBytes e → IsIdIf sponsor
     → AreEntryBytes (adding.sponsored_entry sponsor e)
 sponsored_bytes None e bytes named = bytes
 sponsored_bytes (Some sponsor) e bytes named = with_sponsor_bytes (Some sponsor) e bytes named
@@ -80,6 +80,15 @@ adding_subentry_bytes ctx e owner k m bytes sponsors each =
     (charging_bytes k sponsor m each))
     (sponsored_bytes sponsor e bytes (open_sponsor_id ctx owner sponsors)))
 
+-- a subentry is counted, before it is put
+pub counting_bytes : (ctx : Ctx) (owner : AccountId) (k : ℕ) (m : EntryMap) → AreBytes m
+    → AreBytesIf (adding.map_after_counting_subentry ctx owner k m)
+counting_bytes ctx owner k m each =
+    let sponsor = open_sponsor ctx owner in
+    unless_bytes _ (adding.map_after_counting owner k sponsor m)
+    (with_account_bytes (map_after_charging k sponsor m) owner (with_subentry k sponsor) (subentry_bytes k sponsor)
+    (charging_bytes k sponsor m each))
+
 -- a claimable balance is added
 pub adding_balance_bytes : (ctx : Ctx) (e : LedgerEntry) (payer : AccountId) (k : ℕ) (m : EntryMap) → AreEntryBytes e
     → IsId payer → AreBytes m → AreBytesIf (adding.map_after_adding_balance ctx e payer k m)
@@ -89,12 +98,17 @@ adding_balance_bytes ctx e payer k m bytes id each =
 
 -- ---- removing
 
+-- a subentry isn't counted any more
+pub discounting_bytes : (owner : AccountId) (k : ℕ) (sponsor : Option AccountId) (m : EntryMap) → AreBytes m
+    → AreBytes (removing.map_after_discounting owner k sponsor m)
+discounting_bytes owner k sponsor m each =
+    with_account_bytes (map_after_releasing k sponsor m) owner (without_subentry k sponsor)
+    (without_subentry_bytes k sponsor) (releasing_bytes k sponsor m each)
+
 without_charge : (of : Charge) (sponsor : Option AccountId) (m : EntryMap) → AreBytes m
     → AreBytes (removing.map_without_charge of sponsor m)
 without_charge (charge.Itself id) sponsor m each = releasing_bytes 2 sponsor m each
-without_charge (charge.Subentry owner k) sponsor m each =
-    with_account_bytes (map_after_releasing k sponsor m) owner (without_subentry k sponsor)
-    (without_subentry_bytes k sponsor) (releasing_bytes k sponsor m each)
+without_charge (charge.Subentry owner k) sponsor m each = discounting_bytes owner k sponsor m each
 without_charge (charge.Payer k) sponsor m each = releasing_bytes k sponsor m each
 without_charge charge.Nobody sponsor m each = each
 

@@ -1,6 +1,6 @@
 -- Offers that change or go, and what they bind, leave the bytes of entries.
 use Rattle.std.proofs.Common.{◌≡◌, refl, subst, ap, ◌∙◌, Bool, true, false, List, [], All, Option, Some, None, arith}
-use Rattle.std.proofs.Common.{sym, ◌∷◌, ℤ, pos}
+use Rattle.std.proofs.Common.{◌∷◌, ℤ, pos}
 use Rattle.std.proofs.lemmas.Int.{ints}
 use Rattle.std.proofs.lemmas.List.Elements.{All-nil}
 use Rattle.std.specs.Prelude.{ℕ, ℤ, pos, neg_ℤ, ◌+ℤ◌, ◌≤ℤ◌, if◌then◌else◌}
@@ -9,7 +9,6 @@ use Rattle.ledger_types.specs.declared.ids.AccountId.{AccountId}
 use Rattle.ledger_types.specs.declared.price.Liabilities.{Liabilities}
 use Rattle.ledger_types.specs.declared.account.AccountEntry.{AccountEntry}
 use Rattle.ledger_types.specs.declared.account.AccountEntryExtensionV1.{AccountEntryExtensionV1}
-use Rattle.ledger_types.specs.declared.trust_line.TrustLineEntry.{TrustLineEntry}
 use Rattle.ledger_types.specs.declared.offer.OfferEntry.{OfferEntry}
 use Rattle.ledger_types.specs.declared.entry.LedgerEntry.{LedgerEntry}
 use Rattle.ledger_types.specs.declared.entry.LedgerEntryBody.{LedgerEntryBody}
@@ -27,11 +26,10 @@ use Rattle.entry_slots.specs.Offers.{with_offer, with_offer_of, with_offer_in}
 use Rattle.reserve_rules.specs.Reserve.{greatest_i64}
 use Rattle.legal_rules.specs.OfferLiabilities.{bound_of}
 use Rattle.legal_rules.specs.Trades.{holder}
-use Rattle.legal_rules.specs.Binding.{risen, bound_account, bound_line, binding, releasing}
+use Rattle.legal_rules.specs.Binding.{risen, bound_account, bound_line, binding, acquiring, releasing}
 use Rattle.close_rules.specs.State.{IsSpelled}
-use Rattle.close_laws.proofs.Bytes.{IsIdIf, sponsors_in, AreAccountBytes, AreLineBytes, AreOfferBytes, AreBodyBytes}
-use Rattle.close_laws.proofs.Bytes.{AreEntryBytes, AreBytes, put_bytes, with_line_bytes, KeepsAccounts, KeepsLines}
-use Rattle.close_laws.proofs.Bytes.{with_account_bytes}
+use Rattle.close_laws.proofs.Bytes.{IsIdIf, sponsors_in, AreAccountBytes, AreOfferBytes, AreBodyBytes}
+use Rattle.close_laws.proofs.Bytes.{AreBytes, put_bytes, with_line_bytes}
 use Rattle.std.specs.List.{filter}
 use Rattle.ledger_types.specs.declared.asset.Asset.{Asset}
 use Rattle.offer_book.specs.Book.{offers_by}
@@ -174,9 +172,18 @@ releasing_bytes o m each =
     (binding_bytes m (holder o.seller_id o.selling) (neg_ℤ (pos (bound_of o).wheat)) (pos 0)
     (less_may m (holder o.seller_id o.selling) (bound_of o).wheat) each)
 
+-- what an offer binds is bound, where what it sells may be sold
+pub acquiring_bytes : (o : OfferEntry) (m : EntryMap)
+    → MaySell m (holder o.seller_id o.selling) (pos (bound_of o).wheat) → AreBytes m → AreBytes (acquiring o m)
+acquiring_bytes o m may each =
+    let mid = binding (holder o.seller_id o.selling) (pos (bound_of o).wheat) (pos 0) m in
+    binding_bytes mid (holder o.seller_id o.buying) (pos 0) (pos (bound_of o).sheep)
+    (same_may mid (holder o.seller_id o.buying))
+    (binding_bytes m (holder o.seller_id o.selling) (pos (bound_of o).wheat) (pos 0) may each)
+
 -- ---- offers that are removed
 
-cancelling_bytes : (o : OfferEntry) (m : EntryMap) → AreBytes m → AreBytes (map_after_cancelling o m)
+pub cancelling_bytes : (o : OfferEntry) (m : EntryMap) → AreBytes m → AreBytes (map_after_cancelling o m)
 cancelling_bytes o m each = removing_bytes (offer_key o) (releasing o m) (releasing_bytes o m each)
 
 all_bytes : (os : List OfferEntry) (m : EntryMap) → AreBytes m → AreBytes (map_after_cancelling_all os m)

@@ -74,6 +74,7 @@ use Rattle.op_claim.specs.ClaimClaimableBalance as claiming
 use Rattle.op_claim.specs.Clawback as clawing
 use Rattle.op_claim.specs.ClawbackClaimableBalance as taking
 use Rattle.op_claim.specs.Operations.{claim_operation}
+use Rattle.op_offers.specs.Operations.{attempt_of, offers_operation}
 use Rattle.op_sponsor.specs.BeginSponsoringFutureReserves as beginning
 use Rattle.op_sponsor.specs.EndSponsoringFutureReserves as ending
 use Rattle.op_sponsor.specs.RevokeSponsorship as revoking
@@ -87,6 +88,7 @@ use Rattle.close_laws.proofs.BytesSteps.{AreWorkBytes, Work, Gives, Leaves, test
 use Rattle.close_laws.proofs.BytesSteps.{behind_charge, behind_change, behind_step, either_leaves, done_leaves}
 use Rattle.close_laws.proofs.BytesTrust.{trust_changed, trust_allowed, flags_set}
 use Rattle.close_laws.proofs.BytesClaims.{balance_created, balance_claimed, clawed_back, balance_clawed_back}
+use Rattle.close_laws.proofs.ManagedOffers.{CanTrade, offer_sold, passively_sold, offer_bought}
 use Rattle.close_laws.proofs.BytesAmounts.{numbers, debit_bytes, credit_bytes, taken_bytes, given_bytes}
 use Rattle.close_laws.proofs.BytesMaps.{adding_account_bytes, adding_subentry_bytes, removing_bytes}
 use Rattle.close_laws.proofs.BytesMaps.{moving_bytes, adding_signer_bytes, removing_signer_bytes, moving_signer_bytes}
@@ -458,40 +460,50 @@ sponsorship_revoked ctx (revoked.Signer id k) m work = signer_revoked ctx id k m
 
 -- ---- any operation
 
-pub any_bytes : (ctx : Ctx) (of : OperationBody) (m : EntryMap) → IsId ctx.op_source → IsSpelled operation_body of
-    → AreWorkBytes ctx m → AreWorkBytes (any_operation ctx of m).ctx (any_operation ctx of m).entries
+pub any_bytes : (ctx : Ctx) (of : OperationBody) (m : EntryMap) → CanTrade ctx m → IsId ctx.op_source
+    → IsSpelled operation_body of → AreWorkBytes ctx m
+    → AreWorkBytes (any_operation ctx of m).ctx (any_operation ctx of m).entries
 unfolding any_operation account_operation options_operation payment_operation trust_operation flags_operation
-    claim_operation sponsor_operation
-any_bytes ctx (body.CreateAccount op) m id spelled work =
+    claim_operation sponsor_operation offers_operation
+any_bytes ctx (body.CreateAccount op) m can id spelled work =
     done_leaves ctx m (creating.create_account ctx op m) work (created ctx op m (destination_id op spelled) work)
-any_bytes ctx (body.AccountMerge op) m id spelled work =
+any_bytes ctx (body.AccountMerge op) m can id spelled work =
     done_leaves ctx m (merging.account_merge ctx op m) work (merged ctx op m work)
-any_bytes ctx (body.BumpSequence op) m id spelled work =
+any_bytes ctx (body.BumpSequence op) m can id spelled work =
     done_leaves ctx m (bumping.bump_sequence ctx op m) work (bumped ctx op m work)
-any_bytes ctx (body.SetOptions op) m id spelled work = done_leaves ctx m (options.set_options ctx op m) work
+any_bytes ctx (body.ManageSellOffer op) m can id spelled work =
+    done_leaves ctx m (attempt_of ctx (body.ManageSellOffer op) m) work
+    (offer_sold ctx op m can id spelled work).leaves
+any_bytes ctx (body.CreatePassiveSellOffer op) m can id spelled work =
+    done_leaves ctx m (attempt_of ctx (body.CreatePassiveSellOffer op) m) work
+    (passively_sold ctx op m can id spelled work).leaves
+any_bytes ctx (body.ManageBuyOffer op) m can id spelled work =
+    done_leaves ctx m (attempt_of ctx (body.ManageBuyOffer op) m) work
+    (offer_bought ctx op m can id spelled work).leaves
+any_bytes ctx (body.SetOptions op) m can id spelled work = done_leaves ctx m (options.set_options ctx op m) work
     (options_set ctx op m spelled work)
-any_bytes ctx (body.ManageData op) m id spelled work = done_leaves ctx m (managing.manage_data ctx op m) work
+any_bytes ctx (body.ManageData op) m can id spelled work = done_leaves ctx m (managing.manage_data ctx op m) work
     (data_managed ctx op m id spelled work)
-any_bytes ctx (body.Payment op) m id spelled work =
+any_bytes ctx (body.Payment op) m can id spelled work =
     done_leaves ctx m (paying.payment ctx op m) work (payment_paid ctx op m work)
-any_bytes ctx (body.ChangeTrust op) m id spelled work =
+any_bytes ctx (body.ChangeTrust op) m can id spelled work =
     done_leaves ctx m (trusting.change_trust ctx op m) work (trust_changed ctx op m id spelled work)
-any_bytes ctx (body.AllowTrust op) m id spelled work =
+any_bytes ctx (body.AllowTrust op) m can id spelled work =
     done_leaves ctx m (allowing.allow_trust ctx op m) work (trust_allowed ctx op m work)
-any_bytes ctx (body.SetTrustLineFlags op) m id spelled work =
+any_bytes ctx (body.SetTrustLineFlags op) m can id spelled work =
     done_leaves ctx m (flagging.set_trust_line_flags ctx op m) work (flags_set ctx op m work)
-any_bytes ctx (body.CreateClaimableBalance op) m id spelled work =
+any_bytes ctx (body.CreateClaimableBalance op) m can id spelled work =
     done_leaves ctx m (balances.create_claimable_balance ctx op m) work (balance_created ctx op m id spelled work)
-any_bytes ctx (body.ClaimClaimableBalance op) m id spelled work =
+any_bytes ctx (body.ClaimClaimableBalance op) m can id spelled work =
     done_leaves ctx m (claiming.claim_claimable_balance ctx op m) work (balance_claimed ctx op m work)
-any_bytes ctx (body.Clawback op) m id spelled work =
+any_bytes ctx (body.Clawback op) m can id spelled work =
     done_leaves ctx m (clawing.clawback ctx op m) work (clawed_back ctx op m work)
-any_bytes ctx (body.ClawbackClaimableBalance op) m id spelled work =
+any_bytes ctx (body.ClawbackClaimableBalance op) m can id spelled work =
     done_leaves ctx m (taking.clawback_claimable_balance ctx op m) work (balance_clawed_back ctx op m work)
-any_bytes ctx (body.BeginSponsoringFutureReserves op) m id spelled work =
+any_bytes ctx (body.BeginSponsoringFutureReserves op) m can id spelled work =
     done_leaves ctx m (beginning.begin_sponsoring ctx op m) work (begun ctx op m id work)
-any_bytes ctx body.EndSponsoringFutureReserves m id spelled work =
+any_bytes ctx body.EndSponsoringFutureReserves m can id spelled work =
     done_leaves ctx m (ending.end_sponsoring ctx m) work (ended ctx m work)
-any_bytes ctx (body.RevokeSponsorship op) m id spelled work =
+any_bytes ctx (body.RevokeSponsorship op) m can id spelled work =
     done_leaves ctx m (revoking.revoke_sponsorship ctx op m) work (sponsorship_revoked ctx op m work)
-any_bytes ctx other m id spelled work = work
+any_bytes ctx other m can id spelled work = work

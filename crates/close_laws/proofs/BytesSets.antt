@@ -1,6 +1,6 @@
 -- Sets leave the bytes of entries.
-use Rattle.std.proofs.Common.{ℕ, ◌+◌, ℤ, List, [], ◌∷◌, All, Option, Some, None, Bool, true, false}
-use Rattle.std.proofs.Common.{if◌then◌else◌, not, length, nat_eq, neg_ℤ}
+use Rattle.std.proofs.Common.{◌≡◌, refl, sym, subst, ℕ, suc, ◌+◌, ◌<◌, ◌≤◌, ℤ, List, [], ◌∷◌, All, Option, Some, None}
+use Rattle.std.proofs.Common.{Bool, true, false, if◌then◌else◌, not, length, nat_eq, neg_ℤ, arith}
 use Rattle.std.proofs.lemmas.List.Elements.{All-nil, All-head, All-tail}
 use Rattle.ledger_types.specs.Ids.{account_of}
 use Rattle.ledger_types.specs.declared.ids.AccountId.{AccountId}
@@ -12,6 +12,8 @@ use Rattle.ledger_types.specs.declared.signer.SignerKey.TheVariants.{PreAuthTx}
 use Rattle.op_types.specs.declared.operation.Operation.{Operation}
 use Rattle.op_types.specs.declared.transaction.Transaction.{Transaction}
 use Rattle.op_types.specs.declared.transaction.FeeBumpTransaction.{FeeBumpTransaction}
+use Rattle.op_types.specs.declared.transaction.TransactionV1Envelope.{TransactionV1Envelope}
+use Rattle.op_types.specs.declared.transaction.FeeBumpTransactionEnvelope.{FeeBumpTransactionEnvelope}
 use Rattle.op_types.specs.declared.transaction.TransactionEnvelope.{TransactionEnvelope}
 use Rattle.op_types.specs.declared.transaction.TransactionEnvelope.TheVariants as envelope
 use Rattle.op_types.specs.declared.transaction.TransactionSet.{TransactionSet}
@@ -35,19 +37,32 @@ use Rattle.fee_rules.specs.Fees.{set_base_fee}
 use Rattle.fee_rules.specs.Turns.{apply_order_of}
 use Rattle.legal_rules.specs.Payments.{paid, numbered}
 use Rattle.op_form.specs.declared.levels.ThresholdLevel.TheVariants.{Low}
+use Rattle.op_laws.specs.Laws.{AllLawful}
+use Rattle.op_laws.specs.Steps.{TransactionLaws, LegalSettles}
+use Rattle.op_laws.specs.Underway.{IsSettled, IsUnderway}
 use Rattle.value_hashes.specs.Hashes.{signed_hash_of, transaction_hash_of}
+use Rattle.tx_apply.specs.Built.{operations_of}
 use Rattle.tx_apply.specs.Checks as checks
 use Rattle.tx_apply.specs.FeeBump as bump
 use Rattle.tx_apply.specs.Fees.{fee_of, map_after_fee, fees_taken}
+use Rattle.tx_apply.specs.Laws.{operation_total, CanDraw, CanClose}
 use Rattle.tx_apply.specs.Running.{placed, done_by, done_at, Ran, run}
 use Rattle.tx_apply.specs.Set.{Setting, ctx_in, all_held, envelope_applied, all_applied, envelopes_in_order}
 use Rattle.tx_apply.specs.Set.{fees_taken_of, set_done}
 use Rattle.tx_apply.specs.Signing.{Auth, source_by, source_of, auth_of, are_used}
 use Rattle.tx_apply.specs.Transaction as spec
 use Rattle.tx_apply.proofs.Conserving.{all_at}
+use Rattle.tx_apply.proofs.Judging as judging
+use Rattle.tx_apply.proofs.Judging.{settled_judged}
+use Rattle.tx_apply.proofs.Lawful.{underway_placed, lawful_at, none_open}
+use Rattle.tx_apply.proofs.Sound.{envelope_sound}
+use Rattle.tx_apply.proofs.TakenFees.{all_taken}
 use Rattle.close_rules.specs.State.{IsSpelled}
 use Rattle.close_laws.proofs.Spelled.{each_spelled}
-use Rattle.close_laws.proofs.SpelledSets.{envelopes_spelled, operations_spelled, v1_spelled, body_spelled}
+use Rattle.close_laws.proofs.SpelledSets.{envelopes_spelled, operations_spelled, all_operations_spelled, v1_spelled}
+use Rattle.close_laws.proofs.SpelledSets.{body_spelled, body_fit, operations_fit}
+use Rattle.close_laws.proofs.FewDrawn.{set_fits}
+use Rattle.close_laws.proofs.ManagedOffers.{CanTrade}
 use Rattle.close_laws.proofs.Bytes.{IsId, AreBytes, with_account_bytes, IsOpener, AreSponsors}
 use Rattle.close_laws.proofs.BytesMaps.{removing_signer_bytes}
 use Rattle.close_laws.proofs.BytesSteps.{AreWorkBytes}
@@ -84,29 +99,74 @@ own_source of spelled = record { within = spelled.within.0; sized = spelled.size
 abbrev AreOperations : List Operation → Type 0
 AreOperations operations = All (IsSpelled operation) operations
 
-done_bytes : (ctx : Ctx) (of : Operation) (m : EntryMap) (found : Option AccountEntry) → IsId ctx.op_source
-    → IsSpelled operation of → AreWorkBytes ctx m
-    → AreWorkBytes (done_by ctx of m found).ctx (done_by ctx of m found).entries
-done_bytes ctx of m None id spelled work = work
-done_bytes ctx of m (Some account) id spelled work = any_bytes ctx of.body m id (body_spelled of spelled) work
-
 placed_bytes : (ctx : Ctx) (place : ℕ) (source : AccountId) (m : EntryMap) → AreWorkBytes ctx m
     → AreWorkBytes (placed ctx place source) m
 placed_bytes ctx place source m work =
     record { entries = work.entries; sponsors = record { all = work.sponsors.all } }
 
-run_bytes : (ctx : Ctx) (source : AccountId) (place : ℕ) (operations : List Operation) (m : EntryMap) → IsId source
-    → AreOperations operations → AreWorkBytes ctx m → AreBytes (run ctx source place operations m).entries
+-- what holds before the operations of a transaction that are left: each may draw an id that can be written
+pub record AreRunning (ctx : Ctx) (source : AccountId) (operations : List Operation) (m : EntryMap) : Type 0 where
+  pub work : AreWorkBytes ctx m
+  pub under : IsUnderway ctx m
+  pub id : IsId source
+  pub spelled : AreOperations operations
+  pub ids : CanDraw (length operations) ctx.id_pool
+
+one_of : (was n : ℕ) → CanDraw (suc n) was → CanDraw 1 was
+one_of was n le = omega arith
+
+rest_of : (was now n : ℕ) → CanDraw (suc n) was → now ≤ was + 1 → CanDraw n now
+rest_of was now n le drawn = omega arith
+
+module _ (ctx : Ctx) (source : AccountId) (place : ℕ) (of : Operation) (operations : List Operation) (m : EntryMap)
+    (running : AreRunning ctx source (of ∷ operations) m) where
+  abbrev own : Ctx
+  own = placed ctx place (source_of source of)
+
+  pub here_spelled : IsSpelled operation of
+  here_spelled = All-head (IsSpelled operation) of operations running.spelled
+
+  pub here_id : IsId own.op_source
+  here_id = source_by_id source of.source_account running.id (own_source of here_spelled)
+
+  pub here_work : AreWorkBytes own m
+  here_work = placed_bytes ctx place (source_of source of) m running.work
+
+  pub here_can : (account : AccountEntry) → account_at m (source_of source of) ≡ Some account → CanTrade own m
+  here_can account at = record {
+    under = underway_placed ctx place (source_of source of) m running.under;
+    stands = (account, at);
+    next = one_of ctx.id_pool (length operations) running.ids;
+  }
+
+  here_done : (found : Option AccountEntry) → account_at m (source_of source of) ≡ found
+      → AreWorkBytes (done_by own of m found).ctx (done_by own of m found).entries
+  here_done None at = here_work
+  here_done (Some account) at =
+      any_bytes own of.body m (here_can account at) here_id (body_spelled of here_spelled) here_work
+
+  pub rest_running : AllLawful → AreRunning (done_at ctx source place of m).ctx source operations
+      (done_at ctx source place of m).entries
+  rest_running all =
+      let fit = body_fit of.body (body_spelled of here_spelled) in
+      let lawful = lawful_at all ctx source place of m fit running.under in
+      record {
+        work = here_done (account_at m (source_of source of)) refl;
+        under = lawful.legal;
+        id = running.id;
+        spelled = All-tail (IsSpelled operation) of operations running.spelled;
+        ids = rest_of ctx.id_pool (done_at ctx source place of m).ctx.id_pool (length operations) running.ids
+            lawful.ids.high;
+      }
+
+run_bytes : AllLawful → (ctx : Ctx) (source : AccountId) (place : ℕ) (operations : List Operation) (m : EntryMap)
+    → AreRunning ctx source operations m → AreBytes (run ctx source place operations m).entries
 unfolding run
-run_bytes ctx source place [] m id spelled work = work.entries
-run_bytes ctx source place (of ∷ operations) m id spelled work =
-    let here = All-head (IsSpelled operation) of operations spelled in
+run_bytes all ctx source place [] m running = running.work.entries
+run_bytes all ctx source place (of ∷ operations) m running =
     let first = done_at ctx source place of m in
-    run_bytes first.ctx source (place + 1) operations first.entries id
-    (All-tail (IsSpelled operation) of operations spelled)
-    (done_bytes (placed ctx place (source_of source of)) of m (account_at m (source_of source of))
-    (source_by_id source of.source_account id (own_source of here)) here
-    (placed_bytes ctx place (source_of source of) m work))
+    run_bytes all first.ctx source (place + 1) operations first.entries
+    (rest_running ctx source place of operations m running all)
 
 -- ---- transactions
 
@@ -153,98 +213,222 @@ ran_bytes ctx m ran each left =
     (either_entries (nat_eq (length ran.ctx.sponsorships) 0) _
     (spec.undone outcome.BadSponsorship ctx m ran.steps) left each) each
 
-applied_bytes : (ctx : Ctx) (tx : Transaction) (m : EntryMap) (end : Option TransactionOutcome)
-    → IsSpelled transaction tx → IsId (checks.source_account tx) → AreSponsors ctx → AreBytes m
+applied_bytes : AllLawful → (ctx : Ctx) (tx : Transaction) (m : EntryMap) (end : Option TransactionOutcome)
+    → AreRunning ctx (checks.source_account tx) tx.operations m
     → AreBytes (spec.applied_or_ended ctx tx m end).entries
-applied_bytes ctx tx m (Some end) spelled id sponsors each = each
-applied_bytes ctx tx m None spelled id sponsors each =
-    ran_bytes ctx m (run ctx (checks.source_account tx) 0 tx.operations m) each
-    (run_bytes ctx (checks.source_account tx) 0 tx.operations m id
-    (each_spelled 100 operation tx.operations (operations_spelled tx spelled))
-    (record { entries = each; sponsors = sponsors }))
+applied_bytes all ctx tx m (Some end) running = running.work.entries
+applied_bytes all ctx tx m None running =
+    ran_bytes ctx m (run ctx (checks.source_account tx) 0 tx.operations m) running.work.entries
+    (run_bytes all ctx (checks.source_account tx) 0 tx.operations m running)
 
 tx_source : (tx : Transaction) → IsSpelled transaction tx → IsId (checks.source_account tx)
 unfolding transaction
 tx_source tx spelled = muxed_id tx.source_account (record { within = spelled.within.0; sized = spelled.sized.0 })
 
-transaction_bytes : (pays : Bool) (base_fee : ℕ) (ctx : Ctx) (hash : Hash) (signatures : List HeldSignature)
-    (tx : Transaction) (m : EntryMap) → IsSpelled transaction tx → AreSponsors ctx → AreBytes m
-    → AreBytes (spec.transaction_applied pays base_fee ctx hash signatures tx m).entries
-transaction_bytes pays base_fee ctx hash signatures tx m spelled sponsors each =
-    let checked = checks.judged pays base_fee ctx hash signatures tx m in
-    applied_bytes ctx tx (spec.map_without_used hash (checks.source_account tx) tx.operations checked.entries)
-    checked.outcome spelled (tx_source tx spelled) sponsors
-    (without_used hash (checks.source_account tx) tx.operations checked.entries
-    (judged_bytes pays ctx hash signatures tx m (checks.early_fault pays base_fee ctx tx m) each))
+-- what holds before a transaction, whose operations may draw ids that can be written
+pub record IsBegun (ctx : Ctx) (tx : Transaction) (m : EntryMap) : Type 0 where
+  pub spelled : IsSpelled transaction tx
+  pub closed : ctx.sponsorships ≡ []
+  pub seq : ctx.seq < 2147483647
+  pub settled : IsSettled ctx.id_pool m
+  pub each : AreBytes m
+  pub ids : CanDraw (length tx.operations) ctx.id_pool
+
+closed_sponsors : (ctx : Ctx) → ctx.sponsorships ≡ [] → AreSponsors ctx
+closed_sponsors ctx closed = record { all = subst (All IsOpener) (sym closed) (All-nil IsOpener) }
+
+module _ (laws : TransactionLaws) where
+  -- what its checks leave
+  pub begun_running : (pays : Bool) (base_fee : ℕ) (ctx : Ctx) (hash : Hash) (signatures : List HeldSignature)
+      (tx : Transaction) (m : EntryMap) → IsBegun ctx tx m
+      → AreRunning ctx (checks.source_account tx) tx.operations
+      (spec.map_without_used hash (checks.source_account tx) tx.operations
+      (checks.judged pays base_fee ctx hash signatures tx m).entries)
+  begun_running pays base_fee ctx hash signatures tx m begun =
+      let checked = checks.judged pays base_fee ctx hash signatures tx m in
+      let after = spec.map_without_used hash (checks.source_account tx) tx.operations checked.entries in
+      let judged = settled_judged laws.seq_nums pays base_fee ctx.id_pool ctx hash signatures tx m begun.settled in
+      let used = judging.without_used laws.preauths ctx.id_pool hash (checks.source_account tx) tx.operations
+      checked.entries judged.settled in
+      record {
+        work = record {
+          entries = without_used hash (checks.source_account tx) tx.operations checked.entries
+              (judged_bytes pays ctx hash signatures tx m (checks.early_fault pays base_fee ctx tx m) begun.each);
+          sponsors = closed_sponsors ctx begun.closed;
+        };
+        under = record {
+          settled = used.settled;
+          sponsorships = none_open ctx after begun.closed;
+          seq = begun.seq;
+        };
+        id = tx_source tx begun.spelled;
+        spelled = each_spelled 100 operation tx.operations (operations_spelled tx begun.spelled);
+        ids = begun.ids;
+      }
+
+  transaction_bytes : (pays : Bool) (base_fee : ℕ) (ctx : Ctx) (hash : Hash) (signatures : List HeldSignature)
+      (tx : Transaction) (m : EntryMap) → IsBegun ctx tx m
+      → AreBytes (spec.transaction_applied pays base_fee ctx hash signatures tx m).entries
+  transaction_bytes pays base_fee ctx hash signatures tx m begun =
+      let checked = checks.judged pays base_fee ctx hash signatures tx m in
+      applied_bytes laws.operations ctx tx
+      (spec.map_without_used hash (checks.source_account tx) tx.operations checked.entries) checked.outcome
+      (begun_running pays base_fee ctx hash signatures tx m begun)
 
 -- ---- fee bumps
 
-module _ (base_fee : ℕ) (ctx : Ctx) (signed : bump.BumpSigned) (tx : FeeBumpTransaction)
-    (spelled : IsSpelled transaction tx.inner_tx.tx) (sponsors : AreSponsors ctx) where
-  behind_auth : (after : List HeldSignature) (m : EntryMap) → AreBytes m
+-- the transaction in a fee bump, behind the signers that its payer used up
+pub begun_behind : TransactionLaws → (ctx : Ctx) (tx : Transaction) (payer : AccountId) (hash : Hash) (m : EntryMap)
+    → IsBegun ctx tx m → IsBegun ctx tx (map_after_removing_preauth payer hash m)
+begun_behind laws ctx tx payer hash m begun = record {
+  spelled = begun.spelled;
+  closed = begun.closed;
+  seq = begun.seq;
+  settled = (laws.preauths ctx.id_pool m payer hash begun.settled).settled;
+  each = removing_signer_bytes payer (PreAuthTx hash) m begun.each;
+  ids = begun.ids;
+}
+
+module _ (laws : TransactionLaws) (base_fee : ℕ) (ctx : Ctx) (signed : bump.BumpSigned) (tx : FeeBumpTransaction) where
+  behind_auth : (after : List HeldSignature) (m : EntryMap) → IsBegun ctx tx.inner_tx.tx m
       → AreBytes (bump.applied_behind_auth base_fee ctx signed tx after m).entries
-  behind_auth after m each =
+  behind_auth after m begun =
       either_entries (checks.is_poor ctx (account_at m (bump.payer_of tx)))
       (spec.ended outcome.InsufficientBalance ctx m)
       (if are_used after then bump.inner_applied base_fee ctx signed tx m else spec.ended outcome.BadAuthExtra ctx m)
-      each
+      begun.each
       (either_entries (are_used after) (bump.inner_applied base_fee ctx signed tx m)
       (spec.ended outcome.BadAuthExtra ctx m)
-      (transaction_bytes false base_fee ctx signed.inner_hash signed.inner_signatures tx.inner_tx.tx m spelled sponsors
-      each) each)
+      (transaction_bytes laws false base_fee ctx signed.inner_hash signed.inner_signatures tx.inner_tx.tx m begun)
+      begun.each)
 
-  by_auth : (m : EntryMap) (auth : Auth) → AreBytes m
+  by_auth : (m : EntryMap) (auth : Auth) → IsBegun ctx tx.inner_tx.tx m
       → AreBytes (bump.applied_by_auth base_fee ctx signed tx m auth).entries
-  by_auth m auth each =
+  by_auth m auth begun =
       either_entries (not auth.passes) (spec.ended outcome.BadAuth ctx m)
       (bump.applied_behind_auth base_fee ctx signed tx auth.signatures
-      (map_after_removing_preauth (bump.payer_of tx) signed.hash m)) each
+      (map_after_removing_preauth (bump.payer_of tx) signed.hash m)) begun.each
       (behind_auth auth.signatures (map_after_removing_preauth (bump.payer_of tx) signed.hash m)
-      (removing_signer_bytes (bump.payer_of tx) (PreAuthTx signed.hash) m each))
+      (begun_behind laws ctx tx.inner_tx.tx (bump.payer_of tx) signed.hash m begun))
 
-  by_fault : (m : EntryMap) (fault : Option TransactionOutcome) → AreBytes m
+  by_fault : (m : EntryMap) (fault : Option TransactionOutcome) → IsBegun ctx tx.inner_tx.tx m
       → AreBytes (bump.applied_by_fault base_fee ctx signed tx m fault).entries
-  by_fault m (Some fault) each = each
-  by_fault m None each = by_auth m (auth_of signed.hash Low signed.signatures m (bump.payer_of tx)) each
+  by_fault m (Some fault) begun = begun.each
+  by_fault m None begun = by_auth m (auth_of signed.hash Low signed.signatures m (bump.payer_of tx)) begun
 
-  bump_bytes : (m : EntryMap) → AreBytes m → AreBytes (bump.bump_applied base_fee ctx signed tx m).entries
-  bump_bytes m each = by_fault m (first_fault (bump.payer_tests base_fee tx (account_at m (bump.payer_of tx)))) each
+  bump_bytes : (m : EntryMap) → IsBegun ctx tx.inner_tx.tx m
+      → AreBytes (bump.bump_applied base_fee ctx signed tx m).entries
+  bump_bytes m begun =
+      by_fault m (first_fault (bump.payer_tests base_fee tx (account_at m (bump.payer_of tx)))) begun
 
 -- ---- envelopes
 
-none_open : (setting : Setting) (id_pool : ℕ) (whole : TransactionEnvelope) → AreSponsors (ctx_in setting id_pool whole)
-none_open setting id_pool whole = record { all = All-nil IsOpener }
+-- what holds before an envelope is applied
+pub record MayApply (setting : Setting) (id_pool : ℕ) (whole : TransactionEnvelope) (m : EntryMap) : Type 0 where
+  pub spelled : IsSpelled transaction_envelope whole
+  pub seq : setting.header.ledger_seq < 2147483647
+  pub settled : IsSettled id_pool m
+  pub each : AreBytes m
+  pub ids : CanDraw (length (operations_of whole)) id_pool
 
-envelope_bytes : (setting : Setting) (id_pool : ℕ) (whole : TransactionEnvelope) (m : EntryMap)
-    → IsSpelled transaction_envelope whole → AreBytes m → AreBytes (envelope_applied setting id_pool whole m).entries
-unfolding envelope_applied transaction_envelope fee_bump_envelope fee_bump_transaction
-envelope_bytes setting id_pool (envelope.V0 signed) m spelled each =
+pub begun_v1 : (setting : Setting) (id_pool : ℕ) (signed : TransactionV1Envelope) (m : EntryMap)
+    → MayApply setting id_pool (envelope.V1 signed) m
+    → IsBegun (ctx_in setting id_pool (envelope.V1 signed)) signed.tx m
+unfolding transaction_envelope
+begun_v1 setting id_pool signed m may = record {
+  spelled = v1_spelled signed (record { within = may.spelled.within; sized = may.spelled.sized });
+  closed = refl;
+  seq = may.seq;
+  settled = may.settled;
+  each = may.each;
+  ids = may.ids;
+}
+
+pub begun_bump : (setting : Setting) (id_pool : ℕ) (signed : FeeBumpTransactionEnvelope) (m : EntryMap)
+    → MayApply setting id_pool (envelope.FeeBump signed) m
+    → IsBegun (ctx_in setting id_pool (envelope.FeeBump signed)) signed.tx.inner_tx.tx m
+unfolding transaction_envelope fee_bump_envelope fee_bump_transaction
+begun_bump setting id_pool signed m may = record {
+  spelled = v1_spelled signed.tx.inner_tx
+      (record { within = may.spelled.within.0.1.1.0.1; sized = may.spelled.sized.0.1.1.0.1 });
+  closed = refl;
+  seq = may.seq;
+  settled = may.settled;
+  each = may.each;
+  ids = may.ids;
+}
+
+envelope_bytes : TransactionLaws → (setting : Setting) (id_pool : ℕ) (whole : TransactionEnvelope) (m : EntryMap)
+    → MayApply setting id_pool whole m → AreBytes (envelope_applied setting id_pool whole m).entries
+unfolding envelope_applied
+envelope_bytes laws setting id_pool (envelope.V0 signed) m may =
     without_used (signed_hash_of setting.network (envelope.V0 signed))
-    (record { 0 = signed.tx.source_account_ed25519 }) signed.tx.operations m each
-envelope_bytes setting id_pool (envelope.V1 signed) m spelled each =
-    transaction_bytes true setting.header.base_fee (ctx_in setting id_pool (envelope.V1 signed))
+    (record { 0 = signed.tx.source_account_ed25519 }) signed.tx.operations m may.each
+envelope_bytes laws setting id_pool (envelope.V1 signed) m may =
+    transaction_bytes laws true setting.header.base_fee (ctx_in setting id_pool (envelope.V1 signed))
     (signed_hash_of setting.network (envelope.V1 signed)) (all_held signed.signatures) signed.tx m
-    (v1_spelled signed (record { within = spelled.within; sized = spelled.sized }))
-    (none_open setting id_pool (envelope.V1 signed)) each
-envelope_bytes setting id_pool (envelope.FeeBump signed) m spelled each =
-    bump_bytes setting.header.base_fee (ctx_in setting id_pool (envelope.FeeBump signed))
+    (begun_v1 setting id_pool signed m may)
+envelope_bytes laws setting id_pool (envelope.FeeBump signed) m may =
+    bump_bytes laws setting.header.base_fee (ctx_in setting id_pool (envelope.FeeBump signed))
     (bump.signed_by (signed_hash_of setting.network (envelope.FeeBump signed)) (all_held signed.signatures)
     (transaction_hash_of setting.network signed.tx.inner_tx.tx) (all_held signed.tx.inner_tx.signatures)) signed.tx
-    (v1_spelled signed.tx.inner_tx
-    (record { within = spelled.within.0.1.1.0.1; sized = spelled.sized.0.1.1.0.1 }))
-    (none_open setting id_pool (envelope.FeeBump signed)) m each
+    m (begun_bump setting id_pool signed m may)
 
-all_bytes : (setting : Setting) (id_pool : ℕ) (envelopes : List TransactionEnvelope) (fees : List ℤ) (m : EntryMap)
-    → All (IsSpelled transaction_envelope) envelopes → AreBytes m
+-- what holds before envelopes are applied: their operations may draw ids that can be written
+pub record MayApplyAll (setting : Setting) (id_pool : ℕ) (envelopes : List TransactionEnvelope)
+    (m : EntryMap) : Type 0 where
+  pub spelled : All (IsSpelled transaction_envelope) envelopes
+  pub seq : setting.header.ledger_seq < 2147483647
+  pub settled : IsSettled id_pool m
+  pub each : AreBytes m
+  pub ids : CanDraw (operation_total envelopes) id_pool
+
+first_ids : (was first rest : ℕ) → CanDraw (first + rest) was → CanDraw first was
+first_ids was first rest le = omega arith
+
+other_ids : (was now first rest : ℕ) → CanDraw (first + rest) was → now ≤ was + first → CanDraw rest now
+other_ids was now first rest le drawn = omega arith
+
+module _ (setting : Setting) (id_pool : ℕ) (whole : TransactionEnvelope) (others : List TransactionEnvelope)
+    (m : EntryMap) (may : MayApplyAll setting id_pool (whole ∷ others) m) where
+  its_ids : CanDraw (length (operations_of whole) + operation_total others) id_pool
+  unfolding operation_total
+  its_ids = may.ids
+
+  pub may_first : MayApply setting id_pool whole m
+  may_first = record {
+    spelled = All-head (IsSpelled transaction_envelope) whole others may.spelled;
+    seq = may.seq;
+    settled = may.settled;
+    each = may.each;
+    ids = first_ids id_pool (length (operations_of whole)) (operation_total others) its_ids;
+  }
+
+  pub may_others : TransactionLaws → MayApplyAll setting (envelope_applied setting id_pool whole m).id_pool others
+      (envelope_applied setting id_pool whole m).entries
+  may_others laws =
+      let fit = operations_fit (operations_of whole)
+      (each_spelled 100 operation (operations_of whole) (all_operations_spelled whole may_first.spelled)) in
+      let sound = envelope_sound laws setting id_pool whole m may.settled may.seq fit in
+      record {
+        spelled = All-tail (IsSpelled transaction_envelope) whole others may.spelled;
+        seq = may.seq;
+        settled = sound.left.settled;
+        each = envelope_bytes laws setting id_pool whole m may_first;
+        ids = other_ids id_pool (envelope_applied setting id_pool whole m).id_pool (length (operations_of whole))
+            (operation_total others) its_ids sound.ids.high;
+      }
+
+all_bytes : TransactionLaws → (setting : Setting) (id_pool : ℕ) (envelopes : List TransactionEnvelope) (fees : List ℤ)
+    (m : EntryMap) → MayApplyAll setting id_pool envelopes m
     → AreBytes (all_applied setting id_pool envelopes fees m).entries
 unfolding all_applied
-all_bytes setting id_pool [] fees m spelled each = each
-all_bytes setting id_pool (whole ∷ others) [] m spelled each = each
-all_bytes setting id_pool (whole ∷ others) (fee ∷ fees) m spelled each =
+all_bytes laws setting id_pool [] fees m may = may.each
+all_bytes laws setting id_pool (whole ∷ others) [] m may = may.each
+all_bytes laws setting id_pool (whole ∷ others) (fee ∷ fees) m may =
     let first = envelope_applied setting id_pool whole m in
-    all_bytes setting first.id_pool others fees first.entries
-    (All-tail (IsSpelled transaction_envelope) whole others spelled)
-    (envelope_bytes setting id_pool whole m (All-head (IsSpelled transaction_envelope) whole others spelled) each)
+    all_bytes laws setting first.id_pool others fees first.entries
+    (may_others setting id_pool whole others m may laws)
 
 -- ---- fees
 
@@ -267,10 +451,22 @@ fees_bytes base (whole ∷ others) m each =
 
 -- ---- sets
 
-pub set_bytes : (setting : Setting) (set : TransactionSet) (m : EntryMap) → IsSpelled transaction_set set → AreBytes m
+-- what holds before the transactions of a set, behind their fees
+pub set_begun : TransactionLaws → LegalSettles → (setting : Setting) (set : TransactionSet) (m : EntryMap)
+    → CanClose setting set m → IsSpelled transaction_set set → length set.txs ≤ 16777216 → AreBytes m
+    → MayApplyAll setting setting.header.id_pool (envelopes_in_order set) (fees_taken_of setting set m).entries
+set_begun laws settles setting set m can spelled few each = record {
+  spelled = all_at (IsSpelled transaction_envelope) set.txs (apply_order_of set) (envelopes_spelled set spelled);
+  seq = can.seq;
+  settled = (all_taken laws setting.header.id_pool (set_base_fee setting.header set.txs) (envelopes_in_order set) m
+      (settles setting.header m can.legal)).settled;
+  each = fees_bytes (set_base_fee setting.header set.txs) (envelopes_in_order set) m each;
+  ids = set_fits setting.header.ledger_seq setting.header.id_pool set spelled few can.legal.header.id_pool can.seq;
+}
+
+pub set_bytes : TransactionLaws → LegalSettles → (setting : Setting) (set : TransactionSet) (m : EntryMap)
+    → CanClose setting set m → IsSpelled transaction_set set → length set.txs ≤ 16777216 → AreBytes m
     → AreBytes (set_done setting set m).entries
-set_bytes setting set m spelled each =
-    all_bytes setting setting.header.id_pool (envelopes_in_order set) (fees_taken_of setting set m).fees
-    (fees_taken_of setting set m).entries
-    (all_at (IsSpelled transaction_envelope) set.txs (apply_order_of set) (envelopes_spelled set spelled))
-    (fees_bytes (set_base_fee setting.header set.txs) (envelopes_in_order set) m each)
+set_bytes laws settles setting set m can spelled few each =
+    all_bytes laws setting setting.header.id_pool (envelopes_in_order set) (fees_taken_of setting set m).fees
+    (fees_taken_of setting set m).entries (set_begun laws settles setting set m can spelled few each)

@@ -1,5 +1,5 @@
 -- What operations on claimable balances, and clawback, answer keeps the bounds on lengths.
-use Rattle.std.proofs.Common.{refl, [], ◌∷◌, Bool}
+use Rattle.std.proofs.Common.{[], ◌∷◌, Bool}
 use Rattle.std.specs.Prelude.{is_some}
 use Rattle.ledger_types.specs.declared.key.LedgerKey.TheVariants as key
 use Rattle.ledger_types.specs.Ids.{account_of}
@@ -71,19 +71,19 @@ not_given debit.NotAuthorized = created create.NotAuthorized tt
 not_given debit.Short = created create.Underfunded tt
 
 added_answers : (ctx : Ctx) (op : CreateClaimableBalanceOp) (clawback : Bool) (m : EntryMap)
-    → Answers (IsDone ctx.id_pool) (creating.added ctx op clawback m)
+    → Answers IsDone (creating.added ctx op clawback m)
 added_answers ctx op clawback m =
-    charge_answers (IsDone ctx.id_pool) (map_after_adding ctx ctx.op_source (creating.new_balance ctx op clawback) m)
+    charge_answers IsDone (map_after_adding ctx ctx.op_source (creating.new_balance ctx op clawback) m)
     (creating.answer create.LowReserve) _ (created create.LowReserve tt)
-    (λ added. record { ends = (created (create.Success (creating.new_id ctx)) (new_id_spelled ctx).within, refl) })
+    (λ added. record { ends = created (create.Success (creating.new_id ctx)) (new_id_spelled ctx).within })
 
 pub create_balance_answers : (ctx : Ctx) (op : CreateClaimableBalanceOp) (m : EntryMap)
-    → Answers (IsDone ctx.id_pool) (creating.create_claimable_balance ctx op m)
+    → Answers IsDone (creating.create_claimable_balance ctx op m)
 create_balance_answers ctx op m =
-    first_answers (IsDone ctx.id_pool) (creating.create_tests op) _ (created create.Malformed tt, tt)
-    (first_answers (IsDone ctx.id_pool) ((is_some (balance_at m (creating.new_id ctx)), operation.NotSupported) ∷ [])
+    first_answers IsDone (creating.create_tests op) _ (created create.Malformed tt, tt)
+    (first_answers IsDone ((is_some (balance_at m (creating.new_id ctx)), operation.NotSupported) ∷ [])
     (creating.given_and_added ctx op m) (not_supported, tt)
-    (change_answers (IsDone ctx.id_pool) (map_after_debit ctx ctx.op_source op.asset op.amount m)
+    (change_answers IsDone (map_after_debit ctx ctx.op_source op.asset op.amount m)
     creating.debit_result _ not_given
     (λ given. added_answers ctx op (creating.can_claw_back ctx op m) given)))
 
@@ -93,32 +93,32 @@ not_taken credit.NotAuthorized = claimed claim.NotAuthorized
 not_taken credit.Full = claimed claim.LineFull
 
 pub claim_answers : (ctx : Ctx) (op : ClaimClaimableBalanceOp) (m : EntryMap)
-    → Answers (IsDone ctx.id_pool) (claiming.claim_claimable_balance ctx op m)
+    → Answers IsDone (claiming.claim_claimable_balance ctx op m)
 claim_answers ctx op m =
-    some_answers (IsDone ctx.id_pool) (balance_at m op.balance_id) (claiming.answer claim.DoesNotExist) _
+    some_answers IsDone (balance_at m op.balance_id) (claiming.answer claim.DoesNotExist) _
     (claimed claim.DoesNotExist)
-    (λ balance. first_answers (IsDone ctx.id_pool) (claiming.claim_tests ctx balance)
+    (λ balance. first_answers IsDone (claiming.claim_tests ctx balance)
     (claiming.removed_and_taken ctx op balance m) (claimed claim.CannotClaim, tt)
-    (change_answers (IsDone ctx.id_pool) (map_after_credit ctx.op_source balance.asset balance.amount
+    (change_answers IsDone (map_after_credit ctx.op_source balance.asset balance.amount
     (map_after_removing (key.ClaimableBalance op.balance_id) m)) claiming.credit_result _ not_taken
-    (λ taken. record { ends = (claimed claim.Success, refl) })))
+    (λ taken. record { ends = claimed claim.Success })))
 
 pub clawback_answers : (ctx : Ctx) (op : ClawbackOp) (m : EntryMap)
-    → Answers (IsDone ctx.id_pool) (clawing.clawback ctx op m)
+    → Answers IsDone (clawing.clawback ctx op m)
 clawback_answers ctx op m =
-    first_answers (IsDone ctx.id_pool) (clawing.clawback_tests ctx op) _ (clawed clawback.Malformed, tt)
-    (some_answers (IsDone ctx.id_pool) (line_of_asset m (account_of op.from) op.asset)
+    first_answers IsDone (clawing.clawback_tests ctx op) _ (clawed clawback.Malformed, tt)
+    (some_answers IsDone (line_of_asset m (account_of op.from) op.asset)
     (clawing.answer clawback.NoTrust) _
     (clawed clawback.NoTrust)
-    (λ line. first_answers (IsDone ctx.id_pool) (clawing.line_tests op.amount line) (clawing.clawed_back ctx op m)
+    (λ line. first_answers IsDone (clawing.line_tests op.amount line) (clawing.clawed_back ctx op m)
     (clawed clawback.NotClawbackEnabled, (clawed clawback.Underfunded, tt))
-    (record { ends = (clawed clawback.Success, refl) })))
+    (record { ends = clawed clawback.Success })))
 
 pub clawback_balance_answers : (ctx : Ctx) (op : ClawbackClaimableBalanceOp) (m : EntryMap)
-    → Answers (IsDone ctx.id_pool) (taking.clawback_claimable_balance ctx op m)
+    → Answers IsDone (taking.clawback_claimable_balance ctx op m)
 clawback_balance_answers ctx op m =
-    some_answers (IsDone ctx.id_pool) (balance_at m op.balance_id) (taking.answer claw.DoesNotExist) _
+    some_answers IsDone (balance_at m op.balance_id) (taking.answer claw.DoesNotExist) _
     (taken claw.DoesNotExist)
-    (λ balance. first_answers (IsDone ctx.id_pool) (taking.balance_tests ctx balance)
+    (λ balance. first_answers IsDone (taking.balance_tests ctx balance)
     (taking.clawed_back ctx op balance m) (taken claw.NotIssuer, (taken claw.NotClawbackEnabled, tt))
-    (record { ends = (taken claw.Success, refl) }))
+    (record { ends = taken claw.Success }))

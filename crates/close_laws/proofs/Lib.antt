@@ -2,6 +2,8 @@ pub mod Unmarked
 pub mod AlikeLegal
 pub mod Spelled
 pub mod SpelledSets
+pub mod FewDrawn
+pub mod FewOfRecords
 pub mod Unrefused
 pub mod NextHeader
 pub mod NextLegal
@@ -15,6 +17,9 @@ pub mod BytesPredicates
 pub mod BytesOffers
 pub mod BytesTrust
 pub mod BytesClaims
+pub mod BytesCrossing
+pub mod BytesSales
+pub mod ManagedOffers
 pub mod BytesOperations
 pub mod BytesSets
 pub mod Short
@@ -28,7 +33,6 @@ pub mod AnswerSteps
 pub mod TrustAnswers
 pub mod ClaimAnswers
 pub mod OperationAnswers
-pub mod Drawn
 pub mod SetResults
 pub mod HeaderSpelled
 pub mod Taken

@@ -3,7 +3,7 @@ use Rattle.std.proofs.Common.{◌+◌, sym, ap, subst}
 use Rattle.ledger_types.specs.declared.header.LedgerHeader.{LedgerHeader}
 use Rattle.xdr_header.specs.Header.{ledger_header}
 use Rattle.legal_rules.specs.Legal.{IsLegal}
-use Rattle.op_laws.specs.Steps.{SettledLegal, SettledReady, SettledHeld}
+use Rattle.op_laws.specs.Steps.{TransactionLaws, LegalSettles, SettledLegal}
 use Rattle.bucket_levels.specs.Hash.{list_hash}
 use Rattle.bucket_levels.specs.Laws.{StepsStand}
 use Rattle.tx_apply.specs.Laws.{SetsConserve}
@@ -14,13 +14,13 @@ use Rattle.close_laws.proofs.NextLegal.{next_is_legal}
 use Rattle.close_laws.proofs.NextEntries.{entries_stay_spellable}
 use Rattle.close_laws.proofs.HeaderSpelled.{next_header_is_spelled}
 
-pub next_is_closing : SettledLegal → SettledReady → SettledHeld → SetsConserve → StepsStand → NextIsClosing
-next_is_closing legal ready least conserve stand s closing closed can by few =
+pub next_is_closing : TransactionLaws → LegalSettles → SettledLegal → SetsConserve → StepsStand → NextIsClosing
+next_is_closing laws settles legal conserve stand s closing closed can by few =
     let levels = closed.state.levels in
     let entries = closed.state.entries in
     let stands = stand (s.header.ledger_seq + 1) by.fresh s.levels levels s.entries entries can.state.count
     can.state.marked can.state.standing by.told.changes by.levels in
-    let written = entries_stay_spellable legal conserve ready s closing entries can by.entries in
+    let written = entries_stay_spellable laws settles legal conserve s closing entries can by.entries in
     record {
       legal = subst (λ (h : LedgerHeader). IsLegal h entries) (sym by.header)
           (next_is_legal legal conserve s closing entries (list_hash levels) can by.entries);
@@ -29,7 +29,7 @@ next_is_closing legal ready least conserve stand s closing closed can by few =
       standing = stands.1;
       hash = sym (ap (λ (h : LedgerHeader). h.bucket_list_hash) by.header);
       header = subst (IsSpelled ledger_header) (sym by.header)
-          (next_header_is_spelled conserve least s closing (list_hash levels) can (hash_spelled _));
+          (next_header_is_spelled conserve laws.held s closing (list_hash levels) can (hash_spelled _));
       entries = written.0;
       built = written.1;
       files = few;

@@ -50,7 +50,7 @@ use Rattle.legal_rules.specs.PoolShares.{uses, uses_by}
 use Rattle.legal_rules.specs.Legal.{view, IsLegal}
 use Rattle.legal_rules.specs.Ranges.{IsAccountInRange, AreLineFlags, IsTrustLineInRange, IsBalanceInRange}
 use Rattle.legal_rules.specs.Ranges.{IsBodyInRange}
-use Rattle.op_laws.specs.Steps.{SettledLegal, SettledReady}
+use Rattle.op_laws.specs.Steps.{TransactionLaws, LegalSettles, SettledLegal}
 use Rattle.entry_changes.specs.Spellable.{AreSpellable}
 use Rattle.header_chain.specs.SkipList.{finished}
 use Rattle.tx_apply.specs.Laws.{SetsConserve}
@@ -61,7 +61,7 @@ use Rattle.close_laws.proofs.Unmarked.{AreMapsAlike, next_alike, stood}
 use Rattle.close_laws.proofs.Spelled.{each_spelled}
 use Rattle.close_laws.proofs.SpelledSets.{set_spelled}
 use Rattle.close_laws.proofs.Unrefused.{seq_below}
-use Rattle.close_laws.proofs.NextLegal.{next_settled, next_is_legal}
+use Rattle.close_laws.proofs.NextLegal.{can_close, next_settled, next_is_legal}
 use Rattle.close_laws.proofs.Bytes.{IsIdIf, no_id, IsKey, sponsors_in, AreAccountBytes, AreDataBytes, AreBodyBytes}
 use Rattle.close_laws.proofs.Bytes.{AreLineBytes, AreBalanceBytes, AreOfferBytes, AreEntryBytes, AreBytes}
 use Rattle.close_laws.proofs.BytesSets.{set_bytes}
@@ -214,7 +214,7 @@ entry_seq e spelled = below spelled.sized.0
     below : {n : ℕ} → n < 256 ^ 4 → n < 4294967296
     below lt = omega arith
 
-map_bytes : (m : EntryMap) → AreSpellable m → AreBuilt m → AreBytes m
+pub map_bytes : (m : EntryMap) → AreSpellable m → AreBuilt m → AreBytes m
 map_bytes m spellable built = λ k e there.
     let found = spellable k e there in
     entry_bytes e (record { within = found.within; sized = found.sized }) (built k e there)
@@ -377,14 +377,15 @@ balance_numbers balance range = record {
 
 -- ---- all entries
 
-module _ (legal : SettledLegal) (conserve : SetsConserve) (ready : SettledReady) (s : ClosingState)
-    (closing : CloseRecord) (after : EntryMap) (can : IsClosable s closing) (closed : AreClosed s closing after) where
+module _ (laws : TransactionLaws) (settles : LegalSettles) (legal : SettledLegal) (conserve : SetsConserve)
+    (s : ClosingState) (closing : CloseRecord) (after : EntryMap) (can : IsClosable s closing)
+    (closed : AreClosed s closing after) where
   next_bytes : AreBytes after
   next_bytes =
       alike_bytes (applied_in s closing).entries after
       (next_alike (s.header.ledger_seq + 1) s.entries (applied_in s closing).entries after closed)
-      (set_bytes (setting_in s closing) closing.tx_set s.entries (set_spelled closing can.spelled)
-      (map_bytes s.entries can.state.entries can.state.built))
+      (set_bytes laws settles (setting_in s closing) closing.tx_set s.entries (can_close s closing can)
+      (set_spelled closing can.spelled) can.few (map_bytes s.entries can.state.entries can.state.built))
 
   next_seq : (k : LedgerKey) (e : LedgerEntry) → get after k ≡ Some e → e.last_modified_ledger_seq < 4294967296
   next_seq k e there =
@@ -429,7 +430,7 @@ module _ (legal : SettledLegal) (conserve : SetsConserve) (ready : SettledReady)
       let at = stands k e account there is in
       account_numbers account (range k e (body.Account account) there is)
       (subst AreSubentriesFew is (next_legal.few k e there)) (subst DoReservesFit is (next_legal.fits k e there))
-      ((ready (applied_in s closing).id_pool after settled).ready account.account_id account at)
+      ((laws.ready (applied_in s closing).id_pool after settled).ready account.account_id account at)
       (bytes_of k e (body.Account account) there is).selling
   numbers_of k e (body.TrustLine held) there is =
       line_numbers held (range k e (body.TrustLine held) there is) (sym (ap (stated Uses) is) ∙ used k e there)
@@ -453,8 +454,8 @@ module _ (legal : SettledLegal) (conserve : SetsConserve) (ready : SettledReady)
       by (body.Offer offer) bytes = tt
       by (body.LiquidityPool pool) bytes = absurd bytes
 
-pub entries_stay_spellable : SettledLegal → SetsConserve → SettledReady → EntriesStaySpellable
-entries_stay_spellable legal conserve ready s closing after can closed = (
-  next_spellable legal conserve ready s closing after can closed,
-  next_built legal conserve ready s closing after can closed,
+pub entries_stay_spellable : TransactionLaws → LegalSettles → SettledLegal → SetsConserve → EntriesStaySpellable
+entries_stay_spellable laws settles legal conserve s closing after can closed = (
+  next_spellable laws settles legal conserve s closing after can closed,
+  next_built laws settles legal conserve s closing after can closed,
 )

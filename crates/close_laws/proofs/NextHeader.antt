@@ -15,11 +15,9 @@ use Rattle.legal_rules.specs.Headers.{IsHeaderInRange}
 use Rattle.header_chain.specs.Upgrades.{upgrade_in, upgraded, upgraded_if, all_upgraded}
 use Rattle.header_chain.specs.SkipList.{finished}
 use Rattle.tx_apply.specs.Fees.{map_after_fee, fees_taken, sum_of}
-use Rattle.tx_apply.specs.Set.{envelopes_in_order, fees_taken_of}
 use Rattle.close_rules.specs.State.{ClosingState}
 use Rattle.close_rules.specs.Refusals.{record_fault}
-use Rattle.close_rules.specs.Close.{setting_in, applied_in, filled_header, upgraded_header}
-use Rattle.close_laws.proofs.Drawn.{all_ids}
+use Rattle.close_rules.specs.Close.{applied_in, filled_header, upgraded_header}
 use Rattle.close_laws.proofs.Unrefused.{IsGood, IsGoodRead, upgrades_good}
 
 -- ---- upgrades
@@ -156,12 +154,13 @@ one_above seq below = omega arith
 above_0 : (seq : ℕ) → 1 ≤ seq + 1
 above_0 seq = omega arith
 
-ids_few : (seq was now : ℕ) → was ≤ seq * 2 ^ 32 → now ≡ was → now ≤ (seq + 1) * 2 ^ 32
-ids_few seq was now low same = omega arith
+-- fewer ids are drawn than a ledger may draw
+ids_few : (seq was now : ℕ) → was ≤ seq * 2 ^ 32 → now ≤ was + 1677721600 → now ≤ (seq + 1) * 2 ^ 32
+ids_few seq was now low few = omega arith
 
 filled_range : (s : ClosingState) (closing : CloseRecord) → IsHeaderInRange s.header → s.header.ledger_seq < 2147483647
-    → IsHeaderInRange (filled_header s closing)
-filled_range s closing range seq = record {
+    → (applied_in s closing).id_pool ≤ s.header.id_pool + 1677721600 → IsHeaderInRange (filled_header s closing)
+filled_range s closing range seq few = record {
   version = range.version;
   seq_low = above_0 s.header.ledger_seq;
   seq_high = one_above s.header.ledger_seq seq;
@@ -169,10 +168,7 @@ filled_range s closing range seq = record {
   base_reserve = range.base_reserve;
   total_coins = range.total_coins;
   fee_pool = pool_low s.header.fee_pool _ range.fee_pool (fees_low _ _ s.entries);
-  id_pool = ids_few s.header.ledger_seq s.header.id_pool (applied_in s closing).id_pool range.id_pool
-      (all_ids (setting_in s closing) s.header.id_pool (envelopes_in_order closing.tx_set)
-      (fees_taken_of (setting_in s closing) closing.tx_set s.entries).fees
-      (fees_taken_of (setting_in s closing) closing.tx_set s.entries).entries);
+  id_pool = ids_few s.header.ledger_seq s.header.id_pool (applied_in s closing).id_pool range.id_pool few;
   flags = range.flags;
 }
 
@@ -198,14 +194,37 @@ finished_range was h list_hash from = record {
   };
 }
 
+-- what upgrades leave counts what the set leaves
+all_counts : (was h : LedgerHeader) (asked : List (Option LedgerUpgrade)) → KeepsCounts was h
+    → KeepsCounts was (all_upgraded h asked)
+all_counts was h [] kept = kept
+all_counts was h (None ∷ others) kept = all_counts was h others kept
+all_counts was h (Some asked ∷ others) kept =
+    all_counts was (upgraded h asked) others (counts_upgraded was h asked kept)
+
+-- the header counts what the set leaves, whatever hash the levels have
+pub next_counts : (s : ClosingState) (closing : CloseRecord) (list_hash : Hash)
+    → KeepsCounts (filled_header s closing) (finished (upgraded_header s closing) list_hash)
+next_counts s closing list_hash =
+    let kept = all_counts (filled_header s closing) (filled_header s closing)
+    (map upgrade_in closing.scp_value.upgrades)
+    (record { ledger_seq = refl; total_coins = refl; fee_pool = refl; id_pool = refl }) in
+    record {
+      ledger_seq = kept.ledger_seq;
+      total_coins = kept.total_coins;
+      fee_pool = kept.fee_pool;
+      id_pool = kept.id_pool;
+    }
+
 -- the header is in its ranges and counts what the set leaves, whatever hash the levels have
 pub next_range : (s : ClosingState) (closing : CloseRecord) (list_hash : Hash) → IsHeaderInRange s.header
     → record_fault s closing ≡ None → s.header.ledger_seq < 2147483647
+    → (applied_in s closing).id_pool ≤ s.header.id_pool + 1677721600
     → IsUpgradedFrom (filled_header s closing) (finished (upgraded_header s closing) list_hash)
-next_range s closing list_hash range none seq =
+next_range s closing list_hash range none seq few =
     finished_range (filled_header s closing) (upgraded_header s closing) list_hash
     (upgraded_all (filled_header s closing) (filled_header s closing) (map upgrade_in closing.scp_value.upgrades)
     (upgrades_good s closing none) record {
-      range = filled_range s closing range seq;
+      range = filled_range s closing range seq few;
       counts = record { ledger_seq = refl; total_coins = refl; fee_pool = refl; id_pool = refl };
     })

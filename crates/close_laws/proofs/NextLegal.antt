@@ -1,5 +1,5 @@
 -- A close leaves a legal state.
-use Rattle.std.proofs.Common.{sym, ap, subst, ◌∙◌}
+use Rattle.std.proofs.Common.{sym, ap, subst, ◌∙◌, ℕ, ◌+◌, ◌≤◌, arith}
 use Rattle.std.specs.Prelude.{ℤ, ◌+ℤ◌}
 use Rattle.ledger_types.specs.declared.ids.Hash.{Hash}
 use Rattle.ledger_types.specs.declared.asset.Asset.TheVariants as asset
@@ -10,13 +10,15 @@ use Rattle.legal_rules.specs.Supply.{held}
 use Rattle.op_laws.specs.Steps.{SettledLegal}
 use Rattle.op_laws.specs.Underway.{IsSettled}
 use Rattle.header_chain.specs.SkipList.{finished}
-use Rattle.tx_apply.specs.Laws.{CanClose, IsConserved, SetsConserve}
+use Rattle.tx_apply.specs.Laws.{operation_total, CanClose, IsConserved, SetsConserve}
+use Rattle.tx_apply.specs.Set.{envelopes_in_order}
 use Rattle.close_rules.specs.State.{ClosingState}
 use Rattle.close_rules.specs.Close.{setting_in, applied_in, filled_header, upgraded_header}
 use Rattle.close_laws.specs.Legal.{IsClosable, AreClosed, NextIsLegal}
 use Rattle.close_laws.proofs.Unmarked.{next_alike, total_alike}
 use Rattle.close_laws.proofs.AlikeLegal.{settled_alike}
 use Rattle.close_laws.proofs.SpelledSets.{set_spelled, set_fit}
+use Rattle.close_laws.proofs.FewDrawn.{set_draws}
 use Rattle.close_laws.proofs.Unrefused.{seq_below}
 use Rattle.close_laws.proofs.NextHeader.{IsUpgradedFrom, next_range}
 
@@ -28,15 +30,23 @@ can_close s closing can = record {
   fit = set_fit closing.tx_set (set_spelled closing can.spelled);
 }
 
+drawn_few : (was total now : ℕ) → now ≤ was + total → total ≤ 1677721600 → now ≤ was + 1677721600
+drawn_few was total now le few = omega arith
+
 module _ (conserve : SetsConserve) (s : ClosingState) (closing : CloseRecord) (can : IsClosable s closing) where
   pub conserved : IsConserved (setting_in s closing) closing.tx_set s.entries
   conserved = conserve (setting_in s closing) closing.tx_set s.entries (can_close s closing can)
+
+  few_drawn : (applied_in s closing).id_pool ≤ s.header.id_pool + 1677721600
+  few_drawn =
+      drawn_few s.header.id_pool (operation_total (envelopes_in_order closing.tx_set)) (applied_in s closing).id_pool
+      conserved.ids.high (set_draws closing.tx_set (set_spelled closing can.spelled) can.few)
 
   pub upgraded_from : (list_hash : Hash)
       → IsUpgradedFrom (filled_header s closing) (finished (upgraded_header s closing) list_hash)
   upgraded_from list_hash =
       next_range s closing list_hash can.state.legal.header can.unrefused
-      (seq_below s closing can.unrefused can.state.legal.header.seq_high)
+      (seq_below s closing can.unrefused can.state.legal.header.seq_high) few_drawn
 
   -- what stands behind the close is settled
   pub next_settled : (after : EntryMap) → AreClosed s closing after → IsSettled (applied_in s closing).id_pool after

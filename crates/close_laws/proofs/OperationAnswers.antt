@@ -1,5 +1,5 @@
 -- What operations answer keeps the bounds on lengths.
-use Rattle.std.proofs.Common.{ℕ, refl, List, [], ◌∷◌, Option, Some, None, Ok, Bool, true, false}
+use Rattle.std.proofs.Common.{ℕ, List, [], ◌∷◌, Option, Some, None, Ok, Bool, true, false}
 use Rattle.std.proofs.Common.{if◌then◌else◌, pos}
 use Rattle.std.specs.Prelude.{int_lt, nat_eq, not, is_some}
 use Rattle.std.specs.FinMap.{get}
@@ -43,6 +43,7 @@ use Rattle.op_types.specs.declared.sponsor_results.EndSponsoringFutureReservesRe
 use Rattle.op_types.specs.declared.sponsor_results.RevokeSponsorshipResult.{RevokeSponsorshipResult}
 use Rattle.op_types.specs.declared.sponsor_results.RevokeSponsorshipResult.TheVariants as revoke
 use Rattle.xdr_core.specs.Leaves.{i64}
+use Rattle.xdr_tx.specs.Operations.{operation_body}
 use Rattle.xdr_results.specs.Answers.{create_account_result, payment_result, set_options_result, account_merge_result}
 use Rattle.xdr_results.specs.Answers.{manage_data_result, bump_sequence_result}
 use Rattle.xdr_results.specs.Answers.{begin_sponsoring_future_reserves_result, end_sponsoring_future_reserves_result}
@@ -86,14 +87,19 @@ use Rattle.op_claim.specs.ClaimClaimableBalance as claiming
 use Rattle.op_claim.specs.Clawback as clawing
 use Rattle.op_claim.specs.ClawbackClaimableBalance as taking
 use Rattle.op_claim.specs.Operations.{claim_operation}
+use Rattle.op_offers.specs.Operations.{attempt_of, offers_operation}
 use Rattle.op_sponsor.specs.BeginSponsoringFutureReserves as beginning
 use Rattle.op_sponsor.specs.EndSponsoringFutureReserves as ending
 use Rattle.op_sponsor.specs.RevokeSponsorship as revoking
 use Rattle.op_sponsor.specs.Operations.{sponsor_operation}
 use Rattle.op_laws.specs.AnyOperation.{any_operation}
+use Rattle.close_rules.specs.State.{IsSpelled}
 use Rattle.close_laws.proofs.AnswerSteps.{IsAnswer, no_account, not_supported, Answers, Any, IsDone, first_answers}
 use Rattle.close_laws.proofs.AnswerSteps.{some_answers, charge_answers, change_answers, step_answers, either_answers}
 use Rattle.close_laws.proofs.AnswerSteps.{done_answers}
+use Rattle.close_laws.proofs.Bytes.{IsId}
+use Rattle.close_laws.proofs.BytesSteps.{AreWorkBytes}
+use Rattle.close_laws.proofs.ManagedOffers.{CanTrade, offer_sold, passively_sold, offer_bought}
 use Rattle.close_laws.proofs.TrustAnswers.{trust_answers, allow_answers, flag_answers}
 use Rattle.close_laws.proofs.ClaimAnswers.{create_balance_answers, claim_answers, clawback_answers}
 use Rattle.close_laws.proofs.ClaimAnswers.{clawback_balance_answers}
@@ -140,37 +146,37 @@ revoked_with code = record { within = tt }
 -- ---- operations
 
 create_answers : (ctx : Ctx) (op : CreateAccountOp) (m : EntryMap)
-    → Answers (IsDone ctx.id_pool) (creating.create_account ctx op m)
+    → Answers IsDone (creating.create_account ctx op m)
 create_answers ctx op m =
-    first_answers (IsDone ctx.id_pool) (creating.start_tests ctx op m) (creating.added_and_paid ctx op m)
+    first_answers IsDone (creating.start_tests ctx op m) (creating.added_and_paid ctx op m)
     (created create.Malformed, (created create.AlreadyExist, tt))
-    (charge_answers (IsDone ctx.id_pool) (map_after_adding ctx op.destination (creating.new_entry ctx op) m)
+    (charge_answers IsDone (map_after_adding ctx op.destination (creating.new_entry ctx op) m)
     (creating.answer create.LowReserve) _ (created create.LowReserve)
-    (λ added. some_answers (IsDone ctx.id_pool)
+    (λ added. some_answers IsDone
     (lumens.map_after_lumens_debit ctx ctx.op_source op.starting_balance added)
     (creating.answer create.Underfunded) _ (created create.Underfunded)
-    (λ given. record { ends = (created create.Success, refl) })))
+    (λ given. record { ends = created create.Success })))
 
 merge_answers : (ctx : Ctx) (op : AccountMergeOp) (m : EntryMap)
-    → Answers (IsDone ctx.id_pool) (merging.account_merge ctx op m)
+    → Answers IsDone (merging.account_merge ctx op m)
 merge_answers ctx op m =
-    first_answers (IsDone ctx.id_pool) (merging.destination_tests ctx op m)
+    first_answers IsDone (merging.destination_tests ctx op m)
     (merging.merge_of ctx op m (account_at m ctx.op_source))
     (merged merge.Malformed, (merged merge.NoAccount, tt))
-    (some_answers (IsDone ctx.id_pool) (account_at m ctx.op_source) operation.NoAccount _ no_account
-    (λ account. first_answers (IsDone ctx.id_pool) (merging.source_tests ctx account)
+    (some_answers IsDone (account_at m ctx.op_source) operation.NoAccount _ no_account
+    (λ account. first_answers IsDone (merging.source_tests ctx account)
     (merging.taken_and_removed ctx op account m)
     (merged merge.ImmutableSet, (merged merge.HasSubEntries, (merged merge.SeqnumTooFar, (merged merge.IsSponsor, tt))))
-    (some_answers (IsDone ctx.id_pool) (lumens.map_after_lumens_credit (account_of op.destination) account.balance m)
+    (some_answers IsDone (lumens.map_after_lumens_credit (account_of op.destination) account.balance m)
     (merging.answer merge.DestFull) _ (merged merge.DestFull)
-    (λ taken. record { ends = (merged (merge.Success account.balance), refl) }))))
+    (λ taken. record { ends = merged (merge.Success account.balance) }))))
 
 bump_answers : (ctx : Ctx) (op : BumpSequenceOp) (m : EntryMap)
-    → Answers (IsDone ctx.id_pool) (bumping.bump_sequence ctx op m)
+    → Answers IsDone (bumping.bump_sequence ctx op m)
 bump_answers ctx op m =
-    first_answers (IsDone ctx.id_pool) ((int_lt op.bump_to (pos 0), bumping.answer bump.BadSeq) ∷ []) _
+    first_answers IsDone ((int_lt op.bump_to (pos 0), bumping.answer bump.BadSeq) ∷ []) _
     (bumped bump.BadSeq, tt)
-    (record { ends = (bumped bump.Success, refl) })
+    (record { ends = bumped bump.Success })
 
 credited : (fault : CreditFault) → IsAnswer (paying.credit_result fault)
 credited credit.NoLine = paid pay.NoTrust
@@ -182,43 +188,43 @@ debited debit.NoLine = paid pay.SrcNoTrust
 debited debit.NotAuthorized = paid pay.SrcNotAuthorized
 debited debit.Short = paid pay.Underfunded
 
-pay_answers : (ctx : Ctx) (op : PaymentOp) (m : EntryMap) → Answers (IsDone ctx.id_pool) (paying.payment ctx op m)
+pay_answers : (ctx : Ctx) (op : PaymentOp) (m : EntryMap) → Answers IsDone (paying.payment ctx op m)
 pay_answers ctx op m =
-    first_answers (IsDone ctx.id_pool) (paying.payment_tests op) _ (paid pay.Malformed, tt)
-    (either_answers ctx.id_pool (paying.is_to_itself ctx op) (paying.paid ctx op m)
+    first_answers IsDone (paying.payment_tests op) _ (paid pay.Malformed, tt)
+    (either_answers (paying.is_to_itself ctx op) (paying.paid ctx op m)
     (unless_refused (paying.destination_tests op m) (paying.taken_and_given ctx op m))
-    (record { ends = (paid pay.Success, refl) })
-    (first_answers (IsDone ctx.id_pool) (paying.destination_tests op m) (paying.taken_and_given ctx op m)
+    (record { ends = paid pay.Success })
+    (first_answers IsDone (paying.destination_tests op m) (paying.taken_and_given ctx op m)
     (paid pay.NoDestination, tt)
-    (change_answers (IsDone ctx.id_pool) (map_after_credit (account_of op.destination) op.asset op.amount m)
+    (change_answers IsDone (map_after_credit (account_of op.destination) op.asset op.amount m)
     paying.credit_result _ credited
-    (λ taken. change_answers (IsDone ctx.id_pool) (map_after_debit ctx ctx.op_source op.asset op.amount taken)
+    (λ taken. change_answers IsDone (map_after_debit ctx ctx.op_source op.asset op.amount taken)
     paying.debit_result _ debited
-    (λ given. record { ends = (paid pay.Success, refl) })))))
+    (λ given. record { ends = paid pay.Success })))))
 
 value_answers : (ctx : Ctx) (name value : List ℕ) (m : EntryMap) (found : Option DataEntry)
-    → Answers (IsDone ctx.id_pool) (managing.valued ctx name value m found)
+    → Answers IsDone (managing.valued ctx name value m found)
 value_answers ctx name value m None =
-    charge_answers (IsDone ctx.id_pool) (map_after_adding ctx ctx.op_source (managing.new_data ctx name value) m)
+    charge_answers IsDone (map_after_adding ctx ctx.op_source (managing.new_data ctx name value) m)
     (managing.answer manage.LowReserve) _ (managed manage.LowReserve)
-    (λ added. record { ends = (managed manage.Success, refl) })
-value_answers ctx name value m (Some was) = record { ends = (managed manage.Success, refl) }
+    (λ added. record { ends = managed manage.Success })
+value_answers ctx name value m (Some was) = record { ends = managed manage.Success }
 
 name_answers : (ctx : Ctx) (name : List ℕ) (m : EntryMap) (value : Option (List ℕ))
-    → Answers (IsDone ctx.id_pool) (managing.managed ctx name m value)
+    → Answers IsDone (managing.managed ctx name m value)
 name_answers ctx name m None =
-    first_answers (IsDone ctx.id_pool) ((
+    first_answers IsDone ((
       not (is_some (data_at m ctx.op_source name)),
       managing.answer
           manage.NameNotFound,
     ) ∷ []) _
-    (managed manage.NameNotFound, tt) (record { ends = (managed manage.Success, refl) })
+    (managed manage.NameNotFound, tt) (record { ends = managed manage.Success })
 name_answers ctx name m (Some value) = value_answers ctx name value m (data_at m ctx.op_source name)
 
 data_answers : (ctx : Ctx) (op : ManageDataOp) (m : EntryMap)
-    → Answers (IsDone ctx.id_pool) (managing.manage_data ctx op m)
+    → Answers IsDone (managing.manage_data ctx op m)
 data_answers ctx op m =
-    first_answers (IsDone ctx.id_pool) (managing.name_tests op.data_name)
+    first_answers IsDone (managing.name_tests op.data_name)
     (managing.managed ctx op.data_name m op.data_value)
     (managed manage.InvalidName, tt) (name_answers ctx op.data_name m op.data_value)
 
@@ -243,9 +249,9 @@ signer_answers ctx account m (Some one) =
     either false = weight_answers ctx one account m (found_signer one.key (Some account))
 
 options_answers : (ctx : Ctx) (op : SetOptionsOp) (m : EntryMap)
-    → Answers (IsDone ctx.id_pool) (options.set_options ctx op m)
+    → Answers IsDone (options.set_options ctx op m)
 options_answers ctx op m =
-    first_answers (IsDone ctx.id_pool) (tests.given_tests ctx.op_source op) _ (
+    first_answers IsDone (tests.given_tests ctx.op_source op) _ (
       optioned set.UnknownFlag,
       (
         optioned set.BadFlags,
@@ -255,85 +261,100 @@ options_answers ctx op m =
         ),
       ),
     )
-    (first_answers (IsDone ctx.id_pool) (tests.inflation_tests op m)
+    (first_answers IsDone (tests.inflation_tests op m)
     (options.options_of ctx op m (account_at m ctx.op_source))
     (optioned set.InvalidInflation, tt)
-    (some_answers (IsDone ctx.id_pool) (account_at m ctx.op_source) operation.NoAccount _ no_account
-    (λ account. first_answers (IsDone ctx.id_pool) (tests.source_tests op account)
+    (some_answers IsDone (account_at m ctx.op_source) operation.NoAccount _ no_account
+    (λ account. first_answers IsDone (tests.source_tests op account)
     (options.options_set ctx op account m)
     (optioned set.CantChange, (optioned set.AuthRevocableRequired, tt))
-    (step_answers (IsDone ctx.id_pool) (signers.map_after_signer ctx account m op.signer) _
+    (step_answers IsDone (signers.map_after_signer ctx account m op.signer) _
     (signer_answers ctx account m op.signer)
-    (λ signed. record { ends = (optioned set.Success, refl) })))))
+    (λ signed. record { ends = optioned set.Success })))))
 
 begin_answers : (ctx : Ctx) (op : BeginSponsoringFutureReservesOp) (m : EntryMap)
-    → Answers (IsDone ctx.id_pool) (beginning.begin_sponsoring ctx op m)
+    → Answers IsDone (beginning.begin_sponsoring ctx op m)
 begin_answers ctx op m =
-    first_answers (IsDone ctx.id_pool) (beginning.begin_tests ctx op) _
+    first_answers IsDone (beginning.begin_tests ctx op) _
     (begun begin.Malformed, (begun begin.AlreadySponsored, (begun begin.Recursive, tt)))
-    (record { ends = (begun begin.Success, refl) })
+    (record { ends = begun begin.Success })
 
-end_answers : (ctx : Ctx) (m : EntryMap) → Answers (IsDone ctx.id_pool) (ending.end_sponsoring ctx m)
+end_answers : (ctx : Ctx) (m : EntryMap) → Answers IsDone (ending.end_sponsoring ctx m)
 end_answers ctx m =
-    some_answers (IsDone ctx.id_pool) (ending.place_of_sponsorship ctx) (ending.answer end.NotSponsored) _
+    some_answers IsDone (ending.place_of_sponsorship ctx) (ending.answer end.NotSponsored) _
     (ended end.NotSponsored)
-    (λ place. record { ends = (ended end.Success, refl) })
+    (λ place. record { ends = ended end.Success })
 
 entry_answers : (ctx : Ctx) (k : LedgerKey) (m : EntryMap)
-    → Answers (IsDone ctx.id_pool) (revoking.revoke_entry ctx k m)
+    → Answers IsDone (revoking.revoke_entry ctx k m)
 entry_answers ctx k m =
-    first_answers (IsDone ctx.id_pool) ((revoking.is_malformed k, revoking.answer revoke.Malformed) ∷ [])
+    first_answers IsDone ((revoking.is_malformed k, revoking.answer revoke.Malformed) ∷ [])
     (revoking.entry_revoked ctx k m (get m k)) (revoked_with revoke.Malformed, tt)
-    (some_answers (IsDone ctx.id_pool) (get m k) (revoking.answer revoke.DoesNotExist) _
+    (some_answers IsDone (get m k) (revoking.answer revoke.DoesNotExist) _
     (revoked_with revoke.DoesNotExist)
-    (λ entry. first_answers (IsDone ctx.id_pool) (revoking.entry_tests ctx entry) (revoking.entry_moved ctx k m)
+    (λ entry. first_answers IsDone (revoking.entry_tests ctx entry) (revoking.entry_moved ctx k m)
     (revoked_with revoke.NotSponsor, (revoked_with revoke.OnlyTransferable, tt))
-    (charge_answers (IsDone ctx.id_pool) (map_after_moving ctx k (open_sponsor ctx ctx.op_source) m)
+    (charge_answers IsDone (map_after_moving ctx k (open_sponsor ctx ctx.op_source) m)
     (revoking.answer revoke.LowReserve) _ (revoked_with revoke.LowReserve)
-    (λ moved. record { ends = (revoked_with revoke.Success, refl) }))))
+    (λ moved. record { ends = revoked_with revoke.Success }))))
 
 signing_answers : (ctx : Ctx) (id : AccountId) (k : SignerKey) (m : EntryMap)
-    → Answers (IsDone ctx.id_pool) (revoking.revoke_signer ctx id k m)
+    → Answers IsDone (revoking.revoke_signer ctx id k m)
 signing_answers ctx id k m =
-    some_answers (IsDone ctx.id_pool) (found_signer k (account_at m id)) (revoking.answer revoke.DoesNotExist) _
+    some_answers IsDone (found_signer k (account_at m id)) (revoking.answer revoke.DoesNotExist) _
     (revoked_with revoke.DoesNotExist)
-    (λ found. first_answers (IsDone ctx.id_pool) (revoking.signer_tests ctx id found) (revoking.signer_moved ctx id k m)
+    (λ found. first_answers IsDone (revoking.signer_tests ctx id found) (revoking.signer_moved ctx id k m)
     (revoked_with revoke.NotSponsor, tt)
-    (charge_answers (IsDone ctx.id_pool) (map_after_moving_signer ctx id k (open_sponsor ctx ctx.op_source) m)
+    (charge_answers IsDone (map_after_moving_signer ctx id k (open_sponsor ctx ctx.op_source) m)
     (revoking.answer revoke.LowReserve) _ (revoked_with revoke.LowReserve)
-    (λ moved. record { ends = (revoked_with revoke.Success, refl) })))
+    (λ moved. record { ends = revoked_with revoke.Success })))
 
 revoke_answers : (ctx : Ctx) (op : RevokeSponsorshipOp) (m : EntryMap)
-    → Answers (IsDone ctx.id_pool) (revoking.revoke_sponsorship ctx op m)
+    → Answers IsDone (revoking.revoke_sponsorship ctx op m)
 revoke_answers ctx (revoked.LedgerEntry k) m = entry_answers ctx k m
 revoke_answers ctx (revoked.Signer id k) m = signing_answers ctx id k m
 
-pub any_answers : (ctx : Ctx) (of : OperationBody) (m : EntryMap) → IsDone ctx.id_pool (any_operation ctx of m)
+pub any_answers : (ctx : Ctx) (of : OperationBody) (m : EntryMap) → CanTrade ctx m → IsId ctx.op_source
+    → IsSpelled operation_body of → AreWorkBytes ctx m → IsDone (any_operation ctx of m)
 unfolding any_operation account_operation options_operation payment_operation trust_operation flags_operation
-    claim_operation sponsor_operation
-any_answers ctx (body.CreateAccount op) m =
+    claim_operation sponsor_operation offers_operation
+any_answers ctx (body.CreateAccount op) m can id spelled work =
     done_answers ctx m (creating.create_account ctx op m) (create_answers ctx op m)
-any_answers ctx (body.AccountMerge op) m = done_answers ctx m (merging.account_merge ctx op m) (merge_answers ctx op m)
-any_answers ctx (body.BumpSequence op) m = done_answers ctx m (bumping.bump_sequence ctx op m) (bump_answers ctx op m)
-any_answers ctx (body.SetOptions op) m = done_answers ctx m (options.set_options ctx op m) (options_answers ctx op m)
-any_answers ctx (body.ManageData op) m = done_answers ctx m (managing.manage_data ctx op m) (data_answers ctx op m)
-any_answers ctx (body.Payment op) m = done_answers ctx m (paying.payment ctx op m) (pay_answers ctx op m)
-any_answers ctx (body.ChangeTrust op) m =
+any_answers ctx (body.AccountMerge op) m can id spelled work =
+    done_answers ctx m (merging.account_merge ctx op m) (merge_answers ctx op m)
+any_answers ctx (body.BumpSequence op) m can id spelled work =
+    done_answers ctx m (bumping.bump_sequence ctx op m) (bump_answers ctx op m)
+any_answers ctx (body.ManageSellOffer op) m can id spelled work =
+    done_answers ctx m (attempt_of ctx (body.ManageSellOffer op) m) (offer_sold ctx op m can id spelled work).answers
+any_answers ctx (body.CreatePassiveSellOffer op) m can id spelled work =
+    done_answers ctx m (attempt_of ctx (body.CreatePassiveSellOffer op) m)
+    (passively_sold ctx op m can id spelled work).answers
+any_answers ctx (body.ManageBuyOffer op) m can id spelled work =
+    done_answers ctx m (attempt_of ctx (body.ManageBuyOffer op) m) (offer_bought ctx op m can id spelled work).answers
+any_answers ctx (body.SetOptions op) m can id spelled work =
+    done_answers ctx m (options.set_options ctx op m) (options_answers ctx op m)
+any_answers ctx (body.ManageData op) m can id spelled work =
+    done_answers ctx m (managing.manage_data ctx op m) (data_answers ctx op m)
+any_answers ctx (body.Payment op) m can id spelled work =
+    done_answers ctx m (paying.payment ctx op m) (pay_answers ctx op m)
+any_answers ctx (body.ChangeTrust op) m can id spelled work =
     done_answers ctx m (trusting.change_trust ctx op m) (trust_answers ctx op m)
-any_answers ctx (body.AllowTrust op) m = done_answers ctx m (allowing.allow_trust ctx op m) (allow_answers ctx op m)
-any_answers ctx (body.SetTrustLineFlags op) m =
+any_answers ctx (body.AllowTrust op) m can id spelled work =
+    done_answers ctx m (allowing.allow_trust ctx op m) (allow_answers ctx op m)
+any_answers ctx (body.SetTrustLineFlags op) m can id spelled work =
     done_answers ctx m (flagging.set_trust_line_flags ctx op m) (flag_answers ctx op m)
-any_answers ctx (body.CreateClaimableBalance op) m =
+any_answers ctx (body.CreateClaimableBalance op) m can id spelled work =
     done_answers ctx m (balances.create_claimable_balance ctx op m) (create_balance_answers ctx op m)
-any_answers ctx (body.ClaimClaimableBalance op) m =
+any_answers ctx (body.ClaimClaimableBalance op) m can id spelled work =
     done_answers ctx m (claiming.claim_claimable_balance ctx op m) (claim_answers ctx op m)
-any_answers ctx (body.Clawback op) m = done_answers ctx m (clawing.clawback ctx op m) (clawback_answers ctx op m)
-any_answers ctx (body.ClawbackClaimableBalance op) m =
+any_answers ctx (body.Clawback op) m can id spelled work =
+    done_answers ctx m (clawing.clawback ctx op m) (clawback_answers ctx op m)
+any_answers ctx (body.ClawbackClaimableBalance op) m can id spelled work =
     done_answers ctx m (taking.clawback_claimable_balance ctx op m) (clawback_balance_answers ctx op m)
-any_answers ctx (body.BeginSponsoringFutureReserves op) m =
+any_answers ctx (body.BeginSponsoringFutureReserves op) m can id spelled work =
     done_answers ctx m (beginning.begin_sponsoring ctx op m) (begin_answers ctx op m)
-any_answers ctx body.EndSponsoringFutureReserves m =
+any_answers ctx body.EndSponsoringFutureReserves m can id spelled work =
     done_answers ctx m (ending.end_sponsoring ctx m) (end_answers ctx m)
-any_answers ctx (body.RevokeSponsorship op) m =
+any_answers ctx (body.RevokeSponsorship op) m can id spelled work =
     done_answers ctx m (revoking.revoke_sponsorship ctx op m) (revoke_answers ctx op m)
-any_answers ctx other m = (not_supported, refl)
+any_answers ctx other m can id spelled work = not_supported

@@ -1,11 +1,9 @@
 -- The results of sets keep the bounds on lengths.
-use Rattle.std.proofs.Common.{◌≡◌, ℕ, zero, suc, ◌+◌, ◌≤◌, refl, ap, ℤ, List, [], ◌∷◌, ◌++◌, length, All}
-use Rattle.std.proofs.Common.{Option, Some, None, Bool, true, false, if◌then◌else◌, not, nat_eq, arith, length-append}
+use Rattle.std.proofs.Common.{◌≡◌, ℕ, suc, ◌+◌, ◌≤◌, refl, ℤ, List, [], ◌∷◌, length, All}
+use Rattle.std.proofs.Common.{Option, Some, None, Bool, true, false, if◌then◌else◌, not, nat_eq, arith}
 use Rattle.std.proofs.Common.{◌&&◌}
-use Rattle.std.proofs.lemmas.List.{length-map}
 use Rattle.std.proofs.lemmas.List.Elements.{All-nil, All-cons, All-head, All-tail}
 use Rattle.std.specs.List.{AllByRecursion, list_all}
-use Rattle.std.specs.declared.cmp.Ordering.{Ordering}
 use Rattle.ledger_types.specs.declared.ids.AccountId.{AccountId}
 use Rattle.ledger_types.specs.declared.ids.Hash.{Hash}
 use Rattle.ledger_types.specs.declared.account.AccountEntry.{AccountEntry}
@@ -17,7 +15,6 @@ use Rattle.op_types.specs.declared.transaction.Transaction.{Transaction}
 use Rattle.op_types.specs.declared.transaction.FeeBumpTransaction.{FeeBumpTransaction}
 use Rattle.op_types.specs.declared.transaction.TransactionEnvelope.{TransactionEnvelope}
 use Rattle.op_types.specs.declared.transaction.TransactionEnvelope.TheVariants as envelope
-use Rattle.op_types.specs.declared.transaction.TransactionSet.{TransactionSet}
 use Rattle.op_types.specs.declared.transaction_result.TransactionOutcome.{TransactionOutcome}
 use Rattle.op_types.specs.declared.transaction_result.TransactionOutcome.TheVariants as outcome
 use Rattle.op_types.specs.declared.transaction_result.TransactionResultPair.{TransactionResultPair}
@@ -25,8 +22,6 @@ use Rattle.xdr_core.specs.Leaves.{i64, fixed}
 use Rattle.xdr_core.specs.Combinators.{constant, list}
 use Rattle.xdr_core.specs.Xdr.{list_of}
 use Rattle.xdr_entries.specs.Basic.{hash, account_id, claimable_balance_id, asset}
-use Rattle.xdr_tx.specs.Operations.{operation}
-use Rattle.xdr_tx.specs.Transactions.{transaction_set}
 use Rattle.xdr_results.specs.Answers as answer
 use Rattle.xdr_results.specs.Results.{operation_result_tr, operation_result, inner_transaction_outcome}
 use Rattle.xdr_results.specs.Results.{inner_transaction_result, inner_transaction_result_pair, transaction_outcome}
@@ -37,13 +32,11 @@ use Rattle.entry_slots.specs.Tests.{Tests, first_fault}
 use Rattle.sponsor_rules.specs.declared.context.Ctx.{Ctx}
 use Rattle.sponsor_rules.specs.Signers.{map_after_removing_preauth}
 use Rattle.signer_check.specs.declared.held.HeldSignature.{HeldSignature}
-use Rattle.fee_rules.specs.Ranking.{at_rank, at_most_one, first_ranked}
-use Rattle.fee_rules.specs.Queues.{all_queued_from, all_queued}
-use Rattle.fee_rules.specs.SetHash.{hash_of_set}
-use Rattle.fee_rules.specs.Turns.{turn_cmp, turns_of, places_in_order, apply_order_of}
-use Rattle.fee_rules.proofs.Ordered.{places_stand}
+use Rattle.fee_rules.specs.Turns.{apply_order_of}
 use Rattle.op_form.specs.declared.levels.ThresholdLevel.TheVariants.{Low}
 use Rattle.op_form.specs.DefaultResults.{default_result}
+use Rattle.op_laws.specs.Laws.{AllLawful}
+use Rattle.op_laws.specs.Steps.{TransactionLaws, LegalSettles}
 use Rattle.value_hashes.specs.Hashes.{signed_hash_of, transaction_hash_of}
 use Rattle.tx_apply.specs.Built.{operations_of}
 use Rattle.tx_apply.specs.Checks as checks
@@ -57,15 +50,18 @@ use Rattle.tx_apply.specs.Set.{fees_taken_of}
 use Rattle.tx_apply.specs.Signing.{Auth, Auths, source_of, auth_of, auths_of, auth_result, auth_results, are_used}
 use Rattle.tx_apply.specs.Transaction as spec
 use Rattle.tx_apply.proofs.Conserving.{all_at}
-use Rattle.tx_apply.proofs.Placed.{as_many}
-use Rattle.close_rules.specs.State.{IsSpelled}
 use Rattle.close_rules.specs.Close.{setting_in}
 use Rattle.close_laws.specs.Results.{ResultsAreSpelled}
-use Rattle.close_laws.proofs.Spelled.{few_spelled}
-use Rattle.close_laws.proofs.SpelledSets.{set_spelled, envelopes_spelled, envelopes_few, all_operations_spelled}
+use Rattle.close_laws.proofs.SpelledSets.{set_spelled, envelopes_few, body_spelled}
+use Rattle.close_laws.proofs.FewDrawn.{HasFew, set_few, envelopes_len}
 use Rattle.close_laws.proofs.Digests.{hash_len}
 use Rattle.close_laws.proofs.AnswerSteps.{IsAnswer, no_account, bad_auth}
 use Rattle.close_laws.proofs.OperationAnswers.{any_answers}
+use Rattle.close_laws.proofs.BytesSets.{AreRunning, here_spelled, here_id, here_work, here_can, rest_running, IsBegun}
+use Rattle.close_laws.proofs.BytesSets.{begun_running, begun_behind, MayApply, begun_v1, begun_bump, MayApplyAll}
+use Rattle.close_laws.proofs.BytesSets.{may_first, may_others, set_begun}
+use Rattle.close_laws.proofs.NextEntries.{map_bytes}
+use Rattle.close_laws.proofs.NextLegal.{can_close}
 
 -- ---- results of operations
 
@@ -137,20 +133,27 @@ auth_answers (passes ∷ more) (of ∷ operations) =
     by true = defaults of.body
     by false = bad_auth
 
-done_answers : (ctx : Ctx) (of : Operation) (m : EntryMap) (found : Option AccountEntry)
-    → IsAnswer (done_by ctx of m found).result
-done_answers ctx of m None = no_account
-done_answers ctx of m (Some account) = (any_answers ctx of.body m).0
-
-run_answers : (ctx : Ctx) (source : AccountId) (place : ℕ) (operations : List Operation) (m : EntryMap)
+run_answers : AllLawful → (ctx : Ctx) (source : AccountId) (place : ℕ) (operations : List Operation) (m : EntryMap)
+    → AreRunning ctx source operations m
     → AreAnswers (length operations) (run ctx source place operations m).results
 unfolding run
-run_answers ctx source place [] m = no_answers 0
-run_answers ctx source place (of ∷ operations) m =
+run_answers all ctx source place [] m running = no_answers 0
+run_answers all ctx source place (of ∷ operations) m running =
     let first = done_at ctx source place of m in
     one_answer (length operations) first.result (run first.ctx source (place + 1) operations first.entries).results
-    (done_answers (placed ctx place (source_of source of)) of m (account_at m (source_of source of)))
-    (run_answers first.ctx source (place + 1) operations first.entries)
+    (by (account_at m (source_of source of)) refl)
+    (run_answers all first.ctx source (place + 1) operations first.entries
+    (rest_running ctx source place of operations m running all))
+  where
+    by : (found : Option AccountEntry) → account_at m (source_of source of) ≡ found
+        → IsAnswer (done_by (placed ctx place (source_of source of)) of m found).result
+    by None at = no_account
+    by (Some account) at =
+        any_answers (placed ctx place (source_of source of)) of.body m
+        (here_can ctx source place of operations m running account at)
+        (here_id ctx source place of operations m running)
+        (body_spelled of (here_spelled ctx source place of operations m running))
+        (here_work ctx source place of operations m running)
 
 -- ---- outcomes of transactions
 
@@ -310,23 +313,27 @@ ran_plain ctx m ran answers =
     (spec.undone outcome.BadSponsorship ctx m ran.steps) (succeeded ran.results answers) bad_sponsorship)
     (failed ran.results answers)
 
-applied_plain : (ctx : Ctx) (tx : Transaction) (m : EntryMap) (end : Option TransactionOutcome)
-    → length tx.operations ≤ 100 → MaybePlain end → IsPlain (spec.applied_or_ended ctx tx m end).outcome
-applied_plain ctx tx m (Some end) few plain = plain
-applied_plain ctx tx m None few plain =
+applied_plain : AllLawful → (ctx : Ctx) (tx : Transaction) (m : EntryMap) (end : Option TransactionOutcome)
+    → length tx.operations ≤ 100 → MaybePlain end → AreRunning ctx (checks.source_account tx) tx.operations m
+    → IsPlain (spec.applied_or_ended ctx tx m end).outcome
+applied_plain all ctx tx m (Some end) few plain running = plain
+applied_plain all ctx tx m None few plain running =
     let ran = run ctx (checks.source_account tx) 0 tx.operations m in
     ran_plain ctx m ran
-    (fewer (length tx.operations) 100 ran.results few (run_answers ctx (checks.source_account tx) 0 tx.operations m))
+    (fewer (length tx.operations) 100 ran.results few
+    (run_answers all ctx (checks.source_account tx) 0 tx.operations m running))
 
-transaction_plain : (pays : Bool) (base_fee : ℕ) (ctx : Ctx) (hash : Hash) (signatures : List HeldSignature)
-    (tx : Transaction) (m : EntryMap) → length tx.operations ≤ 100
+transaction_plain : TransactionLaws → (pays : Bool) (base_fee : ℕ) (ctx : Ctx) (hash : Hash)
+    (signatures : List HeldSignature) (tx : Transaction) (m : EntryMap) → length tx.operations ≤ 100 → IsBegun ctx tx m
     → IsPlain (spec.transaction_applied pays base_fee ctx hash signatures tx m).outcome
-transaction_plain pays base_fee ctx hash signatures tx m few =
+transaction_plain laws pays base_fee ctx hash signatures tx m few begun =
     let checked = checks.judged pays base_fee ctx hash signatures tx m in
-    applied_plain ctx tx (spec.map_without_used hash (checks.source_account tx) tx.operations checked.entries)
+    applied_plain laws.operations ctx tx
+    (spec.map_without_used hash (checks.source_account tx) tx.operations checked.entries)
     checked.outcome few
     (judged_plain pays ctx hash signatures tx m (checks.early_fault pays base_fee ctx tx m) few
     (early_plain pays base_fee ctx tx m))
+    (begun_running laws pays base_fee ctx hash signatures tx m begun)
 
 -- ---- fee bumps
 
@@ -349,11 +356,11 @@ either_outcome : (b : Bool) (x y : spec.Applied) → IsOutcome x.outcome → IsO
 either_outcome true x y here there = here
 either_outcome false x y here there = there
 
-module _ (base_fee : ℕ) (ctx : Ctx) (signed : bump.BumpSigned) (tx : FeeBumpTransaction)
+module _ (laws : TransactionLaws) (base_fee : ℕ) (ctx : Ctx) (signed : bump.BumpSigned) (tx : FeeBumpTransaction)
     (len : hash.within signed.inner_hash) (few : length tx.inner_tx.tx.operations ≤ 100) where
-  behind_auth : (after : List HeldSignature) (m : EntryMap)
+  behind_auth : (after : List HeldSignature) (m : EntryMap) → IsBegun ctx tx.inner_tx.tx m
       → IsOutcome (bump.applied_behind_auth base_fee ctx signed tx after m).outcome
-  behind_auth after m =
+  behind_auth after m begun =
       either_outcome (checks.is_poor ctx (account_at m (bump.payer_of tx)))
       (spec.ended outcome.InsufficientBalance ctx m)
       (if are_used after then bump.inner_applied base_fee ctx signed tx m else spec.ended outcome.BadAuthExtra ctx m)
@@ -361,40 +368,46 @@ module _ (base_fee : ℕ) (ctx : Ctx) (signed : bump.BumpSigned) (tx : FeeBumpTr
       (either_outcome (are_used after) (bump.inner_applied base_fee ctx signed tx m)
       (spec.ended outcome.BadAuthExtra ctx m)
       (bump_within signed.inner_hash _ len
-      (transaction_plain false base_fee ctx signed.inner_hash signed.inner_signatures tx.inner_tx.tx m few))
+      (transaction_plain laws false base_fee ctx signed.inner_hash signed.inner_signatures tx.inner_tx.tx m few begun))
       (plain_outcome outcome.BadAuthExtra bad_auth_extra))
 
-  by_auth : (m : EntryMap) (auth : Auth) → IsOutcome (bump.applied_by_auth base_fee ctx signed tx m auth).outcome
-  by_auth m auth =
+  by_auth : (m : EntryMap) (auth : Auth) → IsBegun ctx tx.inner_tx.tx m
+      → IsOutcome (bump.applied_by_auth base_fee ctx signed tx m auth).outcome
+  by_auth m auth begun =
       either_outcome (not auth.passes) (spec.ended outcome.BadAuth ctx m)
       (bump.applied_behind_auth base_fee ctx signed tx auth.signatures
       (map_after_removing_preauth (bump.payer_of tx) signed.hash m)) (plain_outcome outcome.BadAuth no_auth)
-      (behind_auth auth.signatures (map_after_removing_preauth (bump.payer_of tx) signed.hash m))
+      (behind_auth auth.signatures (map_after_removing_preauth (bump.payer_of tx) signed.hash m)
+      (begun_behind laws ctx tx.inner_tx.tx (bump.payer_of tx) signed.hash m begun))
 
-  by_fault : (m : EntryMap) (fault : Option TransactionOutcome) → MaybePlain fault
+  by_fault : (m : EntryMap) (fault : Option TransactionOutcome) → MaybePlain fault → IsBegun ctx tx.inner_tx.tx m
       → IsOutcome (bump.applied_by_fault base_fee ctx signed tx m fault).outcome
-  by_fault m (Some fault) plain = plain_outcome fault plain
-  by_fault m None plain = by_auth m (auth_of signed.hash Low signed.signatures m (bump.payer_of tx))
+  by_fault m (Some fault) plain begun = plain_outcome fault plain
+  by_fault m None plain begun = by_auth m (auth_of signed.hash Low signed.signatures m (bump.payer_of tx)) begun
 
-  bump_answers : (m : EntryMap) → IsOutcome (bump.bump_applied base_fee ctx signed tx m).outcome
-  bump_answers m =
+  bump_answers : (m : EntryMap) → IsBegun ctx tx.inner_tx.tx m
+      → IsOutcome (bump.bump_applied base_fee ctx signed tx m).outcome
+  bump_answers m begun =
       by_fault m (first_fault (bump.payer_tests base_fee tx (account_at m (bump.payer_of tx))))
       (first_plain (bump.payer_tests base_fee tx (account_at m (bump.payer_of tx))) (insufficient_fee, (no_source, tt)))
+      begun
 
 -- ---- envelopes
 
-envelope_answers : (setting : Setting) (id_pool : ℕ) (whole : TransactionEnvelope) (m : EntryMap)
-    → length (operations_of whole) ≤ 100 → IsOutcome (envelope_applied setting id_pool whole m).outcome
+envelope_answers : TransactionLaws → (setting : Setting) (id_pool : ℕ) (whole : TransactionEnvelope) (m : EntryMap)
+    → length (operations_of whole) ≤ 100 → MayApply setting id_pool whole m
+    → IsOutcome (envelope_applied setting id_pool whole m).outcome
 unfolding envelope_applied
-envelope_answers setting id_pool (envelope.V0 signed) m few = plain_outcome outcome.NotSupported not_supported
-envelope_answers setting id_pool (envelope.V1 signed) m few =
-    plain_outcome _ (transaction_plain true setting.header.base_fee (ctx_in setting id_pool (envelope.V1 signed))
-    (signed_hash_of setting.network (envelope.V1 signed)) (all_held signed.signatures) signed.tx m few)
-envelope_answers setting id_pool (envelope.FeeBump signed) m few =
-    bump_answers setting.header.base_fee (ctx_in setting id_pool (envelope.FeeBump signed))
+envelope_answers laws setting id_pool (envelope.V0 signed) m few may = plain_outcome outcome.NotSupported not_supported
+envelope_answers laws setting id_pool (envelope.V1 signed) m few may =
+    plain_outcome _ (transaction_plain laws true setting.header.base_fee (ctx_in setting id_pool (envelope.V1 signed))
+    (signed_hash_of setting.network (envelope.V1 signed)) (all_held signed.signatures) signed.tx m few
+    (begun_v1 setting id_pool signed m may))
+envelope_answers laws setting id_pool (envelope.FeeBump signed) m few may =
+    bump_answers laws setting.header.base_fee (ctx_in setting id_pool (envelope.FeeBump signed))
     (bump.signed_by (signed_hash_of setting.network (envelope.FeeBump signed)) (all_held signed.signatures)
     (transaction_hash_of setting.network signed.tx.inner_tx.tx) (all_held signed.tx.inner_tx.signatures)) signed.tx
-    (hash_len _) few m
+    (hash_len _) few m (begun_bump setting id_pool signed m may)
 
 signed_hash_len : (network : Hash) (whole : TransactionEnvelope) → hash.within (signed_hash_of network whole)
 signed_hash_len network (envelope.V0 signed) = hash_len _
@@ -412,22 +425,22 @@ record AreResults (most : ℕ) (results : List TransactionResultPair) : Type 0 w
   few : length results ≤ most
   all : AllByRecursion transaction_result_pair.within results
 
-abbrev HasFew : TransactionEnvelope → Type 0
-HasFew whole = length (operations_of whole) ≤ 100
-
-all_results : (setting : Setting) (id_pool : ℕ) (envelopes : List TransactionEnvelope) (fees : List ℤ) (m : EntryMap)
-    → All HasFew envelopes → AreResults (length envelopes) (all_applied setting id_pool envelopes fees m).results
+all_results : TransactionLaws → (setting : Setting) (id_pool : ℕ) (envelopes : List TransactionEnvelope)
+    (fees : List ℤ) (m : EntryMap) → All HasFew envelopes → MayApplyAll setting id_pool envelopes m
+    → AreResults (length envelopes) (all_applied setting id_pool envelopes fees m).results
 unfolding all_applied
-all_results setting id_pool [] fees m few = record { few = omega arith; all = tt }
-all_results setting id_pool (whole ∷ others) [] m few = record { few = omega arith; all = tt }
-all_results setting id_pool (whole ∷ others) (fee ∷ fees) m few =
+all_results laws setting id_pool [] fees m few may = record { few = omega arith; all = tt }
+all_results laws setting id_pool (whole ∷ others) [] m few may = record { few = omega arith; all = tt }
+all_results laws setting id_pool (whole ∷ others) (fee ∷ fees) m few may =
     let first = envelope_applied setting id_pool whole m in
-    let rest = all_results setting first.id_pool others fees first.entries (All-tail HasFew whole others few) in
+    let rest = all_results laws setting first.id_pool others fees first.entries (All-tail HasFew whole others few)
+    (may_others setting id_pool whole others m may laws) in
     record {
       few = one_more rest.few;
       all = (
         result_within setting whole fee first.outcome
-            (envelope_answers setting id_pool whole m (All-head HasFew whole others few)),
+            (envelope_answers laws setting id_pool whole m (All-head HasFew whole others few)
+            (may_first setting id_pool whole others m may)),
         rest.all,
       );
     }
@@ -435,55 +448,19 @@ all_results setting id_pool (whole ∷ others) (fee ∷ fees) m few =
     one_more : {n k : ℕ} → n ≤ k → suc n ≤ suc k
     one_more le = omega arith
 
--- ---- no more places than envelopes
-
-ranked_len : {X : Type 0} (cmp : X → X → Ordering) (xs : List X) (k : ℕ) → length (first_ranked cmp xs k) ≤ k
-unfolding first_ranked
-ranked_len cmp xs zero = omega arith
-ranked_len {X} cmp xs (suc k) =
-    at_most (first_ranked cmp xs k) (at_rank cmp xs k) (ranked_len cmp xs k)
-  where
-    at_most : (front : List X) (found : Option X) → length front ≤ k → length (front ++ at_most_one found) ≤ suc k
-    at_most front None le = omega (arith, length-append {A = X} front [])
-    at_most front (Some x) le = omega (arith, length-append {A = X} front (x ∷ []))
-
-queued_len : (place : ℕ) (envelopes : List TransactionEnvelope)
-    → length (all_queued_from place envelopes) ≡ length envelopes
-queued_len place [] = refl
-queued_len place (whole ∷ others) = ap suc (queued_len (place + 1) others)
-
-order_len : (set : TransactionSet) → length (apply_order_of set) ≤ length set.txs
-unfolding places_in_order
-order_len set =
-    let txs = all_queued set.txs in
-    let turns = turns_of (hash_of_set set) txs in
-    simp length-map (no_more (ranked_len turn_cmp turns (length txs)) (queued_len 0 set.txs))
-  where
-    no_more : {b c d : ℕ} → b ≤ c → c ≡ d → b ≤ d
-    no_more le h = omega arith
-
-envelopes_len : (set : TransactionSet) → length (envelopes_in_order set) ≤ length set.txs
-envelopes_len set =
-    same (as_many set.txs (apply_order_of set) (places_stand set)) (order_len set)
-  where
-    same : {a b c : ℕ} → a ≡ b → b ≤ c → a ≤ c
-    same e le = omega arith
-
 -- ---- sets
 
-set_few : (set : TransactionSet) → IsSpelled transaction_set set → All HasFew set.txs
-set_few set spelled = λ k d within.
-    few_spelled 100 operation _ (all_operations_spelled _ (envelopes_spelled set spelled k d within))
-
-pub results_are_spelled : ResultsAreSpelled
+pub results_are_spelled : TransactionLaws → LegalSettles → ResultsAreSpelled
 unfolding transaction_result_set list
-results_are_spelled s closing can =
+results_are_spelled laws settles s closing can =
     let set = closing.tx_set in
     let spelled = set_spelled closing can.spelled in
-    let results = all_results (setting_in s closing) s.header.id_pool (envelopes_in_order set)
+    let begun = set_begun laws settles (setting_in s closing) set s.entries (can_close s closing can) spelled can.few
+    (map_bytes s.entries can.state.entries can.state.built) in
+    let results = all_results laws (setting_in s closing) s.header.id_pool (envelopes_in_order set)
     (fees_taken_of (setting_in s closing) set s.entries).fees
     (fees_taken_of (setting_in s closing) set s.entries).entries
-    (all_at HasFew set.txs (apply_order_of set) (set_few set spelled)) in
+    (all_at HasFew set.txs (apply_order_of set) (set_few set spelled)) begun in
     (few_enough results.few (envelopes_len set) (envelopes_few set spelled), results.all)
   where
     few_enough : {a b c : ℕ} → a ≤ b → b ≤ c → c ≤ 4294967295 → a ≤ 4294967295

@@ -88,7 +88,7 @@ sized_i64 : (n : ℤ) → i64.sized n → FitsSigned w64 n
 unfolding i64
 sized_i64 n sized = sized
 
-body_fit : (of : OperationBody) → IsSpelled operation_body of → IsFit of
+pub body_fit : (of : OperationBody) → IsSpelled operation_body of → IsFit of
 unfolding operation_body bump_sequence_op change_trust_op create_claimable_balance_op
 body_fit (body.BumpSequence op) spelled = int_fits op.bump_to (sized_i64 op.bump_to spelled.sized)
 body_fit (body.ChangeTrust op) spelled = int_fits op.limit (sized_i64 op.limit spelled.sized.1)
@@ -96,7 +96,7 @@ body_fit (body.CreateClaimableBalance op) spelled =
     few_spelled 10 claimant op.claimants (record { within = spelled.within.1.1; sized = spelled.sized.1.1 })
 body_fit other spelled = tt
 
-operations_fit : (operations : List Operation) → All (IsSpelled operation) operations → AreFit operations
+pub operations_fit : (operations : List Operation) → All (IsSpelled operation) operations → AreFit operations
 operations_fit operations all = λ k d within. body_fit _ (body_spelled _ (all k d within))
 
 pub set_fit : (set : TransactionSet) → IsSpelled transaction_set set → AreAllFit set.txs

@@ -1,19 +1,15 @@
 -- Bytes that are taken are a record that closes a ledger.
-use Rattle.std.proofs.Common.{◌≡◌, ℕ, refl, subst, List, [], ◌∷◌, Ok, Err}
+use Rattle.std.proofs.Common.{◌≡◌, ℕ, refl, subst, List, Ok, Err}
 use Rattle.xdr_core.specs.declared.fault.XdrFault.{XdrFault}
 use Rattle.xdr_core.specs.Format.{IsBytes}
-use Rattle.xdr_core.specs.Place.{Place, Reading, start_of, ◌>>=◌}
+use Rattle.xdr_core.specs.Place.{Reading, start_of, ◌>>=◌}
 use Rattle.xdr_header.specs.declared.record.CloseRecord.{CloseRecord}
 use Rattle.xdr_header.specs.Records.{close_record}
 use Rattle.xdr_header.proofs.HeaderLaws.{close_record_laws}
 use Rattle.close_rules.specs.State.{IsSpelled}
-use Rattle.close_rules.specs.Refusals.{ended_by, ended, record_in}
+use Rattle.close_rules.specs.Refusals.{ended, record_in}
 use Rattle.close_laws.specs.Closes.{TakenIsClosable}
-
-ended_is : (rest : List ℕ) (p : Place) (found closing : CloseRecord) → ended_by rest p found ≡ Ok closing
-    → found ≡ closing
-ended_is [] p found closing is = cc
-ended_is (byte ∷ rest) p found closing is = absurd (cc)
+use Rattle.close_laws.proofs.FewOfRecords.{ended_is, record_few}
 
 -- a record that was read has a spelling
 reading_spelled : (bytes : List ℕ) (read : Reading XdrFault CloseRecord) (closing : CloseRecord) → IsBytes bytes
@@ -31,8 +27,9 @@ record_spelled bytes closing text reads =
     reading_spelled bytes (close_record.read (start_of bytes)) closing text refl reads
 
 pub taken_is_closable : TakenIsClosable
-taken_is_closable s bytes taken state = record {
+taken_is_closable s bytes taken state few = record {
   state = state;
   spelled = record_spelled bytes taken.closing taken.text taken.reads;
   unrefused = taken.unrefused;
+  few = record_few bytes taken.closing taken.text taken.reads few;
 }

@@ -1,5 +1,5 @@
 -- What operations on trust lines and their flags answer keeps the bounds on lengths.
-use Rattle.std.proofs.Common.{refl, [], ◌∷◌, ℕ, Option, Some, None, ℤ, pos, not, ◌&&◌}
+use Rattle.std.proofs.Common.{[], ◌∷◌, ℕ, Option, Some, None, ℤ, pos, not, ◌&&◌}
 use Rattle.std.specs.Prelude.{is_some}
 use Rattle.std.specs.Ordering.{int_eq}
 use Rattle.ledger_types.specs.declared.ids.AccountId.{AccountId}
@@ -49,42 +49,42 @@ set_with code = record { within = tt }
 -- ---- lines
 
 removed_answers : (ctx : Ctx) (held : Asset) (line : TrustLineEntry) (m : EntryMap)
-    → Answers (IsDone ctx.id_pool) (trusting.removed ctx held line m)
+    → Answers IsDone (trusting.removed ctx held line m)
 removed_answers ctx held line m =
-    first_answers (IsDone ctx.id_pool)
+    first_answers IsDone
     ((not (int_eq (use_count line) (pos 0)), trusting.answer trust.CannotDelete) ∷ [])
-    _ (trusted trust.CannotDelete, tt) (record { ends = (trusted trust.Success, refl) })
+    _ (trusted trust.CannotDelete, tt) (record { ends = trusted trust.Success })
 
 limited_answers : (ctx : Ctx) (held : Asset) (limit : ℤ) (m : EntryMap)
-    → Answers (IsDone ctx.id_pool) (trusting.limited ctx held limit m)
+    → Answers IsDone (trusting.limited ctx held limit m)
 limited_answers ctx held limit m =
-    first_answers (IsDone ctx.id_pool) ((not (is_some (issuer_at m held)), trusting.answer trust.NoIssuer) ∷ [])
-    _ (trusted trust.NoIssuer, tt) (record { ends = (trusted trust.Success, refl) })
+    first_answers IsDone ((not (is_some (issuer_at m held)), trusting.answer trust.NoIssuer) ∷ [])
+    _ (trusted trust.NoIssuer, tt) (record { ends = trusted trust.Success })
 
 added_answers : (ctx : Ctx) (held : Asset) (limit : ℤ) (issuer : AccountEntry) (m : EntryMap)
-    → Answers (IsDone ctx.id_pool) (trusting.added ctx held limit issuer m)
+    → Answers IsDone (trusting.added ctx held limit issuer m)
 added_answers ctx held limit issuer m =
-    charge_answers (IsDone ctx.id_pool) (map_after_adding ctx ctx.op_source (trusting.new_line ctx held limit issuer) m)
+    charge_answers IsDone (map_after_adding ctx ctx.op_source (trusting.new_line ctx held limit issuer) m)
     (trusting.answer trust.LowReserve) _ (trusted trust.LowReserve)
-    (λ added. record { ends = (trusted trust.Success, refl) })
+    (λ added. record { ends = trusted trust.Success })
 
 changed_answers : (ctx : Ctx) (held : Asset) (limit : ℤ) (m : EntryMap) (found : Option TrustLineEntry)
-    → Answers (IsDone ctx.id_pool) (trusting.changed ctx held limit m found)
+    → Answers IsDone (trusting.changed ctx held limit m found)
 changed_answers ctx held limit m (Some line) =
-    first_answers (IsDone ctx.id_pool) (trusting.limit_tests limit line) _ (trusted trust.InvalidLimit, tt)
-    (either_answers ctx.id_pool (int_eq limit (pos 0)) (trusting.removed ctx held line m)
+    first_answers IsDone (trusting.limit_tests limit line) _ (trusted trust.InvalidLimit, tt)
+    (either_answers (int_eq limit (pos 0)) (trusting.removed ctx held line m)
     (trusting.limited ctx held limit m) (removed_answers ctx held line m) (limited_answers ctx held limit m))
 changed_answers ctx held limit m None =
-    first_answers (IsDone ctx.id_pool) ((int_eq limit (pos 0), trusting.answer trust.InvalidLimit) ∷ []) _
+    first_answers IsDone ((int_eq limit (pos 0), trusting.answer trust.InvalidLimit) ∷ []) _
     (trusted trust.InvalidLimit, tt)
-    (some_answers (IsDone ctx.id_pool) (issuer_at m held) (trusting.answer trust.NoIssuer) _ (trusted trust.NoIssuer)
+    (some_answers IsDone (issuer_at m held) (trusting.answer trust.NoIssuer) _ (trusted trust.NoIssuer)
     (λ issuer. added_answers ctx held limit issuer m))
 
 pub trust_answers : (ctx : Ctx) (op : ChangeTrustOp) (m : EntryMap)
-    → Answers (IsDone ctx.id_pool) (trusting.change_trust ctx op m)
+    → Answers IsDone (trusting.change_trust ctx op m)
 trust_answers ctx op m =
-    some_answers (IsDone ctx.id_pool) (trusting.asset_asked op.line) operation.NotSupported _ not_supported
-    (λ held. first_answers (IsDone ctx.id_pool) (trusting.asked_tests ctx held op.limit) _
+    some_answers IsDone (trusting.asset_asked op.line) operation.NotSupported _ not_supported
+    (λ held. first_answers IsDone (trusting.asked_tests ctx held op.limit) _
     (trusted trust.Malformed, tt)
     (changed_answers ctx held op.limit m (line_of_asset m ctx.op_source held)))
 
@@ -92,33 +92,33 @@ trust_answers ctx op m =
 
 flagged_answers : (ctx : Ctx) (trustor : AccountId) (held : Asset) (flags : ℕ) (succeeded : OperationResult)
     (line : TrustLineEntry) (m : EntryMap) → IsAnswer succeeded
-    → Answers (IsDone ctx.id_pool) (flagged.flagged ctx trustor held flags succeeded line m)
+    → Answers IsDone (flagged.flagged ctx trustor held flags succeeded line m)
 flagged_answers ctx trustor held flags succeeded line m answers =
-    first_answers (IsDone ctx.id_pool)
+    first_answers IsDone
     ((flagged.is_revoked line flags && not (int_eq (use_count line) (pos 0)), operation.NotSupported) ∷ []) _
     (not_supported, tt)
-    (record { ends = (answers, refl) })
+    (record { ends = answers })
 
 pub allow_answers : (ctx : Ctx) (op : AllowTrustOp) (m : EntryMap)
-    → Answers (IsDone ctx.id_pool) (allowing.allow_trust ctx op m)
+    → Answers IsDone (allowing.allow_trust ctx op m)
 allow_answers ctx op m =
-    first_answers (IsDone ctx.id_pool) (allowing.allow_tests ctx op) _ (allowed allow.Malformed, tt)
-    (some_answers (IsDone ctx.id_pool) (line_of_asset m op.trustor (allowing.asset_allowed ctx op))
+    first_answers IsDone (allowing.allow_tests ctx op) _ (allowed allow.Malformed, tt)
+    (some_answers IsDone (line_of_asset m op.trustor (allowing.asset_allowed ctx op))
     (allowing.answer allow.NoTrustLine) _ (allowed allow.NoTrustLine)
-    (λ line. some_answers (IsDone ctx.id_pool) (account_at m ctx.op_source) operation.NoAccount _ no_account
-    (λ source. first_answers (IsDone ctx.id_pool) (allowing.revoke_tests op source line) _
+    (λ line. some_answers IsDone (account_at m ctx.op_source) operation.NoAccount _ no_account
+    (λ source. first_answers IsDone (allowing.revoke_tests op source line) _
     (allowed allow.CantRevoke, tt)
     (flagged_answers ctx op.trustor (allowing.asset_allowed ctx op) (allowing.allowed_flags op line)
     (allowing.answer allow.Success) line m (allowed allow.Success)))))
 
 pub flag_answers : (ctx : Ctx) (op : SetTrustLineFlagsOp) (m : EntryMap)
-    → Answers (IsDone ctx.id_pool) (setting.set_trust_line_flags ctx op m)
+    → Answers IsDone (setting.set_trust_line_flags ctx op m)
 flag_answers ctx op m =
-    first_answers (IsDone ctx.id_pool) (setting.set_tests ctx op) _ (set_with set.Malformed, tt)
-    (some_answers (IsDone ctx.id_pool) (line_of_asset m op.trustor op.asset) (setting.answer set.NoTrustLine) _
+    first_answers IsDone (setting.set_tests ctx op) _ (set_with set.Malformed, tt)
+    (some_answers IsDone (line_of_asset m op.trustor op.asset) (setting.answer set.NoTrustLine) _
     (set_with set.NoTrustLine)
-    (λ line. some_answers (IsDone ctx.id_pool) (account_at m ctx.op_source) operation.NoAccount _ no_account
-    (λ source. first_answers (IsDone ctx.id_pool) (setting.flag_tests source line (setting.new_flags op line)) _
+    (λ line. some_answers IsDone (account_at m ctx.op_source) operation.NoAccount _ no_account
+    (λ source. first_answers IsDone (setting.flag_tests source line (setting.new_flags op line)) _
     (set_with set.CantRevoke, (set_with set.InvalidState, tt))
     (flagged_answers ctx op.trustor op.asset (setting.new_flags op line) (setting.answer set.Success) line m
     (set_with set.Success)))))

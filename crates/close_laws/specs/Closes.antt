@@ -1,5 +1,5 @@
 -- That a close has one answer, and leaves a state from which the next ledger closes.
-use Rattle.std.specs.Prelude.{◌≡◌, ◌≤◌, ℕ, List, Result}
+use Rattle.std.specs.Prelude.{◌≡◌, ◌≤◌, ℕ, List, length, Result}
 use Rattle.xdr_header.specs.declared.record.CloseRecord.{CloseRecord}
 use Rattle.close_rules.specs.declared.close_fault.CloseFault.{CloseFault}
 use Rattle.bucket_levels.specs.Size.{file_total}
@@ -7,10 +7,10 @@ use Rattle.close_rules.specs.State.{ClosingState, IsClosingState, max_file_total
 use Rattle.close_rules.specs.Close.{PreparedClose, IsClosed, IsTaken, IsClose}
 use Rattle.close_laws.specs.Legal.{IsClosable}
 
--- bytes that are taken are a record that closes a ledger
+-- bytes that are taken, of which a record may have so many, are a record that closes a ledger
 abbrev pub TakenIsClosable : Type 0
 TakenIsClosable = (s : ClosingState) (bytes : List ℕ) (taken : IsTaken s bytes) → IsClosingState s
-    → IsClosable s taken.closing
+    → length bytes ≤ 16777216 → IsClosable s taken.closing
 
 -- what bytes do to a state is one thing
 abbrev pub ClosesAreOne : Type 0

@@ -1,5 +1,5 @@
 -- That a close leaves a legal state.
-use Rattle.std.specs.Prelude.{◌≡◌, ◌+◌, None}
+use Rattle.std.specs.Prelude.{◌≡◌, ◌+◌, ◌≤◌, None, length}
 use Rattle.ledger_types.specs.declared.ids.Hash.{Hash}
 use Rattle.xdr_header.specs.declared.record.CloseRecord.{CloseRecord}
 use Rattle.xdr_header.specs.Records.{close_record}
@@ -12,11 +12,13 @@ use Rattle.close_rules.specs.State.{ClosingState, IsClosingState, IsSpelled, Are
 use Rattle.close_rules.specs.Refusals.{record_fault}
 use Rattle.close_rules.specs.Close.{applied_in, upgraded_header}
 
--- what closes a ledger over a state: a record that has a spelling and isn't refused for what it is
+-- what closes a ledger over a state: a record that has a spelling and isn't refused for what it is, of no more
+-- transactions than a record may have bytes
 pub record IsClosable (s : ClosingState) (closing : CloseRecord) : Type 0 where
   pub state : IsClosingState s
   pub spelled : IsSpelled close_record closing
   pub unrefused : record_fault s closing ≡ None
+  pub few : length closing.tx_set.txs ≤ 16777216
 
 -- the entries behind the close of such a record
 abbrev pub AreClosed : ClosingState → CloseRecord → EntryMap → Type 0

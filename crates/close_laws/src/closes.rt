@@ -3,10 +3,10 @@
 ghost use Rattle.close_laws.specs.Closes as spec;
 
 use bucket_levels::steps_stand;
-use op_laws::steps::{settled_held, settled_legal, settled_ready};
+use op_laws::steps::{legal_settles, settled_legal, transaction_laws};
 use tx_apply::sets_conserve;
 
-/// Bytes that are taken are a record that closes a ledger.
+/// Bytes that are taken, no more than a record may have, are a record that closes a ledger.
 pub fn taken_is_closable()
     ensures { spec.TakenIsClosable }
 {}
@@ -15,9 +15,9 @@ pub fn taken_is_closable()
 pub fn next_is_closing()
     ensures { spec.NextIsClosing }
 {
+    transaction_laws();
+    legal_settles();
     settled_legal();
-    settled_ready();
-    settled_held();
     sets_conserve();
     steps_stand();
 }

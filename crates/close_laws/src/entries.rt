@@ -2,7 +2,7 @@
 
 ghost use Rattle.close_laws.specs.Legal as legal;
 
-use op_laws::steps::{settled_legal, settled_ready};
+use op_laws::steps::{legal_settles, settled_legal, transaction_laws};
 use tx_apply::sets_conserve;
 
 /// A close leaves a legal state.
@@ -17,7 +17,8 @@ pub fn next_is_legal()
 pub fn entries_stay_spellable()
     ensures { legal.EntriesStaySpellable }
 {
+    transaction_laws();
+    legal_settles();
     settled_legal();
-    settled_ready();
     sets_conserve();
 }

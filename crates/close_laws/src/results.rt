@@ -2,7 +2,12 @@
 
 ghost use Rattle.close_laws.specs.Results as spec;
 
+use op_laws::steps::{legal_settles, transaction_laws};
+
 /// The results of a set can be written.
 pub fn results_are_spelled()
     ensures { spec.ResultsAreSpelled }
-{}
+{
+    transaction_laws();
+    legal_settles();
+}

@@ -1,5 +1,5 @@
 -- Bytes do something to a state.
-use Rattle.std.proofs.Common.{◌≡◌, ℕ, ◌+◌, List, Option, Some, None, Result, Ok, Err, inl, inr, refl}
+use Rattle.std.proofs.Common.{◌≡◌, ℕ, ◌+◌, ◌≤◌, List, length, Option, Some, None, Result, Ok, Err, inl, inr, refl}
 use Rattle.std.proofs.lemmas.Bool.{cases_lt}
 use Rattle.xdr_core.specs.declared.fault.XdrFault.{XdrFault}
 use Rattle.xdr_core.specs.Format.{IsBytes}
@@ -14,6 +14,7 @@ use Rattle.close_rules.specs.Refusals.{record_in, record_fault}
 use Rattle.close_rules.specs.Close.{PreparedClose, applied_in, upgraded_header, IsClosed, IsTaken, ClosesWith, IsClose}
 use Rattle.close_laws.specs.Legal.{IsClosable, NextIsLegal}
 use Rattle.close_laws.specs.Closes.{TakenIsClosable}
+use Rattle.run_outcome.specs.Outcome.{max_record_len}
 use Rattle.existence_laws.specs.Existence.{EachClose}
 use Rattle.existence_laws.proofs.Steps.{some_step}
 use Rattle.existence_laws.proofs.Changes.{some_next, some_fresh}
@@ -68,13 +69,13 @@ by_length s bytes taken closed closes =
     ]
 
 module _ (closable : TakenIsClosable) (next_legal : NextIsLegal) (s : ClosingState) (bytes : List ℕ)
-    (state : IsClosingState s) (text : IsBytes bytes) where
+    (state : IsClosingState s) (text : IsBytes bytes) (short : length bytes ≤ max_record_len) where
   of_record : (closing : CloseRecord) → record_in bytes ≡ Ok closing → (found : Option CloseFault)
       → record_fault s closing ≡ found → Answered s bytes
   of_record closing reads (Some wrong) found = (Err wrong, refusal s bytes wrong (closing, reads, found))
   of_record closing reads None found =
       let taken : IsTaken s bytes = record { closing = closing; text = text; reads = reads; unrefused = found } in
-      let close = some_closed next_legal s closing (closable s bytes taken state) in
+      let close = some_closed next_legal s closing (closable s bytes taken state short) in
       by_length s bytes taken close.0 close.1
 
   of_bytes : (read : Result CloseRecord XdrFault) → record_in bytes ≡ read → Answered s bytes
@@ -82,5 +83,5 @@ module _ (closable : TakenIsClosable) (next_legal : NextIsLegal) (s : ClosingSta
   of_bytes (Ok closing) reads = of_record closing reads (record_fault s closing) refl
 
 pub each_close : TakenIsClosable → NextIsLegal → EachClose
-each_close closable next_legal s bytes state text =
-    of_bytes closable next_legal s bytes state text (record_in bytes) refl
+each_close closable next_legal s bytes state text short =
+    of_bytes closable next_legal s bytes state text short (record_in bytes) refl

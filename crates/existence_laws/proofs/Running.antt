@@ -74,7 +74,7 @@ module _ (each : EachClose) (closable : TakenIsClosable) (next : NextIsClosing) 
       let stopped = subst (λ (r : Reading XdrFault (List ℕ)). IsStopped s r last) (sym reads) (wrong, close, refl) in
       (last, ended_run s at (byte ∷ more) last stopped)
   by_answer s at byte more bytes q state reads here later (Ok closed) close =
-      let rest = later closed.state (installed_state closable next s closed state (bytes, close)) in
+      let rest = later closed.state (installed_state closable next s closed state (bytes, close, here.short)) in
       let o = behind (lines_of closed) rest.0 in (
         o,
         subst (λ (t : List ℕ). IsRun s (place at t) o) (sym here.parts)
@@ -90,7 +90,7 @@ module _ (each : EachClose) (closable : TakenIsClosable) (next : NextIsClosing) 
       (last, ended_run s at (byte ∷ more) last stopped)
   by_mark n within s at byte more le state text (Ok (bytes, q)) reads =
       let here = ahead at (byte ∷ more) bytes q text reads in
-      let answer = each s bytes state here.are in
+      let answer = each s bytes state here.are here.short in
       by_answer s at byte more bytes q state reads here
       (λ t closing. within t (at + length (framed bytes)) q.rest (nearer (byte ∷ more) bytes q.rest n le here.parts)
       closing here.others)

@@ -1,5 +1,5 @@
 -- That a close, an image and an input have an answer.
-use Rattle.std.specs.Prelude.{ℕ, List, All, Result}
+use Rattle.std.specs.Prelude.{ℕ, ◌≤◌, List, length, All, Result}
 use Rattle.ledger_types.specs.declared.ids.Hash.{Hash}
 use Rattle.xdr_core.specs.Format.{IsBytes}
 use Rattle.xdr_core.specs.Place.{Place}
@@ -9,11 +9,11 @@ use Rattle.close_rules.specs.declared.image_fault.ImageFault.{ImageFault}
 use Rattle.close_rules.specs.State.{ClosingState, IsClosingState}
 use Rattle.close_rules.specs.Close.{PreparedClose, IsClose}
 use Rattle.close_rules.specs.Images.{IsJudged}
-use Rattle.run_outcome.specs.Outcome.{Outcome, IsRun, IsOutcome}
+use Rattle.run_outcome.specs.Outcome.{Outcome, max_record_len, IsRun, IsOutcome}
 
--- bytes do something to each state from which a ledger closes
+-- bytes, no more than a record may have, do something to each state from which a ledger closes
 abbrev pub EachClose : Type 0
-EachClose = (s : ClosingState) (bytes : List ℕ) → IsClosingState s → IsBytes bytes
+EachClose = (s : ClosingState) (bytes : List ℕ) → IsClosingState s → IsBytes bytes → length bytes ≤ max_record_len
     → (answer : Result PreparedClose CloseFault) × IsClose s bytes answer
 
 -- the bytes behind such a state come to something

@@ -1,6 +1,6 @@
 //! The set of a record, applied to the entries of a ledger.
 
-ghost use Rattle.std.specs.Prelude.{◌≡◌, ◌<◌};
+ghost use Rattle.std.specs.Prelude.{◌≡◌, ◌<◌, ◌≤◌, length};
 ghost use Rattle.xdr_header.specs.Records.{close_record};
 ghost use Rattle.fee_rules.specs.Turns.{apply_order_of};
 ghost use Rattle.op_form.specs.Sequences.{last_seq};
@@ -40,6 +40,7 @@ impl Ledger {
     pub(crate) fn apply(&self, closing: &CloseRecord, order: &[u32]) -> Result<Worked, CloseFault>
         requires spelled { IsSpelled close_record closing.now }
         requires seq { self.now.header.ledger_seq < last_seq }
+        requires few { length closing.now.tx_set.txs ≤ 16777216 }
         requires order { order.now ≡ apply_order_of closing.now.tx_set }
         ensures { spec.IsWorked self.now closing.now result }
     {

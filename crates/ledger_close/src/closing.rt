@@ -43,6 +43,7 @@ impl Ledger {
         steps: &mut Steps<L>,
     ) -> Result<Prepared, CloseFault>
         requires spelled { IsSpelled close_record closing }
+        requires few { length closing.tx_set.txs ≤ 16777216 }
         requires unrefused { record_fault self.now closing ≡ None }
         requires next { next ≡ all_upgraded self.now.header (map upgrade_in closing.scp_value.upgrades) }
         requires worked { Leaves self.now closing worked }
@@ -84,7 +85,8 @@ impl Ledger {
         closing: CloseRecord,
         steps: &mut Steps<L>,
     ) -> Result<Prepared, CloseFault>
-        requires { IsSpelled close_record closing }
+        requires spelled { IsSpelled close_record closing }
+        requires few { length closing.tx_set.txs ≤ 16777216 }
         ensures closed { spec.IsClosedBy self.now closing result }
         ensures steps { AreStepsWith self.now closing steps.old steps.new }
     {

@@ -1,6 +1,6 @@
 //! The ledger between two closes.
 
-ghost use Rattle.std.specs.Prelude.{◌≡◌, ◌≤◌, IfOk, ℕ, List, Ok};
+ghost use Rattle.std.specs.Prelude.{◌≡◌, ◌≤◌, IfOk, ℕ, List, length, Ok};
 ghost use Rattle.std.specs.FinMap.{get};
 ghost use Rattle.value_hashes.specs.Hashes.{ledger_hash_of};
 ghost use Rattle.op_form.specs.Sequences.{last_seq};
@@ -64,9 +64,9 @@ impl Ledger {
         self.entries.find(key)
     }
 
-    /// The ledger takes a close that was prepared from it. It takes no memory.
+    /// The ledger takes a close that was prepared from it, of a record of at most 16777216 bytes. It takes no memory.
     pub fn install(&mut self, prepared: Prepared)
-        requires { (bytes : List ℕ) × IsClose self.old bytes (Ok prepared) }
+        requires { (bytes : List ℕ) × IsClose self.old bytes (Ok prepared) × (length bytes ≤ 16777216) }
         ensures { self.new ≡ prepared.state }
     {
         taken_is_closable();

@@ -17,6 +17,7 @@ use Rattle.op_claim.specs.Operations.{claim_operation}
 use Rattle.op_flags.specs.AllowTrust.{allow_trust}
 use Rattle.op_flags.specs.Operations.{flags_operation}
 use Rattle.op_flags.specs.SetTrustLineFlags.{set_trust_line_flags}
+use Rattle.op_offers.specs.Operations.{attempt_of, offers_operation}
 use Rattle.op_options.specs.ManageData.{manage_data}
 use Rattle.op_options.specs.Operations.{options_operation}
 use Rattle.op_options.specs.SetOptions.{set_options}
@@ -39,6 +40,8 @@ use Rattle.op_laws.proofs.Clawbacks.{clawback_is_lawful}
 use Rattle.op_laws.proofs.Lawful.{lawful_still}
 use Rattle.op_laws.proofs.LineFlags.{allow_trust_is_lawful, set_trust_line_flags_is_lawful}
 use Rattle.op_laws.proofs.ManageData.{manage_data_is_lawful}
+use Rattle.op_laws.proofs.ManageOffers.{manage_sell_offer_is_lawful, create_passive_sell_offer_is_lawful}
+use Rattle.op_laws.proofs.ManageOffers.{manage_buy_offer_is_lawful}
 use Rattle.op_laws.proofs.Merging.{account_merge_is_lawful}
 use Rattle.op_laws.proofs.NewAccounts.{create_account_is_lawful}
 use Rattle.op_laws.proofs.Payment.{payment_is_lawful}
@@ -61,7 +64,7 @@ attempted ctx m under (Err result) lawful = failed_is_lawful ctx m under result
 
 pub all_are_lawful : AllLawful
 unfolding any_operation account_operation options_operation payment_operation trust_operation flags_operation
-    claim_operation sponsor_operation
+    claim_operation sponsor_operation offers_operation
 all_are_lawful ctx (body.CreateAccount op) m fit under stands = attempted ctx m under (create_account ctx op m)
     (λ done is. create_account_is_lawful ctx op m done under stands is)
 all_are_lawful ctx (body.AccountMerge op) m fit under stands = attempted ctx m under (account_merge ctx op m)
@@ -69,6 +72,15 @@ all_are_lawful ctx (body.AccountMerge op) m fit under stands = attempted ctx m u
 all_are_lawful ctx body.Inflation m fit under stands = failed_is_lawful ctx m under NotSupported
 all_are_lawful ctx (body.BumpSequence op) m fit under stands = attempted ctx m under (bump_sequence ctx op m)
     (λ done is. bump_sequence_is_lawful ctx op m done fit under stands is)
+all_are_lawful ctx (body.ManageSellOffer op) m fit under stands = attempted ctx m under
+    (attempt_of ctx (body.ManageSellOffer op) m)
+    (λ done is. manage_sell_offer_is_lawful ctx op m done under stands is)
+all_are_lawful ctx (body.CreatePassiveSellOffer op) m fit under stands = attempted ctx m under
+    (attempt_of ctx (body.CreatePassiveSellOffer op) m)
+    (λ done is. create_passive_sell_offer_is_lawful ctx op m done under stands is)
+all_are_lawful ctx (body.ManageBuyOffer op) m fit under stands = attempted ctx m under
+    (attempt_of ctx (body.ManageBuyOffer op) m)
+    (λ done is. manage_buy_offer_is_lawful ctx op m done under stands is)
 all_are_lawful ctx (body.SetOptions op) m fit under stands = attempted ctx m under (set_options ctx op m)
     (λ done is. set_options_is_lawful ctx op m done under stands is)
 all_are_lawful ctx (body.ManageData op) m fit under stands = attempted ctx m under (manage_data ctx op m)

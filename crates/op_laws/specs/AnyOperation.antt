@@ -10,6 +10,7 @@ use Rattle.op_form.specs.Done.{Done, done_of}
 use Rattle.op_account.specs.Operations.{account_operation}
 use Rattle.op_claim.specs.Operations.{claim_operation}
 use Rattle.op_flags.specs.Operations.{flags_operation}
+use Rattle.op_offers.specs.Operations.{offers_operation}
 use Rattle.op_options.specs.Operations.{options_operation}
 use Rattle.op_payment.specs.Operations.{payment_operation}
 use Rattle.op_sponsor.specs.Operations.{sponsor_operation}
@@ -21,6 +22,9 @@ any_operation ctx (body.CreateAccount op) m = account_operation ctx (body.Create
 any_operation ctx (body.AccountMerge op) m = account_operation ctx (body.AccountMerge op) m
 any_operation ctx body.Inflation m = account_operation ctx body.Inflation m
 any_operation ctx (body.BumpSequence op) m = account_operation ctx (body.BumpSequence op) m
+any_operation ctx (body.ManageSellOffer op) m = offers_operation ctx (body.ManageSellOffer op) m
+any_operation ctx (body.CreatePassiveSellOffer op) m = offers_operation ctx (body.CreatePassiveSellOffer op) m
+any_operation ctx (body.ManageBuyOffer op) m = offers_operation ctx (body.ManageBuyOffer op) m
 any_operation ctx (body.SetOptions op) m = options_operation ctx (body.SetOptions op) m
 any_operation ctx (body.ManageData op) m = options_operation ctx (body.ManageData op) m
 any_operation ctx (body.Payment op) m = payment_operation ctx (body.Payment op) m

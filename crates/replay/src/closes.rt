@@ -41,7 +41,7 @@ fn take_close<O: Sink>(
     prepared: Prepared,
     out: &mut O,
 ) -> Option<Status>
-    requires { (bytes : List ℕ) × IsClose ledger.old bytes (Ok prepared) }
+    requires { (bytes : List ℕ) × IsClose ledger.old bytes (Ok prepared) × (length bytes ≤ 16777216) }
     ensures state { ledger.new ≡ prepared.state }
     ensures wrote { WroteOn (seen O.taken O.faults out.old out.new) (lines_of prepared) result }
     ensures later { O.faults out.old ≤ O.faults out.new }

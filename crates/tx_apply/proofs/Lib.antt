@@ -11,3 +11,5 @@ pub mod Missing
 pub mod Fitting
 pub mod Unbuilt
 pub mod Within
+pub mod FewOperations
+pub mod Drawing

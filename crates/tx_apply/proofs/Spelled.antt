@@ -2,10 +2,15 @@
 use Rattle.std.proofs.Common.{◌≤◌, length}
 use Rattle.xdr_core.specs.Combinators.{list}
 use Rattle.op_types.specs.declared.transaction.Transaction.{Transaction}
+use Rattle.op_types.specs.declared.transaction.TransactionV0.{TransactionV0}
+use Rattle.op_types.specs.declared.transaction.TransactionV0Envelope.{TransactionV0Envelope}
 use Rattle.op_types.specs.declared.transaction.TransactionV1Envelope.{TransactionV1Envelope}
 use Rattle.op_types.specs.declared.transaction.FeeBumpTransactionEnvelope.{FeeBumpTransactionEnvelope}
+use Rattle.op_types.specs.declared.transaction.TransactionEnvelope.{TransactionEnvelope}
+use Rattle.op_types.specs.declared.transaction.TransactionEnvelope.TheVariants as envelope
 use Rattle.xdr_tx.specs.Transactions.{behind_source, transaction, transaction_v1_envelope, fee_bump_transaction}
-use Rattle.xdr_tx.specs.Transactions.{fee_bump_envelope}
+use Rattle.xdr_tx.specs.Transactions.{fee_bump_envelope, transaction_v0, transaction_v0_envelope, transaction_envelope}
+use Rattle.tx_apply.specs.Built.{operations_of}
 
 -- at most 100 operations
 few_operations : (tx : Transaction) → transaction.within tx → length tx.operations ≤ 100
@@ -27,3 +32,20 @@ pub inner_within : (signed : FeeBumpTransactionEnvelope) → fee_bump_envelope.w
     → transaction_v1_envelope.within signed.tx.inner_tx
 unfolding fee_bump_envelope
 inner_within signed within = inner_within_by signed within.0
+
+-- ---- any envelope
+
+few_of_v0 : (tx : TransactionV0) → transaction_v0.within tx → length tx.operations ≤ 100
+unfolding transaction_v0 behind_source list
+few_of_v0 tx within = within.1.1.1.1.1.0.0
+
+few_of_v0_envelope : (signed : TransactionV0Envelope) → transaction_v0_envelope.within signed
+    → length signed.tx.operations ≤ 100
+unfolding transaction_v0_envelope
+few_of_v0_envelope signed within = few_of_v0 signed.tx within.0
+
+pub few_of : (whole : TransactionEnvelope) → transaction_envelope.within whole → length (operations_of whole) ≤ 100
+unfolding transaction_envelope
+few_of (envelope.V0 signed) within = few_of_v0_envelope signed within
+few_of (envelope.V1 signed) within = few_of_v1 signed within
+few_of (envelope.FeeBump signed) within = few_of_v1 signed.tx.inner_tx (inner_within signed within)

@@ -14,11 +14,14 @@ abbrev pub is_pool_share : ChangeTrustAsset → Bool
 is_pool_share (asked.PoolShare params) = true
 is_pool_share other = false
 
--- all but those of offers, paths and pools; CHANGE_TRUST but for pool shares
+-- all but those of paths and pools; CHANGE_TRUST but for pool shares
 abbrev pub is_built : OperationBody → Bool
 is_built (body.CreateAccount op) = true
 is_built (body.Payment op) = true
 is_built (body.SetOptions op) = true
+is_built (body.ManageSellOffer op) = true
+is_built (body.CreatePassiveSellOffer op) = true
+is_built (body.ManageBuyOffer op) = true
 is_built (body.ChangeTrust op) = not (is_pool_share op.line)
 is_built (body.AllowTrust op) = true
 is_built (body.AccountMerge op) = true

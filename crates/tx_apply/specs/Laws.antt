@@ -1,7 +1,7 @@
 -- The laws of whole sets: what they leave is settled, lumens are conserved, the supply of each other asset changes by
 -- what is issued and redeemed alone, each holder has what it had and what the moves give it, and each operation leaves
 -- each account at least 0 available, or what it had.
-use Rattle.std.specs.Prelude.{◌≡◌, ◌≢◌, ℕ, ◌+◌, ℤ, ◌<◌, ◌+ℤ◌, false, All, List, [], ◌∷◌, ◌++◌, length}
+use Rattle.std.specs.Prelude.{◌≡◌, ◌≢◌, ℕ, ◌+◌, ℤ, ◌<◌, ◌≤◌, ◌+ℤ◌, false, All, List, [], ◌∷◌, ◌++◌, length}
 use Rattle.ledger_types.specs.declared.asset.Asset.{Asset}
 use Rattle.ledger_types.specs.declared.asset.Asset.TheVariants as asset
 use Rattle.op_types.specs.declared.operation.Operation.{Operation}
@@ -31,6 +31,10 @@ AreFit operations = All (λ operation. IsFit operation.body) operations
 
 abbrev pub AreAllFit : List TransactionEnvelope → Type 0
 AreAllFit envelopes = All (λ whole. AreFit (operations_of whole)) envelopes
+
+-- so many ids more fit an int64 (offerID in Stellar-ledger-entries.x)
+abbrev pub CanDraw : (count id_pool : ℕ) → Type 0
+CanDraw count id_pool = id_pool + count ≤ 9223372036854775807
 
 -- a legal state and a set, between which and the ledger after the header's nothing stands but the rules
 pub record CanClose (setting : Setting) (set : TransactionSet) (m : EntryMap) : Type 0 where

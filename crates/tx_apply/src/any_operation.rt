@@ -7,6 +7,7 @@ ghost use Rattle.op_form.specs.Sequences.{last_seq};
 ghost use Rattle.op_form.specs.Done.{Does};
 ghost use Rattle.op_form.specs.Premises as premises;
 ghost use Rattle.op_laws.specs.AnyOperation as spec;
+ghost use Rattle.op_offers.specs.Calls.{IsManageable};
 
 use entry_map::{Base, Entries};
 use op_types::{Operation, OperationBody, OperationResult};
@@ -27,6 +28,7 @@ pub(crate) fn apply_operation<B: Base>(
     requires in_range { premises.BalancesAreInRange entries.old.current }
     requires crossable { IsCrossable entries.old.current }
     requires amounts { premises.AreAmountsLow entries.old.current }
+    requires manageable { IsManageable ctx.old entries.old.current }
     ensures { IfOk result (λ answer. Does answer ctx.new entries.old entries.new
         (spec.any_operation ctx.old operation.now.body entries.old.current)) }
 {
@@ -40,6 +42,9 @@ pub(crate) fn apply_operation<B: Base>(
         }
         OperationBody::Payment(_) => op_payment::apply(operation, ctx, entries),
         OperationBody::ChangeTrust(_) => op_trust::apply(operation, ctx, entries),
+        OperationBody::ManageSellOffer(_)
+        | OperationBody::CreatePassiveSellOffer(_)
+        | OperationBody::ManageBuyOffer(_) => op_offers::apply(operation, ctx, entries),
         OperationBody::AllowTrust(_) | OperationBody::SetTrustLineFlags(_) => {
             op_flags::apply(operation, ctx, entries)
         }

@@ -23,6 +23,9 @@ fn is_built(body: &OperationBody) -> bool
         OperationBody::ChangeTrust(op) => !is_pool_share(&op.line),
         OperationBody::CreateAccount(_)
         | OperationBody::Payment(_)
+        | OperationBody::ManageSellOffer(_)
+        | OperationBody::CreatePassiveSellOffer(_)
+        | OperationBody::ManageBuyOffer(_)
         | OperationBody::SetOptions(_)
         | OperationBody::AllowTrust(_)
         | OperationBody::AccountMerge(_)

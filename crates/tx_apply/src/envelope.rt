@@ -8,7 +8,7 @@ ghost use Rattle.op_form.specs.Sequences.{last_seq};
 ghost use Rattle.op_laws.specs.Underway.{IsSettled};
 ghost use Rattle.op_laws.specs.Steps.{TransactionLaws};
 ghost use Rattle.tx_apply.specs.Built.{operations_of};
-ghost use Rattle.tx_apply.specs.Laws.{AreFit};
+ghost use Rattle.tx_apply.specs.Laws.{AreFit, CanDraw};
 ghost use Rattle.tx_apply.specs.Set as spec;
 
 use crate::contexts::ctx_of;
@@ -43,6 +43,7 @@ fn apply_v1_envelope<B: Base>(
     requires laws { TransactionLaws }
     requires within { xdr.transaction_v1_envelope.within envelope.now }
     requires fit { AreFit envelope.now.tx.operations }
+    requires ids { CanDraw 100 ctx.old.id_pool }
     ensures outcome { IfOk result (λ outcome. outcome ≡
         (spec.v1_applied base_fee ctx.old hash.now envelope.now entries.old.current).outcome) }
     ensures entries { OnOk result (entries.new ≡ with_current entries.old
@@ -79,6 +80,7 @@ fn apply_fee_bump_envelope<B: Base>(
     requires laws { TransactionLaws }
     requires within { xdr.fee_bump_envelope.within envelope.now }
     requires fit { AreFit envelope.now.tx.inner_tx.tx.operations }
+    requires ids { CanDraw 100 ctx.old.id_pool }
     ensures outcome { IfOk result (λ outcome. outcome ≡
         (spec.fee_bump_applied network.now base_fee ctx.old hash.now envelope.now entries.old.current).outcome) }
     ensures entries { OnOk result (entries.new ≡ with_current entries.old
@@ -122,6 +124,7 @@ fn apply_envelope<B: Base>(
     requires laws { TransactionLaws }
     requires within { xdr.transaction_envelope.within envelope.now }
     requires fit { AreFit (operations_of envelope.now) }
+    requires ids { CanDraw 100 ctx.old.id_pool }
     ensures outcome { IfOk result (λ outcome. outcome ≡
         (spec.envelope_by network.now base_fee ctx.old hash.now envelope.now entries.old.current).outcome) }
     ensures entries { OnOk result (entries.new ≡ with_current entries.old
@@ -171,6 +174,7 @@ pub(crate) fn apply_one<B: Base>(
     requires laws { TransactionLaws }
     requires within { xdr.transaction_envelope.within envelope.now }
     requires fit { AreFit (operations_of envelope.now) }
+    requires ids { CanDraw 100 id_pool }
     ensures results { OnOk result (results.new ≡ results.old ++ spec.result_pair
         (spec.setting_of network.now header.now close_time) envelope.now fee (spec.envelope_applied
         (spec.setting_of network.now header.now close_time) id_pool envelope.now entries.old.current).outcome ∷ []) }

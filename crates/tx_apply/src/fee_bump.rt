@@ -8,7 +8,7 @@ ghost use Rattle.op_form.specs.Sequences.{last_seq};
 ghost use Rattle.op_laws.specs.Underway.{IsSettled};
 ghost use Rattle.op_laws.specs.Steps.{TransactionLaws};
 ghost use Rattle.tx_apply.specs.FeeBump as spec;
-ghost use Rattle.tx_apply.specs.Laws.{AreFit};
+ghost use Rattle.tx_apply.specs.Laws.{AreFit, CanDraw};
 
 use crate::checks::is_poor;
 use crate::inner_result::bump_outcome;
@@ -94,6 +94,7 @@ fn apply_behind_auth<B: Base>(
     requires laws { TransactionLaws }
     requires few { length bump.now.inner_tx.tx.operations ≤ 100 }
     requires fit { AreFit bump.now.inner_tx.tx.operations }
+    requires ids { CanDraw 100 ctx.old.id_pool }
     requires inner { inner.old.hash ≡ inner_hash.now }
     ensures outcome { IfOk result (λ outcome. outcome ≡ (spec.applied_behind_auth base_fee ctx.old
         (spec.signed_by hash.now outer.now.signatures inner_hash.now inner.old.signatures) bump.now
@@ -140,6 +141,7 @@ pub(crate) fn apply_fee_bump<B: Base>(
     requires laws { TransactionLaws }
     requires few { length bump.now.inner_tx.tx.operations ≤ 100 }
     requires fit { AreFit bump.now.inner_tx.tx.operations }
+    requires ids { CanDraw 100 ctx.old.id_pool }
     requires outer { outer.old.hash ≡ hash.now }
     requires inner { inner.old.hash ≡ inner_hash.now }
     ensures outcome { IfOk result (λ outcome. outcome ≡ (spec.bump_applied base_fee ctx.old

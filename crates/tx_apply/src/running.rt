@@ -5,7 +5,7 @@ ghost use Rattle.entry_map.specs.Undo.{with_current};
 ghost use Rattle.op_form.specs.Done.{Does};
 ghost use Rattle.op_laws.specs.Steps.{TransactionLaws};
 ghost use Rattle.op_laws.specs.Underway.{IsUnderway};
-ghost use Rattle.tx_apply.specs.Laws.{AreFit};
+ghost use Rattle.tx_apply.specs.Laws.{AreFit, CanDraw};
 ghost use Rattle.tx_apply.specs.Running as spec;
 
 use crate::any_operation::apply_operation;
@@ -29,6 +29,7 @@ fn apply_at<B: Base>(
 ) -> Result<OperationResult, AllocError>
     requires underway { IsUnderway ctx.old entries.old.current }
     requires laws { TransactionLaws }
+    requires ids { CanDraw 1 ctx.old.id_pool }
     ensures { IfOk result (λ answer. Does answer ctx.new entries.old entries.new
         (spec.done_at ctx.old source.now place operation.now entries.old.current)) }
 {
@@ -56,6 +57,7 @@ pub(crate) fn run<B: Base>(
     requires laws { TransactionLaws }
     requires places { place + length operations.now < 2 ^ 32 }
     requires fit { AreFit operations.now }
+    requires ids { CanDraw (length operations.now) ctx.old.id_pool }
     ensures succeeds { IfOk result (λ succeeds. succeeds ≡
         (spec.run ctx.old source.now place operations.now entries.old.current).succeeds) }
     ensures results { OnOk result (results.new ≡ results.old ++

@@ -1,6 +1,6 @@
 //! A whole set.
 
-ghost use Rattle.std.specs.Prelude.{◌≡◌, ◌<◌, ◌≤ℤ◌, ◌+ℤ◌, pos, ◌++◌, length, All, IfOk, OnOk};
+ghost use Rattle.std.specs.Prelude.{◌≡◌, ◌*◌, ◌<◌, ◌≤◌, ◌≤ℤ◌, ◌+ℤ◌, pos, ◌++◌, length, All, IfOk, OnOk};
 ghost use Rattle.ledger_types.specs.declared.asset.Asset.TheVariants as asset;
 ghost use Rattle.entry_map.specs.Undo.{with_current};
 ghost use Rattle.entry_sums.specs.Sums.{total};
@@ -76,6 +76,7 @@ fn apply_all<B: Base>(
     requires places { All (λ place. place < length envelopes.now) order.now }
     requires fit { laws.AreAllFit envelopes.now }
     requires fees { length fees.now ≡ length order.now }
+    requires ids { laws.CanDraw (100 * length order.now) header.now.id_pool }
     ensures results { OnOk result (results.new ≡ results.old ++ (spec.all_applied
         (spec.setting_of network.now header.now close_time) header.now.id_pool
         (envelopes_at envelopes.now order.now) fees.now entries.old.current).results) }
@@ -114,6 +115,7 @@ fn apply_in_order<B: Base>(
     requires laws { TransactionLaws }
     requires within { xdr.transaction_set.within set.now }
     requires fit { laws.AreAllFit set.now.txs }
+    requires ids { laws.CanDraw (100 * length order.now) header.now.id_pool }
     requires order { order.now ≡ apply_order_of set.now }
     requires places { All (λ place. place < length set.now.txs) order.now }
     ensures { IfOk result (λ done. spec.IsApplied (spec.setting_of network.now header.now close_time) set.now
@@ -145,7 +147,7 @@ fn apply_in_order<B: Base>(
 /// Applies a set to the entries of the ledger before: all fees are taken first, and then the transactions are applied,
 /// both in the order of application (LedgerManagerImpl in stellar-core), which is `order`. `header` is that of the
 /// ledger before, and `close_time` that of the set's value, in seconds since 1970-01-01T00:00:00Z. A set that is
-/// refused leaves the entries.
+/// refused leaves the entries. The ids of offers fit, since a set has few transactions.
 pub fn apply_set_in_order<B: Base>(
     entries: &mut Entries<'_, B>,
     header: &LedgerHeader,
@@ -157,6 +159,7 @@ pub fn apply_set_in_order<B: Base>(
     requires legal { IsLegal header.now entries.old.current }
     requires seq { header.now.ledger_seq < last_seq }
     requires within { xdr.transaction_set.within set.now }
+    requires few { length set.now.txs ≤ 16777216 }
     requires order { order.now ≡ apply_order_of set.now }
     ensures answer { spec.IsAnswer (spec.setting_of network.now header.now close_time) set.now entries.old entries.new
         result }
@@ -192,6 +195,7 @@ pub fn apply_set<B: Base>(
     requires legal { IsLegal header.now entries.old.current }
     requires seq { header.now.ledger_seq < last_seq }
     requires within { xdr.transaction_set.within set.now }
+    requires few { length set.now.txs ≤ 16777216 }
     ensures answer { spec.IsAnswer (spec.setting_of network.now header.now close_time) set.now entries.old entries.new
         result }
     ensures conserved { OnOk result (

@@ -5,7 +5,7 @@ ghost use Rattle.entry_map.specs.Undo.{with_current};
 ghost use Rattle.op_form.specs.Sequences.{last_seq};
 ghost use Rattle.op_laws.specs.Underway.{IsSettled, IsUnderway};
 ghost use Rattle.op_laws.specs.Steps.{TransactionLaws};
-ghost use Rattle.tx_apply.specs.Laws.{AreFit};
+ghost use Rattle.tx_apply.specs.Laws.{AreFit, CanDraw};
 ghost use Rattle.tx_apply.specs.Transaction as spec;
 
 use crate::checks::judge;
@@ -30,6 +30,7 @@ fn apply_operations<B: Base>(
     requires laws { TransactionLaws }
     requires few { length tx.now.operations ≤ 100 }
     requires fit { AreFit tx.now.operations }
+    requires ids { CanDraw 100 ctx.old.id_pool }
     ensures outcome { IfOk result (λ outcome. outcome ≡
         (spec.operations_applied ctx.old tx.now entries.old.current).outcome) }
     ensures entries { OnOk result (entries.new ≡
@@ -79,6 +80,7 @@ pub(crate) fn apply_transaction<B: Base>(
     requires laws { TransactionLaws }
     requires few { length tx.now.operations ≤ 100 }
     requires fit { AreFit tx.now.operations }
+    requires ids { CanDraw 100 ctx.old.id_pool }
     requires hash { checker.old.hash ≡ hash.now }
     ensures outcome { IfOk result (λ outcome. outcome ≡ (spec.transaction_applied pays base_fee ctx.old hash.now
         checker.old.signatures tx.now entries.old.current).outcome) }

@@ -1,6 +1,6 @@
 //! The call of a set, on a legal state.
 
-ghost use Rattle.std.specs.Prelude.{◌≡◌, ◌<◌};
+ghost use Rattle.std.specs.Prelude.{◌≡◌, ◌<◌, ◌≤◌, length};
 ghost use Rattle.legal_rules.specs.Legal.{IsLegal};
 ghost use Rattle.xdr_tx.specs.Transactions as xdr;
 
@@ -24,6 +24,7 @@ pub fn applied(
     requires legal { IsLegal header.now entries.old.current }
     requires seq { header.now.ledger_seq < 2147483647 }
     requires within { xdr.transaction_set.within set.now }
+    requires few { length set.now.txs ≤ 16777216 }
 {
     let network = network_id(PASSPHRASE)?;
     match apply_set(entries, header, close_time, &network, set) {

@@ -21,6 +21,11 @@ const NOT_PLAIN: &str = "an entry that isn't a plain account, or is there twice"
 
 const NOT_LEGAL: &str = "a header out of its ranges, or without all lumens";
 
+const NOT_FEW: &str = "more transactions than a record may have bytes";
+
+/// The most transactions that a set is applied with.
+const MAX_TRANSACTIONS: usize = 16777216;
+
 /// What is otherwise where no set is applied, for the reason that a text says.
 fn not_applied(alloc: Global, text: &str, wanted: &Wanted) -> Result<Option<String>, AllocError> {
     let text = String::from_str(alloc, text)?;
@@ -73,6 +78,9 @@ fn difference_of_set(
     requires seq { header.now.ledger_seq < 2147483647 }
     requires within { xdr.transaction_set.within set.now }
 {
+    if set.txs.len() > MAX_TRANSACTIONS {
+        return not_applied(alloc, NOT_FEW, wanted);
+    }
     match applied(entries, header, start.close_time, set)? {
         Ok(done) => of_done(alloc, entries, &done, wanted),
         Err(fault) => of_refused(alloc, entries, fault, start.entries.as_slice(), wanted),

@@ -3,4 +3,5 @@ use Rattle.close_laws.proofs.entries.entries_stay_spellable.Goals as goal
 
 pub returns : goal.returns
 returns c =
-    entries_stay_spellable c.settled_legal.ensures c.sets_conserve.ensures c.settled_ready.ensures
+    entries_stay_spellable c.transaction_laws.ensures c.legal_settles.ensures c.settled_legal.ensures
+    c.sets_conserve.ensures

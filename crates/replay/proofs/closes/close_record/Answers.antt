@@ -2,6 +2,9 @@ use Rattle.run_streams.specs.Seen.{seen}
 use Rattle.replay.proofs.Turning.{closes_of, stops_of}
 use Rattle.replay.proofs.closes.close_record.Goals as goal
 
+pub take_close-requires : goal.take_close-requires
+take_close-requires g c = (c.args.text.now, c.in-Ok.ensures.answers, c.requires)
+
 pub returns-in-Ok-clause-closes : goal.returns-in-Ok-clause-closes
 returns-in-Ok-clause-closes g c =
     closes_of c.args.ledger.now c.args.text.now c.in-Ok.prepared c.take_close.new.ledger

@@ -1,3 +1,7 @@
+use Rattle.std.proofs.Common.{rules}
+use Rattle.entry_slots.specs.Accounts.{HasAccount}
+use Rattle.tx_apply.specs.Running.{placed}
+use Rattle.tx_apply.proofs.Lawful.{underway_placed}
 use Rattle.tx_apply.proofs.running.apply_at.Goals as goal
 
 pub apply_operation-requires-clause-ready : goal.apply_operation-requires-clause-ready
@@ -11,3 +15,11 @@ apply_operation-requires-clause-crossable g c = c.requires.laws.crossable _ _ c.
 
 pub apply_operation-requires-clause-amounts : goal.apply_operation-requires-clause-amounts
 apply_operation-requires-clause-amounts g c = c.requires.laws.amounts _ _ c.requires.underway.settled
+
+pub apply_operation-requires-clause-manageable : goal.apply_operation-requires-clause-manageable
+apply_operation-requires-clause-manageable g c =
+    let own = c.source_of-own.result in
+    let stands : HasAccount c.args.entries.now.current own = search rules in
+    c.requires.laws.manageable (placed c.args.ctx.now c.args.place own) c.args.entries.now.current
+    (underway_placed c.args.ctx.now c.args.place own c.args.entries.now.current c.requires.underway) stands
+    (search (rules, c.requires.ids))

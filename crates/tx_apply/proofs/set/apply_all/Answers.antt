@@ -1,13 +1,20 @@
-use Rattle.std.proofs.Common.{◌<◌, pos, length, get_or, sym, subst, rules, FitsSigned, w64}
+use Rattle.std.proofs.Common.{ℕ, ◌+◌, ◌-◌, ◌*◌, ◌<◌, pos, length, get_or, sym, subst, rules, FitsSigned, w64}
 use Rattle.std.proofs.lemmas.Int.{to_z-of_z}
 use Rattle.op_types.specs.declared.transaction.TransactionEnvelope.{TransactionEnvelope}
 use Rattle.tx_apply.specs.Built.{operations_of}
-use Rattle.tx_apply.specs.Laws.{AreFit}
+use Rattle.xdr_tx.specs.Transactions.{transaction_envelope}
+use Rattle.tx_apply.specs.Laws.{AreFit, CanDraw}
 use Rattle.tx_apply.specs.Set.{setting_of}
 use Rattle.tx_apply.proofs.Applying.{step_to, finished}
+use Rattle.tx_apply.proofs.Drawing.{ids_of_next, ids_of_others}
 use Rattle.tx_apply.proofs.Placed.{same_inside}
 use Rattle.tx_apply.proofs.Sound.{envelope_sound}
+use Rattle.tx_apply.proofs.Spelled.{few_of}
 use Rattle.tx_apply.proofs.set.apply_all.Goals as goal
+
+pub apply_one-requires-clause-ids : goal.apply_one-requires-clause-ids
+apply_one-requires-clause-ids g c =
+    ids_of_next (length c.args.order.now) c.loop-i.i c.loop-i.id_pool c.loop-i-test.true c.loop-i.invariant.2
 
 pub loop-i-preserved : goal.loop-i-preserved
 loop-i-preserved g c =
@@ -19,6 +26,11 @@ loop-i-preserved g c =
     subst (λ (whole : TransactionEnvelope). AreFit (operations_of whole)) (sym c.index-envelopes-order.is)
     (c.requires.fit (get_or c.args.order.now c.loop-i.i 0) c.index-envelopes-order.result there) in
     let setting = setting_of c.args.network.now c.args.header.now c.args.close_time in
+    let within : transaction_envelope.within c.index-envelopes-order.result =
+    subst (λ (whole : TransactionEnvelope). transaction_envelope.within whole) (sym c.index-envelopes-order.is)
+    (c.requires.within (get_or c.args.order.now c.loop-i.i 0) c.index-envelopes-order.result there) in
+    let sound = envelope_sound c.requires.laws setting c.loop-i.id_pool c.index-envelopes-order.result
+    c.loop-i.entries.current c.loop-i.invariant.0.settled c.requires.seq fit in
     let told = c.in_ok-id_pool.ensures.results in (
       step_to setting c.args.header.now.id_pool c.args.envelopes.now c.args.order.now c.args.fees.now
           c.args.results.now c.loop-i.results c.args.entries.now c.loop-i.entries c.loop-i.id_pool c.loop-i.i
@@ -26,10 +38,13 @@ loop-i-preserved g c =
           c.loop-i.invariant.0 c.loop-i-test.true inside there c.index-envelopes-order.is
           (same_inside c.args.fees.now c.loop-i.i (pos 0) fee inside) c.in_ok-id_pool.ensures.entries
           (rw (sym (to_z-of_z w64 fee fits)) told) c.in_ok-id_pool.ensures.id_pool
-          (envelope_sound c.requires.laws setting c.loop-i.id_pool c.index-envelopes-order.result
-          c.loop-i.entries.current
-          c.loop-i.invariant.0.settled c.requires.seq fit).left.settled,
+          sound.left.settled,
       search rules,
+      subst (λ (n : ℕ). CanDraw (100 * (length c.args.order.now - (c.loop-i.i + 1))) n)
+          (sym c.in_ok-id_pool.ensures.id_pool)
+          (ids_of_others (length c.args.order.now) c.loop-i.i (length (operations_of c.index-envelopes-order.result))
+          c.loop-i.id_pool _ c.loop-i-test.true (few_of c.index-envelopes-order.result within) sound.ids
+          c.loop-i.invariant.2),
     )
 
 pub returns-clause-results : goal.returns-clause-results

@@ -1,4 +1,5 @@
-use Rattle.std.proofs.Common.{◌≤◌, ◌-◌, length}
+use Rattle.std.proofs.Common.{◌≤◌, ◌-◌, ◌*◌, length}
+use Rattle.tx_apply.specs.Laws.{CanDraw}
 use Rattle.tx_apply.specs.Set.{setting_of}
 use Rattle.tx_apply.proofs.Applying.{SoFar}
 use Rattle.tx_apply.proofs.set.apply_all.Given as goal
@@ -7,6 +8,7 @@ abbrev pub invariant-loop-i : goal.invariant-loop-i
 invariant-loop-i g l =
     SoFar (setting_of l.network l.header l.close_time) l.header.id_pool l.envelopes l.order l.fees l.fn.results
     l.results l.fn.entries l.entries l.id_pool l.i × (l.i ≤ length l.order)
+    × CanDraw (100 * (length l.order - l.i)) l.id_pool
 
 abbrev pub decreases-loop-i : goal.decreases-loop-i
 decreases-loop-i g l = length l.order - l.i

@@ -1,7 +1,9 @@
-use Rattle.std.proofs.Common.{All, length, sym, ap, subst, ◌∙◌, rules}
+use Rattle.std.proofs.Common.{ℕ, ◌*◌, List, All, length, sym, ap, subst, ◌∙◌, rules}
 use Rattle.xdr_tx.specs.Transactions.{transaction_envelope}
 use Rattle.fee_rules.proofs.Spelled.{envelopes_few, envelopes_within}
+use Rattle.tx_apply.specs.Laws.{CanDraw}
 use Rattle.tx_apply.specs.Set.{setting_of}
+use Rattle.tx_apply.proofs.Drawing.{ids_of_set}
 use Rattle.tx_apply.proofs.Unbuilt.{unbuilt_within}
 use Rattle.tx_apply.proofs.Conserving.{set_conserved, set_lawful}
 use Rattle.fee_rules.proofs.Ordered.{places_stand}
@@ -31,6 +33,12 @@ apply_in_order-requires-clause-places g c =
     let stand = places_stand c.args.set.now in
     let order = c.requires.order in
     search (rules, stand, order)
+
+pub apply_in_order-requires-clause-ids : goal.apply_in_order-requires-clause-ids
+apply_in_order-requires-clause-ids g c =
+    subst (λ (order : List ℕ). CanDraw (100 * length order) c.args.header.now.id_pool) (sym c.requires.order)
+    (ids_of_set c.args.header.now c.args.entries.now.current c.args.set.now c.requires.legal c.requires.seq
+    c.requires.few)
 
 pub returns-clause-conserved : goal.returns-clause-conserved
 returns-clause-conserved g c =

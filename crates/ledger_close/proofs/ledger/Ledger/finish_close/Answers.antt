@@ -14,7 +14,7 @@ use Rattle.close_rules.specs.State.{ClosingState, IsClosingState}
 use Rattle.close_rules.specs.Close.{IsClosed, upgraded_header}
 use Rattle.close_laws.specs.Legal.{IsClosable, AreClosed, NextIsLegal}
 use Rattle.close_laws.proofs.Unrefused.{seq_below}
-use Rattle.close_laws.proofs.NextHeader.{next_range}
+use Rattle.close_laws.proofs.NextHeader.{next_counts}
 use Rattle.ledger_close.specs.Leveled.{IsLeveled}
 use Rattle.ledger_close.proofs.Works.{keyed_by}
 use Rattle.ledger_close.proofs.Finishing.{closes, closed_with, results_spelled, header_spelled}
@@ -44,7 +44,12 @@ pub level-requires-clause-spellable : goal.level-requires-clause-spellable
 level-requires-clause-spellable g c =
     let state = subst IsClosingState c.self.view_is c.self.invariant.state in
     let can : IsClosable c.args.self.now c.args.closing =
-    record { state = state; spelled = c.requires.spelled; unrefused = c.requires.unrefused } in (
+    record {
+      state = state;
+      spelled = c.requires.spelled;
+      unrefused = c.requires.unrefused;
+      few = c.requires.few;
+    } in (
       c.args.worked.entries,
       c.requires.worked.batch,
       (c.entries_stay_spellable.ensures c.args.self.now c.args.closing c.args.worked.entries can
@@ -55,7 +60,12 @@ pub file_total-bytes-requires : goal.file_total-bytes-requires
 file_total-bytes-requires g c =
     let state = subst IsClosingState c.self.view_is c.self.invariant.state in
     let can : IsClosable c.args.self.now c.args.closing =
-    record { state = state; spelled = c.requires.spelled; unrefused = c.requires.unrefused } in
+    record {
+      state = state;
+      spelled = c.requires.spelled;
+      unrefused = c.requires.unrefused;
+      few = c.requires.few;
+    } in
     let keyed = keyed_behind c.next_is_legal.ensures c.args.self.now c.args.closing c.args.worked.entries can
     c.requires.worked.entries in
     let leveled = c.in_ok-step.ensures.levels c.args.worked.entries c.requires.worked.batch keyed in
@@ -66,7 +76,12 @@ returns-then-bytes-gt-MAX_FILE_TOTAL-clause-finished g c =
     let s = c.args.self.now in
     let state = subst IsClosingState c.self.view_is c.self.invariant.state in
     let can : IsClosable s c.args.closing =
-    record { state = state; spelled = c.requires.spelled; unrefused = c.requires.unrefused } in
+    record {
+      state = state;
+      spelled = c.requires.spelled;
+      unrefused = c.requires.unrefused;
+      few = c.requires.few;
+    } in
     let keyed = keyed_behind c.next_is_legal.ensures s c.args.closing c.args.worked.entries can
     c.requires.worked.entries in
     let leveled = subst (λ (h : LedgerHeader). IsLeveled s h.ledger_version c.args.worked.entries c.in_ok-step.step)
@@ -88,7 +103,7 @@ pub head-requires-clause-results : goal.head-requires-clause-results
 head-requires-clause-results g c =
     let state = subst IsClosingState c.self.view_is c.self.invariant.state in
     results_spelled c.results_are_spelled.ensures c.args.self.now c.args.closing c.args.worked.done.results
-    (record { state = state; spelled = c.requires.spelled; unrefused = c.requires.unrefused })
+    (record { state = state; spelled = c.requires.spelled; unrefused = c.requires.unrefused; few = c.requires.few })
     c.requires.worked.done.results
 
 pub ledger_hash-requires : goal.ledger_hash-requires
@@ -96,7 +111,7 @@ ledger_hash-requires g c =
     let state = subst IsClosingState c.self.view_is c.self.invariant.state in
     header_spelled c.next_header_is_spelled.ensures c.args.self.now c.args.closing c.in_ok-step.step
     c.in_ok-header.header
-    (record { state = state; spelled = c.requires.spelled; unrefused = c.requires.unrefused })
+    (record { state = state; spelled = c.requires.spelled; unrefused = c.requires.unrefused; few = c.requires.few })
     (c.in_ok-header.ensures c.args.closing refl c.requires.next c.requires.worked.done)
 
 pub invariant_of-result : goal.invariant_of-result
@@ -105,15 +120,19 @@ invariant_of-result g c =
     let closing = c.args.closing in
     let state = subst IsClosingState c.self.view_is c.self.invariant.state in
     let can : IsClosable s closing =
-    record { state = state; spelled = c.requires.spelled; unrefused = c.requires.unrefused } in
+    record {
+      state = state;
+      spelled = c.requires.spelled;
+      unrefused = c.requires.unrefused;
+      few = c.requires.few;
+    } in
     let keyed = keyed_behind c.next_is_legal.ensures s closing c.args.worked.entries can c.requires.worked.entries in
     let leveled = c.in_ok-step.ensures.levels c.args.worked.entries c.requires.worked.batch keyed in
     let header_is = c.in_ok-header.ensures closing refl c.requires.next c.requires.worked.done in
-    let range = next_range s closing (list_hash c.in_ok-step.step.pairs) state.legal.header c.requires.unrefused
-    (seq_below s closing c.requires.unrefused state.legal.header.seq_high) in
+    let counts = next_counts s closing (list_hash c.in_ok-step.step.pairs) in
     record {
       hashed = c.in_ok-digest.ensures;
-      number = leveled.seq ∙ sym (ap (λ (h : LedgerHeader). h.ledger_seq) header_is ∙ range.counts.ledger_seq);
+      number = leveled.seq ∙ sym (ap (λ (h : LedgerHeader). h.ledger_seq) header_is ∙ counts.ledger_seq);
     }
 
 pub returns-clause-finished : goal.returns-clause-finished
@@ -124,7 +143,12 @@ returns-clause-finished g c =
     let step = c.in_ok-step.step in
     let state = subst IsClosingState c.self.view_is c.self.invariant.state in
     let can : IsClosable s closing =
-    record { state = state; spelled = c.requires.spelled; unrefused = c.requires.unrefused } in
+    record {
+      state = state;
+      spelled = c.requires.spelled;
+      unrefused = c.requires.unrefused;
+      few = c.requires.few;
+    } in
     let keyed = keyed_behind c.next_is_legal.ensures s closing worked.entries can c.requires.worked.entries in
     let leveled = subst (λ (h : LedgerHeader). IsLeveled s h.ledger_version worked.entries step) c.requires.next
     (c.in_ok-step.ensures.levels worked.entries c.requires.worked.batch keyed) in
@@ -146,6 +170,7 @@ returns-in_err-step-clause-steps g c =
       state = subst IsClosingState c.self.view_is c.self.invariant.state;
       spelled = c.requires.spelled;
       unrefused = c.requires.unrefused;
+      few = c.requires.few;
     }) c.requires.worked c.level.ensures.steps
 
 pub returns-then-bytes-gt-MAX_FILE_TOTAL-clause-steps : goal.returns-then-bytes-gt-MAX_FILE_TOTAL-clause-steps
@@ -154,6 +179,7 @@ returns-then-bytes-gt-MAX_FILE_TOTAL-clause-steps g c =
       state = subst IsClosingState c.self.view_is c.self.invariant.state;
       spelled = c.requires.spelled;
       unrefused = c.requires.unrefused;
+      few = c.requires.few;
     }) c.requires.worked c.level.ensures.steps
 
 pub returns-in_err-header-clause-steps : goal.returns-in_err-header-clause-steps
@@ -162,6 +188,7 @@ returns-in_err-header-clause-steps g c =
       state = subst IsClosingState c.self.view_is c.self.invariant.state;
       spelled = c.requires.spelled;
       unrefused = c.requires.unrefused;
+      few = c.requires.few;
     }) c.requires.worked c.level.ensures.steps
 
 pub returns-in_err-digest-clause-steps : goal.returns-in_err-digest-clause-steps
@@ -170,6 +197,7 @@ returns-in_err-digest-clause-steps g c =
       state = subst IsClosingState c.self.view_is c.self.invariant.state;
       spelled = c.requires.spelled;
       unrefused = c.requires.unrefused;
+      few = c.requires.few;
     }) c.requires.worked c.level.ensures.steps
 
 pub returns-clause-steps : goal.returns-clause-steps
@@ -178,4 +206,5 @@ returns-clause-steps g c =
       state = subst IsClosingState c.self.view_is c.self.invariant.state;
       spelled = c.requires.spelled;
       unrefused = c.requires.unrefused;
+      few = c.requires.few;
     }) c.requires.worked c.level.ensures.steps

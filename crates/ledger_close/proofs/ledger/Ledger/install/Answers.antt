@@ -1,19 +1,19 @@
-use Rattle.std.proofs.Common.{◌≡◌, ℕ, ◌+◌, List, Ok, sym, ap, ◌∙◌, subst}
+use Rattle.std.proofs.Common.{◌≡◌, ℕ, ◌+◌, sym, ap, ◌∙◌, subst}
 use Rattle.bucket_levels.specs.Levels.{LevelsAt}
 use Rattle.bucket_levels.specs.Step.{IsStep}
 use Rattle.close_rules.specs.State.{ClosingState}
-use Rattle.close_rules.specs.Close.{PreparedClose, IsClose}
+use Rattle.close_rules.specs.Close.{PreparedClose}
 use Rattle.close_rules.specs.Images.{state_of}
 use Rattle.ledger_close.specs.States.{IsKept}
-use Rattle.ledger_close.proofs.Installs.{installed_number, installed_step, installed_state}
+use Rattle.ledger_close.proofs.Installs.{IsMade, installed_number, installed_step, installed_state}
 use Rattle.ledger_close.proofs.ledger.Ledger.install.Goals as goal
 
 -- what is installed is a close of what is kept
 kept_close : (s now : ClosingState) (closed given : PreparedClose) → s ≡ now → closed ≡ given
-    → (bytes : List ℕ) × IsClose now bytes (Ok given) → (bytes : List ℕ) × IsClose s bytes (Ok closed)
+    → IsMade now given → IsMade s closed
 kept_close s now closed given is_state is_closed by =
-    subst (λ (x : ClosingState). (bytes : List ℕ) × IsClose x bytes (Ok closed)) (sym is_state)
-    (subst (λ (y : PreparedClose). (bytes : List ℕ) × IsClose now bytes (Ok y)) (sym is_closed) by)
+    subst (λ (x : ClosingState). IsMade x closed) (sym is_state)
+    (subst (λ (y : PreparedClose). IsMade now y) (sym is_closed) by)
 
 pub take_step-requires-clause-next : goal.take_step-requires-clause-next
 take_step-requires-clause-next c =
@@ -23,7 +23,7 @@ take_step-requires-clause-next c =
     let closed : PreparedClose =
     record { results = p.results.results; state = state_of p.network p.header p.step.pairs p.entries } in
     let by = kept_close s c.args.self.now closed c.args.prepared c.self.view_is c.prepared.view_is c.requires in
-    c.prepared.invariant.number ∙ installed_number s closed c.self.invariant.state by
+    c.prepared.invariant.number ∙ installed_number s closed by
     ∙ ap (λ (n : ℕ). n + 1) (sym c.self.invariant.number)
 
 pub take_step-requires-clause-planned : goal.take_step-requires-clause-planned
@@ -37,7 +37,7 @@ take_step-requires-clause-planned c =
     let step = installed_step s closed by in (
       step.0,
       subst (λ (n : ℕ). IsStep n step.0 l.levels.pairs p.step.pairs)
-          (sym (c.prepared.invariant.number ∙ installed_number s closed c.self.invariant.state by)) step.1,
+          (sym (c.prepared.invariant.number ∙ installed_number s closed by)) step.1,
     )
 
 pub invariant_of-self : goal.invariant_of-self

@@ -1,7 +1,12 @@
 use Rattle.std.proofs.Common.{arith}
 use Rattle.ledger_close.proofs.Finishing.{answered}
 use Rattle.ledger_close.proofs.Counting.{steps_of}
+use Rattle.close_laws.proofs.FewOfRecords.{record_few}
 use Rattle.ledger_close.proofs.ledger.Ledger.prepare.Goals as goal
+
+pub close-requires-clause-few : goal.close-requires-clause-few
+close-requires-clause-few g c =
+    record_few c.args.bytes.now c.in-Ok.closing (λ i. omega (arith, c.type_inv.bytes i)) c.in-Ok.ensures.0 c.requires
 
 pub returns-clause-answers : goal.returns-clause-answers
 returns-clause-answers g c =

@@ -1,0 +1,429 @@
+-- Operations on offers leave the bytes of entries, and what they answer keeps the bounds on lengths.
+use Rattle.std.proofs.Common.{◌≡◌, refl, sym, ap, subst, ◌∙◌, ℕ, ◌+◌, ◌≤◌, zero, suc, Bool, true, false, List, [], ◌∷◌}
+use Rattle.std.proofs.Common.{length, All, Option, Some, None, Result, Ok, Err, arith}
+use Rattle.std.proofs.lemmas.List.Elements.{All-nil, All-head, All-tail}
+use Rattle.std.specs.Prelude.{ℤ, pos, if◌then◌else◌}
+use Rattle.std.specs.FinMap.{get}
+use Rattle.std.specs.List.{AllByRecursion}
+use Rattle.std.specs.Ordering.{int_eq}
+use Rattle.ledger_types.specs.declared.ids.AccountId.{AccountId}
+use Rattle.ledger_types.specs.declared.asset.Asset.TheVariants as asset
+use Rattle.ledger_types.specs.declared.claim_atom.ClaimAtom.{ClaimAtom}
+use Rattle.ledger_types.specs.declared.price.Price.{Price}
+use Rattle.ledger_types.specs.declared.offer.OfferEntry.{OfferEntry}
+use Rattle.ledger_types.specs.declared.entry.LedgerEntry.{LedgerEntry}
+use Rattle.ledger_types.specs.declared.entry.LedgerEntryBody.{LedgerEntryBody}
+use Rattle.ledger_types.specs.declared.entry.LedgerEntryBody.TheVariants as body
+use Rattle.ledger_types.specs.declared.key.LedgerKey.TheVariants as key
+use Rattle.ledger_types.specs.Keys.{key_of_body}
+use Rattle.op_types.specs.declared.offer_ops.ManageSellOfferOp.{ManageSellOfferOp}
+use Rattle.op_types.specs.declared.offer_ops.CreatePassiveSellOfferOp.{CreatePassiveSellOfferOp}
+use Rattle.op_types.specs.declared.offer_ops.ManageBuyOfferOp.{ManageBuyOfferOp}
+use Rattle.op_types.specs.declared.offer_results.ManageOfferEffect.{ManageOfferEffect}
+use Rattle.op_types.specs.declared.offer_results.ManageOfferEffect.TheVariants as effect
+use Rattle.op_types.specs.declared.offer_results.ManageOfferResult.{ManageOfferResult}
+use Rattle.op_types.specs.declared.offer_results.ManageOfferResult.TheVariants as manage
+use Rattle.op_types.specs.declared.operation.OperationBody.TheVariants as operation
+use Rattle.op_types.specs.declared.operation_result.OperationResult.TheVariants.{Inner, ExceededWorkLimit}
+use Rattle.xdr_core.specs.Leaves.{i64}
+use Rattle.xdr_core.specs.Combinators.{list}
+use Rattle.xdr_entries.specs.Basic as basic
+use Rattle.xdr_tx.specs.Operations.{operation_body, manage_sell_offer_op, create_passive_sell_offer_op}
+use Rattle.xdr_tx.specs.Operations.{manage_buy_offer_op}
+use Rattle.xdr_results.specs.Answers.{claim_atom, manage_offer_effect, manage_offer_success, manage_offer_result}
+use Rattle.xdr_results.specs.Results.{operation_result_tr, operation_result}
+use Rattle.entry_map.specs.EntryMap.{EntryMap}
+use Rattle.entry_slots.specs.Accounts.{HasAccount}
+use Rattle.entry_slots.specs.EntrySponsor.{sponsor_of}
+use Rattle.entry_sums.specs.Sums.{total}
+use Rattle.sponsor_rules.specs.declared.context.Ctx.{Ctx}
+use Rattle.sponsor_rules.specs.declared.fault.AddFault.{AddFault}
+use Rattle.sponsor_rules.specs.Adding.{sponsored_entry, map_after_counting_subentry}
+use Rattle.sponsor_rules.specs.Payers.{open_sponsor}
+use Rattle.offer_exchange.specs.Exchange.{unlimited}
+use Rattle.legal_rules.specs.Binding.{releasing}
+use Rattle.legal_rules.specs.Legal.{view}
+use Rattle.legal_rules.specs.OneMore.{one_more}
+use Rattle.legal_rules.specs.Owing.{nothing_owed, IsLegalOwing}
+use Rattle.legal_rules.specs.Sponsorships.{IsSponsorReady}
+use Rattle.legal_rules.specs.Supply.{held}
+use Rattle.legal_rules.specs.Trades.{holder}
+use Rattle.legal_rules.proofs.Given.{sponsors_ready}
+use Rattle.trade_cross.specs.Cancelling.{map_after_cancelling}
+use Rattle.trade_cross.specs.Crossing.{offer_key}
+use Rattle.op_form.specs.Done.{Attempt}
+use Rattle.op_offers.specs.declared.answers.Kind.{Kind}
+use Rattle.op_offers.specs.declared.answers.Kind.TheVariants as kind
+use Rattle.op_offers.specs.declared.ask.Ask.{Ask}
+use Rattle.op_offers.specs.declared.fault.OfferFault.{OfferFault}
+use Rattle.op_offers.specs.declared.fault.OfferFault.TheVariants as fault
+use Rattle.op_offers.specs.Asked.{inverse, ask_to_sell, ask_passively, ask_to_buy, is_malformed}
+use Rattle.op_offers.specs.Managing.{Effect, Made, Changed, Managed, Traded, Removed, of_sold, unless_some}
+use Rattle.op_offers.specs.Managing.{unless_lines, sell_fault, buy_fault, offer_asked, with_reserve, new_asked, made}
+use Rattle.op_offers.specs.Managing.{old_asked, changed, managed_old, managed_at, managed}
+use Rattle.op_offers.specs.Operations.{answer_of, code_of, fault_answer, effect_of, attempt_of_managed}
+use Rattle.op_offers.specs.Operations.{attempt_of}
+use Rattle.op_offers.specs.Selling.{Asked, offer_left, Sold, sold, map_without_offer}
+use Rattle.op_offers.specs.SellingLaws.{IsAskedRightly}
+use Rattle.op_offers.proofs.NewOffers.{new_counted, new_rightly}
+use Rattle.op_offers.proofs.OldOffers.{old_counted, old_rightly}
+use Rattle.op_offers.proofs.Tested.{IsValidAsk, valid_ask}
+use Rattle.op_laws.specs.Underway.{IsUnderway}
+use Rattle.tx_apply.specs.Laws.{CanDraw}
+use Rattle.close_rules.specs.State.{IsSpelled}
+use Rattle.close_laws.proofs.AnswerSteps.{IsAnswer, charged, Answers, IsDone}
+use Rattle.close_laws.proofs.Bytes.{IsId, no_id, AreOfferBytes, AreBodyBytes, AreEntryBytes, AreBytes}
+use Rattle.close_laws.proofs.Bytes.{erase_bytes, open_sponsor_id}
+use Rattle.close_laws.proofs.BytesCrossing.{amount_spelled, IsTold}
+use Rattle.close_laws.proofs.BytesMaps.{AreBytesIf, sponsored_bytes, counting_bytes}
+use Rattle.close_laws.proofs.BytesOffers.{releasing_bytes, cancelling_bytes}
+use Rattle.close_laws.proofs.BytesSales.{IsAskedBytes, AreSold, left_bytes, sold_bytes}
+use Rattle.close_laws.proofs.BytesSteps.{AreWorkBytes, Leaves}
+use Rattle.close_laws.proofs.ShortOffers.{offer_short}
+
+-- ---- what is asked for
+
+-- what is asked for can be written
+record IsAskBytes (ask : Ask) : Type 0 where
+  selling : IsSpelled basic.asset ask.selling
+  buying : IsSpelled basic.asset ask.buying
+  price : IsSpelled basic.price ask.price
+
+inverse_spelled : (price : Price) → IsSpelled basic.price price → IsSpelled basic.price (inverse price)
+unfolding basic.price
+inverse_spelled price spelled = record {
+  within = (spelled.within.1, spelled.within.0);
+  sized = (spelled.sized.1, spelled.sized.0);
+}
+
+sale_asked : (op : ManageSellOfferOp) → IsSpelled operation_body (operation.ManageSellOffer op)
+    → IsAskBytes (ask_to_sell op)
+unfolding operation_body manage_sell_offer_op
+sale_asked op spelled = record {
+  selling = record { within = spelled.within.0; sized = spelled.sized.0 };
+  buying = record { within = spelled.within.1.0; sized = spelled.sized.1.0 };
+  price = record { within = spelled.within.1.1.1.0; sized = spelled.sized.1.1.1.0 };
+}
+
+passive_asked : (op : CreatePassiveSellOfferOp) → IsSpelled operation_body (operation.CreatePassiveSellOffer op)
+    → IsAskBytes (ask_passively op)
+unfolding operation_body create_passive_sell_offer_op
+passive_asked op spelled = record {
+  selling = record { within = spelled.within.0; sized = spelled.sized.0 };
+  buying = record { within = spelled.within.1.0; sized = spelled.sized.1.0 };
+  price = record { within = spelled.within.1.1.1; sized = spelled.sized.1.1.1 };
+}
+
+purchase_asked : (op : ManageBuyOfferOp) → IsSpelled operation_body (operation.ManageBuyOffer op)
+    → IsAskBytes (ask_to_buy op)
+unfolding operation_body manage_buy_offer_op
+purchase_asked op spelled = record {
+  selling = record { within = spelled.within.0; sized = spelled.sized.0 };
+  buying = record { within = spelled.within.1.0; sized = spelled.sized.1.0 };
+  price = inverse_spelled op.price (record { within = spelled.within.1.1.1.0; sized = spelled.sized.1.1.1.0 });
+}
+
+none_few : 0 ≤ unlimited
+none_few = omega arith
+
+offer_asked_bytes : (source : AccountId) (ask : Ask) (id : ℤ) (flags : ℕ) → IsId source → IsAskBytes ask
+    → IsSpelled i64 id → AreOfferBytes (offer_asked source ask id flags)
+offer_asked_bytes source ask id flags named asks spelled = record {
+  id = named;
+  offer_id = spelled;
+  selling = asks.selling;
+  buying = asks.buying;
+  amount = amount_spelled 0 none_few;
+  price = asks.price;
+}
+
+-- ---- what becomes of an offer
+
+-- what holds before an operation on offers: one more id can be written
+pub record CanTrade (ctx : Ctx) (m : EntryMap) : Type 0 where
+  pub under : IsUnderway ctx m
+  pub stands : HasAccount m ctx.op_source
+  pub next : CanDraw 1 ctx.id_pool
+
+abbrev AreManaged : Result Managed OfferFault → Type 0
+AreManaged (Err other) = Unit {0}
+AreManaged (Ok (Removed m)) = AreBytes m
+AreManaged (Ok (Traded what asked done ids)) = AreSold done × IsAskedBytes asked
+
+module _ (ctx : Ctx) (ask : Ask) (m : EntryMap) (can : CanTrade ctx m) (flags : ask.flags ≤ 1) (id : IsId ctx.op_source)
+    (asks : IsAskBytes ask) (work : AreWorkBytes ctx m) where
+  abbrev lumens : ℤ
+  lumens = total (held asset.Native) m
+
+  legal : IsLegalOwing (view m) ctx.id_pool nothing_owed lumens m
+  legal = can.under.settled.legal
+
+  paid_for : IsSponsorReady ctx ctx.op_source m
+  paid_for = sponsors_ready ctx m ctx.op_source can.under.sponsorships
+
+  -- ---- sales
+
+  by_sale : (what : Effect) (next : ℕ) (asked : Asked) (now : EntryMap)
+      → IsLegalOwing (view m) ctx.id_pool (one_more asked.offer.seller_id (sponsor_of asked.entry)) lumens now
+      → ctx.id_pool ≤ next → IsAskedRightly next asked now → IsAskedBytes asked → AreBytes now
+      → (r : Result Sold OfferFault) → sold ctx.base_reserve asked now ≡ r
+      → AreManaged (of_sold what asked ctx.id_pool next r)
+  by_sale what next asked now counted wide right bytes each (Err other) is = tt
+  by_sale what next asked now counted wide right bytes each (Ok done) is = (
+    sold_bytes (view m) ctx.id_pool next ctx.base_reserve lumens asked now counted wide right bytes each done is,
+    bytes,
+  )
+
+  -- the lines pass their tests
+  by_lines : (next : Result Managed OfferFault) → (sell_fault m (holder ctx.op_source ask.selling) ≡ None
+      → buy_fault m (holder ctx.op_source ask.buying) ≡ None → AreManaged next)
+      → AreManaged (unless_lines m ctx.op_source ask next)
+  by_lines next then_ = by (sell_fault m (holder ctx.op_source ask.selling))
+      (buy_fault m (holder ctx.op_source ask.buying)) then_
+    where
+      by : (o p : Option OfferFault) → (o ≡ None → p ≡ None → AreManaged next)
+          → AreManaged (unless_some o (unless_some p next))
+      by None None go = go refl refl
+      by None (Some other) go = tt
+      by (Some other) p go = tt
+
+  -- ---- a new offer
+
+  abbrev new_offer : OfferEntry
+  new_offer = offer_asked ctx.op_source ask (pos (ctx.id_pool + 1)) ask.flags
+
+  new_offer_bytes : AreOfferBytes new_offer
+  new_offer_bytes = offer_asked_bytes ctx.op_source ask (pos (ctx.id_pool + 1)) ask.flags id asks
+      (amount_spelled (ctx.id_pool + 1) can.next)
+
+  abbrev new_entry : LedgerEntry
+  new_entry = record { last_modified_ledger_seq = ctx.seq + 1; body = body.Offer new_offer; ext = None }
+
+  new_entry_bytes : AreEntryBytes (sponsored_entry (open_sponsor ctx ctx.op_source) new_entry)
+  new_entry_bytes = sponsored_bytes (open_sponsor ctx ctx.op_source) new_entry
+      (record { body = new_offer_bytes; sponsor = no_id }) (open_sponsor_id ctx ctx.op_source work.sponsors)
+
+  new_bytes : IsAskedBytes (new_asked ctx ask)
+  new_bytes = record { offer = new_offer_bytes; sponsor = new_entry_bytes.sponsor; flags = flags }
+
+  one_above : ctx.id_pool ≤ ctx.id_pool + 1
+  one_above = omega arith
+
+  module _ (valid : IsValidAsk ask) where
+    by_reserve : sell_fault m (holder ctx.op_source ask.selling) ≡ None
+        → buy_fault m (holder ctx.op_source ask.buying) ≡ None → (r : Result EntryMap AddFault)
+        → map_after_counting_subentry ctx ctx.op_source 1 m ≡ r → AreBytesIf r → AreManaged (with_reserve ctx ask r)
+    by_reserve gives takes (Err other) counted each = tt
+    by_reserve gives takes (Ok now) counted each =
+        by_sale Made (ctx.id_pool + 1) (new_asked ctx ask) now
+        (new_counted ctx ask m (view m) lumens legal can.stands paid_for now counted) one_above
+        (new_rightly ctx ask m (view m) lumens legal can.stands paid_for now counted valid flags gives takes)
+        new_bytes each _ refl
+
+    its_made : AreManaged (made ctx ask m)
+    its_made = by_lines (with_reserve ctx ask (map_after_counting_subentry ctx ctx.op_source 1 m))
+        (λ gives takes. by_reserve gives takes (map_after_counting_subentry ctx ctx.op_source 1 m) refl
+        (counting_bytes ctx ctx.op_source 1 m work.entries))
+
+    -- ---- an old offer
+
+    module _ (old : OfferEntry) (e : LedgerEntry) (there : get m (offer_key old) ≡ Some e)
+        (is_so : e.body ≡ body.Offer old) (own : old.seller_id ≡ ctx.op_source) where
+      old_bytes : AreOfferBytes old
+      old_bytes = subst AreBodyBytes is_so (work.entries (offer_key old) e there).body
+
+      same_ids : ctx.id_pool ≤ ctx.id_pool
+      same_ids = omega arith
+
+      right : sell_fault m (holder ctx.op_source ask.selling) ≡ None
+          → buy_fault m (holder ctx.op_source ask.buying) ≡ None
+          → IsAskedRightly ctx.id_pool (old_asked ctx ask old e) (map_without_offer old m)
+      right gives takes = old_rightly ctx ask m (view m) lumens legal old e there is_so own can.stands valid gives takes
+
+      old_asked_bytes : old.flags ≤ 1 → IsAskedBytes (old_asked ctx ask old e)
+      old_asked_bytes few = record {
+        offer = offer_asked_bytes ctx.op_source ask old.offer_id old.flags id asks old_bytes.offer_id;
+        sponsor = (work.entries (offer_key old) e there).sponsor;
+        flags = few;
+      }
+
+      its_changed : AreManaged (changed ctx ask old e m)
+      its_changed = by_lines (of_sold Changed (old_asked ctx ask old e) ctx.id_pool ctx.id_pool
+          (sold ctx.base_reserve (old_asked ctx ask old e) (map_without_offer old m)))
+          (λ gives takes. by_sale Changed ctx.id_pool (old_asked ctx ask old e) (map_without_offer old m)
+          (old_counted ctx ask m (view m) lumens legal old e there is_so own) same_ids (right gives takes)
+          (old_asked_bytes (right gives takes).flags)
+          (erase_bytes (releasing old m) (offer_key old) (releasing_bytes old m work.entries)) _ refl)
+
+      by_amount : (b : Bool)
+          → AreManaged (if b then Ok (Removed (map_after_cancelling old m)) else changed ctx ask old e m)
+      by_amount true = cancelling_bytes old m work.entries
+      by_amount false = its_changed
+
+    ids : {i j : ℤ} {p q : AccountId} → key.Offer p i ≡ key.Offer q j → p ≡ q
+    ids same = cc
+
+    by_body : (e : LedgerEntry) (b : LedgerEntryBody) → e.body ≡ b
+        → get m (key.Offer ctx.op_source ask.offer_id) ≡ Some e → AreManaged (managed_old ctx ask e b m)
+    by_body e (body.Offer old) same there =
+        let own : offer_key old ≡ key.Offer ctx.op_source ask.offer_id =
+        sym (ap key_of_body same) ∙ legal.keyed (key.Offer ctx.op_source ask.offer_id) e there in
+        by_amount old e (ap (get m) own ∙ there) same (ids own) (int_eq ask.amount (pos 0))
+    by_body e other same there = tt
+
+    by_entry : (o : Option LedgerEntry) → get m (key.Offer ctx.op_source ask.offer_id) ≡ o
+        → AreManaged (managed_at ctx ask o m)
+    by_entry None there = tt
+    by_entry (Some e) there = by_body e e.body refl there
+
+    by_id : (b : Bool) → AreManaged (if b then made ctx ask m
+        else managed_at ctx ask (get m (key.Offer ctx.op_source ask.offer_id)) m)
+    by_id true = its_made
+    by_id false = by_entry (get m (key.Offer ctx.op_source ask.offer_id)) refl
+
+  by_fields : (b : Bool) → is_malformed ask ≡ b → AreManaged (if b then Err fault.Malformed
+      else (if int_eq ask.offer_id (pos 0) then made ctx ask m
+      else managed_at ctx ask (get m (key.Offer ctx.op_source ask.offer_id)) m))
+  by_fields true test = tt
+  by_fields false test = by_id (valid_ask ask test) (int_eq ask.offer_id (pos 0))
+
+  its_managed : AreManaged (managed ctx ask m)
+  its_managed = by_fields (is_malformed ask) refl
+
+-- ---- what is left
+
+managed_leaves : (ctx : Ctx) (m : EntryMap) (of : Kind) (r : Result Managed OfferFault) → AreWorkBytes ctx m
+    → AreManaged r → Leaves (attempt_of_managed ctx (answer_of of) r)
+managed_leaves ctx m of (Err other) work h = record { gives = tt }
+managed_leaves ctx m of (Ok (Removed after)) work h =
+    record { gives = record { entries = h; sponsors = work.sponsors } }
+managed_leaves ctx m of (Ok (Traded what asked done ids)) work h =
+    record { gives = record { entries = h.0.entries; sponsors = record { all = work.sponsors.all } } }
+
+-- ---- what is answered
+
+offered : (of : Kind) (code : ManageOfferResult) → manage_offer_result.within code
+    → IsAnswer (Inner (answer_of of code))
+unfolding operation_result operation_result_tr
+offered kind.Sell code within = record { within = within }
+offered kind.Passive code within = record { within = within }
+offered kind.Buy code within = record { within = within }
+
+exceeded : IsAnswer ExceededWorkLimit
+unfolding operation_result
+exceeded = record { within = tt }
+
+code_within : (found : OfferFault) → manage_offer_result.within (code_of found)
+unfolding manage_offer_result
+code_within fault.Malformed = tt
+code_within fault.NotFound = tt
+code_within fault.SellNoTrust = tt
+code_within fault.NothingToSell = tt
+code_within fault.SellNotAuthorized = tt
+code_within fault.BuyNoTrust = tt
+code_within fault.BuyNotAuthorized = tt
+code_within fault.LineFull = tt
+code_within fault.Underfunded = tt
+code_within fault.CrossSelf = tt
+code_within other = tt
+
+low_within : manage_offer_result.within manage.LowReserve
+unfolding manage_offer_result
+low_within = tt
+
+fault_answers : (of : Kind) (found : OfferFault) → IsAnswer (fault_answer (answer_of of) found)
+fault_answers of fault.TooMany = exceeded
+fault_answers of (fault.Reserve other) =
+    charged other (Inner (answer_of of manage.LowReserve)) (offered of manage.LowReserve low_within)
+fault_answers of other = offered of (code_of other) (code_within other)
+
+effect_within : (what : Effect) (asked : Asked) (amount : ℕ) → IsAskedBytes asked → IsSpelled i64 (pos amount)
+    → manage_offer_effect.within (effect_of what asked amount)
+unfolding manage_offer_effect
+effect_within what asked zero bytes spelled = tt
+effect_within Made asked (suc n) bytes spelled =
+    (offer_short (offer_left asked (suc n)) (left_bytes asked (suc n) bytes spelled) bytes.flags).within
+effect_within Changed asked (suc n) bytes spelled =
+    (offer_short (offer_left asked (suc n)) (left_bytes asked (suc n) bytes spelled) bytes.flags).within
+
+all_told : (atoms : List ClaimAtom) → All IsTold atoms → AllByRecursion claim_atom.within atoms
+all_told [] all = tt
+all_told (one ∷ atoms) all =
+    ((All-head IsTold one atoms all).within, all_told atoms (All-tail IsTold one atoms all))
+
+success_within : (atoms : List ClaimAtom) (what : ManageOfferEffect) → length atoms ≤ 1000 → All IsTold atoms
+    → manage_offer_effect.within what
+    → manage_offer_result.within (manage.Success (record { offers_claimed = atoms; offer = what }))
+unfolding manage_offer_result manage_offer_success list
+success_within atoms what few told within = ((fewer few, all_told atoms told), within)
+  where
+    fewer : {n : ℕ} → n ≤ 1000 → n ≤ 4294967295
+    fewer le = omega arith
+
+deleted_within : manage_offer_effect.within effect.Deleted
+unfolding manage_offer_effect
+deleted_within = tt
+
+none_claimed : 0 ≤ 1000
+none_claimed = omega arith
+
+managed_answers : (ctx : Ctx) (of : Kind) (r : Result Managed OfferFault) → AreManaged r
+    → Answers IsDone (attempt_of_managed ctx (answer_of of) r)
+managed_answers ctx of (Err other) h = record { ends = fault_answers of other }
+managed_answers ctx of (Ok (Removed after)) h = record {
+  ends = offered of (manage.Success (record { offers_claimed = []; offer = effect.Deleted }))
+      (success_within [] effect.Deleted none_claimed (All-nil IsTold) deleted_within);
+}
+managed_answers ctx of (Ok (Traded what asked done ids)) h = record {
+  ends = offered of
+      (manage.Success (record { offers_claimed = done.crossed.atoms; offer = effect_of what asked done.amount }))
+      (success_within done.crossed.atoms (effect_of what asked done.amount) h.0.few h.0.told
+      (effect_within what asked done.amount h.1 h.0.amount));
+}
+
+-- ---- the operations
+
+sale_managed : (ctx : Ctx) (op : ManageSellOfferOp) (m : EntryMap) → CanTrade ctx m → IsId ctx.op_source
+    → IsSpelled operation_body (operation.ManageSellOffer op) → AreWorkBytes ctx m
+    → AreManaged (managed ctx (ask_to_sell op) m)
+sale_managed ctx op m can id spelled work =
+    its_managed ctx (ask_to_sell op) m can (omega arith) id (sale_asked op spelled) work
+
+passive_managed : (ctx : Ctx) (op : CreatePassiveSellOfferOp) (m : EntryMap) → CanTrade ctx m → IsId ctx.op_source
+    → IsSpelled operation_body (operation.CreatePassiveSellOffer op) → AreWorkBytes ctx m
+    → AreManaged (managed ctx (ask_passively op) m)
+passive_managed ctx op m can id spelled work =
+    its_managed ctx (ask_passively op) m can (omega arith) id (passive_asked op spelled) work
+
+purchase_managed : (ctx : Ctx) (op : ManageBuyOfferOp) (m : EntryMap) → CanTrade ctx m → IsId ctx.op_source
+    → IsSpelled operation_body (operation.ManageBuyOffer op) → AreWorkBytes ctx m
+    → AreManaged (managed ctx (ask_to_buy op) m)
+purchase_managed ctx op m can id spelled work =
+    its_managed ctx (ask_to_buy op) m can (omega arith) id (purchase_asked op spelled) work
+
+-- what an operation on offers leaves and answers
+pub record IsTraded (attempt : Attempt) : Type 0 where
+  pub leaves : Leaves attempt
+  pub answers : Answers IsDone attempt
+
+traded : (ctx : Ctx) (m : EntryMap) (of : Kind) (r : Result Managed OfferFault) → AreWorkBytes ctx m → AreManaged r
+    → IsTraded (attempt_of_managed ctx (answer_of of) r)
+traded ctx m of r work h = record { leaves = managed_leaves ctx m of r work h; answers = managed_answers ctx of r h }
+
+pub offer_sold : (ctx : Ctx) (op : ManageSellOfferOp) (m : EntryMap) → CanTrade ctx m → IsId ctx.op_source
+    → IsSpelled operation_body (operation.ManageSellOffer op) → AreWorkBytes ctx m
+    → IsTraded (attempt_of ctx (operation.ManageSellOffer op) m)
+offer_sold ctx op m can id spelled work =
+    traded ctx m kind.Sell (managed ctx (ask_to_sell op) m) work (sale_managed ctx op m can id spelled work)
+
+pub passively_sold : (ctx : Ctx) (op : CreatePassiveSellOfferOp) (m : EntryMap) → CanTrade ctx m → IsId ctx.op_source
+    → IsSpelled operation_body (operation.CreatePassiveSellOffer op) → AreWorkBytes ctx m
+    → IsTraded (attempt_of ctx (operation.CreatePassiveSellOffer op) m)
+passively_sold ctx op m can id spelled work =
+    traded ctx m kind.Passive (managed ctx (ask_passively op) m) work (passive_managed ctx op m can id spelled work)
+
+pub offer_bought : (ctx : Ctx) (op : ManageBuyOfferOp) (m : EntryMap) → CanTrade ctx m → IsId ctx.op_source
+    → IsSpelled operation_body (operation.ManageBuyOffer op) → AreWorkBytes ctx m
+    → IsTraded (attempt_of ctx (operation.ManageBuyOffer op) m)
+offer_bought ctx op m can id spelled work =
+    traded ctx m kind.Buy (managed ctx (ask_to_buy op) m) work (purchase_managed ctx op m can id spelled work)

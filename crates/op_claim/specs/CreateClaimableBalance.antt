@@ -5,11 +5,7 @@ use Rattle.std.specs.List.{list_all, list_any}
 use Rattle.ledger_types.specs.declared.ids.ClaimableBalanceId.{ClaimableBalanceId}
 use Rattle.ledger_types.specs.declared.asset.Asset.{Asset}
 use Rattle.ledger_types.specs.declared.account.AccountEntry.{AccountEntry}
-use Rattle.ledger_types.specs.declared.trust_line.TrustLineEntry.{TrustLineEntry}
 use Rattle.ledger_types.specs.declared.claimable_balance.Claimant.{Claimant}
-use Rattle.ledger_types.specs.declared.claimable_balance.ClaimableBalanceEntryExtensionV1.{
-  ClaimableBalanceEntryExtensionV1,
-}
 use Rattle.ledger_types.specs.declared.entry.LedgerEntry.{LedgerEntry}
 use Rattle.ledger_types.specs.declared.entry.LedgerEntryBody.TheVariants as body
 use Rattle.op_types.specs.declared.balance_ops.CreateClaimableBalanceOp.{CreateClaimableBalanceOp}
@@ -34,7 +30,7 @@ use Rattle.op_form.specs.Done.{Attempt, Move}
 use Rattle.op_form.specs.Done.{OfAccount, OfBalance}
 use Rattle.op_form.specs.Amounts.{map_after_debit}
 use Rattle.op_form.specs.Assets.{is_issued_by, line_of_asset}
-use Rattle.op_form.specs.Flags.{is_account_clawback_enabled, is_line_clawback_enabled}
+use Rattle.op_form.specs.Flags.{is_account_clawback_enabled, is_clawback_line, flagged_ext}
 use Rattle.op_form.specs.Steps.{unless_refused, after_step, after_charge, success}
 use Rattle.op_claim.specs.Predicates.{fixed_claimant}
 
@@ -77,10 +73,6 @@ abbrev pub is_clawback_account : Option AccountEntry → Bool
 is_clawback_account None = false
 is_clawback_account (Some account) = is_account_clawback_enabled account
 
-abbrev pub is_clawback_line : Option TrustLineEntry → Bool
-is_clawback_line None = false
-is_clawback_line (Some line) = is_line_clawback_enabled line
-
 abbrev pub is_clawback_source : Ctx → EntryMap → Bool
 is_clawback_source ctx m = is_clawback_account (account_at m ctx.op_source)
 
@@ -92,11 +84,6 @@ abbrev pub can_claw_back : Ctx → CreateClaimableBalanceOp → EntryMap → Boo
 can_claw_back ctx create_op m =
     if is_issued_by create_op.asset ctx.op_source then is_clawback_source ctx m
     else is_clawback_holder ctx create_op.asset m
-
--- CLAIMABLE_BALANCE_CLAWBACK_ENABLED_FLAG (1)
-abbrev pub flagged_ext : Bool → Option ClaimableBalanceEntryExtensionV1
-flagged_ext false = None
-flagged_ext true = Some (record { flags = 1 })
 
 abbrev pub new_balance : Ctx → CreateClaimableBalanceOp → Bool → LedgerEntry
 new_balance ctx create_op clawback =

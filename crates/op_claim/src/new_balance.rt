@@ -8,19 +8,13 @@ ghost use Rattle.op_claim.specs.CreateClaimableBalance as spec;
 
 use crate::predicates::fixed_claimants;
 use entry_map::{Base, Entries};
-use entry_slots::{load_account, load_line};
+use entry_slots::load_account;
 use hash_ids::balance_id;
-use ledger_types::{
-    ClaimableBalanceEntry, ClaimableBalanceEntryExtensionV1, ClaimableBalanceId, LedgerEntry,
-    LedgerEntryBody,
-};
-use op_form::{is_account_clawback_enabled, is_issued_by, is_line_clawback_enabled, line_asset_of};
+use ledger_types::{ClaimableBalanceEntry, ClaimableBalanceId, LedgerEntry, LedgerEntryBody};
+use op_form::{can_be_clawed_back, flagged_ext, is_account_clawback_enabled, is_issued_by};
 use op_types::CreateClaimableBalanceOp;
 use sponsor_rules::Ctx;
 use std::alloc::AllocError;
-
-/// CLAIMABLE_BALANCE_CLAWBACK_ENABLED_FLAG.
-const CLAWBACK_ENABLED: u32 = 1;
 
 /// The id of the balance that the operation makes.
 pub fn new_id(ctx: &Ctx) -> Result<ClaimableBalanceId, AllocError>
@@ -42,7 +36,7 @@ pub fn can_claw_back<B: Base>(
     if is_issued_by(&op.asset, &ctx.op_source) {
         can_source_claw_back(ctx, entries)
     } else {
-        can_line_be_clawed_back(op, ctx, entries)
+        can_be_clawed_back(entries, &ctx.op_source, &op.asset)
     }
 }
 
@@ -53,33 +47,6 @@ fn can_source_claw_back<B: Base>(ctx: &Ctx, entries: &Entries<'_, B>) -> Result<
     match load_account(entries, &ctx.op_source)? {
         None => Ok(false),
         Some(slot) => Ok(is_account_clawback_enabled(&slot.account)),
-    }
-}
-
-/// Whether what the source's line holds can be clawed back.
-fn can_line_be_clawed_back<B: Base>(
-    op: &CreateClaimableBalanceOp,
-    ctx: &Ctx,
-    entries: &Entries<'_, B>,
-) -> Result<bool, AllocError>
-    ensures { IfOk result (λ can. can ≡ spec.is_clawback_holder ctx.now op.now.asset entries.now.current) }
-{
-    match load_line(entries, &ctx.op_source, &line_asset_of(&op.asset))? {
-        None => Ok(false),
-        Some(slot) => Ok(is_line_clawback_enabled(&slot.line)),
-    }
-}
-
-/// The extension of a balance that can be clawed back.
-fn flagged_ext(can_be_clawed_back: bool) -> Option<ClaimableBalanceEntryExtensionV1>
-    ensures { result ≡ spec.flagged_ext can_be_clawed_back }
-{
-    if can_be_clawed_back {
-        Some(ClaimableBalanceEntryExtensionV1 {
-            flags: CLAWBACK_ENABLED,
-        })
-    } else {
-        None
     }
 }
 

@@ -1,5 +1,5 @@
 -- What the flags of accounts and of trust lines say (CAP-0018, CAP-0035; TransactionUtils in stellar-core).
-use Rattle.std.specs.Prelude.{ℕ, not, nat_eq, bit_and, Bool, Option, Some, None}
+use Rattle.std.specs.Prelude.{ℕ, not, nat_eq, bit_and, Bool, true, false, Option, Some, None}
 use Rattle.ledger_types.specs.declared.account.AccountEntry.{AccountEntry}
 use Rattle.ledger_types.specs.declared.claimable_balance.ClaimableBalanceEntry.{ClaimableBalanceEntry}
 use Rattle.ledger_types.specs.declared.claimable_balance.ClaimableBalanceEntryExtensionV1.{
@@ -35,7 +35,17 @@ is_authorized line = has_any line.flags 1
 abbrev pub is_line_clawback_enabled : TrustLineEntry → Bool
 is_line_clawback_enabled line = has_any line.flags 4
 
+-- what is held in a line, if it stands, can be taken back
+abbrev pub is_clawback_line : Option TrustLineEntry → Bool
+is_clawback_line None = false
+is_clawback_line (Some line) = is_line_clawback_enabled line
+
 -- ---- claimable balances
+
+-- CLAIMABLE_BALANCE_CLAWBACK_ENABLED_FLAG (1), where it is set
+abbrev pub flagged_ext : (clawback : Bool) → Option ClaimableBalanceEntryExtensionV1
+flagged_ext false = None
+flagged_ext true = Some (record { flags = 1 })
 
 abbrev pub flags_in : Option ClaimableBalanceEntryExtensionV1 → ℕ
 flags_in None = 0

@@ -3,6 +3,7 @@
 
 mod amounts;
 mod assets;
+mod clawback;
 mod default_results;
 mod faults;
 mod flags;
@@ -15,6 +16,7 @@ mod standing;
 
 pub use amounts::{CreditFault, DebitFault, credit, debit, store_less};
 pub use assets::{is_issued_by, is_native, line_asset_of, load_issuer};
+pub use clawback::{can_be_clawed_back, flagged_ext};
 pub use default_results::default_result;
 pub use faults::fault_result;
 pub use flags::{

@@ -56,6 +56,7 @@ use Rattle.op_form.specs.Done.{OfAccount, OfBalance}
 use Rattle.op_form.specs.Lumens.{map_after_lumens_debit, with_less_lumens}
 use Rattle.op_claim.specs.ClaimClaimableBalance as claiming
 use Rattle.op_claim.specs.ClawbackClaimableBalance as clawing
+use Rattle.op_form.specs.Flags.{flagged_ext}
 use Rattle.op_claim.specs.CreateClaimableBalance as creating
 use Rattle.op_claim.specs.Predicates.{fixed_claimant}
 use Rattle.op_laws.specs.Laws.{IsLawful, AreLawful, AreLawfulWhere, AreClaimantsFew}
@@ -342,7 +343,7 @@ module _ (ctx : Ctx) (op : CreateClaimableBalanceOp) (m : EntryMap) (done : Done
     claimants = map (fixed_claimant ctx.close_time) op.claimants;
     asset = op.asset;
     amount = op.amount;
-    ext = creating.flagged_ext can;
+    ext = flagged_ext can;
   }
 
   abbrev times : ℕ

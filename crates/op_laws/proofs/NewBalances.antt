@@ -28,6 +28,7 @@ use Rattle.sponsor_rules.specs.Payers.{is_same_account}
 use Rattle.sponsor_rules.proofs.Ids.{is_itself}
 use Rattle.legal_rules.specs.Ranges.{AreClaimantsInRange, balance_flags}
 use Rattle.op_claim.specs.Predicates.{fixed_level, fixed_below, fixed_claimant, time_after}
+use Rattle.op_form.specs.Flags.{flagged_ext}
 use Rattle.op_claim.specs.CreateClaimableBalance as spec
 use Rattle.legal_rules.specs.Holdings.{IsKeyed}
 use Rattle.legal_rules.proofs.Passed.{neither}
@@ -157,7 +158,7 @@ claimants_in_range t cs h few =
       predicates = all_valid t cs (not_true (spec.are_predicates_valid cs) last.1);
     }
 
-pub new_flags : (can : Bool) → balance_flags (spec.flagged_ext can) ≤ 1
+pub new_flags : (can : Bool) → balance_flags (flagged_ext can) ≤ 1
 new_flags true = omega arith
 new_flags false = omega arith
 

@@ -1,20 +1,14 @@
 -- An offer that is made or changed, once its fields and lines have passed their tests and while it is out of the book
 -- (ManageOfferOpFrameBase in stellar-core; CAP-0003). Its reserve is counted meanwhile.
-use Rattle.std.specs.Prelude.{ℕ, ◌-◌, zero, suc, ℤ, pos, neg_ℤ, unsigned_abs, nat_eq, nat_lt, int_lt, min, Bool, false}
+use Rattle.std.specs.Prelude.{ℕ, ◌-◌, zero, suc, ℤ, pos, neg_ℤ, unsigned_abs, nat_eq, nat_lt, min}
 use Rattle.std.specs.Prelude.{◌||◌, [], ◌∷◌, Option, Some, None, Result, Ok, Err}
-use Rattle.ledger_types.specs.declared.account.AccountEntry.{AccountEntry}
-use Rattle.ledger_types.specs.declared.trust_line.TrustLineEntry.{TrustLineEntry}
 use Rattle.ledger_types.specs.declared.offer.OfferEntry.{OfferEntry}
 use Rattle.ledger_types.specs.declared.entry.LedgerEntry.{LedgerEntry}
 use Rattle.ledger_types.specs.declared.entry.LedgerEntryBody.TheVariants as body
 use Rattle.ledger_types.specs.declared.key.LedgerKey.{LedgerKey}
-use Rattle.ledger_types.specs.declared.key.LedgerKey.TheVariants as key
 use Rattle.entry_map.specs.EntryMap.{EntryMap, put, erase}
-use Rattle.entry_slots.specs.Accounts.{account_at}
 use Rattle.entry_slots.specs.EntrySponsor.{sponsor_of}
-use Rattle.entry_slots.specs.Lines.{line_at}
 use Rattle.entry_slots.specs.Tests.{Tests, unless_first}
-use Rattle.reserve_rules.specs.Reserve.{available, line_available}
 use Rattle.sponsor_rules.specs.Removing.{map_after_discounting}
 use Rattle.offer_exchange.specs.declared.rounding.Rounding.TheVariants.{Normal}
 use Rattle.offer_exchange.specs.Exchange.{unlimited, wanted, adjusted}
@@ -23,7 +17,7 @@ use Rattle.legal_rules.specs.Binding.{acquiring, releasing}
 use Rattle.trade_cross.specs.declared.crossed.CrossEnd.{CrossEnd}
 use Rattle.trade_cross.specs.declared.crossed.CrossEnd.TheVariants.{Converted, CrossSelf, TooMany}
 use Rattle.trade_cross.specs.declared.trade.Trade.{Trade}
-use Rattle.trade_cross.specs.Holdings.{most_given, most_taken, paying}
+use Rattle.trade_cross.specs.Holdings.{most_given, most_taken, has_at, is_short_of, paying}
 use Rattle.trade_cross.specs.Crossing.{Crossing, converted, offer_key}
 use Rattle.op_offers.specs.declared.fault.OfferFault.{OfferFault}
 use Rattle.op_offers.specs.declared.fault.OfferFault.TheVariants as fault
@@ -62,25 +56,6 @@ abbrev pub map_without_offer : OfferEntry → EntryMap → EntryMap
 map_without_offer old m = erase (releasing old m) (offer_key old)
 
 -- ---- the tests of what is wanted
-
--- less than wheat is available, which may be below nothing
-abbrev pub is_short_of : ℤ → Option ℤ → Bool
-is_short_of wheat None = false
-is_short_of wheat (Some there) = int_lt there wheat
-
-abbrev pub account_has : ℕ → Option AccountEntry → Option ℤ
-account_has base None = None
-account_has base (Some account) = Some (available account base)
-
-abbrev pub line_has : Option TrustLineEntry → Option ℤ
-line_has None = None
-line_has (Some line) = Some (line_available line)
-
--- what is available under a key; of what an account issues nothing is short
-abbrev pub has_at : ℕ → EntryMap → Option LedgerKey → Option ℤ
-has_at base m (Some (key.Account id)) = account_has base (account_at m id)
-has_at base m (Some (key.TrustLine id held)) = line_has (line_at m id held)
-has_at base m other = None
 
 abbrev pub wanted_tests : ℕ → Asked → EntryMap → Tests OfferFault
 wanted_tests base asked m =

@@ -1,16 +1,18 @@
 -- What deposits ask for, and that it is fair.
-use Rattle.std.proofs.Common.{◌≡◌, refl, sym, ap, subst, ℤ, pos, ◌≤ℤ◌, unsigned_abs, Option, Some, None, ℕ, ◌+◌, ◌-◌}
-use Rattle.std.proofs.Common.{◌*◌, ◌/◌, ◌^◌, ◌<◌, ◌≤◌, min, arith}
+use Rattle.std.proofs.Common.{◌≡◌, refl, sym, ap, subst, ◌∙◌, ℤ, pos, ◌≤ℤ◌, unsigned_abs, Option, Some, None, ℕ, ◌+◌, ◌-◌}
+use Rattle.std.proofs.Common.{◌*◌, ◌/◌, ◌^◌, ◌<◌, ◌≤◌, min, true, false, arith}
 use Rattle.std.proofs.Math.Nat.{div-lt_iff_lt-mul, div-mul-le_self, lt-div-mul-add, mul-le-mul, mul-le-mul_right}
 use Rattle.std.proofs.Math.Nat.{one-le-mul, mul-zero, lt_of_not-le, min-le_left, min-le_right}
+use Rattle.std.proofs.lemmas.Bool.{eqb-true}
 use Rattle.std.proofs.lemmas.Nat.{le-div, mul-lt}
 use Rattle.std.proofs.lemmas.Int.{ints}
+use Rattle.std.specs.Prelude.{nat_eq, if◌then◌else◌}
 use Rattle.std.specs.Option.{SomeIff}
-use Rattle.wide_math.specs.Root.{IsRoot}
+use Rattle.wide_math.specs.Root.{IsRoot, square_root}
 use Rattle.pool_math.specs.declared.deposits.Deposited.{Deposited}
 use Rattle.pool_math.specs.Calls.{IsUnsigned, numbers_of, AnswersDeposit}
 use Rattle.pool_math.specs.Parts.{signed}
-use Rattle.pool_math.specs.Pools.{Deposit, greatest, shares_for, asked_for, later_deposit, IsWhole}
+use Rattle.pool_math.specs.Pools.{Deposit, greatest, shares_for, asked_for, later_deposit, deposited, IsWhole}
 use Rattle.pool_math.specs.Laws.{IsFairDeposit}
 
 -- the root of a product of two numbers of 63 bits has 63 bits
@@ -86,19 +88,48 @@ first_fair reserve_a reserve_b total max_a max_b d none_a none_b some_a some_b a
 
 -- ---- what calls answer
 
+-- the deposit into an empty pool, as a function
+first_is : (reserve_a reserve_b total max_a max_b : ℕ) (d : Deposit) → total ≡ 0
+    → d.shares ≡ square_root (max_a * max_b) → d.a ≡ max_a → d.b ≡ max_b
+    → d ≡ deposited reserve_a reserve_b total max_a max_b
+first_is reserve_a reserve_b total max_a max_b d none root all_a all_b =
+    same d (record { shares = square_root (max_a * max_b); a = max_a; b = max_b }) root all_a all_b
+    ∙ sym (ap (λ n. deposited reserve_a reserve_b n max_a max_b) none)
+  where
+    same : (x y : Deposit) → x.shares ≡ y.shares → x.a ≡ y.a → x.b ≡ y.b → x ≡ y
+    same x y shares a b = λ i. record { shares = shares i; a = a i; b = b i }
+
+-- .. and into another one
+later_is : (reserve_a reserve_b total max_a max_b : ℕ) → 1 ≤ total
+    → later_deposit reserve_a reserve_b total max_a max_b ≡ deposited reserve_a reserve_b total max_a max_b
+later_is reserve_a reserve_b total max_a max_b some = elim (nat_eq total 0) as (λ b. nat_eq total 0 ≡ b
+    → later_deposit reserve_a reserve_b total max_a max_b ≡ (if b
+    then record { shares = square_root (max_a * max_b); a = max_a; b = max_b }
+    else later_deposit reserve_a reserve_b total max_a max_b)) [
+      | true ↦ λ none. absurd (past (eqb-true total 0 none))
+      | false ↦ λ full. refl
+    ] refl
+  where
+    past : total ≡ 0 → ⊥
+    past none = omega arith
+
 pub first_answers : (a b total max_a max_b : ℤ) (d : Deposited) → total ≡ pos 0 → pos 1 ≤ℤ max_a → pos 1 ≤ℤ max_b
     → IsWhole (unsigned_abs a) (unsigned_abs b) (unsigned_abs total)
-    → IsRoot (unsigned_abs max_a * unsigned_abs max_b) (unsigned_abs d.shares) → pos 0 ≤ℤ d.shares → d.a ≡ max_a
-    → d.b ≡ max_b → AnswersDeposit a b total max_a max_b (Some d)
-first_answers a b total max_a max_b d none some_a some_b whole root no_debt all_a all_b =
+    → IsRoot (unsigned_abs max_a * unsigned_abs max_b) (unsigned_abs d.shares)
+    → unsigned_abs d.shares ≡ square_root (unsigned_abs max_a * unsigned_abs max_b) → pos 0 ≤ℤ d.shares
+    → d.a ≡ max_a → d.b ≡ max_b → AnswersDeposit a b total max_a max_b (Some d)
+first_answers a b total max_a max_b d none some_a some_b whole root function no_debt all_a all_b =
     let no_total : unsigned_abs total ≡ 0 = ap unsigned_abs none in
     let most_a : unsigned_abs d.a ≡ unsigned_abs max_a = ap unsigned_abs all_a in
     let most_b : unsigned_abs d.b ≡ unsigned_abs max_b = ap unsigned_abs all_b in (
       ((λ empty. (root, (most_a, most_b))), λ some. absurd (past no_total some)),
+      first_is (unsigned_abs a) (unsigned_abs b) (unsigned_abs total) (unsigned_abs max_a) (unsigned_abs max_b)
+          (numbers_of d) no_total function most_a most_b,
       first_fair (unsigned_abs a) (unsigned_abs b) (unsigned_abs total) (unsigned_abs max_a) (unsigned_abs max_b)
           (numbers_of d) (whole.a.1 no_total) (whole.b.1 no_total) (omega (arith, ints))
           (omega (arith, ints)) most_a most_b,
       record { shares = no_debt; a = above d.a max_a all_a some_a; b = above d.b max_b all_b some_b },
+      record { fits = λ some. absurd (past no_total some) },
     )
   where
     past : unsigned_abs total ≡ 0 → 1 ≤ unsigned_abs total → ⊥
@@ -119,8 +150,13 @@ pub later_answers : (a b total max_a max_b : ℤ) (answer : Option Deposited) �
     → AnswersDeposit a b total max_a max_b answer
 later_answers a b total max_a max_b None some not fair = λ can. not (can.fits some)
 later_answers a b total max_a max_b (Some d) some is fair =
-    subst (λ (r : Deposited). AnswersDeposit a b total max_a max_b (Some r)) (sym is.1)
-    (((λ none. absurd (past none some)), λ full. refl), fair, not_below)
+    subst (λ (r : Deposited). AnswersDeposit a b total max_a max_b (Some r)) (sym is.1) (
+      ((λ none. absurd (past none some)), λ full. refl),
+      later_is (unsigned_abs a) (unsigned_abs b) (unsigned_abs total) (unsigned_abs max_a) (unsigned_abs max_b) some,
+      fair,
+      not_below,
+      record { fits = λ some. is.0 },
+    )
   where
     past : unsigned_abs total ≡ 0 → 1 ≤ unsigned_abs total → ⊥
     past none full = omega arith

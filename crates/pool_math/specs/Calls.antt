@@ -1,7 +1,7 @@
 -- What calls answer, by the whole numbers that their 64 bits are.
-use Rattle.std.specs.Prelude.{ℤ, pos, ◌≤ℤ◌, unsigned_abs, Option, Some, None}
+use Rattle.std.specs.Prelude.{◌≡◌, ℤ, pos, ◌≤ℤ◌, unsigned_abs, Option, Some, None}
 use Rattle.pool_math.specs.declared.deposits.Deposited.{Deposited}
-use Rattle.pool_math.specs.Pools.{Deposit, CanDeposit, IsDeposit}
+use Rattle.pool_math.specs.Pools.{Deposit, CanDeposit, IsDeposit, deposited}
 use Rattle.pool_math.specs.Laws.{IsFairDeposit}
 
 -- the numbers of a deposit
@@ -21,6 +21,9 @@ AnswersDeposit a b total max_a max_b None =
 AnswersDeposit a b total max_a max_b (Some d) =
     IsDeposit (unsigned_abs a) (unsigned_abs b) (unsigned_abs total) (unsigned_abs max_a) (unsigned_abs max_b)
     (numbers_of d)
+    × (numbers_of d ≡
+    deposited (unsigned_abs a) (unsigned_abs b) (unsigned_abs total) (unsigned_abs max_a) (unsigned_abs max_b))
     × IsFairDeposit (unsigned_abs a) (unsigned_abs b) (unsigned_abs total) (unsigned_abs max_a) (unsigned_abs max_b)
     (numbers_of d)
     × IsUnsigned d
+    × CanDeposit (unsigned_abs a) (unsigned_abs b) (unsigned_abs total) (unsigned_abs max_a) (unsigned_abs max_b)

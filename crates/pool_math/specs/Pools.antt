@@ -2,7 +2,7 @@
 -- exchangeWithPool, LiquidityPoolDepositOpFrame and LiquidityPoolWithdrawOpFrame in stellar-core). The fee is 30 of
 -- 10000.
 use Rattle.std.specs.Prelude.{◌≡◌, ℕ, ◌+◌, ◌-◌, ◌*◌, ◌/◌, ◌<◌, ◌≤◌, min, nat_eq, if◌then◌else◌}
-use Rattle.wide_math.specs.Root.{IsRoot}
+use Rattle.wide_math.specs.Root.{IsRoot, square_root}
 
 -- the greatest number of 64 bits with a sign
 abbrev pub greatest : ℕ
@@ -69,6 +69,12 @@ abbrev pub IsDeposit : (reserve_a reserve_b total max_a max_b : ℕ) → Deposit
 IsDeposit reserve_a reserve_b total max_a max_b d =
     (total ≡ 0 → IsRoot (max_a * max_b) d.shares × ((d.a ≡ max_a) × (d.b ≡ max_b)))
     × (1 ≤ total → d ≡ later_deposit reserve_a reserve_b total max_a max_b)
+
+-- the same as a function
+abbrev pub deposited : (reserve_a reserve_b total max_a max_b : ℕ) → Deposit
+deposited reserve_a reserve_b total max_a max_b =
+    if nat_eq total 0 then record { shares = square_root (max_a * max_b); a = max_a; b = max_b }
+    else later_deposit reserve_a reserve_b total max_a max_b
 
 -- so many shares fit 64 bits by one of the two assets at least; into an empty pool always
 pub record CanDeposit (reserve_a reserve_b total max_a max_b : ℕ) : Type 0 where

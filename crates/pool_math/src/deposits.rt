@@ -2,7 +2,7 @@
 
 ghost use Rattle.std.specs.Prelude.{◌≡◌, ◌*◌, ◌<◌, ◌≤◌, ◌^◌, pos, ◌≤ℤ◌, unsigned_abs};
 ghost use Rattle.std.specs.Option.{SomeIff};
-ghost use Rattle.wide_math.specs.Root.{IsRoot};
+ghost use Rattle.wide_math.specs.Root.{IsRoot, square_root};
 ghost use Rattle.pool_math.specs.Pools as spec;
 ghost use Rattle.pool_math.specs.Pools.{IsWhole, greatest};
 ghost use Rattle.pool_math.specs.Laws.{IsFairDeposit};
@@ -40,6 +40,7 @@ fn first_deposit(max_a: i64, max_b: i64) -> Deposited
     requires max_a { pos 1 ≤ℤ max_a }
     requires max_b { pos 1 ≤ℤ max_b }
     ensures shares { IsRoot (unsigned_abs max_a * unsigned_abs max_b) (unsigned_abs result.shares) }
+    ensures function { unsigned_abs result.shares ≡ square_root (unsigned_abs max_a * unsigned_abs max_b) }
     ensures unsigned { pos 0 ≤ℤ result.shares }
     ensures a { result.a ≡ max_a }
     ensures b { result.b ≡ max_b }

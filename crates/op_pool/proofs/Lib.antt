@@ -1,0 +1,4 @@
+pub mod Fitting
+pub mod Loaded
+pub mod Deposits
+pub mod Withdrawals

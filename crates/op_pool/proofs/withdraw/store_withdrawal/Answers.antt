@@ -1,0 +1,17 @@
+use Rattle.std.proofs.Common.{◌≡◌, sym, subst, rules}
+use Rattle.std.specs.Prelude.{neg_ℤ}
+use Rattle.pool_shares.specs.Withdrawing.{map_with_shares}
+use Rattle.op_pool.specs.Calls.{DoPaymentsFit}
+use Rattle.op_pool.proofs.withdraw.store_withdrawal.Goals as goal
+
+pub pay_both-requires : goal.pay_both-requires
+pay_both-requires g c =
+    let id = c.args.ctx.now.op_source in
+    let params = c.args.pool.pool.params in
+    let part = c.args.part in
+    let op = c.args.op.now in
+    let now : c.store_shares.new.entries.current
+    ≡ map_with_shares id op.pool_id (neg_ℤ part.a) (neg_ℤ part.b) (neg_ℤ op.amount) c.args.entries.now.current =
+    search rules in
+    let fits = subst (DoPaymentsFit id params part.a part.b) (sym now) c.requires.fits.payments in
+    search (rules, fits)

@@ -1,0 +1,34 @@
+-- What operations on pools ask of a map beside the ranges of its balances. Each legal state meets it.
+use Rattle.std.specs.Prelude.{◌≡◌, ℕ, pos, ◌≤ℤ◌, Some}
+use Rattle.ledger_types.specs.declared.ids.AccountId.{AccountId}
+use Rattle.ledger_types.specs.declared.ids.Hash.{Hash}
+use Rattle.ledger_types.specs.declared.account.AccountEntry.{AccountEntry}
+use Rattle.ledger_types.specs.declared.asset.TrustLineAsset.{TrustLineAsset}
+use Rattle.ledger_types.specs.declared.asset.TrustLineAsset.TheVariants as line
+use Rattle.ledger_types.specs.declared.trust_line.TrustLineEntry.{TrustLineEntry}
+use Rattle.ledger_types.specs.declared.liquidity_pool.LiquidityPoolEntry.{LiquidityPoolEntry}
+use Rattle.ledger_types.specs.declared.entry.LedgerEntryBody.TheVariants as body
+use Rattle.entry_map.specs.EntryMap.{EntryMap}
+use Rattle.entry_slots.specs.Accounts.{account_at}
+use Rattle.entry_slots.specs.Lines.{line_at}
+use Rattle.entry_slots.specs.Pools.{pool_at}
+use Rattle.reserve_rules.specs.Reserve.{greatest_i64, min_balance}
+use Rattle.legal_rules.specs.Bounds.{IsFilledOrEmpty}
+use Rattle.legal_rules.specs.Holdings.{IsKeyed}
+use Rattle.legal_rules.specs.Ranges.{IsPoolInRange}
+
+pub record ArePoolsSound (m : EntryMap) : Type 0 where
+  -- each entry, a pool too, stands under its own key
+  pub keyed : IsKeyed m
+  -- each pool is in its range, and has both reserves and shares, or none of the three
+  pub ranges : (id : Hash) (p : LiquidityPoolEntry) → pool_at m id ≡ Some p → IsPoolInRange p
+  pub filled : (id : Hash) (p : LiquidityPoolEntry) → pool_at m id ≡ Some p → IsFilledOrEmpty (body.LiquidityPool p)
+  -- no line has more shares of a pool than there are
+  pub shares : (id : AccountId) (pool : Hash) (t : TrustLineEntry) (p : LiquidityPoolEntry)
+      → line_at m id (line.PoolShare pool) ≡ Some t → pool_at m pool ≡ Some p → t.balance ≤ℤ p.total_pool_shares
+  -- the width of a limit
+  pub limits : (id : AccountId) (held : TrustLineAsset) (t : TrustLineEntry) → line_at m id held ≡ Some t
+      → t.limit ≤ℤ greatest_i64
+  -- what has to be kept isn't below 0
+  pub minimums : (id : AccountId) (a : AccountEntry) (base_reserve : ℕ) → account_at m id ≡ Some a
+      → pos 0 ≤ℤ min_balance a base_reserve

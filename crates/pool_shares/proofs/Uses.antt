@@ -1,0 +1,157 @@
+-- That the counts of a line of pool shares fit, one behind another.
+use Rattle.std.proofs.Common.{◌≡◌, ◌≢◌, refl, sym, ap, subst, ◌∙◌, Option, Some, None}
+use Rattle.std.specs.Prelude.{ℤ, if◌then◌else◌, Bool, true, false}
+use Rattle.std.specs.FinMap.{get}
+use Rattle.ledger_types.specs.declared.ids.AccountId.{AccountId}
+use Rattle.ledger_types.specs.declared.ids.Hash.{Hash}
+use Rattle.ledger_types.specs.declared.asset.Asset.{Asset}
+use Rattle.ledger_types.specs.declared.asset.Asset.TheVariants as asset
+use Rattle.ledger_types.specs.declared.asset.PoolParams.{PoolParams}
+use Rattle.ledger_types.specs.declared.asset.TrustLineAsset.{TrustLineAsset}
+use Rattle.ledger_types.specs.declared.asset.TrustLineAsset.TheVariants as line
+use Rattle.ledger_types.specs.declared.key.LedgerKey.{LedgerKey}
+use Rattle.ledger_types.specs.declared.key.LedgerKey.TheVariants as key
+use Rattle.entry_map.specs.EntryMap.{EntryMap}
+use Rattle.entry_slots.specs.Lines.{line_of, line_at}
+use Rattle.entry_slots.specs.Pools.{pool_of, pool_at}
+use Rattle.sponsor_rules.specs.Payers.{is_same_account}
+use Rattle.sponsor_rules.specs.Removing.{map_after_removing}
+use Rattle.legal_rules.specs.Holdings.{IsKeyed}
+use Rattle.legal_rules.specs.ShareLaws.{with_uses, map_with_uses_at, map_with_uses}
+use Rattle.legal_rules.specs.Trades.{holder}
+use Rattle.trade_cross.proofs.HoldersApart.{holders_apart}
+use Rattle.pool_shares.specs.Fits.{DoUsesFitAt, DoUsesFit, DoLinesFit, DoShareLinesFit}
+use Rattle.pool_shares.proofs.Beside.{line_beside, line_keyed, removing_beside, removing_keyed}
+
+-- ---- where an account has an asset
+
+pub uses_by_holder : (n : ℤ) (id : AccountId) (x : Asset) (m : EntryMap)
+    → map_with_uses n id x m ≡ map_with_uses_at n (holder id x) m
+uses_by_holder n id asset.Native m = refl
+uses_by_holder n id (asset.Alphanum4 code issuer) m = refl
+uses_by_holder n id (asset.Alphanum12 code issuer) m = refl
+
+pub fits_by_holder : (n : ℤ) (id : AccountId) (x : Asset) (m : EntryMap) → DoUsesFit n id x m
+    → DoUsesFitAt n m (holder id x)
+fits_by_holder n id asset.Native m fits = tt
+fits_by_holder n id (asset.Alphanum4 code issuer) m fits = fits
+fits_by_holder n id (asset.Alphanum12 code issuer) m fits = fits
+
+fits_needed : (n : ℤ) (id : AccountId) (x : Asset) (m : EntryMap) → DoUsesFitAt n m (holder id x)
+    → DoUsesFit n id x m
+fits_needed n id asset.Native m fits = tt
+fits_needed n id (asset.Alphanum4 code issuer) m fits = fits
+fits_needed n id (asset.Alphanum12 code issuer) m fits = fits
+
+-- ---- a line that is used more
+
+uses_beside : (m : EntryMap) → IsKeyed m → (n : ℤ) (k : Option LedgerKey) (q : LedgerKey) → k ≢ Some q
+    → get (map_with_uses_at n k m) q ≡ get m q
+uses_beside m keyed n (Some (key.TrustLine id held)) q apart =
+    line_beside m keyed id held (with_uses n) (λ t. refl) q (λ same. apart (ap Some (sym same)))
+uses_beside m keyed n other q apart = refl
+
+uses_keyed : (m : EntryMap) → IsKeyed m → (n : ℤ) (k : Option LedgerKey) → IsKeyed (map_with_uses_at n k m)
+uses_keyed m keyed n (Some (key.TrustLine id held)) = line_keyed m id held (with_uses n) keyed
+uses_keyed m keyed n other = keyed
+
+-- ---- what stands as it did
+
+-- uses fit where the line stands as it did
+fit_still : (n : ℤ) (m new : EntryMap) (k : Option LedgerKey)
+    → ((q : LedgerKey) → k ≡ Some q → get new q ≡ get m q) → DoUsesFitAt n m k → DoUsesFitAt n new k
+unfolding line_at
+fit_still n m new (Some (key.TrustLine id held)) still fits =
+    λ t stands. fits t (sym (ap line_of (still (key.TrustLine id held) refl)) ∙ stands)
+fit_still n m new other still fits = tt
+
+lines_still : (n : ℤ) (m new : EntryMap) (pool : Hash)
+    → get new (key.LiquidityPool pool) ≡ get m (key.LiquidityPool pool) → DoLinesFit n pool m → DoLinesFit n pool new
+unfolding pool_at
+lines_still n m new pool still fits = λ p stands. fits p (sym (ap pool_of still) ∙ stands)
+
+-- no account has an asset under a pool's key, or in a line of shares
+abbrev IsPlain : LedgerKey → Type 0
+IsPlain (key.LiquidityPool pool) = ⊥
+IsPlain (key.TrustLine id (line.PoolShare pool)) = ⊥
+IsPlain other = Unit {0}
+
+plain_or_none : (b : Bool) (id : AccountId) (held : TrustLineAsset) (q : LedgerKey) → IsPlain (key.TrustLine id held)
+    → (if b then None else Some (key.TrustLine id held)) ≡ Some q → IsPlain q
+plain_or_none true id held q plain is = absurd (cc)
+plain_or_none false id held q plain is = let same : key.TrustLine id held ≡ q = cc in subst IsPlain same plain
+
+pub holder_plain : (id : AccountId) (x : Asset) (q : LedgerKey) → holder id x ≡ Some q → IsPlain q
+holder_plain id asset.Native q is = let same : key.Account id ≡ q = cc in subst IsPlain same tt
+holder_plain id (asset.Alphanum4 code issuer) q is =
+    plain_or_none (is_same_account issuer id) id (line.Alphanum4 code issuer) q tt is
+holder_plain id (asset.Alphanum12 code issuer) q is =
+    plain_or_none (is_same_account issuer id) id (line.Alphanum12 code issuer) q tt is
+
+pub no_pool : (id : AccountId) (x : Asset) (pool : Hash) → holder id x ≢ Some (key.LiquidityPool pool)
+no_pool id x pool is = holder_plain id x (key.LiquidityPool pool) is
+
+pub no_shares : (id owner : AccountId) (x : Asset) (pool : Hash)
+    → holder id x ≢ Some (key.TrustLine owner (line.PoolShare pool))
+no_shares id owner x pool is = holder_plain id x (key.TrustLine owner (line.PoolShare pool)) is
+
+-- ---- one count behind another
+
+module _ (n : ℤ) (id : AccountId) (pool : Hash) (params : PoolParams) (m : EntryMap)
+    (fits : DoShareLinesFit n id pool params m) where
+  abbrev first : EntryMap
+  first = map_with_uses_at n (holder id params.asset_a) m
+
+  first_is : map_with_uses n id params.asset_a m ≡ first
+  first_is = uses_by_holder n id params.asset_a m
+
+  pub second_fits : DoUsesFit n id params.asset_b (map_with_uses n id params.asset_a m)
+  second_fits = subst (DoUsesFit n id params.asset_b) (sym first_is)
+      (fits_needed n id params.asset_b first (fit_still n m first (holder id params.asset_b)
+      (λ q is. uses_beside m fits.keyed n (holder id params.asset_a) q
+      (λ same. holders_apart id params.asset_a params.asset_b fits.apart q same is))
+      (fits_by_holder n id params.asset_b m fits.b)))
+
+  pub lines_fit : DoLinesFit n pool (map_with_uses n id params.asset_b (map_with_uses n id params.asset_a m))
+  lines_fit = subst (DoLinesFit n pool) (sym (ap (map_with_uses n id params.asset_b) first_is
+      ∙ uses_by_holder n id params.asset_b first))
+      (lines_still n m _ pool
+      (uses_beside first (uses_keyed m fits.keyed n (holder id params.asset_a)) n (holder id params.asset_b)
+      (key.LiquidityPool pool) (no_pool id params.asset_b pool)
+      ∙ uses_beside m fits.keyed n (holder id params.asset_a) (key.LiquidityPool pool) (no_pool id params.asset_a pool))
+      fits.lines)
+
+-- ---- behind the line that is removed
+
+module _ (n : ℤ) (m : EntryMap) (keyed : IsKeyed m) (owner : AccountId) (pool : Hash) where
+  abbrev share_key : LedgerKey
+  share_key = key.TrustLine owner (line.PoolShare pool)
+
+  abbrev gone : EntryMap
+  gone = map_after_removing share_key m
+
+  fits_behind : (o : Option LedgerKey) → ((q : LedgerKey) → o ≡ Some q → IsPlain q) → DoUsesFitAt n m o
+      → DoUsesFitAt n gone o
+  unfolding line_at
+  fits_behind (Some (key.TrustLine account held)) plain fit = λ t stands. fit t
+      (sym (ap line_of (removing_beside share_key m keyed (key.TrustLine account held)
+      (λ same. subst IsPlain same (plain (key.TrustLine account held) refl)) (λ other same. absurd (cc)))) ∙ stands)
+  fits_behind other plain fit = tt
+
+  not_removed : (id : AccountId) (x : Asset) → DoUsesFit n id x m → DoUsesFit n id x gone
+  not_removed id x fits = fits_needed n id x gone
+      (fits_behind (holder id x) (λ q is. holder_plain id x q is) (fits_by_holder n id x m fits))
+
+pub still_fits : (n : ℤ) (id : AccountId) (pool : Hash) (params : PoolParams) (m : EntryMap)
+    → DoShareLinesFit n id pool params m
+    → DoShareLinesFit n id pool params (map_after_removing (key.TrustLine id (line.PoolShare pool)) m)
+still_fits n id pool params m fits =
+    let k = key.TrustLine id (line.PoolShare pool) in
+    record {
+      keyed = removing_keyed k m fits.keyed;
+      apart = fits.apart;
+      a = not_removed n m fits.keyed id pool id params.asset_a fits.a;
+      b = not_removed n m fits.keyed id pool id params.asset_b fits.b;
+      lines = lines_still n m _ pool (removing_beside k m fits.keyed (key.LiquidityPool pool)
+          (λ same. absurd (cc)) (λ other same. absurd (cc))) fits.lines;
+    }

@@ -1,0 +1,5 @@
+pub mod Fits
+pub mod Withdrawing
+pub mod ShareLines
+pub mod AccountPools
+pub mod Held

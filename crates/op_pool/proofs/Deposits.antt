@@ -49,8 +49,14 @@ some_number x some none = omega (arith, ints)
 pub whole_of : (p : LiquidityPoolEntry) → IsFilledOrEmpty (body.LiquidityPool p)
     → IsWhole (unsigned_abs p.reserve_a) (unsigned_abs p.reserve_b) (unsigned_abs p.total_pool_shares)
 whole_of p (inl full) = record {
-  a = ((λ none. absurd (some_number p.reserve_a full.0 none)), λ none. absurd (some_number p.total_pool_shares full.2 none));
-  b = ((λ none. absurd (some_number p.reserve_b full.1 none)), λ none. absurd (some_number p.total_pool_shares full.2 none));
+  a = (
+    (λ none. absurd (some_number p.reserve_a full.0 none)),
+    λ none. absurd (some_number p.total_pool_shares full.2 none),
+  );
+  b = (
+    (λ none. absurd (some_number p.reserve_b full.1 none)),
+    λ none. absurd (some_number p.total_pool_shares full.2 none),
+  );
 }
 whole_of p (inr none) = record {
   a = ((λ is. ap unsigned_abs none.2), λ is. ap unsigned_abs none.0);

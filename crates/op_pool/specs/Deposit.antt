@@ -114,7 +114,8 @@ given_tests ctx op share pool d m =
 -- ---- the operation
 
 -- the source has so many shares more, and gives both amounts
-abbrev pub map_after_depositing : AccountId → LiquidityPoolDepositOp → LiquidityPoolEntry → Deposit → EntryMap → EntryMap
+abbrev pub map_after_depositing : AccountId → LiquidityPoolDepositOp → LiquidityPoolEntry → Deposit → EntryMap
+    → EntryMap
 map_after_depositing id op pool d m =
     paying (holder id pool.params.asset_b) (neg_ℤ (pos d.b))
     (paying (holder id pool.params.asset_a) (neg_ℤ (pos d.a))
@@ -152,4 +153,5 @@ abbrev pub liquidity_pool_deposit : Ctx → LiquidityPoolDepositOp → EntryMap 
 liquidity_pool_deposit ctx op m =
     unless_refused (disabled_tests ctx)
     (unless_refused (deposit_tests op)
-    (after_some (line_at m ctx.op_source (line.PoolShare op.pool_id)) (answer depositing.NoTrust) (deposit_into ctx op m)))
+    (after_some (line_at m ctx.op_source (line.PoolShare op.pool_id)) (answer depositing.NoTrust)
+    (deposit_into ctx op m)))

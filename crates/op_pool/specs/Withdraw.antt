@@ -86,10 +86,12 @@ taken ctx op pool part m =
 abbrev pub withdraw_from : Ctx → LiquidityPoolWithdrawOp → EntryMap → TrustLineEntry → Attempt
 withdraw_from ctx op m share =
     unless_refused (share_tests op share)
-    (after_some (pool_at m op.pool_id) (answer withdrawing.NoTrust) (λ pool. taken ctx op pool (part_of pool op.amount) m))
+    (after_some (pool_at m op.pool_id) (answer withdrawing.NoTrust)
+    (λ pool. taken ctx op pool (part_of pool op.amount) m))
 
 abbrev pub liquidity_pool_withdraw : Ctx → LiquidityPoolWithdrawOp → EntryMap → Attempt
 liquidity_pool_withdraw ctx op m =
     unless_refused (disabled_tests ctx)
     (unless_refused (withdraw_tests op)
-    (after_some (line_at m ctx.op_source (line.PoolShare op.pool_id)) (answer withdrawing.NoTrust) (withdraw_from ctx op m)))
+    (after_some (line_at m ctx.op_source (line.PoolShare op.pool_id)) (answer withdrawing.NoTrust)
+    (withdraw_from ctx op m)))

@@ -1,6 +1,6 @@
 -- What deposits ask for, and that it is fair.
-use Rattle.std.proofs.Common.{◌≡◌, refl, sym, ap, subst, ◌∙◌, ℤ, pos, ◌≤ℤ◌, unsigned_abs, Option, Some, None, ℕ, ◌+◌, ◌-◌}
-use Rattle.std.proofs.Common.{◌*◌, ◌/◌, ◌^◌, ◌<◌, ◌≤◌, min, true, false, arith}
+use Rattle.std.proofs.Common.{◌≡◌, refl, sym, ap, subst, ◌∙◌, ℤ, pos, ◌≤ℤ◌, unsigned_abs, Option, Some, None}
+use Rattle.std.proofs.Common.{ℕ, ◌+◌, ◌-◌, ◌*◌, ◌/◌, ◌^◌, ◌<◌, ◌≤◌, min, true, false, arith}
 use Rattle.std.proofs.Math.Nat.{div-lt_iff_lt-mul, div-mul-le_self, lt-div-mul-add, mul-le-mul, mul-le-mul_right}
 use Rattle.std.proofs.Math.Nat.{one-le-mul, mul-zero, lt_of_not-le, min-le_left, min-le_right}
 use Rattle.std.proofs.lemmas.Bool.{eqb-true}

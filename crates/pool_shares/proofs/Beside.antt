@@ -191,7 +191,8 @@ releasing_beside : (k : ℕ) (sponsor : Option AccountId) (m : EntryMap) → IsK
     → get (map_after_releasing k sponsor m) q ≡ get m q
 releasing_beside k None m keyed q plain = refl
 releasing_beside k (Some sponsor) m keyed q plain =
-    account_beside m keyed sponsor (with_less Sponsoring k) (λ a. (with_count_means Sponsoring _ a).id) q (plain sponsor)
+    account_beside m keyed sponsor (with_less Sponsoring k) (λ a. (with_count_means Sponsoring _ a).id) q
+    (plain sponsor)
 
 releasing_keyed : (k : ℕ) (sponsor : Option AccountId) (m : EntryMap) → IsKeyed m
     → IsKeyed (map_after_releasing k sponsor m)
@@ -212,7 +213,8 @@ charge_keyed : (c : Charge) (sponsor : Option AccountId) (m : EntryMap) → IsKe
     → IsKeyed (map_without_charge c sponsor m)
 charge_keyed (charge.Itself id) sponsor m keyed = releasing_keyed 2 sponsor m keyed
 charge_keyed (charge.Subentry owner k) sponsor m keyed =
-    account_keyed (map_after_releasing k sponsor m) owner (without_subentry k sponsor) (releasing_keyed k sponsor m keyed)
+    account_keyed (map_after_releasing k sponsor m) owner (without_subentry k sponsor)
+    (releasing_keyed k sponsor m keyed)
 charge_keyed (charge.Payer k) sponsor m keyed = releasing_keyed k sponsor m keyed
 charge_keyed charge.Nobody sponsor m keyed = keyed
 

@@ -176,7 +176,9 @@ module _ (s : AccountId) (start : TrustLineAsset) (ahead : IsAheadOfShares start
   k = key.TrustLine s start
 
   share_above : (pool : Hash) → key_cmp k (key.TrustLine s (line.PoolShare pool)) ≡ Less
-  share_above pool = ap (λ r. ordering_then r (line_cmp start (line.PoolShare pool))) (tied_itself nat_list_cmp_total s.0) ∙ ahead pool
+  share_above pool =
+      ap (λ r. ordering_then r (line_cmp start (line.PoolShare pool))) (tied_itself nat_list_cmp_total s.0)
+      ∙ ahead pool
 
   no_pool : (asset : TrustLineAsset) → key_cmp k (key.TrustLine s asset) ≢ Less → pool_in_line asset ≡ None
   no_pool (line.PoolShare pool) past = absurd (past (share_above pool))

@@ -45,8 +45,8 @@ map_without_bare_pool id m = if has_no_line (pool_at m id) then erase m (key.Liq
 
 -- ---- lines
 
--- The map without an account's line of a pool's shares. The pool and the account's lines in its assets count it no more,
--- and the pool goes with its last line.
+-- The map without an account's line of a pool's shares. The pool and the account's lines in its assets count it no
+-- more, and the pool goes with its last line.
 abbrev pub map_without_share_line : AccountId → Hash → PoolParams → EntryMap → EntryMap
 map_without_share_line id pool params m =
     map_without_bare_pool pool

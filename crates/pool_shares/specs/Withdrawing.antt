@@ -36,8 +36,8 @@ with_change a b shares pool = record pool {
 abbrev pub share_key : AccountId → Hash → Option LedgerKey
 share_key id pool = Some (key.TrustLine id (line.PoolShare pool))
 
--- the map, in which a pool has so much more of both assets, for which an account has so many shares of it more; each may
--- be below 0
+-- the map, in which a pool has so much more of both assets, for which an account has so many shares of it more; each
+-- may be below 0
 abbrev pub map_with_shares : AccountId → Hash → (a b shares : ℤ) → EntryMap → EntryMap
 map_with_shares id pool a b shares m = with_pool (paying (share_key id pool) shares m) pool (with_change a b shares)
 

@@ -7,7 +7,6 @@ mod appending;
 mod directory;
 #[cfg(test)]
 mod mounting;
-#[cfg(test)]
 mod ready;
 #[cfg(test)]
 mod volumes;

@@ -4,7 +4,9 @@ use Rattle.gate_journal.specs.Records.{max_record}
 use Rattle.gate_journal.proofs.Blocks.{too_short, no_room, head_stands}
 use Rattle.gate_journal.proofs.reading.record_length.Goals as goal
 use Rattle.gate_journal.proofs.reading.record_length.Goals.{then-count-gt-MAX_RECORD-via-then-count-gt-MAX_RECORD}
-use Rattle.gate_journal.proofs.reading.record_length.Goals.{then-count-gt-MAX_RECORD-via-else-count-gt-MAX_RECORD+then-from-left}
+use Rattle.gate_journal.proofs.reading.record_length.Goals.{
+  then-count-gt-MAX_RECORD-via-else-count-gt-MAX_RECORD+then-from-left,
+}
 
 -- the four bytes behind the gate
 front : (at : ℕ) (head file : List ℕ) → length head ≡ 4 → head ≡ take (length head) (drop (at + 1) file)

@@ -10,7 +10,8 @@ pay_both-requires g c =
     let params = c.args.pool.pool.params in
     let d = c.args.d in
     let new = c.store_shares.new.entries.current in
-    let now : new ≡ map_with_shares id c.args.op.now.pool_id d.a d.b d.shares c.args.entries.now.current = search rules in
+    let now : new ≡ map_with_shares id c.args.op.now.pool_id d.a d.b d.shares c.args.entries.now.current =
+    search rules in
     let a : to_z w64 (of_z w64 c.turned.result) ≡ neg_ℤ d.a = search rules in
     let b : to_z w64 (of_z w64 c.turned-2.result) ≡ neg_ℤ d.b = search rules in
     subst (λ x. DoPaymentsFit id params x (to_z w64 (of_z w64 c.turned-2.result)) new) (sym a)

@@ -11,7 +11,8 @@ One is of accounts: payments, new accounts, options, data, sequence numbers, dat
 of assets: lines that are made and changed, what is issued, paid and redeemed in them, authorisations taken back and given, claimable
 balances made, claimed and clawed back, and clawback. A third mix, of offers (`trading.py`), is run behind images of 10,000 and 100,000
 offers in 20 books. What the program prints is compared with what the ledger in Python beside `close_cases` says. Images of 98 and 980
-offers of one account are opened too; it can't have more than 1,000 subentries.
+offers of one account are opened too; it can't have more than 1,000 subentries. So are images of pools (`pooling.py`): of 1,000 and 10,000
+pools with a line of shares each, and of one pool with 1,000 and 10,000 lines.
 
 The script prints processor time and peak memory of opening; then the processor time of closing without the longest close, ledgers and
 transactions a second of it, and the longest close by itself, which is the one in which a deep level is merged; each close by the least
@@ -19,9 +20,9 @@ of several runs. A close is measured from when its record is handed in until the
 longer closing takes behind 100,000 accounts than behind 1,000, with the mix of offers than with that of accounts, and behind ten times
 the offers, and all of a run than sha256sum of the same input.
 
-Exit status: 0 where all is well, 1 where ten times the accounts or the offers take more than 15 times as long to open, closing takes more
-than twice as long behind 100,000 accounts as behind 1,000, or ten times the offers change the time of closing by more than a fifth, 2
-where a run fails or prints another text. Linux (it reads /proc), Python 3.9 or later, its standard library, and sha256sum.
+Exit status: 0 where all is well, 1 where ten times the accounts, offers, pools or lines of one pool take more than 15 times as long to
+open, closing takes more than twice as long behind 100,000 accounts as behind 1,000, or ten times the offers change the time of closing by
+more than a fifth, 2 where a run fails or prints another text. Linux (it reads /proc), Python 3.9 or later, its standard library, and sha256sum.
 """
 
 import os
@@ -35,6 +36,7 @@ from measuring import TOP, built, run, stop
 sys.path[:0] = [f"{TOP}/crates/close_cases", f"{TOP}/crates/tx_cases"]
 import ledger_model as model  # noqa: E402
 import set_cases as sets  # noqa: E402
+from pooling import many_pools, one_pool, pooled  # noqa: E402
 from trading import TAKERS, Taker, market  # noqa: E402
 
 LEDGERS, SIZE = 50, 100
@@ -73,6 +75,11 @@ def offers(sellers, each, takers):
     """An image of so many sellers with so many offers each, and of so many who have none."""
     entries, coins = market(sellers, each, takers)
     return image(entries, coins, sellers * each)
+
+
+def pools(made):
+    """An image of pools."""
+    return image(*pooled(made))
 
 
 class Sender:
@@ -295,6 +302,16 @@ def watch_offers(program, results):
     return max(opening) <= GREATEST_RATIO and 1 / GREATEST_CHANGE <= change <= GREATEST_CHANGE
 
 
+def watch_pools(program):
+    """Whether more pools, and more lines of one pool, cost little enough to open."""
+    ratios = []
+    for made in (many_pools, one_pool):
+        few, many = [opened(program, pools(made(count))) for count in (1_000, 10_000)]
+        ratios.append(many / few)
+    print(f"pools: ten times the pools take {ratios[0]:.1f} times as long to open, ten times the lines of one pool {ratios[1]:.1f} times")
+    return max(ratios) <= GREATEST_RATIO
+
+
 def main():
     programs = sys.argv[1:] or [built("ledger")]
     with tempfile.TemporaryDirectory() as folder:
@@ -302,6 +319,7 @@ def main():
     results = {program: {key: value[program] for key, value in found.items()} for program in programs}
     fine = watch_accounts(results[programs[0]])
     fine = watch_offers(programs[0], results[programs[0]]) and fine
+    fine = watch_pools(programs[0]) and fine
     for other in programs[1:]:
         for count, mix in RUNS:
             new, old = results[programs[0]][count, mix], results[other][count, mix]

@@ -137,7 +137,7 @@ def asset_rules():
 
 
 def asset_rules_at_once():
-    """Two rules that lines and claimable balances break at once, and what isn't built beside them."""
+    """Two rules that lines and claimable balances break at once, with pools beside them."""
     shares, wrong = line("a", u32(3) + ID, flags=0), line("a", limit=0)
     for name, entries, rule in [
         ("7 by a balance, 8 by a line", [PAYER, line("b"), claimable(ID, amount=0)], 7),
@@ -150,11 +150,12 @@ def asset_rules_at_once():
     case("rules 12 and 13", image([HOLDER, line("a", uses=1)], coins=1), "10 bad image rule 12")
     case("rule 6 and shares", image([HOLDER, shares], levels=NO_HASH), "10 bad image rule 6")
     case("rule 5 and a pool", image([A, pool(ID)], {0: bucket((LIVE, A), (LIVE, pool(ID))), 3: bucket((DEAD, A))}), "10 bad image rule 5")
-    for name, value in [
-        ("a line of shares", shares), ("a line of shares out of its ranges", line("a", u32(3) + ID, balance=-1)), ("a pool", pool(ID)),
+    for name, value, rule in [
+        ("a line of shares of no pool", shares, 8), ("a line of shares out of its ranges", line("a", u32(3) + ID, balance=-1), 7),
+        ("a pool of another id", pool(ID), 7),
     ]:
-        case(f"{name}, not built", image([HOLDER, value]), "10 bad image not built")
-        case(f"{name}, not built, and rule 7", image([HOLDER, wrong, value]), "10 bad image not built")
+        case(name, image([HOLDER, value]), f"10 bad image rule {rule}")
+        case(f"{name}, and rule 7", image([HOLDER, wrong, value]), "10 bad image rule 7")
     gone = {0: bucket((LIVE, A), (DEAD, shares), (DEAD, pool(ID))), 2: bucket((INIT, shares), (LIVE, pool(ID)))}
     case("shares and a pool that are gone", Story(image([A], gone)).close(), "end 6", 1)
 
@@ -832,17 +833,14 @@ def not_built():
     case("not built: none of these", Story(legal).close(first, wants=[sets.failed(*results)]), "end 6", 1)
     for name, op in [
         ("PATH_PAYMENT_STRICT_RECEIVE", sets.path_payment("b", 1)), ("PATH_PAYMENT_STRICT_SEND", sets.path_payment("b", 1, kind=13)),
-        ("LIQUIDITY_POOL_DEPOSIT", sets.deposit(ID, 1)), ("LIQUIDITY_POOL_WITHDRAW", sets.withdraw(ID, 1)),
-        ("CHANGE_TRUST of shares", sets.trust_pool(sets.LUMENS, USD)),
-        ("CHANGE_TRUST of shares that are no pool's", sets.trust_pool(USD, USD, 0)),
     ]:
         case(f"not built: {name}", Story(legal).refused(first, sent("a", 2, NOTHING, op, fee=200)), "refused 6 NotBuilt 1")
-    pooled = sent("b", 1, sets.trust_pool(sets.LUMENS, USD))
+    along = sent("b", 1, sets.path_payment("a", 1))
     bump = sets.bumped("b", 200, sent("a", 1, sets.path_payment("b", 1, kind=13)))
     old = sets.First(sets.Tx("b", 1, [sets.path_payment("a", 1)]), [])
     for name, listed, place in [
-        ("the third", [first, sent("b", 1, pay("a", 1)), pooled, bump], 2), ("in a fee bump", [first, bump, pooled], 1),
-        ("in the first version", [old, bump], 0), ("beside a source that isn't there", [sent("n", 1, pay("a", 1)), first, pooled], 2),
+        ("the third", [first, sent("b", 1, pay("a", 1)), along, bump], 2), ("in a fee bump", [first, bump, along], 1),
+        ("in the first version", [old, bump], 0), ("beside a source that isn't there", [sent("n", 1, pay("a", 1)), first, along], 2),
     ]:
         case(f"not built: {name}", Story(legal).refused(*listed), f"refused 6 NotBuilt {place}")
 

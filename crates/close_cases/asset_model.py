@@ -1,11 +1,12 @@
 """Issued assets of a ledger of protocol 18: trust lines and claimable balances, their ranges, and the operations on them, beside those
-of `ledger_model.py`. After CAP-0018, CAP-0023, CAP-0033, CAP-0035 and stellar-core. There are no pools.
+of `ledger_model.py`. After CAP-0018, CAP-0023, CAP-0033, CAP-0035 and stellar-core.
 """
 
 from entry_model import (  # noqa: F401  (some names are for the scripts that use this model)
     GREATEST, NATIVE, NOT_SUPPORTED, available, add_subentry, change, count, i32, i64, is_asset, issuer_of, liabilities, line_rank,
-    muxed_key, refuse, remove_subentry, sha, sponsor_of, test_payer, u32, with_sponsor,
+    muxed_key, refuse, remove_subentry, sha, sponsor_of, test_payer, u32, uses_of, with_sponsor,
 )
+from pool_model import change_share_trust, is_share_in_range, revoke_shares
 from trade_model import revoke_offers
 
 # flags of accounts, and of lines
@@ -24,12 +25,6 @@ def line_of(layer, name, asset):
     """The body of a line, if there is one."""
     entry = layer.get(line_rank(name, asset))
     return None if entry is None else entry["body"][1]
-
-
-def uses_of(line):
-    """How often a line is used by lines of pool shares."""
-    arm, ext = line["ext"]
-    return ext["ext"][1]["uses"] if arm and ext["ext"][0] else 0
 
 
 def credit(layer, name, asset, amount, no_line, not_authorized, full):
@@ -100,7 +95,9 @@ def holds(predicate, time):
 
 
 def is_line_in_range(line):
-    """Whether a line that isn't a pool's is in its ranges."""
+    """Whether a line is in its ranges."""
+    if line["asset"][0] == 3:
+        return is_share_in_range(line)
     owed = liabilities(line)
     return (
         min(owed["buying"], owed["selling"], line["balance"], uses_of(line)) >= 0 and line["limit"] >= 1
@@ -142,6 +139,9 @@ def payment(frame, layer, source, op):
 
 def change_trust(frame, layer, source, op):
     asset, limit = op["line"], op["limit"]
+    if asset[0] == 3:
+        change_share_trust(frame, layer, source, asset[1][1], limit)
+        return
     refuse(limit < 0 or not can_have_line((0, source), asset), -1)
     line, issuer, rank = line_of(layer, source, asset), layer.account(issuer_of(asset)), line_rank(source, asset)
     if line is None:
@@ -160,13 +160,14 @@ def change_trust(frame, layer, source, op):
         change(layer, rank, limit=limit)
 
 
-def set_authorisation(layer, name, asset, flags):
-    """Sets a line's flags. Where it loses its authorisation wholly, the account's offers in the asset go."""
+def set_authorisation(frame, layer, name, asset, flags, low):
+    """Sets a line's flags. Where it loses its authorisation wholly, the account's offers in the asset go, and its shares of pools."""
     rank = line_rank(name, asset)
     was = layer.get(rank)["body"][1]["flags"]
     change(layer, rank, flags=flags)
     if was & 3 and not flags & 3:
         revoke_offers(layer, name, asset)
+        revoke_shares(frame, layer, name, asset, low)
 
 
 def allow_trust(frame, layer, source, op):
@@ -177,7 +178,7 @@ def allow_trust(frame, layer, source, op):
     refuse(line is None, -2)
     is_less = wanted == 0 or wanted == MAINTAIN and line["flags"] & AUTHORIZED
     refuse(is_less and not layer.account(source)["flags"] & REVOCABLE, -4)
-    set_authorisation(layer, trustor, asset, line["flags"] & ~3 | wanted)
+    set_authorisation(frame, layer, trustor, asset, line["flags"] & ~3 | wanted, -6)
 
 
 def set_line_flags(frame, layer, source, op):
@@ -190,7 +191,7 @@ def set_line_flags(frame, layer, source, op):
     is_less = old & AUTHORIZED and not new & AUTHORIZED or old & MAINTAIN and not new & 3
     refuse(is_less and not layer.account(source)["flags"] & REVOCABLE, -3)
     refuse(new & 3 == 3, -4)
-    set_authorisation(layer, trustor, asset, new)
+    set_authorisation(frame, layer, trustor, asset, new, -5)
 
 
 def clawback(frame, layer, source, op):

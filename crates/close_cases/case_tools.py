@@ -67,8 +67,8 @@ def claimable(digest, claimants="b", amount=1, asset=sets.LUMENS, payer="a", fla
 
 
 def pool(digest):
-    """An empty pool of lumens and USD, an entry that isn't built."""
-    body = (0, {"a": (0, None), "b": ASSET.read(Text(USD)), "fee": 30, "rest": bytes(32)})
+    """An empty pool of lumens and USD under an id, without lines."""
+    body = (0, {"a": (0, None), "b": ASSET.read(Text(USD)), "fee": 30, "reserve_a": 0, "reserve_b": 0, "shares": 0, "lines": 0})
     return {"modified": 1, "body": (5, {"pool": digest, "body": body}), "ext": (0, None)}
 
 
@@ -185,7 +185,7 @@ class Story:
 
     def line(self, name, asset=USD):
         """The balance, limit and flags of a line, or None."""
-        value = self.ledger.entries.get(line_rank(key(name), ASSET.read(Text(asset))))
+        value = self.ledger.entries.get(line_rank(key(name), LINE_ASSET.read(Text(asset))))
         return value and tuple(value["body"][1][field] for field in ("balance", "limit", "flags"))
 
     def claimables(self):

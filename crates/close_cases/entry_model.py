@@ -204,7 +204,7 @@ CLAIMABLE = Struct(
     balance=BALANCE_ID, claimants=Rows(CLAIMANT, 10), asset=ASSET, amount=I64,
     ext=Union({0: NOTHING, 1: Struct(ext=EXT_0, flags=U32)}),
 )
-POOL = Struct(pool=HASH, body=Union({0: Struct(a=ASSET, b=ASSET, fee=I32, rest=Fixed(32))}))
+POOL = Struct(pool=HASH, body=Union({0: Struct(a=ASSET, b=ASSET, fee=I32, reserve_a=I64, reserve_b=I64, shares=I64, lines=I64)}))
 ENTRY = Struct(
     modified=U32, body=Union({0: ACCOUNT, 1: LINE, 2: OFFER, 3: DATA, 4: CLAIMABLE, 5: POOL}),
     ext=Union({0: NOTHING, 1: Struct(sponsor=Maybe(ACCOUNT_ID), ext=EXT_0)}),
@@ -412,6 +412,12 @@ def line_rank(name, asset):
     return rank_of_key((1, {"id": (0, name), "asset": asset}))
 
 
+def uses_of(line):
+    """How often a line is used by lines of pool shares."""
+    arm, ext = line["ext"]
+    return ext["ext"][1]["uses"] if arm and ext["ext"][0] else 0
+
+
 def change(layer, rank, **fields):
     """Puts an entry again, with other fields of its body."""
     entry = layer.get(rank)
@@ -444,6 +450,7 @@ class Frame:
     def __init__(self, header, time, source, number):
         self.reserve, self.seq, self.time, self.open = header["reserve"], header["seq"] + 1, time, {}
         self.source, self.number, self.place, self.ids = source, number, 0, header["ids"]
+        self.flags = header["ext"][1]["flags"] if header["ext"][0] else 0
 
 
 def count(layer, name, subs=0, sponsored=0, sponsoring=0):
@@ -466,13 +473,13 @@ def test_payer(frame, payer, k, low):
         raise Refused(low)
 
 
-def test_subentry(frame, layer, owner, low):
+def test_subentry(frame, layer, owner, low, k=1):
     account, payer = layer.account(owner), layer.account(frame.open.get(owner, owner))
-    if account["subs"] + 1 > 1000:
+    if account["subs"] + k > 1000:
         raise TOO_MANY_SUBENTRIES
-    if is_over(payer, 1) or is_over(account, 1):
+    if is_over(payer, k) or is_over(account, k):
         raise TOO_MANY_SPONSORING
-    if available(payer, frame.reserve) < frame.reserve:
+    if available(payer, frame.reserve) < k * frame.reserve:
         raise Refused(low)
 
 
@@ -489,17 +496,17 @@ def with_sponsor(entry, payer):
     return {**entry, "ext": (1, {"sponsor": None if payer is None else (0, payer), "ext": (0, None)})}
 
 
-def add_subentry(frame, layer, owner, kind, body, low):
-    """Adds a line or data of an owner."""
-    test_subentry(frame, layer, owner, low)
-    count(layer, owner, subs=1)
-    pay(layer, owner, frame.open.get(owner), 1)
+def add_subentry(frame, layer, owner, kind, body, low, k=1):
+    """Adds a line or data of an owner, which counts k times."""
+    test_subentry(frame, layer, owner, low, k)
+    count(layer, owner, subs=k)
+    pay(layer, owner, frame.open.get(owner), k)
     layer.put(with_sponsor({"modified": frame.seq, "body": (kind, body), "ext": (0, None)}, frame.open.get(owner)))
 
 
-def remove_subentry(layer, owner, rank):
-    count(layer, owner, subs=-1)
-    pay(layer, owner, sponsor_of(layer.get(rank)), -1)
+def remove_subentry(layer, owner, rank, k=1):
+    count(layer, owner, subs=-k)
+    pay(layer, owner, sponsor_of(layer.get(rank)), -k)
     layer.erase(rank)
 
 

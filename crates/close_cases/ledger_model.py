@@ -9,6 +9,8 @@ bind in `offer_model.py`.
 
 import asset_model as assets
 import offer_model as offers
+import path_model as paths
+import pool_model as pools
 import trade_model as trades
 from entry_model import (  # noqa: F401  (some names are for the scripts that use this ledger)
     DEAD, ENTRY, GREATEST, HEADER, INIT, ITEM, LIVE, META, RECORD, U32, U64, UPGRADE, Frame, Layer, Refused, Text, Wrong, account_key,
@@ -257,20 +259,22 @@ def revoke(frame, layer, source, op):
         return assets.revoke_claimable(frame, layer, source, entry)
     name, payer = key["seller" if kind == 2 else "id"][1], sponsor_of(entry)
     refuse((name if payer is None else payer) != source, -2)
-    is_moved, payer = move(frame, layer, name, 2 if kind == 0 else 1, payer, frame.open.get(source), -3)
+    k = 2 if kind == 0 or kind == 1 and key["asset"][0] == 3 else 1
+    is_moved, payer = move(frame, layer, name, k, payer, frame.open.get(source), -3)
     if is_moved:
         layer.put(with_sponsor(layer.get(rank), payer))
 
 
 OPERATIONS = {
     0: create_account, 5: set_options, 8: merge, 10: manage_data, 11: bump_sequence, 16: begin_sponsoring, 17: end_sponsoring, 18: revoke,
-    **assets.OPERATIONS, **trades.OPERATIONS,
+    **assets.OPERATIONS, **trades.OPERATIONS, **pools.OPERATIONS, **paths.OPERATIONS,
 }
 
 
 def is_built(op):
-    kind, body = op["body"]
-    return kind == 9 or kind in OPERATIONS and (kind != 6 or body["line"][0] != 3)
+    """Whether the program applies an operation, which it doesn't with path payments so far."""
+    kind, _ = op["body"]
+    return kind not in (2, 13)
 
 
 def level_of(op):
@@ -303,7 +307,8 @@ def default_result(op):
     """The result of an operation that isn't run: an offer that is deleted and met none, no lumens moved by ACCOUNT_MERGE, no payouts of
     INFLATION, an id of zeros."""
     kind, deleted = op["body"][0], many([]) + i32(trades.DELETED)
-    zeros = {3: deleted, 4: deleted, 12: deleted, 8: i64(0), 9: u32(0), 14: i32(0) + NO_HASH}
+    paid = many([]) + i32(0) + NO_HASH + i32(0) + i64(0)
+    zeros = {2: paid, 13: paid, 3: deleted, 4: deleted, 12: deleted, 8: i64(0), 9: u32(0), 14: i32(0) + NO_HASH}
     return i32(0) + i32(kind) + i32(0) + zeros.get(kind, b"")
 
 
@@ -615,6 +620,8 @@ def is_in_range(entry, ids):
     kind, body = entry["body"]
     if kind == 4:
         return assets.is_claimable_in_range(entry)
+    if kind == 5:
+        return pools.is_pool_in_range(entry)
     if kind == 2:
         return sponsor_of(entry) != body["seller"][1] and offers.is_offer_in_range(body, ids)
     if sponsor_of(entry) == body["id"][1]:
@@ -656,8 +663,11 @@ class Counts:
         if kind == 4:
             self.add(None, sponsor_of(entry), len(body["claimants"]))
             return
+        if kind == 5:
+            return
         name = body["seller" if kind == 2 else "id"][1]
-        self.add(name, sponsor_of(entry), 2 if kind == 0 else 1, 0 if kind == 0 else 1)
+        k = 2 if kind == 0 or kind == 1 and body["asset"][0] == 3 else 1
+        self.add(name, sponsor_of(entry), k, 0 if kind == 0 else k)
         for place in range(len(body["signers"]) if kind == 0 else 0):
             self.add(name, sponsor_of_signer(body, place), 1, 1)
 
@@ -667,6 +677,38 @@ class Counts:
         return is_paid and account["subs"] + said["sponsoring"] <= 4294967295
 
 
+class Shares:
+    """The sums of an image's lines of pool shares. A pool or a line that one needs and that isn't there breaks rule 8."""
+
+    def __init__(self, entries, bodies):
+        self.pools = {body["pool"]: body["body"][1] for body in bodies[5]}
+        self.shares, self.lines, self.uses = {name: 0 for name in self.pools}, {name: 0 for name in self.pools}, {}
+        for line in bodies[1]:
+            if line["asset"][0] == 3:
+                self.add(entries, line)
+        ranks = {assets.line_rank(line["id"][1], line["asset"]): assets.uses_of(line) for line in bodies[1]}
+        self.are_counted = all(self.uses.get(rank, 0) == uses for rank, uses in ranks.items()) and all(map(self.is_whole, self.pools))
+        self.lumens = [pool[f"reserve_{side}"] for pool in self.pools.values() for side in "ab" if pool[side] == assets.NATIVE]
+
+    def add(self, entries, line):
+        name = line["asset"][1]
+        if name not in self.pools:
+            raise BadImage("rule 8")
+        self.shares[name] += line["balance"]
+        self.lines[name] += 1
+        for side in "ab":
+            rank = offers.holder(line["id"][1], self.pools[name][side])
+            if rank is not None and rank[0] == 1:
+                if rank not in entries:
+                    raise BadImage("rule 8")
+                self.uses[rank] = self.uses.get(rank, 0) + 1
+
+    def is_whole(self, name):
+        pool = self.pools[name]
+        kept = {pool["reserve_a"] > 0, pool["reserve_b"] > 0, pool["shares"] > 0}
+        return len(kept) == 1 and pool["shares"] == self.shares[name] and pool["lines"] == self.lines[name]
+
+
 def owes(body):
     """What an account or a line says that its offers sell and buy."""
     said = liabilities(body)
@@ -674,8 +716,8 @@ def owes(body):
 
 
 def judge_entries(header, entries):
-    """The rules of entries, where there are no pools."""
-    bodies = {kind: [entry["body"][1] for entry in entries.values() if entry["body"][0] == kind] for kind in range(5)}
+    """The rules of entries."""
+    bodies = {kind: [entry["body"][1] for entry in entries.values() if entry["body"][0] == kind] for kind in range(6)}
     accounts = {account["id"][1]: account for account in bodies[0]}
     lines = [entries[rank]["body"][1] for offer in bodies[2] for rank in offers.holders(offer) if rank in entries and rank[0] == 1]
     if not all(is_in_range(entry, header["ids"]) for entry in entries.values()) or not all(line["flags"] & 3 for line in lines):
@@ -691,23 +733,18 @@ def judge_entries(header, entries):
             owed[rank][side] += amount
     if len({offer["offer"] for offer in bodies[2]}) < len(bodies[2]):
         raise BadImage("rule 8")
-    lumens = [account["balance"] for account in bodies[0]] + [claim["amount"] for claim in bodies[4] if claim["asset"] == assets.NATIVE]
+    shares = Shares(entries, bodies)
+    lumens = [account["balance"] for account in bodies[0]] + shares.lumens + [claim["amount"] for claim in bodies[4] if claim["asset"] == assets.NATIVE]
     for number, is_kept in [
         (9, all(owed[account_key(name)] == owes(account) for name, account in accounts.items())
          and all(owed[assets.line_rank(line["id"][1], line["asset"])] == owes(line) for line in bodies[1])),
         (10, all(account["subs"] == counts.subs[name] <= 1000 for name, account in accounts.items())),
         (11, all(counts.has(name, account) for name, account in accounts.items())),
-        (12, not any(map(assets.uses_of, bodies[1]))),
+        (12, shares.are_counted),
         (13, sum(lumens) + header["pool"] == header["coins"]),
     ]:
         if not is_kept:
             raise BadImage(f"rule {number}")
-
-
-def has_other_entries(entries):
-    """Whether entries have a pool, or a line of a pool's shares."""
-    kinds = {(kind, kind == 1 and body["asset"][0] == 3) for kind, body in (entry["body"] for entry in entries.values())}
-    return not kinds <= {(0, False), (1, False), (2, False), (3, False), (4, False)}
 
 
 def ledger_of(network, header_bytes, files):
@@ -730,8 +767,6 @@ def ledger_of(network, header_bytes, files):
     entries, levels = standing(buckets), Levels(buckets, header["seq"])
     if levels.hash != header["levels"]:
         raise BadImage("rule 6")
-    if has_other_entries(entries):
-        raise BadImage("not built")
     judge_entries(header, entries)
     return Ledger(network, header, levels, entries)
 

@@ -3,12 +3,17 @@
 from entry_model import GREATEST, account_key, is_asset, issuer_of, line_rank
 
 
-def table(price, wheat_send, wheat_receive, sheep_send, sheep_receive):
+NORMAL, STRICT_SEND, STRICT_RECEIVE = range(3)
+
+
+def table(price, wheat_send, wheat_receive, sheep_send, sheep_receive, rounding=NORMAL):
     """The wheat and the sheep that a trade moves before its zero rules, and whether wheat stays (exchangeV10WithoutPriceErrorThresholds)."""
     n, d = price["n"], price["d"]
     worth, paid = min(wheat_send * n, sheep_receive * d), min(sheep_send * d, wheat_receive * n)
     if worth > paid:
-        if n > d:
+        if rounding == STRICT_SEND:
+            return paid // n, min(sheep_send, sheep_receive), True
+        if n > d or rounding == STRICT_RECEIVE:
             wheat = paid // n
             return wheat, -(-wheat * n // d), True
         sheep = paid // d
@@ -20,13 +25,13 @@ def table(price, wheat_send, wheat_receive, sheep_send, sheep_receive):
     return -(-sheep * d // n), sheep, False
 
 
-def exchange(price, *bounds):
-    """The same with the zero rules (exchangeV10 with NORMAL rounding)."""
-    wheat, sheep, stays = table(price, *bounds)
+def exchange(price, *bounds, rounding=NORMAL):
+    """The same with the zero rules (exchangeV10)."""
+    wheat, sheep, stays = table(price, *bounds, rounding)
     worth, paid = wheat * price["n"], sheep * price["d"]
-    if not wheat or not sheep or 100 * abs(worth - paid) > worth:
-        return 0, 0, stays
-    return wheat, sheep, stays
+    is_nothing = not sheep or not wheat and rounding != STRICT_SEND
+    is_dear = 100 * abs(worth - paid) > worth if rounding == NORMAL else 100 * worth - 100 * paid > worth
+    return (0, 0, stays) if is_nothing or is_dear else (wheat, sheep, stays)
 
 
 def adjusted(price, send, receive):

@@ -16,6 +16,10 @@ from ledger_model import DEAD, GREATEST, HEADER, INIT, LIVE, NO_HASH, catchup, i
 import set_cases as sets  # ledger_model puts its folder first
 from asset_cases import PARTS as ASSET_PARTS
 from offer_cases import PARTS as OFFER_PARTS
+from pool_cases import PARTS as POOL_PARTS
+from pool_image_cases import PARTS as POOL_IMAGE_PARTS
+from revocation_cases import PARTS as REVOCATION_PARTS
+from share_line_cases import PARTS as SHARE_LINE_PARTS
 from case_tools import (
     A_WITH_D, CASES, LUMEN, META_18, NETWORK, NO_RESULTS, A, Account, B, C, D, Data, Story, bucket, case, entry, header_of, image,
     image_bytes, items, key, offer, pool, predicate, raw, sent, sponsored, upgrade, var, with_counts, with_liabilities,
@@ -177,7 +181,7 @@ def rules_at_once():
     ]:
         case(f"rules {name}", data, f"10 bad image rule {rule}")
     case("rule 6 and an offer", image([A, offer("a")], levels=NO_HASH), "10 bad image rule 6")
-    case("rule 7 and a pool", image([wrong, pool(sha(b"an id"))]), "10 bad image not built")
+    case("rule 7 and a pool", image([wrong, pool(sha(b"an id"))]), "10 bad image rule 7")
 
 
 PATH = sets.path_payment("b", 1)
@@ -421,7 +425,7 @@ def compare(folder):
 # what makes cases, with what their names begin with
 PARTS = [
     ("", [forms, header_rules, file_rules, entry_rules, rules_at_once, bad_records, terms, upgrades, set_faults, faults_at_once, closes]),
-    ("assets ", ASSET_PARTS), ("trades ", OFFER_PARTS),
+    ("assets ", ASSET_PARTS), ("trades ", OFFER_PARTS), ("pools ", POOL_IMAGE_PARTS + SHARE_LINE_PARTS + POOL_PARTS + REVOCATION_PARTS),
 ]
 
 

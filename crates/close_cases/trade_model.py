@@ -9,7 +9,7 @@ from entry_model import (
     ASSET, EXCEEDED_WORK_LIMIT, GREATEST, OFFER, available, change, count, i32, i64, is_asset, liabilities, many, pay, rank_of_key, refuse,
     remove_subentry, sponsor_of, test_subentry, u32, with_sponsor,
 )
-from offer_model import adjusted, bound, exchange, holder, holders, table
+from offer_model import NORMAL, adjusted, bound, exchange, holder, holders, table
 
 # how many offers an operation may cross
 MOST_CROSSINGS = 1000
@@ -153,10 +153,11 @@ def what_offer_gives(frame, layer, offer, amount):
 
 
 class Trade:
-    """A taker sends sheep and receives wheat, up to a bound of each."""
+    """A taker sends sheep and receives wheat, up to a bound of each, and may cross so many offers; `own` is the code for an own one."""
 
-    def __init__(self, sheep_send, wheat_receive):
+    def __init__(self, sheep_send, wheat_receive, rounding=NORMAL, crossings=MOST_CROSSINGS, own=-8):
         self.sheep_send, self.wheat_receive, self.sheep, self.wheat, self.atoms = sheep_send, wheat_receive, 0, 0, []
+        self.rounding, self.crossings, self.own = rounding, crossings, own
 
     @property
     def is_done(self):
@@ -168,7 +169,7 @@ class Trade:
         gives, takes = holders(offer)
         amount = what_offer_gives(frame, layer, offer, offer["amount"])
         left = self.wheat_receive - self.wheat, self.sheep_send - self.sheep
-        wheat, sheep, stays = exchange(offer["price"], amount, *left, room(layer, takes))
+        wheat, sheep, stays = exchange(offer["price"], amount, *left, room(layer, takes), rounding=self.rounding)
         pay_at(layer, takes, sheep)
         pay_at(layer, gives, -wheat)
         self.atoms.append(spelled_atom(offer, wheat, sheep))
@@ -182,16 +183,17 @@ class Trade:
             remove_subentry(layer, offer["seller"][1], rank_of(offer))
         return stays
 
-    def cross(self, frame, layer, taker, offers, greatest, is_passive):
+    def cross(self, frame, layer, taker, offers, greatest=None, is_passive=False):
         """Crosses the offers of a book that aren't too dear; answers whether the taker has what it asked for."""
         for place, offer in enumerate(offers):
             if self.is_done:
                 return True
-            price, most = dearness(offer["price"]), dearness(greatest)
-            if most < price or is_passive and not price < most:
-                return False
-            refuse(offer["seller"][1] == taker, -8)
-            if place == MOST_CROSSINGS:
+            if greatest is not None:
+                price, most = dearness(offer["price"]), dearness(greatest)
+                if most < price or is_passive and not price < most:
+                    return False
+            refuse(offer["seller"][1] == taker, self.own)
+            if place == self.crossings:
                 raise EXCEEDED_WORK_LIMIT
             if self.meet(frame, layer, offer):
                 return True

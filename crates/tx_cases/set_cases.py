@@ -493,6 +493,7 @@ CREATE, PAYMENT, OPTIONS, TRUST, ALLOW, MERGE, DATA, BUMP, SET_ASIDE, CLAIM, BEG
     0, 1, 5, 6, 7, 8, 10, 11, 14, 15, 16, 17, 18, 19, 20, 21,
 )
 SELL, PASSIVE, BUY = 3, 4, 12
+DEPOSIT, WITHDRAW = 22, 23
 
 OP_BAD_AUTH = i32(-1)
 OP_NO_ACCOUNT = i32(-2)
@@ -1068,6 +1069,19 @@ def offers():
               B.but(balance=1_000_000_060, data=1), Line("b", 0), Z])
 
 
+def pools():
+    """Sets with operations on pools."""
+    paid, pool = A.but(balance=999_999_900, seq=1), sha(b"a pool")
+    codes = [
+        ("deposit_nothing", DEPOSIT, deposit(pool, 0), -1), ("deposit_without_shares", DEPOSIT, deposit(pool, 1), -2),
+        ("withdraw_nothing", WITHDRAW, withdraw(pool, 0), -1), ("withdraw_without_shares", WITHDRAW, withdraw(pool, 1), -2),
+        ("shares_of_assets_out_of_order", TRUST, trust_pool(USD, LUMENS), -1),
+        ("shares_without_line", TRUST, trust_pool(LUMENS, USD), -6),
+    ]
+    for name, kind, op, number in codes:
+        case(f"pools_{name}", [A], [sent("a", 1, op)], [(100, failed(ran(kind, number)))], 100, [paid])
+
+
 def refusals():
     """Sets that are refused, and states that are none."""
     fine = sent("a", 1, NOTHING)
@@ -1080,11 +1094,7 @@ def refusals():
     case("not_built_first_listed", [A, B], [unbuilt, sent("b", 1, path_payment("a", 1))], fault="operation not built in transaction 0")
     case("not_built_inner", [A, B], [fine, bumped("b", 200, unbuilt)], fault="operation not built in transaction 1")
     case("not_built_first_version", [A, B], [First(Tx("a", 1, [path_payment("b", 1)]), [])], fault="operation not built in transaction 0")
-    pool = sha(b"a pool")
-    for name, op in [
-        ("path_receive", path_payment("b", 1)), ("path_send", path_payment("b", 1, kind=13)), ("deposit", deposit(pool, 1)),
-        ("withdraw", withdraw(pool, 1)), ("pool_shares", trust_pool(LUMENS, USD)),
-    ]:
+    for name, op in [("path_receive", path_payment("b", 1)), ("path_send", path_payment("b", 1, kind=13))]:
         built = sent("a", 1, payment("b", 1, asset=USD), change_trust(), fee=200)
         case(f"not_built_{name}", [A, B], [built, sent("a", 2, op)], fault="operation not built in transaction 1")
     case("no_fee_source", [A], [fine, lost], fault="no fee source for transaction 1")
@@ -1132,8 +1142,8 @@ def thousand():
 
 
 def main():
-    for part in (one_transaction, fees, early_checks, signatures, balances, operations, lines, claimables, offers, first_version,
-                 fee_bumps, preauthorised, order, refusals, thousand):
+    for part in (one_transaction, fees, early_checks, signatures, balances, operations, lines, claimables, offers, pools,
+                 first_version, fee_bumps, preauthorised, order, refusals, thousand):
         part()
     folder = os.path.join(os.path.dirname(os.path.abspath(__file__)), "data")
     with open(os.path.join(folder, "cases.txt"), "w", encoding="ascii") as table:

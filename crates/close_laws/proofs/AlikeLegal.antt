@@ -21,7 +21,7 @@ use Rattle.legal_rules.specs.Supply.{held}
 use Rattle.legal_rules.specs.Legal.{view, params_of}
 use Rattle.legal_rules.specs.Owing.{weight, IsEntryLegal}
 use Rattle.op_laws.specs.Underway.{IsSettled}
-use Rattle.op_laws.proofs.Settled.{entries_legal}
+use Rattle.legal_rules.proofs.Legality.{entries_legal}
 use Rattle.close_laws.proofs.Unmarked.{AreAlike, AreMapsAlike, unmarked, stood, total_alike}
 
 -- ---- entries

@@ -15,6 +15,7 @@ use Rattle.ledger_types.specs.declared.offer.OfferEntry.{OfferEntry}
 use Rattle.ledger_types.specs.declared.data_entry.DataEntry.{DataEntry}
 use Rattle.ledger_types.specs.declared.claimable_balance.Claimant.{Claimant}
 use Rattle.ledger_types.specs.declared.claimable_balance.ClaimableBalanceEntry.{ClaimableBalanceEntry}
+use Rattle.ledger_types.specs.declared.liquidity_pool.LiquidityPoolEntry.{LiquidityPoolEntry}
 use Rattle.ledger_types.specs.declared.entry.LedgerEntry.{LedgerEntry}
 use Rattle.ledger_types.specs.declared.entry.LedgerEntryBody.{LedgerEntryBody}
 use Rattle.ledger_types.specs.declared.entry.LedgerEntryBody.TheVariants as body
@@ -39,7 +40,7 @@ use Rattle.reserve_rules.specs.Reserve.{greatest_i64}
 use Rattle.sponsor_rules.specs.declared.context.Ctx.{Ctx}
 use Rattle.sponsor_rules.specs.declared.context.Sponsorship.{Sponsorship}
 use Rattle.sponsor_rules.specs.Payers.{is_same_account, open_sponsor, payer_by, payer_of}
-use Rattle.close_rules.specs.State.{IsSpelled, IsBuiltLine}
+use Rattle.close_rules.specs.State.{IsSpelled}
 
 -- ---- ids
 
@@ -90,11 +91,9 @@ pub record AreDataBytes (entry : DataEntry) : Type 0 where
   pub name : IsSpelled (var 64) entry.data_name
   pub value : IsSpelled (var 64) entry.data_value
 
--- a line that isn't one of pool shares
 pub record AreLineBytes (held : TrustLineEntry) : Type 0 where
   pub id : IsId held.account_id
   pub asset : IsSpelled basic.trust_line_asset held.asset
-  pub built : IsBuiltLine held.asset
 
 abbrev pub IsClaimant : Claimant → Type 0
 IsClaimant one = IsSpelled claimant one
@@ -114,14 +113,22 @@ pub record AreOfferBytes (offer : OfferEntry) : Type 0 where
   pub amount : IsSpelled i64 offer.amount
   pub price : IsSpelled basic.price offer.price
 
--- all but pools
+-- the greatest that the numbers of a pool may be, too: a range says only that they aren't below 0
+pub record ArePoolBytes (pool : LiquidityPoolEntry) : Type 0 where
+  pub id : IsSpelled basic.hash pool.pool_id
+  pub params : IsSpelled basic.pool_params pool.params
+  pub reserve_a : pool.reserve_a ≤ℤ greatest_i64
+  pub reserve_b : pool.reserve_b ≤ℤ greatest_i64
+  pub shares : pool.total_pool_shares ≤ℤ greatest_i64
+  pub lines : pool.pool_shares_trust_line_count ≤ℤ greatest_i64
+
 abbrev pub AreBodyBytes : LedgerEntryBody → Type 0
 AreBodyBytes (body.Account account) = AreAccountBytes account
 AreBodyBytes (body.TrustLine held) = AreLineBytes held
 AreBodyBytes (body.Data entry) = AreDataBytes entry
 AreBodyBytes (body.ClaimableBalance balance) = AreBalanceBytes balance
 AreBodyBytes (body.Offer offer) = AreOfferBytes offer
-AreBodyBytes other = ⊥
+AreBodyBytes (body.LiquidityPool pool) = ArePoolBytes pool
 
 pub record AreEntryBytes (e : LedgerEntry) : Type 0 where
   pub body : AreBodyBytes e.body
@@ -244,7 +251,7 @@ unfolding open_sponsor
 open_sponsor_id ctx id sponsors =
     opened_by (λ opened. is_same_account opened.sponsored id) ctx.sponsorships sponsors.all
 
-payer_id : (owner : AccountId) (found : Option AccountId) → IsId owner → IsIdIf found → IsId (payer_by owner found)
+pub payer_id : (owner : AccountId) (found : Option AccountId) → IsId owner → IsIdIf found → IsId (payer_by owner found)
 payer_id owner None id named = id
 payer_id owner (Some sponsor) id named = id_of_some sponsor named
 

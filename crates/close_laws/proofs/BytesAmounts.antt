@@ -74,10 +74,10 @@ credit_bytes id amount m made each is = credit_of id amount m made (account_at m
 
 -- a change of the balance alone
 more_held : (amount : ℤ) → KeepsLines (amounts.with_more amount)
-more_held amount held bytes = record { id = bytes.id; asset = bytes.asset; built = bytes.built }
+more_held amount held bytes = record { id = bytes.id; asset = bytes.asset }
 
 pub less_held : (amount : ℤ) → KeepsLines (amounts.with_less amount)
-less_held amount held bytes = record { id = bytes.id; asset = bytes.asset; built = bytes.built }
+less_held amount held bytes = record { id = bytes.id; asset = bytes.asset }
 
 either_bytes : {F : Type 0} (b : Bool) (made other : Result EntryMap F) → AreBytesIf made → AreBytesIf other
     → AreBytesIf (if b then made else other)

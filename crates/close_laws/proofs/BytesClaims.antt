@@ -46,7 +46,7 @@ use Rattle.close_laws.proofs.BytesSteps.{behind_change}
 
 -- ---- new balances
 
-id_spelled : (digest : Hash) → IsSpelled hash digest → IsSpelled claimable_balance_id (record { 0 = digest })
+pub id_spelled : (digest : Hash) → IsSpelled hash digest → IsSpelled claimable_balance_id (record { 0 = digest })
 unfolding claimable_balance_id constant
 id_spelled digest spelled = record { within = (tt, spelled.within); sized = (tt, spelled.sized) }
 

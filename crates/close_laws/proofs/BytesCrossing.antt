@@ -60,7 +60,7 @@ paying_bytes (Some (key.Account id)) n m each =
     with_account_bytes m id (paid n) (λ account bytes. numbers account (paid n account) bytes) each
 paying_bytes (Some (key.TrustLine id held)) n m each =
     with_line_bytes m id held (line_paid n)
-    (λ t bytes. record { id = bytes.id; asset = bytes.asset; built = bytes.built }) each
+    (λ t bytes. record { id = bytes.id; asset = bytes.asset }) each
 paying_bytes (Some other) n m each = each
 
 -- ---- what may be sold

@@ -1,5 +1,5 @@
 -- Adding, removing and moving leave the bytes of entries.
-use Rattle.std.proofs.Common.{◌≡◌, ℕ, refl, Option, Some, None, Result, IfOk}
+use Rattle.std.proofs.Common.{◌≡◌, ℕ, refl, subst, Option, Some, None, Result, Ok, IfOk}
 use Rattle.std.proofs.Common.{Bool, true, false, if◌then◌else◌}
 use Rattle.std.specs.FinMap.{get}
 use Rattle.ledger_types.specs.declared.ids.AccountId.{AccountId}
@@ -40,6 +40,9 @@ use Rattle.close_laws.proofs.BytesPaid.{without_signer_bytes, signer_sponsor_byt
 -- a map that may be made
 abbrev pub AreBytesIf : {F : Type 0} → Result EntryMap F → Type 0
 AreBytesIf made = IfOk made AreBytes
+
+pub made_bytes : {F : Type 0} (made : Result EntryMap F) (m : EntryMap) → made ≡ Ok m → AreBytesIf made → AreBytes m
+made_bytes made m is each = subst AreBytesIf is each
 
 pub unless_bytes : {F : Type 0} (found : Option F) (m : EntryMap) → AreBytes m → AreBytesIf (unless_fault found m)
 unless_bytes None m each = each

@@ -1,6 +1,6 @@
 -- Offers that change or go, and what they bind, leave the bytes of entries.
 use Rattle.std.proofs.Common.{◌≡◌, refl, subst, ap, ◌∙◌, Bool, true, false, List, [], All, Option, Some, None, arith}
-use Rattle.std.proofs.Common.{◌∷◌, ℤ, pos}
+use Rattle.std.proofs.Common.{◌∷◌}
 use Rattle.std.proofs.lemmas.Int.{ints}
 use Rattle.std.proofs.lemmas.List.Elements.{All-nil}
 use Rattle.std.specs.Prelude.{ℕ, ℤ, pos, neg_ℤ, ◌+ℤ◌, ◌≤ℤ◌, if◌then◌else◌}
@@ -146,7 +146,7 @@ binding_bytes m (Some (key.Account id)) selling buying may each =
     (λ a at bytes. bound_account_bytes selling buying a bytes (may a at bytes.selling)) each
 binding_bytes m (Some (key.TrustLine id held)) selling buying may each =
     with_line_bytes m id held (bound_line selling buying)
-    (λ t bytes. record { id = bytes.id; asset = bytes.asset; built = bytes.built }) each
+    (λ t bytes. record { id = bytes.id; asset = bytes.asset }) each
 binding_bytes m (Some other) selling buying may each = each
 
 no_more : (was : ℤ) (n : ℕ) → was ≤ℤ greatest_i64 → (was +ℤ neg_ℤ (pos n)) ≤ℤ greatest_i64

@@ -64,8 +64,7 @@ use Rattle.op_options.specs.SetOptions as options
 use Rattle.op_options.specs.Operations.{options_operation}
 use Rattle.op_payment.specs.Payment as paying
 use Rattle.op_payment.specs.Operations.{payment_operation}
-use Rattle.op_trust.specs.ChangeTrust as trusting
-use Rattle.op_trust.specs.Operations.{trust_operation}
+use Rattle.op_trust.specs.Operations.{change_trust, trust_operation}
 use Rattle.op_flags.specs.AllowTrust as allowing
 use Rattle.op_flags.specs.SetTrustLineFlags as flagging
 use Rattle.op_flags.specs.Operations.{flags_operation}
@@ -75,6 +74,9 @@ use Rattle.op_claim.specs.Clawback as clawing
 use Rattle.op_claim.specs.ClawbackClaimableBalance as taking
 use Rattle.op_claim.specs.Operations.{claim_operation}
 use Rattle.op_offers.specs.Operations.{attempt_of, offers_operation}
+use Rattle.op_pool.specs.Deposit as depositing
+use Rattle.op_pool.specs.Withdraw as withdrawing
+use Rattle.op_pool.specs.Operations.{pool_operation}
 use Rattle.op_sponsor.specs.BeginSponsoringFutureReserves as beginning
 use Rattle.op_sponsor.specs.EndSponsoringFutureReserves as ending
 use Rattle.op_sponsor.specs.RevokeSponsorship as revoking
@@ -86,6 +88,8 @@ use Rattle.close_laws.proofs.Bytes.{KeepsAccounts, with_account_bytes, with_data
 use Rattle.close_laws.proofs.Bytes.{open_sponsor_id}
 use Rattle.close_laws.proofs.BytesSteps.{AreWorkBytes, Work, Gives, Leaves, tested, behind, behind_some}
 use Rattle.close_laws.proofs.BytesSteps.{behind_charge, behind_change, behind_step, either_leaves, done_leaves}
+use Rattle.close_laws.proofs.BytesDeposits.{deposited, withdrawn}
+use Rattle.close_laws.proofs.SharesGiven.{can_revoke}
 use Rattle.close_laws.proofs.BytesTrust.{trust_changed, trust_allowed, flags_set}
 use Rattle.close_laws.proofs.BytesClaims.{balance_created, balance_claimed, clawed_back, balance_clawed_back}
 use Rattle.close_laws.proofs.ManagedOffers.{CanTrade, offer_sold, passively_sold, offer_bought}
@@ -464,7 +468,7 @@ pub any_bytes : (ctx : Ctx) (of : OperationBody) (m : EntryMap) → CanTrade ctx
     → IsSpelled operation_body of → AreWorkBytes ctx m
     → AreWorkBytes (any_operation ctx of m).ctx (any_operation ctx of m).entries
 unfolding any_operation account_operation options_operation payment_operation trust_operation flags_operation
-    claim_operation sponsor_operation offers_operation
+    claim_operation sponsor_operation offers_operation pool_operation
 any_bytes ctx (body.CreateAccount op) m can id spelled work =
     done_leaves ctx m (creating.create_account ctx op m) work (created ctx op m (destination_id op spelled) work)
 any_bytes ctx (body.AccountMerge op) m can id spelled work =
@@ -487,11 +491,13 @@ any_bytes ctx (body.ManageData op) m can id spelled work = done_leaves ctx m (ma
 any_bytes ctx (body.Payment op) m can id spelled work =
     done_leaves ctx m (paying.payment ctx op m) work (payment_paid ctx op m work)
 any_bytes ctx (body.ChangeTrust op) m can id spelled work =
-    done_leaves ctx m (trusting.change_trust ctx op m) work (trust_changed ctx op m id spelled work)
+    done_leaves ctx m (change_trust ctx op m) work (trust_changed ctx op m id spelled work)
 any_bytes ctx (body.AllowTrust op) m can id spelled work =
-    done_leaves ctx m (allowing.allow_trust ctx op m) work (trust_allowed ctx op m work)
+    done_leaves ctx m (allowing.allow_trust ctx op m) work
+    (trust_allowed ctx op m spelled (can_revoke ctx.id_pool op.trustor m can.under.settled.legal) work)
 any_bytes ctx (body.SetTrustLineFlags op) m can id spelled work =
-    done_leaves ctx m (flagging.set_trust_line_flags ctx op m) work (flags_set ctx op m work)
+    done_leaves ctx m (flagging.set_trust_line_flags ctx op m) work
+    (flags_set ctx op m spelled (can_revoke ctx.id_pool op.trustor m can.under.settled.legal) work)
 any_bytes ctx (body.CreateClaimableBalance op) m can id spelled work =
     done_leaves ctx m (balances.create_claimable_balance ctx op m) work (balance_created ctx op m id spelled work)
 any_bytes ctx (body.ClaimClaimableBalance op) m can id spelled work =
@@ -506,4 +512,8 @@ any_bytes ctx body.EndSponsoringFutureReserves m can id spelled work =
     done_leaves ctx m (ending.end_sponsoring ctx m) work (ended ctx m work)
 any_bytes ctx (body.RevokeSponsorship op) m can id spelled work =
     done_leaves ctx m (revoking.revoke_sponsorship ctx op m) work (sponsorship_revoked ctx op m work)
+any_bytes ctx (body.LiquidityPoolDeposit op) m can id spelled work =
+    done_leaves ctx m (depositing.liquidity_pool_deposit ctx op m) work (deposited ctx op m work)
+any_bytes ctx (body.LiquidityPoolWithdraw op) m can id spelled work =
+    done_leaves ctx m (withdrawing.liquidity_pool_withdraw ctx op m) work (withdrawn ctx op m work)
 any_bytes ctx other m can id spelled work = work

@@ -9,19 +9,21 @@ use Rattle.std.specs.Int.{w64}
 use Rattle.std.specs.List.{AllByRecursion}
 use Rattle.std.specs.Option.{option_map}
 use Rattle.ledger_types.specs.declared.claimable_balance.Claimant.{Claimant}
+use Rattle.ledger_types.specs.declared.ids.AccountId.{AccountId}
 use Rattle.ledger_types.specs.declared.predicate.ClaimPredicate.{ClaimPredicate}
+use Rattle.ledger_types.specs.declared.predicate.ClaimPredicate.TheVariants.{Unconditional}
 use Rattle.ledger_types.specs.declared.predicate.ClaimPredicate.TheViews.{out-ClaimPredicate}
 use Rattle.ledger_types.specs.declared.predicate.ClaimPredicate.TheViews.{out-roll-ClaimPredicate}
 use Rattle.ledger_types.specs.declared.predicate.ClaimPredicate.TheOpen.{ClaimPredicate-F}
 use Rattle.xdr_core.specs.Leaves.{i64}
-use Rattle.xdr_core.specs.Combinators.{list, option, refused}
+use Rattle.xdr_core.specs.Combinators.{list, option, refused, constant}
 use Rattle.xdr_core.specs.Xdr.{Xdr, optional, list_of}
 use Rattle.xdr_entries.specs.Entries.{claimant}
 use Rattle.xdr_entries.specs.Predicates.{level, predicate_below}
 use Rattle.reserve_rules.specs.Reserve.{greatest_i64}
 use Rattle.op_claim.specs.Predicates.{max_levels, time_after, fixed_level, fixed_below, fixed_claimant}
 use Rattle.close_rules.specs.State.{IsSpelled}
-use Rattle.close_laws.proofs.Bytes.{IsClaimant}
+use Rattle.close_laws.proofs.Bytes.{IsId, IsClaimant}
 
 -- ---- lists and options, value by value
 
@@ -123,3 +125,19 @@ claimants_fixed t (one ∷ others) all =
     All-cons IsClaimant (fixed_claimant t one) (map (fixed_claimant t) others)
     (claimant_fixed t one (All-head IsClaimant one others all))
     (claimants_fixed t others (All-tail IsClaimant one others all))
+
+-- ---- no condition
+
+unconditional_spelled : (levels : ℕ) → IsSpelled (predicate_below (suc levels)) Unconditional
+unfolding predicate_below out-ClaimPredicate denote.Hole.Carrier.out
+unconditional_spelled levels = record { within = tt; sized = tt }
+
+pub unconditional_claimant : (id : AccountId) → IsId id
+    → IsClaimant (record { destination = id; predicate = Unconditional })
+unfolding claimant constant
+unconditional_claimant id named =
+    let always = unconditional_spelled 31 in
+    record {
+      within = (tt, (named.within, always.within));
+      sized = (tt, (named.sized, always.sized));
+    }

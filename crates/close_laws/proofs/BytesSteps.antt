@@ -51,6 +51,13 @@ pub behind_charge : {B : Type 0} (P : B → Type 0) (made : Result EntryMap AddF
 behind_charge P (Err fault) low next made holds = record { gives = tt }
 behind_charge P (Ok m) low next made holds = holds m made
 
+-- by the map that is made
+pub behind_made : {B : Type 0} (P : B → Type 0) (made : Result EntryMap AddFault) (low : OperationResult)
+    (next : EntryMap → Result B OperationResult) → ((m : EntryMap) → made ≡ Ok m → Gives P (next m))
+    → Gives P (after_charge made low next)
+behind_made P (Err fault) low next holds = record { gives = tt }
+behind_made P (Ok m) low next holds = holds m refl
+
 pub behind_change : {B F : Type 0} (P : B → Type 0) (made : Result EntryMap F) (answers : F → OperationResult)
     (next : EntryMap → Result B OperationResult) → AreBytesIf made → ((m : EntryMap) → AreBytes m → Gives P (next m))
     → Gives P (after_step made answers next)

@@ -20,7 +20,6 @@ next_is_closing laws settles legal conserve stand s closing closed can by few =
     let entries = closed.state.entries in
     let stands = stand (s.header.ledger_seq + 1) by.fresh s.levels levels s.entries entries can.state.count
     can.state.marked can.state.standing by.told.changes by.levels in
-    let written = entries_stay_spellable laws settles legal conserve s closing entries can by.entries in
     record {
       legal = subst (λ (h : LedgerHeader). IsLegal h entries) (sym by.header)
           (next_is_legal legal conserve s closing entries (list_hash levels) can by.entries);
@@ -30,7 +29,6 @@ next_is_closing laws settles legal conserve stand s closing closed can by few =
       hash = sym (ap (λ (h : LedgerHeader). h.bucket_list_hash) by.header);
       header = subst (IsSpelled ledger_header) (sym by.header)
           (next_header_is_spelled conserve laws.held s closing (list_hash levels) can (hash_spelled _));
-      entries = written.0;
-      built = written.1;
+      entries = entries_stay_spellable laws settles legal conserve s closing entries can by.entries;
       files = few;
     }

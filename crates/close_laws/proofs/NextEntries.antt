@@ -1,4 +1,4 @@
--- What a close leaves can be written, and is of the kinds that are built.
+-- What a close leaves can be written.
 use Rattle.std.proofs.Common.{◌≡◌, ℕ, ◌+◌, ◌^◌, ◌<◌, ◌≤◌, refl, sym, ap, subst, ◌∙◌, List, [], length, All}
 use Rattle.std.proofs.Common.{Option, Some, None, ℤ, pos, inl, inr, arith}
 use Rattle.std.proofs.lemmas.Int.{ints}
@@ -17,6 +17,7 @@ use Rattle.ledger_types.specs.declared.price.Liabilities.{Liabilities}
 use Rattle.ledger_types.specs.declared.offer.OfferEntry.{OfferEntry}
 use Rattle.ledger_types.specs.declared.data_entry.DataEntry.{DataEntry}
 use Rattle.ledger_types.specs.declared.claimable_balance.ClaimableBalanceEntry.{ClaimableBalanceEntry}
+use Rattle.ledger_types.specs.declared.liquidity_pool.LiquidityPoolEntry.{LiquidityPoolEntry}
 use Rattle.ledger_types.specs.declared.entry.LedgerEntry.{LedgerEntry}
 use Rattle.ledger_types.specs.declared.entry.LedgerEntryBody.{LedgerEntryBody}
 use Rattle.ledger_types.specs.declared.entry.LedgerEntryBody.TheVariants as body
@@ -30,7 +31,7 @@ use Rattle.xdr_header.specs.declared.record.CloseRecord.{CloseRecord}
 use Rattle.xdr_entries.specs.Basic.{account_id, signer, liabilities}
 use Rattle.xdr_entries.specs.Entries.{account_extension_v2, account_extension_v1, account_head, account_tail}
 use Rattle.xdr_entries.specs.Entries.{account_entry, trust_line_entry, claimant, claimable_balance_entry}
-use Rattle.xdr_entries.specs.Entries.{offer_entry}
+use Rattle.xdr_entries.specs.Entries.{offer_entry, liquidity_pool_entry}
 use Rattle.xdr_entries.specs.Entries.{data_entry, ledger_entry_body, ledger_entry_extension_v1, ledger_entry}
 use Rattle.entry_map.specs.EntryMap.{EntryMap}
 use Rattle.entry_map.specs.Batch.{parts_of}
@@ -40,21 +41,18 @@ use Rattle.entry_slots.specs.AccountExtensions.{account_liabilities, liabilities
 use Rattle.entry_slots.specs.AccountExtensions.{second_in, sponsorship_in}
 use Rattle.entry_slots.specs.LineExtensions.{use_count}
 use Rattle.entry_slots.specs.EntrySponsor.{sponsor_in}
-use Rattle.entry_sums.specs.Sums.{total}
-use Rattle.entry_sums.proofs.Summing.{total_none}
 use Rattle.reserve_rules.specs.Reserve.{greatest_i64}
 use Rattle.sponsor_rules.specs.Payers.{IsReadyAccount}
-use Rattle.legal_rules.specs.Books.{Uses, counted, stated, stated_at}
+use Rattle.legal_rules.specs.Books.{Uses, stated, stated_at}
 use Rattle.legal_rules.specs.Bounds.{AreSubentriesFew, DoReservesFit}
-use Rattle.legal_rules.specs.PoolShares.{uses, uses_by}
-use Rattle.legal_rules.specs.Legal.{view, IsLegal}
+use Rattle.legal_rules.specs.Legal.{IsLegal}
 use Rattle.legal_rules.specs.Ranges.{IsAccountInRange, AreLineFlags, IsTrustLineInRange, IsBalanceInRange}
-use Rattle.legal_rules.specs.Ranges.{IsBodyInRange}
+use Rattle.legal_rules.specs.Ranges.{IsPoolInRange, IsBodyInRange}
 use Rattle.op_laws.specs.Steps.{TransactionLaws, LegalSettles, SettledLegal}
 use Rattle.entry_changes.specs.Spellable.{AreSpellable}
 use Rattle.header_chain.specs.SkipList.{finished}
 use Rattle.tx_apply.specs.Laws.{SetsConserve}
-use Rattle.close_rules.specs.State.{ClosingState, IsSpelled, IsBuiltLine, IsBuiltBody, AreBuilt}
+use Rattle.close_rules.specs.State.{ClosingState, IsSpelled}
 use Rattle.close_rules.specs.Close.{setting_in, applied_in, upgraded_header}
 use Rattle.close_laws.specs.Legal.{IsClosable, AreClosed, EntriesStaySpellable}
 use Rattle.close_laws.proofs.Unmarked.{AreMapsAlike, next_alike, stood}
@@ -63,10 +61,12 @@ use Rattle.close_laws.proofs.SpelledSets.{set_spelled}
 use Rattle.close_laws.proofs.Unrefused.{seq_below}
 use Rattle.close_laws.proofs.NextLegal.{can_close, next_settled, next_is_legal}
 use Rattle.close_laws.proofs.Bytes.{IsIdIf, no_id, IsKey, sponsors_in, AreAccountBytes, AreDataBytes, AreBodyBytes}
-use Rattle.close_laws.proofs.Bytes.{AreLineBytes, AreBalanceBytes, AreOfferBytes, AreEntryBytes, AreBytes}
+use Rattle.close_laws.proofs.Bytes.{AreLineBytes, AreBalanceBytes, AreOfferBytes, ArePoolBytes, AreEntryBytes, AreBytes}
 use Rattle.close_laws.proofs.BytesSets.{set_bytes}
 use Rattle.close_laws.proofs.ShortBalances.{AreLineNumbers, AreBalanceNumbers}
+use Rattle.close_laws.proofs.ShortPools.{ArePoolNumbers}
 use Rattle.close_laws.proofs.ShortEntries.{AreAccountNumbers, AreBodyNumbers, entry_spellable}
+use Rattle.close_laws.proofs.UsesFew.{uses_few}
 
 -- ---- the bytes of entries that can be written
 
@@ -107,12 +107,16 @@ signers_spelled : (account : AccountEntry) → IsSpelled account_entry account
 unfolding account_entry account_tail
 signers_spelled account spelled = record { within = spelled.within.1.1.1.0; sized = spelled.sized.1.1.1.0 }
 
-liabilities_selling : (owed : Liabilities) → IsSpelled liabilities owed → owed.selling ≤ℤ greatest_i64
-unfolding liabilities i64
-liabilities_selling owed spelled = most owed.selling spelled.sized.1
+at_most : (n : ℤ) → i64.sized n → n ≤ℤ greatest_i64
+unfolding i64
+at_most n sized = most n sized
   where
     most : (n : ℤ) → FitsSigned w64 n → n ≤ℤ greatest_i64
     most n fits = grind (arith, ints)
+
+liabilities_selling : (owed : Liabilities) → IsSpelled liabilities owed → owed.selling ≤ℤ greatest_i64
+unfolding liabilities i64
+liabilities_selling owed spelled = at_most owed.selling spelled.sized.1
 
 v1_selling : (ext : AccountEntryExtensionV1) → IsSpelled account_extension_v1 ext
     → ext.liabilities.selling ≤ℤ greatest_i64
@@ -146,12 +150,11 @@ data_bytes entry spelled = record {
   value = record { within = spelled.within.1.1.0; sized = spelled.sized.1.1.0 };
 }
 
-line_bytes : (held : TrustLineEntry) → IsSpelled trust_line_entry held → IsBuiltLine held.asset → AreLineBytes held
+line_bytes : (held : TrustLineEntry) → IsSpelled trust_line_entry held → AreLineBytes held
 unfolding trust_line_entry
-line_bytes held spelled built = record {
+line_bytes held spelled = record {
   id = record { within = spelled.within.0; sized = spelled.sized.0 };
   asset = record { within = spelled.within.1.0; sized = spelled.sized.1.0 };
-  built = built;
 }
 
 balance_bytes : (balance : ClaimableBalanceEntry) → IsSpelled claimable_balance_entry balance
@@ -176,19 +179,31 @@ offer_bytes offer spelled = record {
   price = record { within = spelled.within.1.1.1.1.1.0; sized = spelled.sized.1.1.1.1.1.0 };
 }
 
-body_bytes : (of : LedgerEntryBody) → IsSpelled ledger_entry_body of → IsBuiltBody of → AreBodyBytes of
+pool_bytes : (pool : LiquidityPoolEntry) → IsSpelled liquidity_pool_entry pool → ArePoolBytes pool
+unfolding liquidity_pool_entry
+pool_bytes pool spelled = record {
+  id = record { within = spelled.within.0; sized = spelled.sized.0 };
+  params = record { within = spelled.within.1.0; sized = spelled.sized.1.0 };
+  reserve_a = at_most pool.reserve_a spelled.sized.1.1.0;
+  reserve_b = at_most pool.reserve_b spelled.sized.1.1.1.0;
+  shares = at_most pool.total_pool_shares spelled.sized.1.1.1.1.0;
+  lines = at_most pool.pool_shares_trust_line_count spelled.sized.1.1.1.1.1;
+}
+
+body_bytes : (of : LedgerEntryBody) → IsSpelled ledger_entry_body of → AreBodyBytes of
 unfolding ledger_entry_body
-body_bytes (body.Account account) spelled built =
+body_bytes (body.Account account) spelled =
     account_bytes account (record { within = spelled.within; sized = spelled.sized })
-body_bytes (body.Data entry) spelled built =
+body_bytes (body.Data entry) spelled =
     data_bytes entry (record { within = spelled.within; sized = spelled.sized })
-body_bytes (body.TrustLine held) spelled built =
-    line_bytes held (record { within = spelled.within; sized = spelled.sized }) built
-body_bytes (body.ClaimableBalance balance) spelled built =
+body_bytes (body.TrustLine held) spelled =
+    line_bytes held (record { within = spelled.within; sized = spelled.sized })
+body_bytes (body.ClaimableBalance balance) spelled =
     balance_bytes balance (record { within = spelled.within; sized = spelled.sized })
-body_bytes (body.Offer offer) spelled built =
+body_bytes (body.Offer offer) spelled =
     offer_bytes offer (record { within = spelled.within; sized = spelled.sized })
-body_bytes (body.LiquidityPool pool) spelled built = absurd built
+body_bytes (body.LiquidityPool pool) spelled =
+    pool_bytes pool (record { within = spelled.within; sized = spelled.sized })
 
 sponsor_id : (ext : LedgerEntryExtensionV1) → IsSpelled ledger_entry_extension_v1 ext → IsIdIf ext.sponsoring_id
 unfolding ledger_entry_extension_v1
@@ -200,10 +215,10 @@ unfolding extension
 sponsor_bytes None spelled = no_id
 sponsor_bytes (Some ext) spelled = sponsor_id ext (record { within = spelled.within; sized = spelled.sized })
 
-entry_bytes : (e : LedgerEntry) → IsSpelled ledger_entry e → IsBuiltBody e.body → AreEntryBytes e
+entry_bytes : (e : LedgerEntry) → IsSpelled ledger_entry e → AreEntryBytes e
 unfolding ledger_entry
-entry_bytes e spelled built = record {
-  body = body_bytes e.body (record { within = spelled.within.1.0; sized = spelled.sized.1.0 }) built;
+entry_bytes e spelled = record {
+  body = body_bytes e.body (record { within = spelled.within.1.0; sized = spelled.sized.1.0 });
   sponsor = sponsor_bytes e.ext (record { within = spelled.within.1.1; sized = spelled.sized.1.1 });
 }
 
@@ -214,10 +229,10 @@ entry_seq e spelled = below spelled.sized.0
     below : {n : ℕ} → n < 256 ^ 4 → n < 4294967296
     below lt = omega arith
 
-pub map_bytes : (m : EntryMap) → AreSpellable m → AreBuilt m → AreBytes m
-map_bytes m spellable built = λ k e there.
+pub map_bytes : (m : EntryMap) → AreSpellable m → AreBytes m
+map_bytes m spellable = λ k e there.
     let found = spellable k e there in
-    entry_bytes e (record { within = found.within; sized = found.sized }) (built k e there)
+    entry_bytes e (record { within = found.within; sized = found.sized })
 
 -- ---- behind the close
 
@@ -265,28 +280,6 @@ seq_of seq (Some was) (Some x) after e lt old is there =
 
 -- ---- the numbers of accounts
 
--- no pool uses a line where none has a line of its shares
-nothing_used : (m : EntryMap) (k : LedgerKey) → AreBytes m → total (counted (view m) Uses k) m ≡ pos 0
-nothing_used m k each = total_none (counted (view m) Uses k) m (λ q e there. by e (each q e there).body)
-  where
-    by_line : (held : TrustLineEntry) (of : TrustLineAsset) → held.asset ≡ of → IsBuiltLine of
-        → uses (view m).pools k (body.TrustLine held) ≡ pos 0
-    by_line held line.Native is built = ap (uses_by (view m).pools k held.account_id) is
-    by_line held (line.Alphanum4 code issuer) is built = ap (uses_by (view m).pools k held.account_id) is
-    by_line held (line.Alphanum12 code issuer) is built = ap (uses_by (view m).pools k held.account_id) is
-    by_line held (line.PoolShare pool) is built = absurd built
-
-    by_body : (of : LedgerEntryBody) → AreBodyBytes of → uses (view m).pools k of ≡ pos 0
-    by_body (body.Account account) bytes = refl
-    by_body (body.Data entry) bytes = refl
-    by_body (body.TrustLine held) bytes = by_line held held.asset refl bytes.built
-    by_body (body.ClaimableBalance balance) bytes = refl
-    by_body (body.Offer offer) bytes = refl
-    by_body (body.LiquidityPool pool) bytes = absurd bytes
-
-    by : (e : LedgerEntry) → AreBodyBytes e.body → counted (view m) Uses k e ≡ pos 0
-    by e bytes = by_body e.body bytes
-
 at_most_whole : (balance buying : ℤ) → pos 0 ≤ℤ buying → (balance +ℤ buying) ≤ℤ greatest_i64 → balance ≤ℤ greatest_i64
 at_most_whole balance buying low fits = omega (arith, ints)
 
@@ -330,7 +323,7 @@ account_numbers account range few fits ready selling = record {
     below_sponsoring : (k n : ℕ) → k + n ≤ 4294967295 → n < 4294967296
     below_sponsoring k n le = omega arith
 
--- ---- the numbers of lines and claimable balances
+-- ---- the numbers of lines, claimable balances and pools
 
 flags_few : (of : TrustLineAsset) (flags : ℕ) → AreLineFlags of flags → flags ≤ 7
 flags_few line.Native flags both = both.0
@@ -338,8 +331,8 @@ flags_few (line.Alphanum4 code issuer) flags both = both.0
 flags_few (line.Alphanum12 code issuer) flags both = both.0
 flags_few (line.PoolShare pool) flags none = omega (arith, none)
 
-line_numbers : (held : TrustLineEntry) → IsTrustLineInRange held → use_count held ≡ pos 0 → AreLineNumbers held
-line_numbers held range unused = record {
+line_numbers : (held : TrustLineEntry) → IsTrustLineInRange held → use_count held ≤ℤ pos 1000 → AreLineNumbers held
+line_numbers held range few = record {
   balance_low = range.range.balance;
   balance_high = below_limit held.balance _ held.limit range.range.buying range.range.fits range.greatest;
   limit_low = at_least_one held.limit range.limit;
@@ -350,7 +343,8 @@ line_numbers held range unused = record {
   selling_low = range.range.selling;
   selling_high = selling_below _ held.balance held.limit _ range.range.covered range.range.buying range.range.fits
       range.greatest;
-  unused = unused;
+  uses_low = range.uses;
+  uses_few = few;
 }
   where
     below_limit : (balance buying limit : ℤ) → pos 0 ≤ℤ buying → (balance +ℤ buying) ≤ℤ limit → limit ≤ℤ greatest_i64
@@ -375,6 +369,14 @@ balance_numbers balance range = record {
   flags = range.flags;
 }
 
+pool_numbers : (pool : LiquidityPoolEntry) → IsPoolInRange pool → ArePoolNumbers pool
+pool_numbers pool range = record {
+  reserve_a = range.reserve_a;
+  reserve_b = range.reserve_b;
+  shares = range.shares;
+  lines = range.lines;
+}
+
 -- ---- all entries
 
 module _ (laws : TransactionLaws) (settles : LegalSettles) (legal : SettledLegal) (conserve : SetsConserve)
@@ -385,7 +387,7 @@ module _ (laws : TransactionLaws) (settles : LegalSettles) (legal : SettledLegal
       alike_bytes (applied_in s closing).entries after
       (next_alike (s.header.ledger_seq + 1) s.entries (applied_in s closing).entries after closed)
       (set_bytes laws settles (setting_in s closing) closing.tx_set s.entries (can_close s closing can)
-      (set_spelled closing can.spelled) can.few (map_bytes s.entries can.state.entries can.state.built))
+      (set_spelled closing can.spelled) can.few (map_bytes s.entries can.state.entries))
 
   next_seq : (k : LedgerKey) (e : LedgerEntry) → get after k ≡ Some e → e.last_modified_ledger_seq < 4294967296
   next_seq k e there =
@@ -402,9 +404,6 @@ module _ (laws : TransactionLaws) (settles : LegalSettles) (legal : SettledLegal
   next_legal : IsLegal (finished (upgraded_header s closing) (record { 0 = [] })) after
   next_legal = next_is_legal legal conserve s closing after (record { 0 = [] }) can closed
 
-  used : (k : LedgerKey) (e : LedgerEntry) → get after k ≡ Some e → stated_at Uses (Some e) ≡ pos 0
-  used k e there = ap (stated_at Uses) (sym there) ∙ next_legal.uses k ∙ nothing_used after k next_bytes
-
   abbrev id_pool : ℕ
   id_pool = (finished (upgraded_header s closing) (record { 0 = [] })).id_pool
 
@@ -418,6 +417,15 @@ module _ (laws : TransactionLaws) (settles : LegalSettles) (legal : SettledLegal
   stands k e account there is =
       ap (λ (q : LedgerKey). account_of (get after q)) (ap key_of_body (sym is) ∙ next_legal.keyed k e there)
       ∙ ap account_of there ∙ ap account_in is
+
+  used : (k : LedgerKey) (e : LedgerEntry) (held : TrustLineEntry) → get after k ≡ Some e
+      → e.body ≡ body.TrustLine held → use_count held ≤ℤ pos 1000
+  used k e held there is =
+      let at = ap key_of_body (sym is) ∙ next_legal.keyed k e there in
+      let states = ap (λ (q : LedgerKey). stated_at Uses (get after q)) at ∙ ap (stated_at Uses) there
+      ∙ ap (stated Uses) is in
+      subst (λ n. n ≤ℤ pos 1000) states
+      (uses_few (finished (upgraded_header s closing) (record { 0 = [] })) after next_legal held.account_id held.asset)
 
   bytes_of : (k : LedgerKey) (e : LedgerEntry) (of : LedgerEntryBody) → get after k ≡ Some e → e.body ≡ of
       → AreBodyBytes of
@@ -433,29 +441,18 @@ module _ (laws : TransactionLaws) (settles : LegalSettles) (legal : SettledLegal
       ((laws.ready (applied_in s closing).id_pool after settled).ready account.account_id account at)
       (bytes_of k e (body.Account account) there is).selling
   numbers_of k e (body.TrustLine held) there is =
-      line_numbers held (range k e (body.TrustLine held) there is) (sym (ap (stated Uses) is) ∙ used k e there)
+      line_numbers held (range k e (body.TrustLine held) there is) (used k e held there is)
   numbers_of k e (body.ClaimableBalance balance) there is =
       balance_numbers balance (range k e (body.ClaimableBalance balance) there is)
   numbers_of k e (body.Offer offer) there is = (range k e (body.Offer offer) there is).flags
-  numbers_of k e other there is = tt
+  numbers_of k e (body.LiquidityPool pool) there is =
+      pool_numbers pool (range k e (body.LiquidityPool pool) there is)
+  numbers_of k e (body.Data entry) there is = tt
 
   pub next_spellable : AreSpellable after
   next_spellable k e there =
       entry_spellable e (next_seq k e there) (next_bytes k e there) (numbers_of k e e.body there refl)
 
-  pub next_built : AreBuilt after
-  next_built k e there = by e.body (next_bytes k e there).body
-    where
-      by : (of : LedgerEntryBody) → AreBodyBytes of → IsBuiltBody of
-      by (body.Account account) bytes = tt
-      by (body.Data entry) bytes = tt
-      by (body.TrustLine held) bytes = bytes.built
-      by (body.ClaimableBalance balance) bytes = tt
-      by (body.Offer offer) bytes = tt
-      by (body.LiquidityPool pool) bytes = absurd bytes
-
 pub entries_stay_spellable : TransactionLaws → LegalSettles → SettledLegal → SetsConserve → EntriesStaySpellable
-entries_stay_spellable laws settles legal conserve s closing after can closed = (
-  next_spellable laws settles legal conserve s closing after can closed,
-  next_built laws settles legal conserve s closing after can closed,
-)
+entries_stay_spellable laws settles legal conserve s closing after can closed =
+    next_spellable laws settles legal conserve s closing after can closed

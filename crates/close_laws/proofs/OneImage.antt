@@ -20,7 +20,7 @@ use Rattle.close_rules.specs.declared.image_fault.ImageFault.{ImageFault}
 use Rattle.close_rules.specs.declared.image_fault.ImageFault.TheVariants as fault
 use Rattle.close_rules.specs.declared.image_fault.ImageRule.{ImageRule}
 use Rattle.close_rules.specs.declared.image_fault.ImageRule.TheVariants as rule
-use Rattle.close_rules.specs.State.{ClosingState, AreBuilt}
+use Rattle.close_rules.specs.State.{ClosingState}
 use Rattle.close_rules.specs.EntryRules.{entry_rules, IsFirstBroken}
 use Rattle.close_rules.specs.Images.{header_in, HasHeader, HasFiles, HasLevels, HasEntries, state_of, IsJudged}
 use Rattle.close_rules.specs.Images.{BreaksEntries, AreFieldsInRange}
@@ -115,15 +115,11 @@ abbrev ByEntries : Hash → LedgerHeader → List Pair → EntryMap → Judged �
 ByEntries network h levels m judged =
     (broken : Option ImageRule) × IsFirstBroken h m entry_rules broken × (judged ≡ by_entries network h levels m broken)
 
-abbrev ByKinds : Hash → LedgerHeader → List Pair → EntryMap → Judged → Type 0
-ByKinds network h levels m judged =
-    ((AreBuilt m → ⊥) × (judged ≡ Err fault.NotBuilt)) ⊎ (AreBuilt m × ByEntries network h levels m judged)
-
 abbrev ByHash : Hash → LedgerHeader → List Pair → Judged → Type 0
 ByHash network h levels judged =
     Broken rule.ListHash (list_hash levels ≡ h.bucket_list_hash) judged
     ⊎ ((list_hash levels ≡ h.bucket_list_hash)
-    × (m : EntryMap) × StandFor levels m × ByKinds network h levels m judged)
+    × (m : EntryMap) × StandFor levels m × ByEntries network h levels m judged)
 
 abbrev ByMarks : Hash → LedgerHeader → List Pair → Judged → Type 0
 ByMarks network h levels judged =
@@ -158,20 +154,19 @@ with_levels network image h levels judged x y =
     with_header network image h judged x.header (inr (levels, x.files, y))
 
 with_entries : (network : Hash) (image : StartImage) (h : LedgerHeader) (levels : List Pair) (m : EntryMap)
-    (judged : Judged) → HasEntries image h levels m → ByKinds network h levels m judged → ByRules network image judged
+    (judged : Judged) → HasEntries image h levels m → ByEntries network h levels m judged → ByRules network image judged
 with_entries network image h levels m judged x y =
     with_levels network image h levels judged x.files (inr (x.marks, inr (x.hash, m, x.standing, y)))
 
 broken_entries : (network : Hash) (image : StartImage) (broken : ImageRule) → BreaksEntries image (Some broken)
     → ByRules network image (bad broken)
 broken_entries network image broken y =
-    with_entries network image y.0 y.1 y.2 (bad broken) y.3 (inr (y.4, (Some broken, y.5, refl)))
+    with_entries network image y.0 y.1 y.2 (bad broken) y.3 (Some broken, y.4, refl)
 
 by_rules : (network : Hash) (image : StartImage) (judged : Judged) → IsJudged network image judged
     → ByRules network image judged
 by_rules network image (Ok s) y =
-    with_entries network image y.0 y.1 y.2 (Ok s) y.3
-    (inr (y.4, (None, y.5, ap (λ (z : ClosingState). ok z) y.6)))
+    with_entries network image y.0 y.1 y.2 (Ok s) y.3 (None, y.4, ap (λ (z : ClosingState). ok z) y.5)
 by_rules network image (Err (fault.BadImage rule.Header)) y = inl (y, refl)
 by_rules network image (Err (fault.BadImage rule.Version)) y = inr (y.0, y.1, inl (y.2, refl))
 by_rules network image (Err (fault.BadImage rule.Fields)) y = inr (y.0, y.1, inr (y.2, inl (y.3, refl)))
@@ -188,8 +183,6 @@ by_rules network image (Err (fault.BadImage rule.Subentries)) y = broken_entries
 by_rules network image (Err (fault.BadImage rule.Sponsorship)) y = broken_entries network image rule.Sponsorship y
 by_rules network image (Err (fault.BadImage rule.Pools)) y = broken_entries network image rule.Pools y
 by_rules network image (Err (fault.BadImage rule.Lumens)) y = broken_entries network image rule.Lumens y
-by_rules network image (Err fault.NotBuilt) y =
-    with_entries network image y.0 y.1 y.2 (Err fault.NotBuilt) y.3 (inl (y.4, refl))
 by_rules network image (Err fault.NoMemory) y = absurd y
 
 -- ---- two judgements are one
@@ -200,21 +193,14 @@ one_by_entries network h levels m a b x y =
     x.2 ∙ ap (λ (o : Option ImageRule). by_entries network h levels m o)
     (same_broken h m entry_rules x.0 y.0 x.1 y.1) ∙ sym y.2
 
-one_by_kinds : (network : Hash) (h : LedgerHeader) (levels : List Pair) (m : EntryMap) (a b : Judged)
-    → ByKinds network h levels m a → ByKinds network h levels m b → a ≡ b
-one_by_kinds network h levels m a b (inl x) (inl y) = x.1 ∙ sym y.1
-one_by_kinds network h levels m a b (inl x) (inr y) = absurd (x.0 y.0)
-one_by_kinds network h levels m a b (inr x) (inl y) = absurd (y.0 x.0)
-one_by_kinds network h levels m a b (inr x) (inr y) = one_by_entries network h levels m a b x.1 y.1
-
 one_by_hash : (network : Hash) (h : LedgerHeader) (levels : List Pair) (a b : Judged) → ByHash network h levels a
     → ByHash network h levels b → a ≡ b
 one_by_hash network h levels a b (inl x) (inl y) = x.1 ∙ sym y.1
 one_by_hash network h levels a b (inl x) (inr y) = absurd (x.0 y.0)
 one_by_hash network h levels a b (inr x) (inl y) = absurd (y.0 x.0)
 one_by_hash network h levels a b (inr x) (inr y) =
-    one_by_kinds network h levels y.1 a b
-    (subst (λ (m : EntryMap). ByKinds network h levels m a) (same_entries levels x.1 y.1 x.2 y.2) x.3) y.3
+    one_by_entries network h levels y.1 a b
+    (subst (λ (m : EntryMap). ByEntries network h levels m a) (same_entries levels x.1 y.1 x.2 y.2) x.3) y.3
 
 one_by_marks : (network : Hash) (h : LedgerHeader) (levels : List Pair) (a b : Judged) → ByMarks network h levels a
     → ByMarks network h levels b → a ≡ b

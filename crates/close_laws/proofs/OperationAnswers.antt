@@ -77,8 +77,7 @@ use Rattle.op_options.specs.SetOptions as options
 use Rattle.op_options.specs.Operations.{options_operation}
 use Rattle.op_payment.specs.Payment as paying
 use Rattle.op_payment.specs.Operations.{payment_operation}
-use Rattle.op_trust.specs.ChangeTrust as trusting
-use Rattle.op_trust.specs.Operations.{trust_operation}
+use Rattle.op_trust.specs.Operations.{change_trust, trust_operation}
 use Rattle.op_flags.specs.AllowTrust as allowing
 use Rattle.op_flags.specs.SetTrustLineFlags as flagging
 use Rattle.op_flags.specs.Operations.{flags_operation}
@@ -88,6 +87,9 @@ use Rattle.op_claim.specs.Clawback as clawing
 use Rattle.op_claim.specs.ClawbackClaimableBalance as taking
 use Rattle.op_claim.specs.Operations.{claim_operation}
 use Rattle.op_offers.specs.Operations.{attempt_of, offers_operation}
+use Rattle.op_pool.specs.Deposit as depositing
+use Rattle.op_pool.specs.Withdraw as withdrawing
+use Rattle.op_pool.specs.Operations.{pool_operation}
 use Rattle.op_sponsor.specs.BeginSponsoringFutureReserves as beginning
 use Rattle.op_sponsor.specs.EndSponsoringFutureReserves as ending
 use Rattle.op_sponsor.specs.RevokeSponsorship as revoking
@@ -100,6 +102,7 @@ use Rattle.close_laws.proofs.AnswerSteps.{done_answers}
 use Rattle.close_laws.proofs.Bytes.{IsId}
 use Rattle.close_laws.proofs.BytesSteps.{AreWorkBytes}
 use Rattle.close_laws.proofs.ManagedOffers.{CanTrade, offer_sold, passively_sold, offer_bought}
+use Rattle.close_laws.proofs.PoolAnswers.{deposit_answers, withdraw_answers}
 use Rattle.close_laws.proofs.TrustAnswers.{trust_answers, allow_answers, flag_answers}
 use Rattle.close_laws.proofs.ClaimAnswers.{create_balance_answers, claim_answers, clawback_answers}
 use Rattle.close_laws.proofs.ClaimAnswers.{clawback_balance_answers}
@@ -317,7 +320,7 @@ revoke_answers ctx (revoked.Signer id k) m = signing_answers ctx id k m
 pub any_answers : (ctx : Ctx) (of : OperationBody) (m : EntryMap) → CanTrade ctx m → IsId ctx.op_source
     → IsSpelled operation_body of → AreWorkBytes ctx m → IsDone (any_operation ctx of m)
 unfolding any_operation account_operation options_operation payment_operation trust_operation flags_operation
-    claim_operation sponsor_operation offers_operation
+    claim_operation sponsor_operation offers_operation pool_operation
 any_answers ctx (body.CreateAccount op) m can id spelled work =
     done_answers ctx m (creating.create_account ctx op m) (create_answers ctx op m)
 any_answers ctx (body.AccountMerge op) m can id spelled work =
@@ -338,7 +341,7 @@ any_answers ctx (body.ManageData op) m can id spelled work =
 any_answers ctx (body.Payment op) m can id spelled work =
     done_answers ctx m (paying.payment ctx op m) (pay_answers ctx op m)
 any_answers ctx (body.ChangeTrust op) m can id spelled work =
-    done_answers ctx m (trusting.change_trust ctx op m) (trust_answers ctx op m)
+    done_answers ctx m (change_trust ctx op m) (trust_answers ctx op m)
 any_answers ctx (body.AllowTrust op) m can id spelled work =
     done_answers ctx m (allowing.allow_trust ctx op m) (allow_answers ctx op m)
 any_answers ctx (body.SetTrustLineFlags op) m can id spelled work =
@@ -357,4 +360,8 @@ any_answers ctx body.EndSponsoringFutureReserves m can id spelled work =
     done_answers ctx m (ending.end_sponsoring ctx m) (end_answers ctx m)
 any_answers ctx (body.RevokeSponsorship op) m can id spelled work =
     done_answers ctx m (revoking.revoke_sponsorship ctx op m) (revoke_answers ctx op m)
+any_answers ctx (body.LiquidityPoolDeposit op) m can id spelled work =
+    done_answers ctx m (depositing.liquidity_pool_deposit ctx op m) (deposit_answers ctx op m)
+any_answers ctx (body.LiquidityPoolWithdraw op) m can id spelled work =
+    done_answers ctx m (withdrawing.liquidity_pool_withdraw ctx op m) (withdraw_answers ctx op m)
 any_answers ctx other m can id spelled work = not_supported

@@ -456,7 +456,7 @@ results_are_spelled laws settles s closing can =
     let set = closing.tx_set in
     let spelled = set_spelled closing can.spelled in
     let begun = set_begun laws settles (setting_in s closing) set s.entries (can_close s closing can) spelled can.few
-    (map_bytes s.entries can.state.entries can.state.built) in
+    (map_bytes s.entries can.state.entries) in
     let results = all_results laws (setting_in s closing) s.header.id_pool (envelopes_in_order set)
     (fees_taken_of (setting_in s closing) set s.entries).fees
     (fees_taken_of (setting_in s closing) set s.entries).entries

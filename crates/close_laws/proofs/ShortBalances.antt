@@ -76,7 +76,7 @@ asset_short (asset.Alphanum12 code issuer) spelled =
 
 -- ---- trust lines
 
--- what holds of the numbers of a line, which no pool uses
+-- what holds of the numbers of a line
 pub record AreLineNumbers (held : TrustLineEntry) : Type 0 where
   pub balance_low : pos 0 ≤ℤ held.balance
   pub balance_high : held.balance ≤ℤ greatest_i64
@@ -87,39 +87,41 @@ pub record AreLineNumbers (held : TrustLineEntry) : Type 0 where
   pub buying_high : (line_liabilities held).buying ≤ℤ greatest_i64
   pub selling_low : pos 0 ≤ℤ (line_liabilities held).selling
   pub selling_high : (line_liabilities held).selling ≤ℤ greatest_i64
-  pub unused : use_count held ≡ pos 0
+  pub uses_low : pos 0 ≤ℤ use_count held
+  pub uses_few : use_count held ≤ℤ pos 1000
 
-nothing_fits : (n : ℤ) → n ≡ pos 0 → FitsSigned w32 n
-nothing_fits n is = grind (arith, ints)
+few_fit : (n : ℤ) → pos 0 ≤ℤ n → n ≤ℤ pos 1000 → FitsSigned w32 n
+few_fit n low few = grind (arith, ints)
 
-line_v2_short : (ext : TrustLineEntryExtensionV2) → ext.liquidity_pool_use_count ≡ pos 0
+line_v2_short : (ext : TrustLineEntryExtensionV2) → FitsSigned w32 ext.liquidity_pool_use_count
     → IsShort trust_line_extension_v2 8 ext
 unfolding trust_line_extension_v2
-line_v2_short ext unused =
+line_v2_short ext uses =
     short.short_struct line_v2_fields (short.short_closed (pos 0)
-    (short.short_i32 ext.liquidity_pool_use_count (nothing_fits ext.liquidity_pool_use_count unused)))
+    (short.short_i32 ext.liquidity_pool_use_count uses))
 
-line_second_short : (second : Option TrustLineEntryExtensionV2) → use_count_in second ≡ pos 0
+line_second_short : (second : Option TrustLineEntryExtensionV2) → FitsSigned w32 (use_count_in second)
     → IsShort (extension_of (pos 2) trust_line_extension_v2) 12 second
-line_second_short None unused = short.no_extension (pos 2) trust_line_extension_v2 8
-line_second_short (Some ext) unused =
-    short.some_extension (pos 2) trust_line_extension_v2 8 ext (line_v2_short ext unused)
+line_second_short None uses = short.no_extension (pos 2) trust_line_extension_v2 8
+line_second_short (Some ext) uses =
+    short.some_extension (pos 2) trust_line_extension_v2 8 ext (line_v2_short ext uses)
 
 line_v1_short : (ext : TrustLineEntryExtensionV1) → pos 0 ≤ℤ ext.liabilities.buying
     → ext.liabilities.buying ≤ℤ greatest_i64 → pos 0 ≤ℤ ext.liabilities.selling
-    → ext.liabilities.selling ≤ℤ greatest_i64 → use_count_in ext.ext ≡ pos 0 → IsShort trust_line_extension_v1 28 ext
+    → ext.liabilities.selling ≤ℤ greatest_i64 → FitsSigned w32 (use_count_in ext.ext)
+    → IsShort trust_line_extension_v1 28 ext
 unfolding trust_line_extension_v1
-line_v1_short ext low high least most unused =
+line_v1_short ext low high least most uses =
     short.short_struct line_v1_fields (short.short_both (liabilities_short ext.liabilities low high least most)
-    (line_second_short ext.ext unused))
+    (line_second_short ext.ext uses))
 
 line_ext_short : (ext : Option TrustLineEntryExtensionV1) → pos 0 ≤ℤ (line_liabilities_in ext).buying
     → (line_liabilities_in ext).buying ≤ℤ greatest_i64 → pos 0 ≤ℤ (line_liabilities_in ext).selling
-    → (line_liabilities_in ext).selling ≤ℤ greatest_i64 → use_count_in (line_second_in ext) ≡ pos 0
+    → (line_liabilities_in ext).selling ≤ℤ greatest_i64 → FitsSigned w32 (use_count_in (line_second_in ext))
     → IsShort (extension_of (pos 1) trust_line_extension_v1) 32 ext
-line_ext_short None low high least most unused = short.no_extension (pos 1) trust_line_extension_v1 28
-line_ext_short (Some ext) low high least most unused =
-    short.some_extension (pos 1) trust_line_extension_v1 28 ext (line_v1_short ext low high least most unused)
+line_ext_short None low high least most uses = short.no_extension (pos 1) trust_line_extension_v1 28
+line_ext_short (Some ext) low high least most uses =
+    short.some_extension (pos 1) trust_line_extension_v1 28 ext (line_v1_short ext low high least most uses)
 
 few_flags : (flags : ℕ) → flags ≤ 7 → flags < 4294967296
 few_flags flags le = omega arith
@@ -133,7 +135,7 @@ line_short held bytes numbers =
     (short.short_both (short.short_i64 held.limit (fits_i64 _ numbers.limit_low numbers.limit_high))
     (short.short_both (short.short_u32 held.flags (few_flags held.flags numbers.flags))
     (line_ext_short held.ext numbers.buying_low numbers.buying_high numbers.selling_low numbers.selling_high
-    numbers.unused))))))
+    (few_fit (use_count held) numbers.uses_low numbers.uses_few)))))))
 
 -- ---- claimable balances
 

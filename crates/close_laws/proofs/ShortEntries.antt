@@ -33,6 +33,7 @@ use Rattle.close_laws.proofs.Short.{IsShort}
 use Rattle.close_laws.proofs.ShortIds.{id_short, id_if_short, signer_short, fits_i64, liabilities_short}
 use Rattle.close_laws.proofs.ShortBalances.{AreLineNumbers, AreBalanceNumbers, line_short, balance_short}
 use Rattle.close_laws.proofs.ShortOffers.{offer_short}
+use Rattle.close_laws.proofs.ShortPools.{ArePoolNumbers, pool_short}
 
 -- ---- what accounts say beside their bytes
 
@@ -150,6 +151,7 @@ AreBodyNumbers (body.Account account) = AreAccountNumbers account
 AreBodyNumbers (body.TrustLine held) = AreLineNumbers held
 AreBodyNumbers (body.ClaimableBalance balance) = AreBalanceNumbers balance
 AreBodyNumbers (body.Offer offer) = offer.flags ≤ 1
+AreBodyNumbers (body.LiquidityPool pool) = ArePoolNumbers pool
 AreBodyNumbers other = Unit {0}
 
 -- an arm of at most 2351 bytes, the most that a claimable balance has
@@ -174,7 +176,9 @@ body_short (body.ClaimableBalance balance) bytes numbers =
 body_short (body.Offer offer) bytes numbers =
     let rest = offer_short offer bytes numbers in
     record { within = rest.within; sized = rest.sized; short = body_arm (pos 2) _ 187 (omega arith) rest.short }
-body_short (body.LiquidityPool pool) bytes numbers = absurd bytes
+body_short (body.LiquidityPool pool) bytes numbers =
+    let rest = pool_short pool bytes numbers in
+    record { within = rest.within; sized = rest.sized; short = body_arm (pos 5) _ 191 (omega arith) rest.short }
 
 sponsor_short : (ext : LedgerEntryExtensionV1) → IsIdIf ext.sponsoring_id → IsShort ledger_entry_extension_v1 47 ext
 unfolding ledger_entry_extension_v1

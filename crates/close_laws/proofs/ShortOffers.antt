@@ -1,5 +1,5 @@
 -- Offers are short.
-use Rattle.std.proofs.Common.{◌<◌, ◌≤◌, ℕ, ℤ, pos, arith}
+use Rattle.std.proofs.Common.{◌<◌, ◌≤◌, ℕ, pos, arith}
 use Rattle.ledger_types.specs.declared.price.Price.{Price}
 use Rattle.ledger_types.specs.declared.offer.OfferEntry.{OfferEntry}
 use Rattle.xdr_core.specs.Leaves.{i32}

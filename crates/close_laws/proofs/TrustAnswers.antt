@@ -1,10 +1,13 @@
 -- What operations on trust lines and their flags answer keeps the bounds on lengths.
-use Rattle.std.proofs.Common.{[], ◌∷◌, ℕ, Option, Some, None, ℤ, pos, not, ◌&&◌}
+use Rattle.std.proofs.Common.{[], ◌∷◌, ℕ, Option, Some, None, ℤ, pos, not, Bool, true, false}
 use Rattle.std.specs.Prelude.{is_some}
 use Rattle.std.specs.Ordering.{int_eq}
 use Rattle.ledger_types.specs.declared.ids.AccountId.{AccountId}
 use Rattle.ledger_types.specs.declared.account.AccountEntry.{AccountEntry}
 use Rattle.ledger_types.specs.declared.asset.Asset.{Asset}
+use Rattle.ledger_types.specs.declared.asset.Asset.TheVariants as asset
+use Rattle.ledger_types.specs.declared.asset.ChangeTrustAsset.{ChangeTrustAsset}
+use Rattle.ledger_types.specs.declared.asset.ChangeTrustAsset.TheVariants as asked
 use Rattle.ledger_types.specs.declared.trust_line.TrustLineEntry.{TrustLineEntry}
 use Rattle.op_types.specs.declared.trust_ops.AllowTrustOp.{AllowTrustOp}
 use Rattle.op_types.specs.declared.trust_ops.ChangeTrustOp.{ChangeTrustOp}
@@ -13,11 +16,10 @@ use Rattle.op_types.specs.declared.operation_result.OperationResult.{OperationRe
 use Rattle.op_types.specs.declared.operation_result.OperationResult.TheVariants as operation
 use Rattle.op_types.specs.declared.trust_results.AllowTrustResult.{AllowTrustResult}
 use Rattle.op_types.specs.declared.trust_results.AllowTrustResult.TheVariants as allow
-use Rattle.op_types.specs.declared.trust_results.ChangeTrustResult.{ChangeTrustResult}
 use Rattle.op_types.specs.declared.trust_results.ChangeTrustResult.TheVariants as trust
 use Rattle.op_types.specs.declared.trust_results.SetTrustLineFlagsResult.{SetTrustLineFlagsResult}
 use Rattle.op_types.specs.declared.trust_results.SetTrustLineFlagsResult.TheVariants as set
-use Rattle.xdr_results.specs.Answers.{change_trust_result, allow_trust_result, set_trust_line_flags_result}
+use Rattle.xdr_results.specs.Answers.{allow_trust_result, set_trust_line_flags_result}
 use Rattle.xdr_results.specs.Results.{operation_result_tr, operation_result}
 use Rattle.entry_map.specs.EntryMap.{EntryMap}
 use Rattle.entry_slots.specs.Accounts.{account_at}
@@ -29,14 +31,13 @@ use Rattle.op_flags.specs.AllowTrust as allowing
 use Rattle.op_flags.specs.LineFlags as flagged
 use Rattle.op_flags.specs.SetTrustLineFlags as setting
 use Rattle.op_trust.specs.ChangeTrust as trusting
-use Rattle.close_laws.proofs.AnswerSteps.{IsAnswer, no_account, not_supported, Answers, IsDone, first_answers}
-use Rattle.close_laws.proofs.AnswerSteps.{some_answers, charge_answers, either_answers}
+use Rattle.op_trust.specs.Operations.{trust_in, change_trust}
+use Rattle.close_laws.proofs.AnswerSteps.{IsAnswer, no_account, Answers, Any, IsDone, first_answers, some_answers}
+use Rattle.close_laws.proofs.AnswerSteps.{charge_answers, step_answers, either_answers}
+use Rattle.close_laws.proofs.RevokedAnswers.{revoked_answers}
+use Rattle.close_laws.proofs.ShareAnswers.{trusted, share_answers}
 
 -- ---- codes
-
-trusted : (code : ChangeTrustResult) → IsAnswer (trusting.answer code)
-unfolding operation_result operation_result_tr change_trust_result
-trusted code = record { within = tt }
 
 allowed : (code : AllowTrustResult) → IsAnswer (allowing.answer code)
 unfolding operation_result operation_result_tr allow_trust_result
@@ -80,24 +81,38 @@ changed_answers ctx held limit m None =
     (some_answers IsDone (issuer_at m held) (trusting.answer trust.NoIssuer) _ (trusted trust.NoIssuer)
     (λ issuer. added_answers ctx held limit issuer m))
 
-pub trust_answers : (ctx : Ctx) (op : ChangeTrustOp) (m : EntryMap)
-    → Answers IsDone (trusting.change_trust ctx op m)
-trust_answers ctx op m =
-    some_answers IsDone (trusting.asset_asked op.line) operation.NotSupported _ not_supported
-    (λ held. first_answers IsDone (trusting.asked_tests ctx held op.limit) _
-    (trusted trust.Malformed, tt)
-    (changed_answers ctx held op.limit m (line_of_asset m ctx.op_source held)))
+asset_answers : (ctx : Ctx) (held : Asset) (limit : ℤ) (m : EntryMap)
+    → Answers IsDone (trusting.asset_trust ctx held limit m)
+asset_answers ctx held limit m =
+    first_answers IsDone (trusting.asked_tests ctx held limit) _ (trusted trust.Malformed, tt)
+    (changed_answers ctx held limit m (line_of_asset m ctx.op_source held))
+
+answers_in : (ctx : Ctx) (op : ChangeTrustOp) (m : EntryMap) (of : ChangeTrustAsset)
+    → Answers IsDone (trust_in ctx op m of)
+answers_in ctx op m asked.Native = asset_answers ctx asset.Native op.limit m
+answers_in ctx op m (asked.Alphanum4 code issuer) = asset_answers ctx (asset.Alphanum4 code issuer) op.limit m
+answers_in ctx op m (asked.Alphanum12 code issuer) = asset_answers ctx (asset.Alphanum12 code issuer) op.limit m
+answers_in ctx op m (asked.PoolShare params) = share_answers ctx params op.limit m
+
+pub trust_answers : (ctx : Ctx) (op : ChangeTrustOp) (m : EntryMap) → Answers IsDone (change_trust ctx op m)
+trust_answers ctx op m = answers_in ctx op m op.line
 
 -- ---- flags
 
-flagged_answers : (ctx : Ctx) (trustor : AccountId) (held : Asset) (flags : ℕ) (succeeded : OperationResult)
-    (line : TrustLineEntry) (m : EntryMap) → IsAnswer succeeded
-    → Answers IsDone (flagged.flagged ctx trustor held flags succeeded line m)
-flagged_answers ctx trustor held flags succeeded line m answers =
-    first_answers IsDone
-    ((flagged.is_revoked line flags && not (int_eq (use_count line) (pos 0)), operation.NotSupported) ∷ []) _
-    (not_supported, tt)
-    (record { ends = answers })
+shares_answers : (ctx : Ctx) (low : OperationResult) (trustor : AccountId) (held : Asset) (revoked : Bool)
+    (m : EntryMap) → IsAnswer low → Answers Any (flagged.shares_left ctx low trustor held revoked m)
+shares_answers ctx low trustor held true m answers = revoked_answers ctx low answers trustor held m
+shares_answers ctx low trustor held false m answers = record { ends = tt }
+
+flagged_answers : (ctx : Ctx) (trustor : AccountId) (held : Asset) (flags : ℕ) (low succeeded : OperationResult)
+    (line : TrustLineEntry) (m : EntryMap) → IsAnswer low → IsAnswer succeeded
+    → Answers IsDone (flagged.flagged ctx trustor held flags low succeeded line m)
+flagged_answers ctx trustor held flags low succeeded line m low_answers answers =
+    let revoked = flagged.is_revoked line flags in
+    let flagged_map = flagged.map_after_flagging trustor held flags revoked m in
+    step_answers IsDone (flagged.shares_left ctx low trustor held revoked flagged_map) _
+    (shares_answers ctx low trustor held revoked flagged_map low_answers)
+    (λ left. record { ends = answers })
 
 pub allow_answers : (ctx : Ctx) (op : AllowTrustOp) (m : EntryMap)
     → Answers IsDone (allowing.allow_trust ctx op m)
@@ -109,7 +124,8 @@ allow_answers ctx op m =
     (λ source. first_answers IsDone (allowing.revoke_tests op source line) _
     (allowed allow.CantRevoke, tt)
     (flagged_answers ctx op.trustor (allowing.asset_allowed ctx op) (allowing.allowed_flags op line)
-    (allowing.answer allow.Success) line m (allowed allow.Success)))))
+    (allowing.answer allow.LowReserve) (allowing.answer allow.Success) line m (allowed allow.LowReserve)
+    (allowed allow.Success)))))
 
 pub flag_answers : (ctx : Ctx) (op : SetTrustLineFlagsOp) (m : EntryMap)
     → Answers IsDone (setting.set_trust_line_flags ctx op m)
@@ -120,5 +136,5 @@ flag_answers ctx op m =
     (λ line. some_answers IsDone (account_at m ctx.op_source) operation.NoAccount _ no_account
     (λ source. first_answers IsDone (setting.flag_tests source line (setting.new_flags op line)) _
     (set_with set.CantRevoke, (set_with set.InvalidState, tt))
-    (flagged_answers ctx op.trustor op.asset (setting.new_flags op line) (setting.answer set.Success) line m
-    (set_with set.Success)))))
+    (flagged_answers ctx op.trustor op.asset (setting.new_flags op line) (setting.answer set.LowReserve)
+    (setting.answer set.Success) line m (set_with set.LowReserve) (set_with set.Success)))))

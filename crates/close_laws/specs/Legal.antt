@@ -8,7 +8,7 @@ use Rattle.entry_changes.specs.Next.{AreNextEntries}
 use Rattle.legal_rules.specs.Legal.{IsLegal}
 use Rattle.entry_changes.specs.Spellable.{AreSpellable}
 use Rattle.header_chain.specs.SkipList.{finished}
-use Rattle.close_rules.specs.State.{ClosingState, IsClosingState, IsSpelled, AreBuilt}
+use Rattle.close_rules.specs.State.{ClosingState, IsClosingState, IsSpelled}
 use Rattle.close_rules.specs.Refusals.{record_fault}
 use Rattle.close_rules.specs.Close.{applied_in, upgraded_header}
 
@@ -30,7 +30,7 @@ abbrev pub NextIsLegal : Type 0
 NextIsLegal = (s : ClosingState) (closing : CloseRecord) (after : EntryMap) (list_hash : Hash) → IsClosable s closing
     → AreClosed s closing after → IsLegal (finished (upgraded_header s closing) list_hash) after
 
--- every entry can stand in a bucket's file, and is of a kind that is built
+-- every entry can stand in a bucket's file
 abbrev pub EntriesStaySpellable : Type 0
 EntriesStaySpellable = (s : ClosingState) (closing : CloseRecord) (after : EntryMap) → IsClosable s closing
-    → AreClosed s closing after → AreSpellable after × AreBuilt after
+    → AreClosed s closing after → AreSpellable after

@@ -13,7 +13,7 @@ pub fn next_is_legal()
     sets_conserve();
 }
 
-/// What a close leaves can be written, and is of the kinds that are built.
+/// What a close leaves can be written.
 pub fn entries_stay_spellable()
     ensures { legal.EntriesStaySpellable }
 {

@@ -5,7 +5,7 @@ use Rattle.std.specs.List.{flat_map}
 use Rattle.ledger_types.specs.declared.ids.Hash.{Hash}
 use Rattle.ledger_types.specs.declared.header.LedgerHeader.{LedgerHeader}
 use Rattle.xdr_core.specs.declared.fault.XdrFault.{XdrFault}
-use Rattle.xdr_core.specs.Place.{Place, Reading, start_of}
+use Rattle.xdr_core.specs.Place.{Reading, start_of}
 use Rattle.xdr_header.specs.declared.image.StartImage.{StartImage}
 use Rattle.xdr_header.specs.Header.{ledger_header}
 use Rattle.entry_map.specs.EntryMap.{EntryMap}
@@ -21,7 +21,7 @@ use Rattle.close_rules.specs.declared.image_fault.ImageFault.{ImageFault}
 use Rattle.close_rules.specs.declared.image_fault.ImageFault.TheVariants as fault
 use Rattle.close_rules.specs.declared.image_fault.ImageRule.{ImageRule}
 use Rattle.close_rules.specs.declared.image_fault.ImageRule.TheVariants as rule
-use Rattle.close_rules.specs.State.{ClosingState, AreBuilt, max_file_total}
+use Rattle.close_rules.specs.State.{ClosingState, max_file_total}
 use Rattle.close_rules.specs.EntryRules.{entry_rules, IsFirstBroken}
 
 -- ---- the header
@@ -109,17 +109,16 @@ BreaksListHash image =
     (h : LedgerHeader) × (levels : List Pair) × HasLevels image h levels × AreWellMarked levels
     × (list_hash levels ≢ h.bucket_list_hash)
 
--- 7 to 13, of entries that are built
+-- 7 to 13
 abbrev pub BreaksEntries : StartImage → Option ImageRule → Type 0
 BreaksEntries image broken =
-    (h : LedgerHeader) × (levels : List Pair) × (m : EntryMap) × HasEntries image h levels m × AreBuilt m
+    (h : LedgerHeader) × (levels : List Pair) × (m : EntryMap) × HasEntries image h levels m
     × IsFirstBroken h m entry_rules broken
 
--- The state that an image stands for, or why there is none: the first rule that is broken, where entries that aren't
--- built come behind the sixth.
+-- the state that an image stands for, or why there is none: the first rule that is broken
 abbrev pub IsJudged : Hash → StartImage → Result ClosingState ImageFault → Type 0
 IsJudged network image (Ok s) =
-    (h : LedgerHeader) × (levels : List Pair) × (m : EntryMap) × HasEntries image h levels m × AreBuilt m
+    (h : LedgerHeader) × (levels : List Pair) × (m : EntryMap) × HasEntries image h levels m
     × IsFirstBroken h m entry_rules None × (s ≡ state_of network h levels m)
 IsJudged network image (Err (fault.BadImage rule.Header)) = header_in image.header ≡ None
 IsJudged network image (Err (fault.BadImage rule.Version)) = BreaksVersion image
@@ -128,6 +127,4 @@ IsJudged network image (Err (fault.BadImage rule.Bucket)) = BreaksBucket image
 IsJudged network image (Err (fault.BadImage rule.Marks)) = BreaksMarks image
 IsJudged network image (Err (fault.BadImage rule.ListHash)) = BreaksListHash image
 IsJudged network image (Err (fault.BadImage other)) = BreaksEntries image (Some other)
-IsJudged network image (Err fault.NotBuilt) =
-    (h : LedgerHeader) × (levels : List Pair) × (m : EntryMap) × HasEntries image h levels m × (AreBuilt m → ⊥)
 IsJudged network image (Err fault.NoMemory) = ⊥

@@ -1,14 +1,13 @@
 -- Why a record is refused before its set is applied: the first condition that holds, in this order (LedgerManagerImpl
 -- and HerderSCPDriver in stellar-core; the names and the order are this ledger's own).
-use Rattle.std.specs.Prelude.{◌≡◌, ℕ, ◌+◌, nat_eq, nat_le, Bool, not, List, [], ◌∷◌, map, slice_get, Option}
-use Rattle.std.specs.Prelude.{Some, None, option_map, Result, Ok, Err}
+use Rattle.std.specs.Prelude.{ℕ, ◌+◌, nat_eq, nat_le, Bool, not, List, [], ◌∷◌, map, slice_get, Option}
+use Rattle.std.specs.Prelude.{option_map, Result, Ok, Err}
 use Rattle.std.specs.Option.{option_or}
 use Rattle.std.specs.Str.{bytes_eq}
 use Rattle.ledger_types.specs.declared.ids.Hash.{Hash}
-use Rattle.op_types.specs.declared.transaction.TransactionEnvelope.{TransactionEnvelope}
 use Rattle.xdr_core.specs.declared.fault.XdrFault.{XdrFault}
 use Rattle.xdr_core.specs.declared.fault.XdrKind.TheVariants.{Trailing}
-use Rattle.xdr_core.specs.Place.{Place, Reading, start_of, fault_at, ◌>>=◌}
+use Rattle.xdr_core.specs.Place.{Place, start_of, fault_at, ◌>>=◌}
 use Rattle.xdr_header.specs.declared.record.CloseRecord.{CloseRecord}
 use Rattle.xdr_header.specs.Records.{close_record}
 use Rattle.value_hashes.specs.Hashes.{ledger_hash_of}

@@ -2,17 +2,10 @@
 use Rattle.std.specs.Prelude.{◌≡◌, ℕ, ◌≤◌, List, length}
 use Rattle.ledger_types.specs.declared.ids.Hash.{Hash}
 use Rattle.ledger_types.specs.declared.header.LedgerHeader.{LedgerHeader}
-use Rattle.ledger_types.specs.declared.asset.TrustLineAsset.{TrustLineAsset}
-use Rattle.ledger_types.specs.declared.asset.TrustLineAsset.TheVariants as line
-use Rattle.ledger_types.specs.declared.entry.LedgerEntry.{LedgerEntry}
-use Rattle.ledger_types.specs.declared.entry.LedgerEntryBody.{LedgerEntryBody}
-use Rattle.ledger_types.specs.declared.entry.LedgerEntryBody.TheVariants as body
 use Rattle.xdr_core.specs.declared.fault.XdrFault.{XdrFault}
 use Rattle.xdr_core.specs.Format.{Format}
-use Rattle.xdr_entries.specs.Entries.{ledger_entry}
 use Rattle.xdr_header.specs.Header.{ledger_header}
 use Rattle.entry_map.specs.EntryMap.{EntryMap}
-use Rattle.entry_sums.specs.Sums.{EachEntry}
 use Rattle.legal_rules.specs.Legal.{IsLegal}
 use Rattle.bucket_levels.specs.Spills.{level_count}
 use Rattle.bucket_levels.specs.Pairs.{Pair}
@@ -37,23 +30,6 @@ pub record IsSpelled {V : Type 0} (f : Format XdrFault V) (v : V) : Type 0 where
 abbrev pub max_file_total : ℕ
 max_file_total = 536870912
 
--- a line that isn't one of pool shares
-abbrev pub IsBuiltLine : TrustLineAsset → Type 0
-IsBuiltLine (line.PoolShare pool) = ⊥
-IsBuiltLine other = Unit {0}
-
--- all but pools and lines of pool shares
-abbrev pub IsBuiltBody : LedgerEntryBody → Type 0
-IsBuiltBody (body.Account account) = Unit {0}
-IsBuiltBody (body.TrustLine held) = IsBuiltLine held.asset
-IsBuiltBody (body.Data entry) = Unit {0}
-IsBuiltBody (body.ClaimableBalance balance) = Unit {0}
-IsBuiltBody (body.Offer offer) = Unit {0}
-IsBuiltBody other = ⊥
-
-abbrev pub AreBuilt : EntryMap → Type 0
-AreBuilt m = EachEntry (λ k e. IsBuiltBody e.body) m
-
 -- a legal state, and levels that stand for its entries and whose hash its header has
 pub record IsClosingState (s : ClosingState) : Type 0 where
   pub legal : IsLegal s.header s.entries
@@ -64,5 +40,4 @@ pub record IsClosingState (s : ClosingState) : Type 0 where
   -- all of it can be written
   pub header : IsSpelled ledger_header s.header
   pub entries : AreSpellable s.entries
-  pub built : AreBuilt s.entries
   pub files : file_total s.levels ≤ max_file_total

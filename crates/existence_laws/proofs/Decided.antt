@@ -1,7 +1,7 @@
 -- Claims that hold or don't.
 use Rattle.std.proofs.Common.{◌≡◌, ◌⊎◌, inl, inr, ℕ, suc, ◌≤◌, ℤ, pos, negsuc, Bool, true, false, ◌||◌, List, [], ◌∷◌}
 use Rattle.std.proofs.Common.{All, refl, sym, ap, subst, arith}
-use Rattle.std.specs.Prelude.{◌≤ℤ◌}
+use Rattle.std.specs.Prelude.{◌≤ℤ◌, ◌<ℤ◌}
 use Rattle.std.specs.Coded.{Coded}
 use Rattle.std.specs.List.{list_any, AllPairs}
 use Rattle.std.specs.Ordering.{eq_by_cmp}
@@ -27,6 +27,14 @@ pub both : {A B : Type 0} → Decided A → Decided B → Decided (A × B)
 both (inl a) (inl b) = inl (a, b)
 both (inl a) (inr fails) = inr (λ h. fails h.1)
 both (inr fails) b = inr (λ h. fails h.0)
+
+pub all_three : {A B C : Type 0} → Decided A → Decided B → Decided C → Decided (A × B × C)
+all_three a b c = decided_as (λ h. (h.0, h.1.0, h.1.1)) (λ h. (h.0, (h.1, h.2))) (both a (both b c))
+
+pub either : {A B : Type 0} → Decided A → Decided B → Decided (A ⊎ B)
+either (inl a) b = inl (inl a)
+either (inr none) (inl b) = inl (inr b)
+either {A} {B} (inr none) (inr fails) = inr (λ h. elim (h) as (λ x. ⊥) [ inl a ↦ none a | inr b ↦ fails b ])
 
 pub implied : {A B : Type 0} → Decided A → Decided B → Decided (A → B)
 implied (inl a) (inl b) = inl (λ _. b)
@@ -56,6 +64,15 @@ below_int (pos m) (negsuc n) = inr (λ le. omega (arith, ints))
 below_int (negsuc m) (pos n) = inl (omega (arith, ints))
 below_int (negsuc m) (negsuc n) =
     elim (cases_lt m n) [ inl lt ↦ inr (λ le. omega (arith, ints)) | inr le ↦ inl (omega (arith, ints)) ]
+
+at_least_one : (n : ℤ) → pos 1 ≤ℤ n → pos 0 <ℤ n
+at_least_one n le = omega (arith, ints)
+
+not_none : (n : ℤ) → pos 0 <ℤ n → pos 1 ≤ℤ n
+not_none n lt = omega (arith, ints)
+
+pub above_none : (n : ℤ) → Decided (pos 0 <ℤ n)
+above_none n = decided_as (at_least_one n) (not_none n) (below_int (pos 1) n)
 
 pub same_int : (a b : ℤ) → Decided (a ≡ b)
 same_int (pos m) (pos n) = elim (cases_eq m n) [ inl e ↦ inl (ap pos e) | inr other ↦ inr (λ e. other (cc)) ]

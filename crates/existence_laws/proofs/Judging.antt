@@ -3,10 +3,6 @@ use Rattle.std.proofs.Common.{◌≡◌, inl, inr, ◌*◌, ◌^◌, pos, List, 
 use Rattle.ledger_types.specs.contracts.ids.Hash as hash
 use Rattle.ledger_types.specs.declared.ids.Hash.{Hash}
 use Rattle.ledger_types.specs.declared.header.LedgerHeader.{LedgerHeader}
-use Rattle.ledger_types.specs.declared.asset.TrustLineAsset.{TrustLineAsset}
-use Rattle.ledger_types.specs.declared.asset.TrustLineAsset.TheVariants as line
-use Rattle.ledger_types.specs.declared.entry.LedgerEntryBody.{LedgerEntryBody}
-use Rattle.ledger_types.specs.declared.entry.LedgerEntryBody.TheVariants as body
 use Rattle.xdr_core.specs.Format.{IsBytes}
 use Rattle.xdr_header.specs.declared.image.StartImage.{StartImage}
 use Rattle.entry_map.specs.EntryMap.{EntryMap}
@@ -17,13 +13,12 @@ use Rattle.close_rules.specs.declared.image_fault.ImageFault.{ImageFault}
 use Rattle.close_rules.specs.declared.image_fault.ImageFault.TheVariants as fault
 use Rattle.close_rules.specs.declared.image_fault.ImageRule.{ImageRule}
 use Rattle.close_rules.specs.declared.image_fault.ImageRule.TheVariants as rule
-use Rattle.close_rules.specs.State.{ClosingState, IsBuiltLine, IsBuiltBody, AreBuilt}
+use Rattle.close_rules.specs.State.{ClosingState}
 use Rattle.close_rules.specs.EntryRules.{entry_rules}
 use Rattle.close_rules.specs.Images.{header_in, AreFieldsInRange, HasHeader, HasLevels, HasEntries, state_of}
 use Rattle.close_rules.specs.Images.{BreaksEntries, IsJudged}
 use Rattle.existence_laws.specs.Existence.{EachImage}
 use Rattle.existence_laws.proofs.Decided.{Decided, decided_as, both, below, below_int, same_number, same_value}
-use Rattle.existence_laws.proofs.Entries.{each_entry}
 use Rattle.existence_laws.proofs.FilesOfLevels.{some_files}
 use Rattle.existence_laws.proofs.Marks.{well_marked, are_keyed}
 use Rattle.existence_laws.proofs.Rules.{IsOfEntries, FirstOf, first_of}
@@ -49,21 +44,6 @@ fields_in_range h =
     (both (below 1 h.base_reserve) (both (below_int (pos 0) h.total_coins) (both (below_int (pos 0) h.fee_pool)
     (both (below h.id_pool (h.ledger_seq * 2 ^ 32)) (below (header_flags h) 7))))))))
 
-built_line : (asset : TrustLineAsset) → Decided (IsBuiltLine asset)
-built_line (line.PoolShare pool) = inr (λ h. h)
-built_line other = inl tt
-
-built_body : (b : LedgerEntryBody) → Decided (IsBuiltBody b)
-built_body (body.Account account) = inl tt
-built_body (body.TrustLine held) = built_line held.asset
-built_body (body.Offer offer) = inl tt
-built_body (body.Data entry) = inl tt
-built_body (body.ClaimableBalance balance) = inl tt
-built_body (body.LiquidityPool pool) = inr (λ h. h)
-
-are_built : (m : EntryMap) → Decided (AreBuilt m)
-are_built m = each_entry (λ k e. IsBuiltBody e.body) m (λ k e there. built_body e.body)
-
 -- ---- an image, rule by rule
 
 abbrev Verdict : Hash → StartImage → Type 0
@@ -80,21 +60,15 @@ broken_rule network image rule.ListHash own breaks = absurd own
 broken_rule network image broken own breaks = (Err (fault.BadImage broken), breaks)
 
 module _ (network : Hash) (image : StartImage) (text : All IsBytes image.files) (h : LedgerHeader) where
-  by_first : (levels : List Pair) (m : EntryMap) → HasEntries image h levels m → AreBuilt m → FirstOf h m entry_rules
+  by_first : (levels : List Pair) (m : EntryMap) → HasEntries image h levels m → FirstOf h m entry_rules
       → Verdict network image
-  by_first levels m has built (None, kept, own) =
-      (Ok (state_of network h levels m), (h, levels, m, has, built, kept, refl))
-  by_first levels m has built (Some broken, breaks, own) =
-      broken_rule network image broken own (h, levels, m, has, built, breaks)
+  by_first levels m has (None, kept, own) = (Ok (state_of network h levels m), (h, levels, m, has, kept, refl))
+  by_first levels m has (Some broken, breaks, own) =
+      broken_rule network image broken own (h, levels, m, has, breaks)
 
   by_entries : (levels : List Pair) (m : EntryMap) → HasEntries image h levels m → Verdict network image
   by_entries levels m has =
-      elim (are_built m) [
-        | inl built ↦
-            let keyed = are_keyed levels m has.files.files.files.have has.standing in
-            by_first levels m has built (first_of h m keyed built)
-        | inr fails ↦ (Err fault.NotBuilt, (h, levels, m, has, fails))
-      ]
+      by_first levels m has (first_of h m (are_keyed levels m has.files.files.files.have has.standing))
 
   by_levels : (levels : List Pair) → HasLevels image h levels → Verdict network image
   by_levels levels has =

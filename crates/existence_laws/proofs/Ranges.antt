@@ -4,6 +4,7 @@ use Rattle.std.specs.Coded.{coded_option}
 use Rattle.std.specs.declared.cmp.Ordering.{Ordering}
 use Rattle.std.specs.declared.cmp.Ordering.TheVariants.{Less, Equal, Greater}
 use Rattle.ledger_types.specs.contracts.ids.AccountId as account_id
+use Rattle.ledger_types.specs.contracts.ids.Hash as hash
 use Rattle.ledger_types.specs.contracts.signer.SignerKey as signer_key
 use Rattle.ledger_types.specs.contracts.asset.Asset as an_asset
 use Rattle.ledger_types.specs.declared.ids.AccountId.{AccountId}
@@ -17,13 +18,15 @@ use Rattle.ledger_types.specs.declared.offer.OfferEntry.{OfferEntry}
 use Rattle.ledger_types.specs.declared.data_entry.DataEntry.{DataEntry}
 use Rattle.ledger_types.specs.declared.claimable_balance.Claimant.{Claimant}
 use Rattle.ledger_types.specs.declared.claimable_balance.ClaimableBalanceEntry.{ClaimableBalanceEntry}
+use Rattle.ledger_types.specs.declared.liquidity_pool.LiquidityPoolEntry.{LiquidityPoolEntry}
 use Rattle.ledger_types.specs.declared.entry.LedgerEntry.{LedgerEntry}
 use Rattle.ledger_types.specs.declared.entry.LedgerEntryBody.{LedgerEntryBody}
 use Rattle.ledger_types.specs.declared.entry.LedgerEntryBody.TheVariants as body
-use Rattle.ledger_types.specs.KeyOrder.{signer_key_cmp}
+use Rattle.ledger_types.specs.KeyOrder.{asset_cmp, signer_key_cmp}
 use Rattle.valid_values.specs.Texts.{is_valid_text}
 use Rattle.valid_values.specs.Assets.{is_valid_code, is_valid_asset}
 use Rattle.valid_values.specs.Predicates.{is_valid_stored_predicate}
+use Rattle.hash_ids.specs.Ids.{pool_id_of}
 use Rattle.entry_slots.specs.AccountExtensions.{account_liabilities, sponsorship_of}
 use Rattle.entry_slots.specs.LineExtensions.{line_liabilities, use_count}
 use Rattle.entry_slots.specs.EntrySponsor.{sponsor_of}
@@ -33,11 +36,10 @@ use Rattle.legal_rules.specs.OfferLiabilities.{bound_of}
 use Rattle.legal_rules.specs.Ranges.{has_flag, AreAccountFlags, AreSignersInRange, IsAccountInRange, IsHeldIn}
 use Rattle.legal_rules.specs.Ranges.{AreLineFlags, IsTrustLineInRange, IsOfferInRange, IsDataInRange}
 use Rattle.legal_rules.specs.Ranges.{balance_flags}
-use Rattle.legal_rules.specs.Ranges.{AreClaimantsInRange, IsBalanceInRange, IsBodyInRange, IsPaidRightly}
+use Rattle.legal_rules.specs.Ranges.{AreClaimantsInRange, IsBalanceInRange, IsPoolInRange, IsBodyInRange, IsPaidRightly}
 use Rattle.legal_rules.specs.Ranges.{IsEntryInRange}
-use Rattle.close_rules.specs.State.{IsBuiltBody}
 use Rattle.existence_laws.proofs.Decided.{Decided, decided_as, both, implied, opposite, below, same_number, is_true}
-use Rattle.existence_laws.proofs.Decided.{below_int, same_value, each, each_pair}
+use Rattle.existence_laws.proofs.Decided.{below_int, same_int, same_value, each, each_pair}
 
 same_account : (a b : AccountId) → Decided (a ≡ b)
 same_account a b = same_value account_id.the_row.coded a b
@@ -217,15 +219,34 @@ balance_stands balance =
     (both (below_int (pos 1) balance.amount) (both (is_true (is_valid_asset balance.asset))
     (both (below (balance_flags balance.ext) 1) (claimants_in_range balance))))
 
--- ---- entries that are built
+-- ---- pools
 
-body_in_range : (id_pool : ℕ) (b : LedgerEntryBody) → IsBuiltBody b → Decided (IsBodyInRange id_pool b)
-body_in_range id_pool (body.Account account) built = account_in_range account
-body_in_range id_pool (body.TrustLine line) built = line_in_range line
-body_in_range id_pool (body.Offer offer) built = offer_in_range id_pool offer
-body_in_range id_pool (body.Data entry) built = data_in_range entry
-body_in_range id_pool (body.ClaimableBalance balance) built = balance_stands balance
-body_in_range id_pool (body.LiquidityPool pool) built = absurd built
+pool_in_range : (p : LiquidityPoolEntry) → Decided (IsPoolInRange p)
+pool_in_range p =
+    decided_as (λ h. record {
+      fee = h.0;
+      assets = h.1.0;
+      id = h.1.1.0;
+      reserve_a = h.1.1.1.0;
+      reserve_b = h.1.1.1.1.0;
+      shares = h.1.1.1.1.1.0;
+      lines = h.1.1.1.1.1.1;
+    })
+    (λ r. (r.fee, (r.assets, (r.id, (r.reserve_a, (r.reserve_b, (r.shares, r.lines)))))))
+    (both (same_int p.params.fee (pos 30)) (both (less (asset_cmp p.params.asset_a p.params.asset_b))
+    (both (same_value hash.the_row.coded p.pool_id (pool_id_of p.params.asset_a p.params.asset_b))
+    (both (below_int (pos 0) p.reserve_a) (both (below_int (pos 0) p.reserve_b)
+    (both (below_int (pos 0) p.total_pool_shares) (below_int (pos 0) p.pool_shares_trust_line_count)))))))
+
+-- ---- entries
+
+body_in_range : (id_pool : ℕ) (b : LedgerEntryBody) → Decided (IsBodyInRange id_pool b)
+body_in_range id_pool (body.Account account) = account_in_range account
+body_in_range id_pool (body.TrustLine line) = line_in_range line
+body_in_range id_pool (body.Offer offer) = offer_in_range id_pool offer
+body_in_range id_pool (body.Data entry) = data_in_range entry
+body_in_range id_pool (body.ClaimableBalance balance) = balance_stands balance
+body_in_range id_pool (body.LiquidityPool pool) = pool_in_range pool
 
 paid_rightly : (b : LedgerEntryBody) (sponsor : Option AccountId) → Decided (IsPaidRightly b sponsor)
 paid_rightly (body.ClaimableBalance balance) sponsor = opposite (same_sponsor sponsor None)
@@ -233,7 +254,7 @@ paid_rightly (body.LiquidityPool pool) sponsor = same_sponsor sponsor None
 paid_rightly other sponsor =
     implied (opposite (same_sponsor sponsor None)) (opposite (same_sponsor sponsor (owner_of other)))
 
-pub in_range : (id_pool : ℕ) (e : LedgerEntry) → IsBuiltBody e.body → Decided (IsEntryInRange id_pool e)
-in_range id_pool e built =
+pub in_range : (id_pool : ℕ) (e : LedgerEntry) → Decided (IsEntryInRange id_pool e)
+in_range id_pool e =
     decided_as (λ h. record { body = h.0; paid = h.1 }) (λ r. (r.body, r.paid))
-    (both (body_in_range id_pool e.body built) (paid_rightly e.body (sponsor_of e)))
+    (both (body_in_range id_pool e.body) (paid_rightly e.body (sponsor_of e)))

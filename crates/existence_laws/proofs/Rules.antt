@@ -1,4 +1,4 @@
--- The first rule of entries that is broken, where all entries are built.
+-- The first rule of entries that is broken.
 use Rattle.std.proofs.Common.{◌≢◌, inl, inr, pos, List, [], ◌∷◌, Option, Some, None, All, IfSome, refl, sym, ap, ◌∙◌}
 use Rattle.std.proofs.Common.{◌≡◌, subst, ◌+◌, ◌%◌, ◌++◌, true, false, arith}
 use Rattle.std.proofs.lemmas.Int.{ints}
@@ -16,8 +16,8 @@ use Rattle.entry_slots.specs.AccountExtensions.{num_sponsoring}
 use Rattle.entry_slots.specs.Lines.{line_of}
 use Rattle.entry_sums.specs.Sums.{total, EachEntry}
 use Rattle.entry_sums.proofs.Summing.{total_none}
-use Rattle.legal_rules.specs.Books.{Uses, counted, stated, stated_at}
-use Rattle.legal_rules.specs.Bounds.{AreSubentriesFew, DoReservesFit}
+use Rattle.legal_rules.specs.Books.{counted, stated, stated_at}
+use Rattle.legal_rules.specs.Bounds.{AreSubentriesFew, DoReservesFit, IsFilledOrEmpty}
 use Rattle.legal_rules.specs.Legal.{view, pools_in, IsBooked, IsAuthorized, AreLinesAuthorized}
 use Rattle.legal_rules.specs.Needs.{keys_in, needed_keys}
 use Rattle.legal_rules.specs.OfferIds.{offer_with_in, offer_with, AreOffersApart}
@@ -26,18 +26,15 @@ use Rattle.legal_rules.specs.Supply.{held}
 use Rattle.legal_rules.specs.Trades.{holder}
 use Rattle.close_rules.specs.declared.image_fault.ImageRule.{ImageRule}
 use Rattle.close_rules.specs.declared.image_fault.ImageRule.TheVariants as rule
-use Rattle.close_rules.specs.State.{AreBuilt}
 use Rattle.close_rules.specs.EntryRules.{AreInRange, AreOwned, AreLiable, AreSubentriesCounted, AreSponsorsCounted}
 use Rattle.close_rules.specs.EntryRules.{ArePoolsCounted, AreLumensCounted, Keeps, entry_rules, IsFirstBroken}
 use Rattle.image_rules.specs.declared.books.Book.{Book}
 use Rattle.image_rules.specs.declared.books.Book.TheVariants as book
 use Rattle.image_rules.specs.Books.{kind_of}
-use Rattle.image_rules.specs.EntryTests.{IsUnused}
 use Rattle.image_rules.proofs.Booked.{IsRight, keyed_each, booked_of_right}
-use Rattle.image_rules.proofs.Bounded.{pools_counted, unused_of}
 use Rattle.image_rules.proofs.Distinct.{same_id}
-use Rattle.existence_laws.proofs.Decided.{Decided, decided_as, both, opposite, below, below_int, same_number, same_int}
-use Rattle.existence_laws.proofs.Decided.{each}
+use Rattle.existence_laws.proofs.Decided.{Decided, decided_as, both, either, opposite, below, below_int, same_number}
+use Rattle.existence_laws.proofs.Decided.{all_three, same_int, above_none, each}
 use Rattle.existence_laws.proofs.Entries.{each_entry, stands}
 use Rattle.existence_laws.proofs.Ranges.{in_range}
 
@@ -50,6 +47,12 @@ few other = inl tt
 fitting : (b : LedgerEntryBody) → Decided (DoReservesFit b)
 fitting (body.Account account) = below (account.num_sub_entries + num_sponsoring account) 4294967295
 fitting other = inl tt
+
+filled : (b : LedgerEntryBody) → Decided (IsFilledOrEmpty b)
+filled (body.LiquidityPool p) =
+    either (all_three (above_none p.reserve_a) (above_none p.reserve_b) (above_none p.total_pool_shares))
+    (all_three (same_int p.reserve_a (pos 0)) (same_int p.reserve_b (pos 0)) (same_int p.total_pool_shares (pos 0)))
+filled other = inl tt
 
 -- ---- offers
 
@@ -103,13 +106,13 @@ offers_apart m =
     decided_as (all_apart m) (λ apart k e there. each_apart m e.body apart)
     (each_entry (λ k e. IsApart m e.body) m (λ k e there. one_apart m e.body))
 
--- ---- each rule, where all entries are built
+-- ---- each rule
 
-module _ (h : LedgerHeader) (m : EntryMap) (keyed : IsKeyed m) (built : AreBuilt m) where
+module _ (h : LedgerHeader) (m : EntryMap) (keyed : IsKeyed m) where
   entries_in_range : Decided (AreInRange h m)
   entries_in_range =
       decided_as (λ both. record { entries = both.0; authorized = both.1 }) (λ r. (r.entries, r.authorized))
-      (both (each_entry (λ k e. IsEntryInRange h.id_pool e) m (λ k e there. in_range h.id_pool e (built k e there)))
+      (both (each_entry (λ k e. IsEntryInRange h.id_pool e) m (λ k e there. in_range h.id_pool e))
       (each_entry (λ k e. AreLinesAuthorized m e.body) m (λ k e there. authorized m e.body)))
 
   owned : Decided (AreOwned m)
@@ -146,10 +149,12 @@ module _ (h : LedgerHeader) (m : EntryMap) (keyed : IsKeyed m) (built : AreBuilt
       (both (booked stand book.Sponsoring) (both (booked stand book.Sponsored)
       (each_entry (λ k e. DoReservesFit e.body) m (λ k e there. fitting e.body))))
 
-  pools : Decided (ArePoolsCounted m)
-  pools =
-      decided_as (λ each. pools_counted m built each) (λ r. unused_of m built r)
-      (each_entry (λ k e. IsUnused e.body) m (λ k e there. same_int (stated Uses e.body) (pos 0)))
+  pools : AreOwned m → Decided (ArePoolsCounted m)
+  pools stand =
+      decided_as (λ h. record { shares = h.0; share_lines = h.1.0; uses = h.1.1.0; filled = h.1.1.1 })
+      (λ r. (r.shares, (r.share_lines, (r.uses, r.filled))))
+      (both (booked stand book.Shares) (both (booked stand book.ShareLines) (both (booked stand book.Uses)
+      (each_entry (λ k e. IsFilledOrEmpty e.body) m (λ k e there. filled e.body)))))
 
   lumens : Decided (AreLumensCounted h m)
   lumens = same_int (total (held asset.Native) m +ℤ h.fee_pool) h.total_coins
@@ -197,12 +202,12 @@ from_liabilities = rule.Liabilities ∷ from_subentries
 abbrev from_owner : List ImageRule
 from_owner = rule.Owner ∷ from_liabilities
 
-pub first_of : (h : LedgerHeader) (m : EntryMap) → IsKeyed m → AreBuilt m → FirstOf h m entry_rules
-first_of h m keyed built =
-    first_or h m rule.Entry from_owner tt (entries_in_range h m keyed built) (λ in_range.
-    first_or h m rule.Owner from_liabilities tt (owned h m keyed built) (λ stand.
-    first_or h m rule.Liabilities from_subentries tt (liable h m keyed built stand) (λ bound.
-    first_or h m rule.Subentries from_sponsorship tt (subentries h m keyed built stand) (λ few.
-    first_or h m rule.Sponsorship from_pools tt (sponsors h m keyed built stand) (λ paid.
-    first_or h m rule.Pools from_lumens tt (pools h m keyed built) (λ used.
-    first_or h m rule.Lumens [] tt (lumens h m keyed built) (λ all. (None, refl, tt))))))))
+pub first_of : (h : LedgerHeader) (m : EntryMap) → IsKeyed m → FirstOf h m entry_rules
+first_of h m keyed =
+    first_or h m rule.Entry from_owner tt (entries_in_range h m keyed) (λ in_range.
+    first_or h m rule.Owner from_liabilities tt (owned h m keyed) (λ stand.
+    first_or h m rule.Liabilities from_subentries tt (liable h m keyed stand) (λ bound.
+    first_or h m rule.Subentries from_sponsorship tt (subentries h m keyed stand) (λ few.
+    first_or h m rule.Sponsorship from_pools tt (sponsors h m keyed stand) (λ paid.
+    first_or h m rule.Pools from_lumens tt (pools h m keyed stand) (λ used.
+    first_or h m rule.Lumens [] tt (lumens h m keyed) (λ all. (None, refl, tt))))))))

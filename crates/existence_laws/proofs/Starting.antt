@@ -47,12 +47,12 @@ header_spelled bytes h text is = read_spelled bytes h (ledger_header.read (start
 
 judged_state : (network : Hash) (image : StartImage) (s : ClosingState) → IsBytes image.header
     → IsJudged network image (Ok s) → IsClosingState s
-judged_state network image s text (h, levels, m, has, built, kept, is) =
+judged_state network image s text (h, levels, m, has, kept, is) =
     let whole : IsWhole image h levels m = record {
       header = (has.files.header, header_spelled image.header h text has.files.header.reads);
       files = record { are = has.files.files.files; fit = has.files.files.fit };
       stands = record { marks = has.marks; standing = has.standing };
-      judged = (has.hash, built, kept);
+      judged = (has.hash, kept);
     } in
     subst IsClosingState (sym is)
     (is_kept network (ledger_hash_of h) image h m (record { pairs = levels; seq = h.ledger_seq }) whole refl refl).state
@@ -84,7 +84,6 @@ by_judgement runs network image q header rest (Ok s) judged =
     runs s q (judged_state network image s header judged) rest
 by_judgement runs network image q header rest (Err (fault.BadImage rule)) judged =
     (silent (status.BadImage rule), refl)
-by_judgement runs network image q header rest (Err fault.NotBuilt) judged = (silent status.ImageNotBuilt, refl)
 by_judgement runs network image q header rest (Err fault.NoMemory) judged = absurd judged
 
 by_reading : EachRun → EachImage → (network : Hash) (input : List ℕ) → IsBytes input

@@ -1,4 +1,4 @@
--- The books of accounts and of lines.
+-- The books of accounts, of lines and of pools.
 use Rattle.std.proofs.Common.{◌≡◌, ◌≢◌, refl, sym, ap, subst, ◌∙◌, ℕ, Option}
 use Rattle.std.proofs.Common.{Some, None, Bool, IfSome}
 use Rattle.std.proofs.lemmas.List.Elements.{All-weaker}
@@ -8,9 +8,11 @@ use Rattle.std.specs.Ordering.{is_eq}
 use Rattle.std.specs.List.{slice_get}
 use Rattle.std.specs.FinMap.{get, values}
 use Rattle.ledger_types.specs.declared.ids.AccountId.{AccountId}
+use Rattle.ledger_types.specs.declared.ids.Hash.{Hash}
 use Rattle.ledger_types.specs.declared.asset.TrustLineAsset.{TrustLineAsset}
 use Rattle.ledger_types.specs.declared.account.AccountEntry.{AccountEntry}
 use Rattle.ledger_types.specs.declared.trust_line.TrustLineEntry.{TrustLineEntry}
+use Rattle.ledger_types.specs.declared.liquidity_pool.LiquidityPoolEntry.{LiquidityPoolEntry}
 use Rattle.ledger_types.specs.declared.entry.LedgerEntry.{LedgerEntry}
 use Rattle.ledger_types.specs.declared.entry.LedgerEntryBody.{LedgerEntryBody}
 use Rattle.ledger_types.specs.declared.entry.LedgerEntryBody.TheVariants as body
@@ -37,12 +39,12 @@ use Rattle.image_rules.proofs.Naming.{none_itself, counted_by_others}
 pub keyed_each : (m : EntryMap) → IsKeyed m → EachEntry (λ k e. key_of e ≡ k) m
 keyed_each m keyed k e there = subst (λ o. IfSome o (λ x. key_of x ≡ k)) there (keyed k)
 
--- ---- a line that states a count
+-- ---- a line or a pool that states a count
 
-pub line_states : (count known : ℕ) (number states : ℤ) (answer : Bool)
+pub states_count : (count known : ℕ) (number states : ℤ) (answer : Bool)
     → ((sum : ℤ) → IsCountOf count sum → (IsTrue answer ↔ (number ≡ sum))) → count ≡ known → states ≡ number
     → (sum : ℤ) → IsCountOf known sum → (IsTrue answer ↔ (states ≡ sum))
-line_states count known number states answer says is same sum counts =
+states_count count known number states answer says is same sum counts =
     let told = says sum (subst (λ (n : ℕ). IsCountOf n sum) (sym is) counts) in
     (λ yes. same ∙ told.0 yes, λ equal. told.1 (sym same ∙ equal))
 
@@ -58,32 +60,45 @@ own_part which e a is =
 pub total_parts : (which : Book) (m : EntryMap) (e : LedgerEntry) (a : AccountEntry) → IsKeyed m
     → get m (key_of e) ≡ Some e → e.body ≡ body.Account a
     → total (counted (view m) (kind_of which) (key_of e)) m
-    ≡ (total (counted_else which (key.Account a.account_id)) m +ℤ pos (own_count which e))
+    ≡ (total (counted_else (pools_in m) which (key.Account a.account_id)) m +ℤ pos (own_count which e))
 total_parts which m e a keyed there is =
     let k : LedgerKey = key.Account a.account_id in
     let own_key : key_of e ≡ k = ap key_of_body is in
     ap (λ q. total (counted (view m) (kind_of which) q) m) own_key
-    ∙ total_plus (counted (view m) (kind_of which) k) (counted_else which k) (counted_itself which k) m
+    ∙ total_plus (counted (view m) (kind_of which) k) (counted_else (pools_in m) which k) (counted_itself which k) m
     (counted_parts which (view m) k)
-    ∙ ap (λ n. total (counted_else which k) m +ℤ n)
+    ∙ ap (λ n. total (counted_else (pools_in m) which k) m +ℤ n)
     (total_only (counted_itself which k) m k
     (λ q x at apart. none_itself which k x (λ same. apart (sym (keyed_each m keyed q x at) ∙ same)))
     ∙ ap (part (counted_itself which k)) (ap (get m) (sym own_key) ∙ there) ∙ own_part which e a is)
 
--- what is counted for a line others count
+-- what is counted for what isn't an account others count
+total_else : (which : Book) (m : EntryMap) (e : LedgerEntry) (k : LedgerKey) → key_of e ≡ k
+    → ((id : AccountId) → key.Account id ≢ k)
+    → total (counted (view m) (kind_of which) (key_of e)) m ≡ total (counted_else (pools_in m) which k) m
+total_else which m e k own_key other =
+    ap (λ q. total (counted (view m) (kind_of which) q) m) own_key
+    ∙ total_same (counted (view m) (kind_of which) k) (counted_else (pools_in m) which k) m
+    (λ q x there. counted_by_others which (view m) k x other)
+
+line_key : (owner : AccountId) (held : TrustLineAsset) (id : AccountId) → key.Account id ≢ key.TrustLine owner held
+line_key owner held id same = cc
+
+pool_key : (pool : Hash) (id : AccountId) → key.Account id ≢ key.LiquidityPool pool
+pool_key pool id same = cc
+
 pub total_line : (which : Book) (m : EntryMap) (e : LedgerEntry) (t : TrustLineEntry) → e.body ≡ body.TrustLine t
     → total (counted (view m) (kind_of which) (key_of e)) m
-    ≡ total (counted_else which (key.TrustLine t.account_id t.asset)) m
+    ≡ total (counted_else (pools_in m) which (key.TrustLine t.account_id t.asset)) m
 total_line which m e t is =
-    let k : LedgerKey = key.TrustLine t.account_id t.asset in
-    let own_key : key_of e ≡ k = ap key_of_body is in
-    ap (λ q. total (counted (view m) (kind_of which) q) m) own_key
-    ∙ total_same (counted (view m) (kind_of which) k) (counted_else which k) m
-    (λ q x there. counted_by_others which (view m) k x (no_account t.account_id t.asset))
-  where
-    no_account : (owner : AccountId) (held : TrustLineAsset) (id : AccountId)
-        → key.Account id ≢ key.TrustLine owner held
-    no_account owner held id same = cc
+    total_else which m e (key.TrustLine t.account_id t.asset) (ap key_of_body is) (line_key t.account_id t.asset)
+
+pub total_pool : (which : Book) (m : EntryMap) (e : LedgerEntry) (p : LiquidityPoolEntry)
+    → e.body ≡ body.LiquidityPool p
+    → total (counted (view m) (kind_of which) (key_of e)) m
+    ≡ total (counted_else (pools_in m) which (key.LiquidityPool p.pool_id)) m
+total_pool which m e p is =
+    total_else which m e (key.LiquidityPool p.pool_id) (ap key_of_body is) (pool_key p.pool_id)
 
 -- ---- all entries
 
@@ -105,7 +120,7 @@ module _ (which : Book) (m : EntryMap) where
 
   other_counts : (k : LedgerKey) → IsElsewhere k → total (counted (view m) (kind_of which) k) m ≡ pos 0
   other_counts k elsewhere = total_none (counted (view m) (kind_of which) k) m (λ q e there.
-      uncounted which (view m) k e (named_elsewhere k elsewhere e))
+      uncounted which (view m) k e (named_elsewhere k elsewhere (pools_in m) e))
 
   right_by : (e : LedgerEntry) (b : LedgerEntryBody) → e.body ≡ b → stated (kind_of which) b ≡ pos 0
       → IsElsewhere (key_of_body b) → IsRight which m e
@@ -131,15 +146,19 @@ module _ (which : Book) (m : EntryMap) where
 
 -- ---- what an answer on one entry says
 
--- what is neither an account nor a line states nothing
+-- what is neither an account nor a line nor a pool states nothing
 states_none : (which : Book) (b : LedgerEntryBody) → IsElsewhere (key_of_body b) → stated (kind_of which) b ≡ pos 0
 states_none which (body.Account a) elsewhere = absurd (elsewhere.accounts a.account_id refl)
 states_none which (body.TrustLine t) elsewhere = absurd (elsewhere.lines t.account_id t.asset refl)
+states_none which (body.LiquidityPool p) elsewhere = absurd (elsewhere.pools p.pool_id refl)
 states_none book.Subentries b elsewhere = refl
 states_none book.Sponsoring b elsewhere = refl
 states_none book.Sponsored b elsewhere = refl
 states_none book.Selling b elsewhere = refl
 states_none book.Buying b elsewhere = refl
+states_none book.Shares b elsewhere = refl
+states_none book.ShareLines b elsewhere = refl
+states_none book.Uses b elsewhere = refl
 
 module _ (which : Book) (m : EntryMap) (counts : CountMap) (i : ℕ) (e : LedgerEntry) (answer : Bool)
     (all : AreCounts which m counts) (keyed : IsKeyed m) (at : slice_get (values m) i ≡ Some e) where
@@ -156,21 +175,28 @@ module _ (which : Book) (m : EntryMap) (counts : CountMap) (i : ℕ) (e : Ledger
       → IsRight which m e
   right_in (body.Account a) is agrees said =
       ap (stated (kind_of which)) is
-      ∙ (agrees (total (counted_else which (key.Account a.account_id)) m) (all (key.Account a.account_id))).0 said
+      ∙ (agrees (total (counted_else (pools_in m) which (key.Account a.account_id)) m)
+      (all (key.Account a.account_id))).0 said
       ∙ sym (total_parts which m e a keyed there is)
   right_in (body.TrustLine t) is agrees said =
       ap (stated (kind_of which)) is
-      ∙ (agrees (total (counted_else which (key.TrustLine t.account_id t.asset)) m)
+      ∙ (agrees (total (counted_else (pools_in m) which (key.TrustLine t.account_id t.asset)) m)
       (all (key.TrustLine t.account_id t.asset))).0 said
       ∙ sym (total_line which m e t is)
+  right_in (body.LiquidityPool p) is agrees said =
+      ap (stated (kind_of which)) is
+      ∙ (agrees (total (counted_else (pools_in m) which (key.LiquidityPool p.pool_id)) m)
+      (all (key.LiquidityPool p.pool_id))).0 said
+      ∙ sym (total_pool which m e p is)
   right_in (body.Offer offer) is agrees said =
-      right_other (body.Offer offer) is (record { accounts = λ id same. cc; lines = λ id x same. cc })
+      right_other (body.Offer offer) is
+      (record { accounts = λ id same. cc; lines = λ id x same. cc; pools = λ id same. cc })
   right_in (body.Data entry) is agrees said =
-      right_other (body.Data entry) is (record { accounts = λ id same. cc; lines = λ id x same. cc })
+      right_other (body.Data entry) is
+      (record { accounts = λ id same. cc; lines = λ id x same. cc; pools = λ id same. cc })
   right_in (body.ClaimableBalance balance) is agrees said =
-      right_other (body.ClaimableBalance balance) is (record { accounts = λ id same. cc; lines = λ id x same. cc })
-  right_in (body.LiquidityPool pool) is agrees said =
-      right_other (body.LiquidityPool pool) is (record { accounts = λ id same. cc; lines = λ id x same. cc })
+      right_other (body.ClaimableBalance balance) is
+      (record { accounts = λ id same. cc; lines = λ id x same. cc; pools = λ id same. cc })
 
   pub right_of_answer : Agrees counts which e answer → IsTrue answer → IsRight which m e
   right_of_answer agrees said = right_in e.body refl agrees said
@@ -178,12 +204,17 @@ module _ (which : Book) (m : EntryMap) (counts : CountMap) (i : ℕ) (e : Ledger
   answer_in : (b : LedgerEntryBody) → e.body ≡ b → AgreesIn counts which own b answer → IsRight which m e
       → IsTrue answer
   answer_in (body.Account a) is agrees right =
-      (agrees (total (counted_else which (key.Account a.account_id)) m) (all (key.Account a.account_id))).1
+      (agrees (total (counted_else (pools_in m) which (key.Account a.account_id)) m)
+      (all (key.Account a.account_id))).1
       (sym (ap (stated (kind_of which)) is) ∙ right ∙ total_parts which m e a keyed there is)
   answer_in (body.TrustLine t) is agrees right =
-      (agrees (total (counted_else which (key.TrustLine t.account_id t.asset)) m)
+      (agrees (total (counted_else (pools_in m) which (key.TrustLine t.account_id t.asset)) m)
       (all (key.TrustLine t.account_id t.asset))).1
       (sym (ap (stated (kind_of which)) is) ∙ right ∙ total_line which m e t is)
+  answer_in (body.LiquidityPool p) is agrees right =
+      (agrees (total (counted_else (pools_in m) which (key.LiquidityPool p.pool_id)) m)
+      (all (key.LiquidityPool p.pool_id))).1
+      (sym (ap (stated (kind_of which)) is) ∙ right ∙ total_pool which m e p is)
   answer_in other is agrees right = agrees
 
   pub answer_of_right : Agrees counts which e answer → IsRight which m e → IsTrue answer

@@ -1,4 +1,4 @@
--- What accounts and lines are named by entries, and that nothing is counted for one that isn't.
+-- What accounts, lines and pools are named by entries, and that nothing is counted for one that isn't.
 use Rattle.std.proofs.Common.{◌≡◌, ◌≢◌, refl, sym, ap, subst, ◌∙◌, ℕ, ◌+◌, Bool, true, false, cond, List, [], ◌∷◌}
 use Rattle.std.proofs.Common.{◌++◌, ◌<◌, map, length, take, get_or, All, Option, Some, None, arith}
 use Rattle.std.proofs.lemmas.Int.{ints}
@@ -9,13 +9,16 @@ use Rattle.std.proofs.lemmas.List.Filters.{length-filter_more}
 use Rattle.std.specs.Prelude.{ℤ, pos, ◌+ℤ◌, ◌↔◌, IsTrue, if◌then◌else◌}
 use Rattle.std.specs.List.{count_by, filter, flat_map}
 use Rattle.ledger_types.specs.declared.ids.AccountId.{AccountId}
+use Rattle.ledger_types.specs.declared.ids.Hash.{Hash}
 use Rattle.ledger_types.specs.declared.asset.Asset.{Asset}
 use Rattle.ledger_types.specs.declared.asset.Asset.TheVariants as asset
+use Rattle.ledger_types.specs.declared.asset.PoolParams.{PoolParams}
 use Rattle.ledger_types.specs.declared.asset.TrustLineAsset.{TrustLineAsset}
 use Rattle.ledger_types.specs.declared.asset.TrustLineAsset.TheVariants as line
 use Rattle.ledger_types.specs.declared.signer.Signer.{Signer}
 use Rattle.ledger_types.specs.declared.account.AccountEntry.{AccountEntry}
 use Rattle.ledger_types.specs.declared.account.AccountEntryExtensionV2.{AccountEntryExtensionV2}
+use Rattle.ledger_types.specs.declared.trust_line.TrustLineEntry.{TrustLineEntry}
 use Rattle.ledger_types.specs.declared.offer.OfferEntry.{OfferEntry}
 use Rattle.ledger_types.specs.declared.entry.LedgerEntry.{LedgerEntry}
 use Rattle.ledger_types.specs.declared.entry.LedgerEntryBody.{LedgerEntryBody}
@@ -32,13 +35,14 @@ use Rattle.sponsor_laws.specs.Sums.{is_there}
 use Rattle.legal_rules.specs.EntryKeys.{is_key, for_key, for_account}
 use Rattle.legal_rules.specs.OfferLiabilities.{bound_of}
 use Rattle.legal_rules.specs.Reserves.{is_for, for_each, signer_sponsors_in, subentries_in, sponsored_in_entry}
-use Rattle.legal_rules.specs.Needs.{account_keys, keys_in, needed_keys, holding_keys}
+use Rattle.legal_rules.specs.Needs.{account_keys, keys_in, share_keys, pool_keys, holding_keys, needed_keys}
 use Rattle.legal_rules.specs.Trades.{holder, sells, buys}
-use Rattle.legal_rules.specs.PoolShares.{Pools}
+use Rattle.legal_rules.specs.PoolShares.{Pools, pool_named, needed_line, shares_in, share_lines, uses_of, uses_by, uses}
 use Rattle.legal_rules.specs.Books.{View, counted}
 use Rattle.image_rules.specs.declared.books.Book.{Book}
 use Rattle.image_rules.specs.declared.books.Book.TheVariants as book
 use Rattle.image_rules.specs.Books.{kind_of, itself, other_owner, own_count, counted_itself, counted_else}
+use Rattle.image_rules.specs.Books.{payers_pay, owner_is_paid}
 use Rattle.image_rules.specs.Signers.{ArePayersOthers}
 
 -- ---- lists of keys, one behind another
@@ -68,23 +72,12 @@ flat_all P (o ∷ ids) all =
     All-cons (AllOf P) o ids (all_front P (account_keys o) (flat_map account_keys ids) all)
     (flat_all P ids (all_back P (account_keys o) (flat_map account_keys ids) all))
 
--- the keys of what an offer's seller has its assets in
-abbrev pub traded_keys : LedgerEntryBody → List LedgerKey
-traded_keys (body.Offer offer) =
-    keys_in (holder offer.seller_id offer.selling) ++ keys_in (holder offer.seller_id offer.buying)
-traded_keys other = []
-
--- the keys of accounts and lines that an entry names
-pub record AllNamed (P : LedgerKey → Type 0) (e : LedgerEntry) : Type 0 where
+-- the keys of accounts, lines and pools that an entry names
+pub record AllNamed (P : LedgerKey → Type 0) (pools : Pools) (e : LedgerEntry) : Type 0 where
   pub owner : All P (account_keys (owner_of e.body))
   pub sponsor : All P (account_keys (sponsor_of e))
   pub signers : All P (flat_map account_keys (signer_sponsors_in e.body))
-  pub traded : All P (traded_keys e.body)
-
-traded_of : (P : LedgerKey → Type 0) (pools : Pools) (b : LedgerEntryBody) → All P (holding_keys pools b)
-    → All P (traded_keys b)
-traded_of P pools (body.Offer offer) all = all
-traded_of P pools other all = All-nil P
+  pub holding : All P (holding_keys pools e.body)
 
 module _ (P : LedgerKey → Type 0) (pools : Pools) (e : LedgerEntry) where
   abbrev owners : List LedgerKey
@@ -99,7 +92,7 @@ module _ (P : LedgerKey → Type 0) (pools : Pools) (e : LedgerEntry) where
   abbrev holding : List LedgerKey
   holding = holding_keys pools e.body
 
-  pub named_of_needed : All P (needed_keys pools e) → AllNamed P e
+  pub named_of_needed : All P (needed_keys pools e) → AllNamed P pools e
   named_of_needed all =
       let three = all_front P (owners ++ sponsors ++ signers) holding all in
       let two = all_front P (owners ++ sponsors) signers three in
@@ -107,11 +100,8 @@ module _ (P : LedgerKey → Type 0) (pools : Pools) (e : LedgerEntry) where
         owner = all_front P owners sponsors two;
         sponsor = all_back P owners sponsors two;
         signers = all_back P (owners ++ sponsors) signers three;
-        traded = traded_of P pools e.body (all_back P (owners ++ sponsors ++ signers) holding all);
+        holding = all_back P (owners ++ sponsors ++ signers) holding all;
       }
-
-  pub held_of_needed : All P (needed_keys pools e) → All P holding
-  held_of_needed all = all_back P (owners ++ sponsors ++ signers) holding all
 
   pub needed_of_all : All P owners → All P sponsors → All P signers → All P holding → All P (needed_keys pools e)
   needed_of_all owns pays signs holds =
@@ -140,7 +130,7 @@ needed_iff P pools e all owner sponsor payers holders four owns pays signs holds
         owns.1 named.owner,
         pays.1 named.sponsor,
         signs.1 named.signers,
-        holds.1 (held_of_needed P pools e needed),
+        holds.1 named.holding,
       ),
 )
 
@@ -170,19 +160,21 @@ none_for_key k None n others = refl
 none_for_key k (Some named) n others =
     ap (λ b. if b then n else pos 0) (apart_keys named k (All-head (IsOther k) named [] others))
 
-unsold : (k : LedgerKey) (b : LedgerEntryBody) → All (IsOther k) (traded_keys b) → sells k b ≡ pos 0
-unsold k (body.Offer offer) others =
+unsold : (k : LedgerKey) (pools : Pools) (b : LedgerEntryBody) → All (IsOther k) (holding_keys pools b)
+    → sells k b ≡ pos 0
+unsold k pools (body.Offer offer) others =
     none_for_key k (holder offer.seller_id offer.selling) (pos (bound_of offer).wheat)
     (all_front (IsOther k) (keys_in (holder offer.seller_id offer.selling))
     (keys_in (holder offer.seller_id offer.buying)) others)
-unsold k other others = refl
+unsold k pools other others = refl
 
-unbought : (k : LedgerKey) (b : LedgerEntryBody) → All (IsOther k) (traded_keys b) → buys k b ≡ pos 0
-unbought k (body.Offer offer) others =
+unbought : (k : LedgerKey) (pools : Pools) (b : LedgerEntryBody) → All (IsOther k) (holding_keys pools b)
+    → buys k b ≡ pos 0
+unbought k pools (body.Offer offer) others =
     none_for_key k (holder offer.seller_id offer.buying) (pos (bound_of offer).sheep)
     (all_back (IsOther k) (keys_in (holder offer.seller_id offer.selling))
     (keys_in (holder offer.seller_id offer.buying)) others)
-unbought k other others = refl
+unbought k pools other others = refl
 
 none_kept : (k : LedgerKey) (ids : List (Option AccountId)) → All (IsOther k) (flat_map account_keys ids)
     → filter (is_for k) ids ≡ []
@@ -202,7 +194,49 @@ none_for_each k ids others =
 both_none : (a b : ℤ) → a ≡ pos 0 → b ≡ pos 0 → (a +ℤ b) ≡ pos 0
 both_none a b first second = omega (arith, ints)
 
-pub uncounted : (which : Book) (v : View) (k : LedgerKey) (e : LedgerEntry) → AllNamed (IsOther k) e
+-- ---- pools and the lines that their shares need
+
+unshared_in : (k : LedgerKey) (pools : Pools) (id : AccountId) (x : TrustLineAsset) (n : ℤ)
+    → All (IsOther k) (pool_keys pools id x) → for_key k (pool_named x) n ≡ pos 0
+unshared_in k pools id (line.PoolShare pool) n others =
+    ap (λ b. if b then n else pos 0)
+    (apart_keys (key.LiquidityPool pool) k
+    (All-head (IsOther k) (key.LiquidityPool pool) (share_keys id (pools pool)) others))
+unshared_in k pools id other n others = refl
+
+unshared : (k : LedgerKey) (pools : Pools) (b : LedgerEntryBody) → All (IsOther k) (holding_keys pools b)
+    → shares_in k b ≡ pos 0
+unshared k pools (body.TrustLine t) others = unshared_in k pools t.account_id t.asset t.balance others
+unshared k pools other others = refl
+
+unlined : (k : LedgerKey) (pools : Pools) (b : LedgerEntryBody) → All (IsOther k) (holding_keys pools b)
+    → share_lines k b ≡ pos 0
+unlined k pools (body.TrustLine t) others = unshared_in k pools t.account_id t.asset (pos 1) others
+unlined k pools other others = refl
+
+unused_of : (k : LedgerKey) (id : AccountId) (o : Option PoolParams) → All (IsOther k) (share_keys id o)
+    → uses_of k id o ≡ pos 0
+unused_of k id None others = refl
+unused_of k id (Some params) others =
+    let first = needed_line id params.asset_a in
+    let second = needed_line id params.asset_b in
+    both_none (for_key k first (pos 1)) (for_key k second (pos 1))
+    (none_for_key k first (pos 1) (all_front (IsOther k) (keys_in first) (keys_in second) others))
+    (none_for_key k second (pos 1) (all_back (IsOther k) (keys_in first) (keys_in second) others))
+
+unused_by : (k : LedgerKey) (pools : Pools) (id : AccountId) (x : TrustLineAsset)
+    → All (IsOther k) (pool_keys pools id x) → uses_by pools k id x ≡ pos 0
+unused_by k pools id (line.PoolShare pool) others =
+    unused_of k id (pools pool)
+    (All-tail (IsOther k) (key.LiquidityPool pool) (share_keys id (pools pool)) others)
+unused_by k pools id other others = refl
+
+unused : (k : LedgerKey) (pools : Pools) (b : LedgerEntryBody) → All (IsOther k) (holding_keys pools b)
+    → uses pools k b ≡ pos 0
+unused k pools (body.TrustLine t) others = unused_by k pools t.account_id t.asset others
+unused k pools other others = refl
+
+pub uncounted : (which : Book) (v : View) (k : LedgerKey) (e : LedgerEntry) → AllNamed (IsOther k) v.pools e
     → counted v (kind_of which) k e ≡ pos 0
 uncounted book.Subentries v k e others = none_for_account k (owner_of e.body) (subentries_in e.body) others.owner
 uncounted book.Sponsored v k e others = none_for_account k (owner_of e.body) (sponsored_in_entry e) others.owner
@@ -210,8 +244,11 @@ uncounted book.Sponsoring v k e others =
     both_none (for_account k (sponsor_of e) (multiplicity e.body)) (for_each k (signer_sponsors_in e.body))
     (none_for_account k (sponsor_of e) (multiplicity e.body) others.sponsor)
     (none_for_each k (signer_sponsors_in e.body) others.signers)
-uncounted book.Selling v k e others = unsold k e.body others.traded
-uncounted book.Buying v k e others = unbought k e.body others.traded
+uncounted book.Selling v k e others = unsold k v.pools e.body others.holding
+uncounted book.Buying v k e others = unbought k v.pools e.body others.holding
+uncounted book.Shares v k e others = unshared k v.pools e.body others.holding
+uncounted book.ShareLines v k e others = unlined k v.pools e.body others.holding
+uncounted book.Uses v k e others = unused k v.pools e.body others.holding
 
 -- ---- a key that isn't an account's
 
@@ -227,10 +264,11 @@ accounts_only P all (None ∷ ids) = accounts_only P all ids
 accounts_only P all (Some id ∷ ids) =
     All-cons P (key.Account id) (flat_map account_keys ids) (all id) (accounts_only P all ids)
 
--- a key under which neither an account nor a line stands
+-- a key under which neither an account nor a line nor a pool stands
 pub record IsElsewhere (k : LedgerKey) : Type 0 where
   pub accounts : (id : AccountId) → key.Account id ≢ k
   pub lines : (id : AccountId) (x : TrustLineAsset) → key.TrustLine id x ≢ k
+  pub pools : (id : Hash) → key.LiquidityPool id ≢ k
 
 module _ (k : LedgerKey) (elsewhere : IsElsewhere k) where
   line_other : (id issuer : AccountId) (x : TrustLineAsset)
@@ -246,19 +284,37 @@ module _ (k : LedgerKey) (elsewhere : IsElsewhere k) where
   holder_other id (asset.Alphanum4 code issuer) = line_other id issuer (line.Alphanum4 code issuer)
   holder_other id (asset.Alphanum12 code issuer) = line_other id issuer (line.Alphanum12 code issuer)
 
-  traded_other : (b : LedgerEntryBody) → All (IsOther k) (traded_keys b)
-  traded_other (body.Offer offer) =
+  needed_other : (id : AccountId) (x : Asset) → All (IsOther k) (keys_in (needed_line id x))
+  needed_other id asset.Native = All-nil (IsOther k)
+  needed_other id (asset.Alphanum4 code issuer) = holder_other id (asset.Alphanum4 code issuer)
+  needed_other id (asset.Alphanum12 code issuer) = holder_other id (asset.Alphanum12 code issuer)
+
+  shares_other : (id : AccountId) (o : Option PoolParams) → All (IsOther k) (share_keys id o)
+  shares_other id None = All-nil (IsOther k)
+  shares_other id (Some params) =
+      All-append (IsOther k) (keys_in (needed_line id params.asset_a)) (keys_in (needed_line id params.asset_b))
+      (needed_other id params.asset_a) (needed_other id params.asset_b)
+
+  pool_other : (pools : Pools) (id : AccountId) (x : TrustLineAsset) → All (IsOther k) (pool_keys pools id x)
+  pool_other pools id (line.PoolShare pool) =
+      All-cons (IsOther k) (key.LiquidityPool pool) (share_keys id (pools pool)) (elsewhere.pools pool)
+      (shares_other id (pools pool))
+  pool_other pools id other = All-nil (IsOther k)
+
+  holding_other : (pools : Pools) (b : LedgerEntryBody) → All (IsOther k) (holding_keys pools b)
+  holding_other pools (body.TrustLine t) = pool_other pools t.account_id t.asset
+  holding_other pools (body.Offer offer) =
       All-append (IsOther k) (keys_in (holder offer.seller_id offer.selling))
       (keys_in (holder offer.seller_id offer.buying)) (holder_other offer.seller_id offer.selling)
       (holder_other offer.seller_id offer.buying)
-  traded_other other = All-nil (IsOther k)
+  holding_other pools other = All-nil (IsOther k)
 
-  pub named_elsewhere : (e : LedgerEntry) → AllNamed (IsOther k) e
-  named_elsewhere e = record {
+  pub named_elsewhere : (pools : Pools) (e : LedgerEntry) → AllNamed (IsOther k) pools e
+  named_elsewhere pools e = record {
     owner = account_only (IsOther k) elsewhere.accounts (owner_of e.body);
     sponsor = account_only (IsOther k) elsewhere.accounts (sponsor_of e);
     signers = accounts_only (IsOther k) elsewhere.accounts (signer_sponsors_in e.body);
-    traded = traded_other e.body;
+    holding = holding_other pools e.body;
   }
 
 -- ---- no sponsors of signers
@@ -310,14 +366,14 @@ paid_sum k (Some id) a b n is = elim (is_key (key.Account id) k) as
 pub sponsored_sum : (k : LedgerKey) (e : LedgerEntry) (owner : Option AccountId) (paid signers : ℕ)
     → owner ≡ other_owner e.body → paid + count_by is_there (signer_sponsors_in e.body) ≡ sponsored_in_entry e
     → signers ≡ count_by is_there (signer_sponsors_in e.body)
-    → counted_else book.Sponsored k e ≡ (for_account k owner paid +ℤ for_account k owner signers)
+    → owner_is_paid k e ≡ (for_account k owner paid +ℤ for_account k owner signers)
 sponsored_sum k e owner paid signers is sum same =
     ap (λ o. for_account k o (sponsored_in_entry e)) (sym is)
     ∙ paid_sum k owner paid signers (sponsored_in_entry e) (ap (λ n. paid + n) same ∙ sum)
 
 pub sponsoring_sum : (k : LedgerKey) (e : LedgerEntry) (sponsor : Option AccountId) (n : ℕ)
     → sponsor ≡ sponsor_of e → n ≡ multiplicity e.body
-    → counted_else book.Sponsoring k e ≡ (for_account k sponsor n +ℤ for_each k (signer_sponsors_in e.body))
+    → payers_pay k e ≡ (for_account k sponsor n +ℤ for_each k (signer_sponsors_in e.body))
 sponsoring_sum k e sponsor n is same =
     ap (λ o. for_account k o (multiplicity e.body) +ℤ for_each k (signer_sponsors_in e.body)) (sym is)
     ∙ ap (λ c. for_account k sponsor c +ℤ for_each k (signer_sponsors_in e.body)) (sym same)
@@ -347,7 +403,7 @@ owned_parts k (body.ClaimableBalance balance) n = none_more (pos 0)
 owned_parts k (body.LiquidityPool pool) n = none_more (pos 0)
 
 pub counted_parts : (which : Book) (v : View) (k : LedgerKey) (e : LedgerEntry)
-    → counted v (kind_of which) k e ≡ (counted_else which k e +ℤ counted_itself which k e)
+    → counted v (kind_of which) k e ≡ (counted_else v.pools which k e +ℤ counted_itself which k e)
 counted_parts book.Subentries v k e = owned_parts k e.body (subentries_in e.body)
 counted_parts book.Sponsored v k e = owned_parts k e.body (sponsored_in_entry e)
 counted_parts book.Sponsoring v k e =
@@ -355,15 +411,18 @@ counted_parts book.Sponsoring v k e =
     +ℤ for_each k (signer_sponsors_in e.body))
 counted_parts book.Selling v k e = nothing_more k (itself e.body) (sells k e.body)
 counted_parts book.Buying v k e = nothing_more k (itself e.body) (buys k e.body)
+counted_parts book.Shares v k e = nothing_more k (itself e.body) (shares_in k e.body)
+counted_parts book.ShareLines v k e = nothing_more k (itself e.body) (share_lines k e.body)
+counted_parts book.Uses v k e = nothing_more k (itself e.body) (uses v.pools k e.body)
 
 -- under a key that isn't an account's others count all
 pub counted_by_others : (which : Book) (v : View) (k : LedgerKey) (e : LedgerEntry)
-    → ((id : AccountId) → key.Account id ≢ k) → counted v (kind_of which) k e ≡ counted_else which k e
+    → ((id : AccountId) → key.Account id ≢ k) → counted v (kind_of which) k e ≡ counted_else v.pools which k e
 counted_by_others which v k e other =
     counted_parts which v k e
-    ∙ ap (λ n. counted_else which k e +ℤ n)
+    ∙ ap (λ n. counted_else v.pools which k e +ℤ n)
     (none_for_account k (itself e.body) (own_count which e) (account_only (IsOther k) other (itself e.body)))
-    ∙ sym (none_more (counted_else which k e))
+    ∙ sym (none_more (counted_else v.pools which k e))
 
 -- an account counts nothing for another one
 pub none_itself : (which : Book) (k : LedgerKey) (e : LedgerEntry) → key_of e ≢ k
@@ -416,3 +475,30 @@ pub bought_at : (k : LedgerKey) (b : LedgerEntryBody) (offer : OfferEntry) (name
 bought_at k b offer named n is at same =
     ap (buys k) is ∙ ap (λ o. for_key k o (pos (bound_of offer).sheep)) (sym at)
     ∙ ap (λ c. for_key k named (pos c)) (sym same)
+
+-- ---- what a line of pool shares counts for its pool and for the lines that it needs
+
+pub shared_at : (k : LedgerKey) (b : LedgerEntryBody) (t : TrustLineEntry) (named : Option LedgerKey) (n : ℕ)
+    → b ≡ body.TrustLine t → named ≡ pool_named t.asset → t.balance ≡ pos n → shares_in k b ≡ for_key k named (pos n)
+shared_at k b t named n is at same =
+    ap (shares_in k) is ∙ ap (λ o. for_key k o t.balance) (sym at) ∙ ap (for_key k named) same
+
+pub lined_at : (k : LedgerKey) (b : LedgerEntryBody) (t : TrustLineEntry) (named : Option LedgerKey)
+    → b ≡ body.TrustLine t → named ≡ pool_named t.asset → share_lines k b ≡ for_key k named (pos 1)
+lined_at k b t named is at = ap (share_lines k) is ∙ ap (λ o. for_key k o (pos 1)) (sym at)
+
+pub used_at : (k : LedgerKey) (pools : Pools) (b : LedgerEntryBody) (t : TrustLineEntry) → b ≡ body.TrustLine t
+    → uses pools k b ≡ uses_by pools k t.account_id t.asset
+used_at k pools b t is = ap (uses pools k) is
+
+pub used_by : (k : LedgerKey) (pools : Pools) (id : AccountId) (x : TrustLineAsset) (pool : Hash)
+    (params : Option PoolParams) → x ≡ line.PoolShare pool → params ≡ pools pool
+    → uses_by pools k id x ≡ uses_of k id params
+used_by k pools id x pool params is same = ap (uses_by pools k id) is ∙ ap (uses_of k id) (sym same)
+
+pub used_both : (k : LedgerKey) (id : AccountId) (params : PoolParams) (first second : Option LedgerKey)
+    → first ≡ needed_line id params.asset_a → second ≡ needed_line id params.asset_b
+    → uses_of k id (Some params) ≡ (for_key k first (pos 1) +ℤ for_key k second (pos 1))
+used_both k id params first second is other =
+    ap (λ o. for_key k o (pos 1) +ℤ for_key k (needed_line id params.asset_b) (pos 1)) (sym is)
+    ∙ ap (λ o. for_key k first (pos 1) +ℤ for_key k o (pos 1)) (sym other)

@@ -1,4 +1,4 @@
--- The books of accounts and of lines.
+-- The books of accounts, of lines and of pools.
 use Rattle.std.specs.Prelude.{◌≡◌, ◌↔◌, ℕ, Bool, IsTrue, ℤ, pos, ◌+ℤ◌, Option, Some, None}
 use Rattle.ledger_types.specs.declared.ids.AccountId.{AccountId}
 use Rattle.ledger_types.specs.declared.entry.LedgerEntry.{LedgerEntry}
@@ -13,7 +13,10 @@ use Rattle.sponsor_rules.specs.Charge.{multiplicity, owner_of}
 use Rattle.legal_rules.specs.EntryKeys.{for_account}
 use Rattle.legal_rules.specs.Reserves.{subentries_in, signer_sponsors_in, sponsored_in_entry, for_each}
 use Rattle.legal_rules.specs.Trades.{sells, buys}
-use Rattle.legal_rules.specs.Books.{Kind, Subentries, Sponsoring, Sponsored, Selling, Buying, stated}
+use Rattle.legal_rules.specs.PoolShares.{Pools, shares_in, share_lines, uses}
+use Rattle.legal_rules.specs.Legal.{pools_in}
+use Rattle.legal_rules.specs.Books.{Kind, Subentries, Sponsoring, Sponsored, Selling, Buying, Shares, ShareLines, Uses}
+use Rattle.legal_rules.specs.Books.{stated}
 use Rattle.image_rules.specs.declared.books.Book.{Book}
 use Rattle.image_rules.specs.declared.books.Book.TheVariants as book
 use Rattle.image_rules.specs.Counts.{CountMap, count_at, IsCountOf}
@@ -24,6 +27,9 @@ kind_of book.Sponsoring = Sponsoring
 kind_of book.Sponsored = Sponsored
 kind_of book.Selling = Selling
 kind_of book.Buying = Buying
+kind_of book.Shares = Shares
+kind_of book.ShareLines = ShareLines
+kind_of book.Uses = Uses
 
 -- ---- what an entry counts for itself, and what it counts for others
 
@@ -40,28 +46,37 @@ other_owner other = owner_of other
 -- how much an account counts in a book of which it is the owner itself
 abbrev pub own_count : Book → LedgerEntry → ℕ
 own_count book.Subentries e = subentries_in e.body
-own_count book.Sponsoring e = 0
 own_count book.Sponsored e = sponsored_in_entry e
-own_count book.Selling e = 0
-own_count book.Buying e = 0
+own_count other e = 0
 
 abbrev pub counted_itself : Book → LedgerKey → Weight
 counted_itself which k e = for_account k (itself e.body) (own_count which e)
 
-abbrev pub counted_else : Book → LedgerKey → Weight
-counted_else book.Subentries k e = for_account k (other_owner e.body) (subentries_in e.body)
-counted_else book.Sponsoring k e =
-    for_account k (sponsor_of e) (multiplicity e.body) +ℤ for_each k (signer_sponsors_in e.body)
-counted_else book.Sponsored k e = for_account k (other_owner e.body) (sponsored_in_entry e)
-counted_else book.Selling k e = sells k e.body
-counted_else book.Buying k e = buys k e.body
+-- what the sponsors in an entry pay
+abbrev pub payers_pay : LedgerKey → Weight
+payers_pay k e = for_account k (sponsor_of e) (multiplicity e.body) +ℤ for_each k (signer_sponsors_in e.body)
+
+-- what others pay for the owner of an entry that isn't the owner itself
+abbrev pub owner_is_paid : LedgerKey → Weight
+owner_is_paid k e = for_account k (other_owner e.body) (sponsored_in_entry e)
+
+abbrev pub counted_else : Pools → Book → LedgerKey → Weight
+counted_else pools book.Subentries k e = for_account k (other_owner e.body) (subentries_in e.body)
+counted_else pools book.Sponsoring k e = payers_pay k e
+counted_else pools book.Sponsored k e = owner_is_paid k e
+counted_else pools book.Selling k e = sells k e.body
+counted_else pools book.Buying k e = buys k e.body
+counted_else pools book.Shares k e = shares_in k e.body
+counted_else pools book.ShareLines k e = share_lines k e.body
+counted_else pools book.Uses k e = uses pools k e.body
 
 -- what all entries count for others, for each key
 abbrev pub AreCounts : Book → EntryMap → CountMap → Type 0
-AreCounts which m counts = (k : LedgerKey) → IsCountOf (count_at counts k) (total (counted_else which k) m)
+AreCounts which m counts =
+    (k : LedgerKey) → IsCountOf (count_at counts k) (total (counted_else (pools_in m) which k) m)
 
--- whether an account states the sum that is counted for it by itself and by others, and a line what is counted for it
--- by others; what is neither has no say
+-- whether an account states the sum that is counted for it by itself and by others, and a line or a pool what is
+-- counted for it by others; what is none of them has no say
 abbrev pub AgreesIn : CountMap → Book → ℕ → LedgerEntryBody → Bool → Type 0
 AgreesIn counts which own (body.Account a) answer =
     (sum : ℤ) → IsCountOf (count_at counts (key.Account a.account_id)) sum
@@ -69,6 +84,9 @@ AgreesIn counts which own (body.Account a) answer =
 AgreesIn counts which own (body.TrustLine t) answer =
     (sum : ℤ) → IsCountOf (count_at counts (key.TrustLine t.account_id t.asset)) sum
     → (IsTrue answer ↔ (stated (kind_of which) (body.TrustLine t) ≡ sum))
+AgreesIn counts which own (body.LiquidityPool pool) answer =
+    (sum : ℤ) → IsCountOf (count_at counts (key.LiquidityPool pool.pool_id)) sum
+    → (IsTrue answer ↔ (stated (kind_of which) (body.LiquidityPool pool) ≡ sum))
 AgreesIn counts which own other answer = IsTrue answer
 
 abbrev pub Agrees : CountMap → Book → LedgerEntry → Bool → Type 0

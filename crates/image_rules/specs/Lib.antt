@@ -1,3 +1,4 @@
+pub mod PoolRanges
 pub mod EntryTests
 pub mod Signers
 pub mod Counts

@@ -1,6 +1,6 @@
-//! The books of accounts and of lines: what each states, and what all entries count for it. What an account counts for
-//! itself, its signers and its own reserves, is looked at in the account. What an entry counts for others stands in a
-//! tally.
+//! The books of accounts, of lines and of pools: what each states, and what all entries count for it. What an account
+//! counts for itself, its signers and its own reserves, is looked at in the account. What an entry counts for others
+//! stands in a tally.
 
 ghost use Rattle.std.specs.Prelude.{◌≡◌, ◌+◌, ◌+ℤ◌, ◌↔◌, ℤ, pos, count_by, IsTrue, IfOk, OnOk};
 ghost use Rattle.ledger_types.specs.declared.entry.LedgerEntryBody.TheVariants as body;
@@ -8,28 +8,30 @@ ghost use Rattle.sponsor_laws.specs.Sums.{is_there};
 ghost use Rattle.legal_rules.specs.Reserves.{for_each, signer_sponsors_in, sponsored_in_entry};
 ghost use Rattle.legal_rules.specs.Trades.{sells, buys};
 ghost use Rattle.legal_rules.specs.Books.{stated};
-ghost use Rattle.legal_rules.specs.Legal.{IsBooked};
+ghost use Rattle.legal_rules.specs.Legal.{IsBooked, pools_in};
 ghost use Rattle.close_rules.specs.EntryRules.{AreOwned};
 ghost use Rattle.image_rules.specs.Terms.{AreTerms, HaveTerms};
 ghost use Rattle.image_rules.specs.Counts.{Adds, IsCountOf};
-ghost use Rattle.image_rules.specs.declared.books.Book.TheVariants as book;
-ghost use Rattle.image_rules.specs.Books.{kind_of, own_count, counted_else, AreCounts, Agrees};
+ghost use Rattle.image_rules.specs.Books.{kind_of, own_count, payers_pay, owner_is_paid, counted_else};
+ghost use Rattle.image_rules.specs.Books.{AreCounts, Agrees};
 
 use crate::counts::{Tally, add_at, add_for, count_of};
 use crate::holders::holder;
 use crate::offers::{sheep_of, wheat_of};
 use crate::parts::{multiplicity, other_owner, sponsored_signers, sponsorship, subentries_in};
+use crate::shares::{add_share_line, add_shares, add_uses};
 use entry_slots::{
-    account_liabilities, line_liabilities, num_sponsored, num_sponsoring, sponsor_in,
+    account_liabilities, line_liabilities, num_sponsored, num_sponsoring, sponsor_in, use_count,
 };
 use entry_table::EntryTable;
 use ledger_types::{
-    AccountEntry, AccountId, LedgerEntry, LedgerEntryBody, LedgerKey, TrustLineEntry,
+    AccountEntry, AccountId, LedgerEntry, LedgerEntryBody, LedgerKey, LiquidityPoolEntry,
+    TrustLineEntry,
 };
 use std::alloc::{AllocError, Global};
 use std::collections::BTreeMap;
 
-/// A number that accounts state, or accounts and lines, and that all entries together count.
+/// A number that accounts, lines or pools state, and that all entries together count.
 #[derive(Clone, Copy)]
 pub enum Book {
     /// How many subentries an account has.
@@ -42,6 +44,12 @@ pub enum Book {
     Selling,
     /// How much offers may put into an account or a line.
     Buying,
+    /// How many shares of a pool there are.
+    Shares,
+    /// How many lines there are in shares of a pool.
+    ShareLines,
+    /// How many lines of pool shares need a line.
+    Uses,
 }
 
 /// Counts one for each account that is named.
@@ -69,7 +77,7 @@ fn add_signers(tally: &mut Tally, body: &LedgerEntryBody) -> Result<(), AllocErr
 
 /// Counts what the sponsors in an entry pay.
 fn add_payers(tally: &mut Tally, entry: &LedgerEntry) -> Result<(), AllocError>
-    ensures { OnOk result (Adds tally.old tally.new (λ k. counted_else book.Sponsoring k entry.now)) }
+    ensures { OnOk result (Adds tally.old tally.new (λ k. payers_pay k entry.now)) }
 {
     add_for(tally, sponsor_in(&entry.ext), multiplicity(&entry.body))?;
     add_signers(tally, &entry.body)
@@ -87,7 +95,7 @@ fn paid_for(entry: &LedgerEntry) -> u64
 
 /// Counts the reserves of an entry's owner that others pay, unless the entry is the owner itself.
 fn add_paid_for(tally: &mut Tally, entry: &LedgerEntry) -> Result<(), AllocError>
-    ensures { OnOk result (Adds tally.old tally.new (λ k. counted_else book.Sponsored k entry.now)) }
+    ensures { OnOk result (Adds tally.old tally.new (λ k. owner_is_paid k entry.now)) }
 {
     let owner = other_owner(&entry.body);
     add_for(tally, owner, paid_for(entry))?;
@@ -123,9 +131,14 @@ fn add_bought(tally: &mut Tally, body: &LedgerEntryBody) -> Result<(), AllocErro
 }
 
 /// Counts what an entry counts for others in a book.
-fn add_entry(tally: &mut Tally, book: Book, entry: &LedgerEntry) -> Result<(), AllocError>
+fn add_entry(
+    tally: &mut Tally,
+    book: Book,
+    entries: &EntryTable,
+    entry: &LedgerEntry,
+) -> Result<(), AllocError>
     requires { AreTerms entry.now.body }
-    ensures { OnOk result (Adds tally.old tally.new (λ k. counted_else book k entry.now)) }
+    ensures { OnOk result (Adds tally.old tally.new (λ k. counted_else (pools_in entries.now) book k entry.now)) }
 {
     match book {
         Book::Subentries => { add_for(tally, other_owner(&entry.body), subentries_in(&entry.body)) }
@@ -133,6 +146,9 @@ fn add_entry(tally: &mut Tally, book: Book, entry: &LedgerEntry) -> Result<(), A
         Book::Sponsored => add_paid_for(tally, entry),
         Book::Selling => add_sold(tally, &entry.body),
         Book::Buying => add_bought(tally, &entry.body),
+        Book::Shares => add_shares(tally, &entry.body),
+        Book::ShareLines => add_share_line(tally, &entry.body),
+        Book::Uses => add_uses(tally, entries, &entry.body),
     }
 }
 
@@ -143,7 +159,7 @@ fn tally_of(alloc: Global, book: Book, entries: &EntryTable) -> Result<Tally, Al
 {
     let mut tally = BTreeMap::new(alloc);
     for place in 0..entries.len() {
-        add_entry(&mut tally, book, entries.entry(place))?;
+        add_entry(&mut tally, book, entries, entries.entry(place))?;
     }
     Ok(tally)
 }
@@ -158,6 +174,9 @@ fn stated_in(book: Book, account: &AccountEntry) -> i64
         Book::Sponsored => i64::from(num_sponsored(account)),
         Book::Selling => account_liabilities(account).selling,
         Book::Buying => account_liabilities(account).buying,
+        Book::Shares => 0,
+        Book::ShareLines => 0,
+        Book::Uses => 0,
     }
 }
 
@@ -171,6 +190,20 @@ fn stated_by_line(book: Book, line: &TrustLineEntry) -> i64
         Book::Sponsored => 0,
         Book::Selling => line_liabilities(line).selling,
         Book::Buying => line_liabilities(line).buying,
+        Book::Shares => 0,
+        Book::ShareLines => 0,
+        Book::Uses => i64::from(use_count(line)),
+    }
+}
+
+/// What a pool states in a book.
+fn stated_by_pool(book: Book, pool: &LiquidityPoolEntry) -> i64
+    ensures { stated (kind_of book) (body.LiquidityPool pool.now) ≡ result }
+{
+    match book {
+        Book::Shares => pool.total_pool_shares,
+        Book::ShareLines => pool.pool_shares_trust_line_count,
+        _ => 0,
     }
 }
 
@@ -184,8 +217,7 @@ fn with_own(count: u64, book: Book, entry: &LedgerEntry) -> u64
         Book::Sponsored => count
             .saturating_add(paid_for(entry))
             .saturating_add(sponsored_signers(&entry.body)),
-        Book::Selling => count,
-        Book::Buying => count,
+        _ => count,
     }
 }
 
@@ -196,7 +228,7 @@ fn is_count(count: u64, number: i64) -> bool
     i128::from(count) == i128::from(number)
 }
 
-/// Whether an account or a line states what is counted for it. What is neither states nothing.
+/// Whether an account, a line or a pool states what is counted for it. What is none of them states nothing.
 fn agrees(tally: &Tally, book: Book, entry: &LedgerEntry) -> bool
     ensures { Agrees tally.now book entry.now result }
 {
@@ -215,11 +247,17 @@ fn agrees(tally: &Tally, book: Book, entry: &LedgerEntry) -> bool
             };
             is_count(count_of(tally, &key), stated_by_line(book, line))
         }
+        LedgerEntryBody::LiquidityPool(pool) => {
+            let key = LedgerKey::LiquidityPool {
+                pool_id: pool.pool_id,
+            };
+            is_count(count_of(tally, &key), stated_by_pool(book, pool))
+        }
         _ => true,
     }
 }
 
-/// Whether each account and each line states what is counted for it.
+/// Whether each account, each line and each pool states what is counted for it.
 fn do_all_agree(tally: &Tally, book: Book, entries: &EntryTable) -> bool
     requires owned { AreOwned entries.now }
     requires counted { AreCounts book entries.now tally.now }
@@ -233,7 +271,7 @@ fn do_all_agree(tally: &Tally, book: Book, entries: &EntryTable) -> bool
     true
 }
 
-/// Whether each account and each line states in a book what all entries count for it.
+/// Whether each account, each line and each pool states in a book what all entries count for it.
 pub fn is_booked(alloc: Global, book: Book, entries: &EntryTable) -> Result<bool, AllocError>
     requires owned { AreOwned entries.now }
     requires terms { HaveTerms entries.now }

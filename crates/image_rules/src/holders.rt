@@ -1,7 +1,8 @@
-//! Where accounts have what their offers trade (CAP-0003).
+//! Where accounts have what their offers trade (CAP-0003), and what they need for shares of pools (CAP-0038).
 
 ghost use Rattle.std.specs.Prelude.{◌≡◌};
 ghost use Rattle.legal_rules.specs.Trades as spec;
+ghost use Rattle.legal_rules.specs.PoolShares as shares;
 
 use ledger_types::{AccountId, Asset, LedgerKey, TrustLineAsset};
 
@@ -32,5 +33,16 @@ pub fn holder(id: &AccountId, asset: &Asset) -> Option<LedgerKey>
                 })
             }
         }
+    }
+}
+
+/// The key of the line that an account needs in an asset of a pool, to have shares of it. It needs none in lumens or in
+/// its own asset.
+pub fn needed_line(id: &AccountId, asset: &Asset) -> Option<LedgerKey>
+    ensures { result ≡ shares.needed_line id.now asset.now }
+{
+    match asset {
+        Asset::Native => None,
+        _ => holder(id, asset),
     }
 }

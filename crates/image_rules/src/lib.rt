@@ -1,5 +1,4 @@
-//! The rules of a start image that are of its entries, judged in their order. So far entries are all but pools and
-//! lines of pool shares.
+//! The rules of a start image that are of its entries, judged in their order.
 #![tactic(auto)]
 
 mod authorized;
@@ -16,14 +15,16 @@ mod offer_ids;
 mod offers;
 mod owners;
 mod parts;
+mod pool_ranges;
 mod pools;
 mod ranges;
 mod room;
+mod shares;
 mod signers;
 mod sponsorship;
+mod standing_pools;
 mod subentries;
 mod verdict;
 
-pub use entry_tests::are_built;
 pub use fields::are_fields_in_range;
 pub use verdict::first_broken;

@@ -4,8 +4,8 @@ ghost use Rattle.std.specs.Prelude.{◌≡◌, ◌↔◌, pos, negsuc, ◌+ℤ�
 ghost use Rattle.ledger_types.specs.declared.asset.Asset.TheVariants.{Native};
 ghost use Rattle.entry_sums.specs.Sums.{total};
 ghost use Rattle.legal_rules.specs.Supply.{held, held_in, of_asset};
-ghost use Rattle.close_rules.specs.State.{IsBuiltBody, AreBuilt};
 ghost use Rattle.close_rules.specs.EntryRules.{AreLumensCounted};
+ghost use Rattle.image_rules.specs.Terms.{AreTerms, HaveTerms};
 
 use entry_table::EntryTable;
 use ledger_types::{Asset, LedgerEntryBody, LedgerHeader};
@@ -20,9 +20,10 @@ fn lumens_among(asset: &Asset, amount: i64) -> i64
     }
 }
 
-/// The lumens that an account or a claimable balance holds. Lines, offers and data hold none.
+/// The lumens that an account, a claimable balance or a pool holds. Lines, offers and data hold none. Lumens are below
+/// all other assets, so they are never the second asset of a pool.
 fn lumens_in(body: &LedgerEntryBody) -> i64
-    requires { IsBuiltBody body.now }
+    requires { AreTerms body.now }
     ensures value { held_in Native body.now ≡ result }
     ensures low { negsuc 9223372036854775807 ≤ℤ result }
     ensures high { result ≤ℤ pos 9223372036854775807 }
@@ -33,13 +34,13 @@ fn lumens_in(body: &LedgerEntryBody) -> i64
         LedgerEntryBody::Offer(_) => 0,
         LedgerEntryBody::Data(_) => 0,
         LedgerEntryBody::ClaimableBalance(balance) => lumens_among(&balance.asset, balance.amount),
-        _ => unreachable!(),
+        LedgerEntryBody::LiquidityPool(pool) => lumens_among(&pool.params.asset_a, pool.reserve_a),
     }
 }
 
 /// The lumens that all entries hold. The sum of all balances may pass 64 bits.
 fn lumens_of(entries: &EntryTable) -> i128
-    requires { AreBuilt entries.now }
+    requires { HaveTerms entries.now }
     ensures { result ≡ total (held Native) entries.now }
 {
     let mut sum = 0i128;
@@ -59,7 +60,7 @@ fn is_total(lumens: i128, fee_pool: i64, total_coins: i64) -> bool
 
 /// Whether the lumens that entries hold and the fee pool are the header's total.
 pub fn are_lumens_counted(header: &LedgerHeader, entries: &EntryTable) -> bool
-    requires { AreBuilt entries.now }
+    requires { HaveTerms entries.now }
     ensures { IsTrue result ↔ AreLumensCounted header.now entries.now }
 {
     is_total(lumens_of(entries), header.fee_pool, header.total_coins)

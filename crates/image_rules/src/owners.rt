@@ -1,6 +1,6 @@
 //! Rule 8: what entries need stands, and offers have distinct ids.
 
-ghost use Rattle.std.specs.Prelude.{◌≢◌, ◌↔◌, ◌++◌, None, All, IsTrue, IfOk};
+ghost use Rattle.std.specs.Prelude.{◌≢◌, ◌↔◌, ◌++◌, ◌∷◌, None, All, IsTrue, IfOk};
 ghost use Rattle.std.specs.List.{flat_map};
 ghost use Rattle.std.specs.FinMap.{get};
 ghost use Rattle.ledger_types.specs.declared.key.LedgerKey.TheVariants as key;
@@ -8,19 +8,22 @@ ghost use Rattle.ledger_types.specs.Keys.{key_of, key_of_body};
 ghost use Rattle.sponsor_rules.specs.Charge as charge;
 ghost use Rattle.legal_rules.specs.Reserves.{signer_sponsors_in};
 ghost use Rattle.entry_sums.specs.Sums.{EachEntry};
-ghost use Rattle.legal_rules.specs.Needs.{account_keys, keys_in, holding_keys, needed_keys};
+ghost use Rattle.legal_rules.specs.Needs.{account_keys, keys_in, share_keys, pool_keys, holding_keys, needed_keys};
 ghost use Rattle.legal_rules.specs.Trades as spec;
 ghost use Rattle.legal_rules.specs.Legal.{pools_in};
-ghost use Rattle.close_rules.specs.State.{IsBuiltBody, AreBuilt};
 ghost use Rattle.close_rules.specs.EntryRules.{AreOwned};
 
-use crate::holders::holder;
+use crate::holders::{holder, needed_line};
 use crate::offer_ids::are_offers_apart;
 use crate::parts::{owner_of, sponsorship};
+use crate::standing_pools::pool_params;
 use entry_map::Base;
 use entry_slots::sponsor_in;
 use entry_table::EntryTable;
-use ledger_types::{AccountId, LedgerEntry, LedgerEntryBody, LedgerKey, OfferEntry};
+use ledger_types::{
+    AccountId, Hash, LedgerEntry, LedgerEntryBody, LedgerKey, OfferEntry, PoolParams,
+    TrustLineAsset,
+};
 use std::alloc::{AllocError, Global};
 
 /// Whether an account stands.
@@ -106,13 +109,67 @@ fn are_both_there(entries: &EntryTable, offer: &OfferEntry) -> Result<bool, Allo
     Ok(sold && bought)
 }
 
-/// Whether what an entry trades in stands, if it is an offer. No line needs a pool.
+/// Whether the lines stand that an account needs for its shares of a pool.
+fn are_needed_there(
+    entries: &EntryTable,
+    id: &AccountId,
+    params: &Option<PoolParams>,
+) -> Result<bool, AllocError>
+    ensures { IfOk result (λ there. IsTrue there ↔ All (λ q. get entries.now q ≢ None) (share_keys id.now params.now)) }
+{
+    match params {
+        None => Ok(true),
+        Some(params) => {
+            let first = is_key_there(entries, needed_line(id, &params.asset_a))?;
+            let second = is_key_there(entries, needed_line(id, &params.asset_b))?;
+            Ok(first && second)
+        }
+    }
+}
+
+/// Whether a pool stands.
+fn has_pool(entries: &EntryTable, pool_id: Hash) -> Result<bool, AllocError>
+    ensures { IfOk result (λ there. IsTrue there ↔ (get entries.now (key.LiquidityPool pool_id) ≢ None)) }
+{
+    let found = entries.find(&LedgerKey::LiquidityPool { pool_id })?;
+    Ok(found.is_some())
+}
+
+/// Whether a pool stands, and the lines that an account needs for its shares.
+fn is_share_there(entries: &EntryTable, id: &AccountId, pool_id: Hash) -> Result<bool, AllocError>
+    ensures { IfOk result (λ there. IsTrue there ↔ All (λ q. get entries.now q ≢ None)
+        (key.LiquidityPool pool_id ∷ share_keys id.now (pools_in entries.now pool_id))) }
+{
+    let pool = has_pool(entries, pool_id)?;
+    let params = pool_params(entries, pool_id)?;
+    let lines = are_needed_there(entries, id, &params)?;
+    Ok(pool && lines)
+}
+
+/// Whether what a line needs stands, if it is one of pool shares.
+fn are_shares_there(
+    entries: &EntryTable,
+    id: &AccountId,
+    asset: &TrustLineAsset,
+) -> Result<bool, AllocError>
+    ensures { IfOk result (λ there.
+        IsTrue there ↔ All (λ q. get entries.now q ≢ None) (pool_keys (pools_in entries.now) id.now asset.now)) }
+{
+    match *asset {
+        TrustLineAsset::PoolShare(pool_id) => is_share_there(entries, id, pool_id),
+        _ => Ok(true),
+    }
+}
+
+/// Whether what an entry holds or trades in stands, if it is a line of pool shares or an offer.
 fn are_holders_there(entries: &EntryTable, body: &LedgerEntryBody) -> Result<bool, AllocError>
-    requires { IsBuiltBody body.now }
     ensures { IfOk result (λ there.
         IsTrue there ↔ All (λ q. get entries.now q ≢ None) (holding_keys (pools_in entries.now) body.now)) }
 {
     match body {
+        LedgerEntryBody::TrustLine(line) => {
+            are_shares_there(entries, &line.account_id, &line.asset)
+        }
         LedgerEntryBody::Offer(offer) => are_both_there(entries, offer),
         _ => Ok(true),
     }
@@ -127,8 +184,7 @@ fn are_all(owner: bool, sponsor: bool, payers: bool, holders: bool) -> bool
 
 /// Whether what an entry needs stands.
 fn is_owned(entries: &EntryTable, entry: &LedgerEntry) -> Result<bool, AllocError>
-    requires built { IsBuiltBody entry.now.body }
-    requires stands { get entries.now (key_of entry.now) ≢ None }
+    requires { get entries.now (key_of entry.now) ≢ None }
     ensures { IfOk result (λ kept.
         IsTrue kept ↔ All (λ q. get entries.now q ≢ None) (needed_keys (pools_in entries.now) entry.now)) }
 {
@@ -141,7 +197,6 @@ fn is_owned(entries: &EntryTable, entry: &LedgerEntry) -> Result<bool, AllocErro
 
 /// Whether what each entry needs stands.
 fn are_all_owned(entries: &EntryTable) -> Result<bool, AllocError>
-    requires { AreBuilt entries.now }
     ensures { IfOk result (λ kept. IsTrue kept
         ↔ EachEntry (λ k e. All (λ q. get entries.now q ≢ None) (needed_keys (pools_in entries.now) e)) entries.now) }
 {
@@ -156,7 +211,6 @@ fn are_all_owned(entries: &EntryTable) -> Result<bool, AllocError>
 
 /// Whether what each entry needs stands, and offers have distinct ids.
 pub fn are_owned(alloc: Global, entries: &EntryTable) -> Result<bool, AllocError>
-    requires { AreBuilt entries.now }
     ensures { IfOk result (λ kept. IsTrue kept ↔ AreOwned entries.now) }
 {
     let owned = are_all_owned(entries)?;

@@ -1,29 +1,56 @@
-//! Rule 12: shares of pools are counted.
+//! Rule 12: shares of pools, their lines and what these use are counted, and each pool is filled or empty (CAP-0038).
 
-ghost use Rattle.std.specs.Prelude.{◌↔◌, IsTrue};
-ghost use Rattle.close_rules.specs.State.{AreBuilt};
-ghost use Rattle.close_rules.specs.EntryRules.{ArePoolsCounted};
-ghost use Rattle.image_rules.specs.EntryTests.{IsUnused};
+ghost use Rattle.std.specs.Prelude.{◌≡◌, ◌↔◌, pos, ◌<ℤ◌, IsTrue, IfOk};
+ghost use Rattle.legal_rules.specs.Bounds.{IsFilledOrEmpty};
+ghost use Rattle.close_rules.specs.EntryRules.{AreOwned, ArePoolsCounted};
+ghost use Rattle.image_rules.specs.Terms.{HaveTerms};
 
+use crate::books::{Book, is_booked};
 use crate::entry_tests::{EntryTest, do_all_pass};
-use entry_slots::use_count;
 use entry_table::EntryTable;
-use ledger_types::LedgerEntryBody;
+use ledger_types::{LedgerEntryBody, LiquidityPoolEntry};
+use std::alloc::{AllocError, Global};
 
-/// Whether an entry states no uses by pools.
-pub fn is_unused(body: &LedgerEntryBody) -> bool
-    ensures { IsTrue result ↔ IsUnused body.now }
+/// Whether a pool has both reserves, and shares of them.
+fn is_filled(pool: &LiquidityPoolEntry) -> bool
+    ensures { IsTrue result ↔ ((pos 0 <ℤ pool.now.reserve_a) × (pos 0 <ℤ pool.now.reserve_b)
+        × (pos 0 <ℤ pool.now.total_pool_shares)) }
+{
+    0 < pool.reserve_a && 0 < pool.reserve_b && 0 < pool.total_pool_shares
+}
+
+/// Whether a pool has neither reserves nor shares.
+fn is_empty(pool: &LiquidityPoolEntry) -> bool
+    ensures { IsTrue result ↔ ((pool.now.reserve_a ≡ pos 0) × (pool.now.reserve_b ≡ pos 0)
+        × (pool.now.total_pool_shares ≡ pos 0)) }
+{
+    pool.reserve_a == 0 && pool.reserve_b == 0 && pool.total_pool_shares == 0
+}
+
+/// Whether a pool has both reserves and shares, or none of the three.
+pub fn is_filled_or_empty(body: &LedgerEntryBody) -> bool
+    ensures { IsTrue result ↔ IsFilledOrEmpty body.now }
 {
     match body {
-        LedgerEntryBody::TrustLine(line) => use_count(line) == 0,
+        LedgerEntryBody::LiquidityPool(pool) => {
+            let filled = is_filled(pool);
+            let empty = is_empty(pool);
+            filled || empty
+        }
         _ => true,
     }
 }
 
-/// Whether shares of pools are counted. There is neither a pool nor a line of shares, so no line is used by one.
-pub fn are_pools_counted(entries: &EntryTable) -> bool
-    requires { AreBuilt entries.now }
-    ensures { IsTrue result ↔ ArePoolsCounted entries.now }
+/// Whether each pool states its shares and their lines, and each line how many lines of shares use it, and whether each
+/// pool is filled or empty.
+pub fn are_pools_counted(alloc: Global, entries: &EntryTable) -> Result<bool, AllocError>
+    requires owned { AreOwned entries.now }
+    requires terms { HaveTerms entries.now }
+    ensures { IfOk result (λ kept. IsTrue kept ↔ ArePoolsCounted entries.now) }
 {
-    do_all_pass(EntryTest::Unused, entries)
+    let filled = do_all_pass(EntryTest::Filled, entries);
+    let shares = is_booked(alloc, Book::Shares, entries)?;
+    let lines = is_booked(alloc, Book::ShareLines, entries)?;
+    let uses = is_booked(alloc, Book::Uses, entries)?;
+    Ok(filled && shares && lines && uses)
 }

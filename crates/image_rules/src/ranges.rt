@@ -2,9 +2,10 @@
 
 ghost use Rattle.std.specs.Prelude.{◌≢◌, ◌↔◌, None, IsTrue, IfOk};
 ghost use Rattle.reserve_rules.specs.Reserve.{IsInRange};
+ghost use Rattle.entry_sums.specs.Sums.{EachEntry};
 ghost use Rattle.legal_rules.specs.Ranges as spec;
-ghost use Rattle.close_rules.specs.State.{IsBuiltBody, AreBuilt};
 ghost use Rattle.close_rules.specs.EntryRules.{AreInRange};
+ghost use Rattle.image_rules.specs.PoolRanges.{IsBodyInRangeButId, IsEntryInRangeButId};
 
 use crate::authorized::are_all_authorized;
 use crate::claimables::is_claimable_in_range;
@@ -12,6 +13,7 @@ use crate::entry_tests::{EntryTest, do_all_pass};
 use crate::lines::is_line_in_range;
 use crate::offers::is_offer_in_range;
 use crate::parts::owner_of;
+use crate::pool_ranges::{have_pool_ids, is_pool_in_range};
 use crate::room::fits_within;
 use crate::signers::are_signers_in_range;
 use entry_slots::{account_liabilities, sponsor_in};
@@ -59,10 +61,9 @@ fn is_data_in_range(entry: &DataEntry) -> bool
     1 <= entry.data_name.len() && name
 }
 
-/// Whether what an entry is, is in its ranges.
+/// Whether what an entry is, is in its ranges, whatever id a pool has.
 fn is_body_in_range(id_pool: u64, body: &LedgerEntryBody) -> bool
-    requires { IsBuiltBody body.now }
-    ensures { IsTrue result ↔ spec.IsBodyInRange id_pool body.now }
+    ensures { IsTrue result ↔ IsBodyInRangeButId id_pool body.now }
 {
     match body {
         LedgerEntryBody::Account(account) => is_account_in_range(account),
@@ -70,7 +71,7 @@ fn is_body_in_range(id_pool: u64, body: &LedgerEntryBody) -> bool
         LedgerEntryBody::Offer(offer) => is_offer_in_range(id_pool, offer),
         LedgerEntryBody::Data(entry) => is_data_in_range(entry),
         LedgerEntryBody::ClaimableBalance(balance) => is_claimable_in_range(balance),
-        _ => unreachable!(),
+        LedgerEntryBody::LiquidityPool(pool) => is_pool_in_range(pool),
     }
 }
 
@@ -92,25 +93,33 @@ fn is_paid_rightly(body: &LedgerEntryBody, sponsor: Option<AccountId>) -> bool
     }
 }
 
-/// Whether an entry is in its ranges.
+/// Whether an entry is in its ranges, whatever id a pool has.
 pub fn is_entry_in_range(id_pool: u64, entry: &LedgerEntry) -> bool
-    requires { IsBuiltBody entry.now.body }
-    ensures { IsTrue result ↔ spec.IsEntryInRange id_pool entry.now }
+    ensures { IsTrue result ↔ IsEntryInRangeButId id_pool entry.now }
 {
     let body = is_body_in_range(id_pool, &entry.body);
     let paid = is_paid_rightly(&entry.body, sponsor_in(&entry.ext));
     body && paid
 }
 
-/// Whether each entry is in its ranges, and the lines of offers are authorised.
-pub fn are_in_range(header: &LedgerHeader, entries: &EntryTable) -> Result<bool, AllocError>
-    requires { AreBuilt entries.now }
-    ensures { IfOk result (λ kept. IsTrue kept ↔ AreInRange header.now entries.now) }
+/// Whether each entry is in its ranges.
+fn are_all_in_range(header: &LedgerHeader, entries: &EntryTable) -> Result<bool, AllocError>
+    ensures { IfOk result (λ kept.
+        IsTrue kept ↔ EachEntry (λ k e. spec.IsEntryInRange header.now.id_pool e) entries.now) }
 {
     let test = EntryTest::InRange {
         id_pool: header.id_pool,
     };
     let within = do_all_pass(test, entries);
+    let named = have_pool_ids(header.scp_value.upgrades.allocator(), entries)?;
+    Ok(within && named)
+}
+
+/// Whether each entry is in its ranges, and the lines of offers are authorised.
+pub fn are_in_range(header: &LedgerHeader, entries: &EntryTable) -> Result<bool, AllocError>
+    ensures { IfOk result (λ kept. IsTrue kept ↔ AreInRange header.now entries.now) }
+{
+    let within = are_all_in_range(header, entries)?;
     let authorized = are_all_authorized(entries)?;
     Ok(within && authorized)
 }

@@ -1,7 +1,6 @@
 //! The first rule of entries that is broken.
 
 ghost use Rattle.std.specs.Prelude.{IfOk};
-ghost use Rattle.close_rules.specs.State.{AreBuilt};
 ghost use Rattle.close_rules.specs.EntryRules as spec;
 ghost use Rattle.image_rules.specs.RuleLists.{book_rules, sum_rules};
 ghost use Rattle.image_rules.specs.Terms.{HaveTerms};
@@ -19,17 +18,22 @@ use ledger_types::LedgerHeader;
 use std::alloc::AllocError;
 
 /// The first of the rules of pools and lumens that is broken, if one is.
-fn first_of_sums(header: &LedgerHeader, entries: &EntryTable) -> Option<ImageRule>
-    requires { AreBuilt entries.now }
-    ensures { spec.IsFirstBroken header.now entries.now sum_rules result }
+fn first_of_sums(
+    header: &LedgerHeader,
+    entries: &EntryTable,
+) -> Result<Option<ImageRule>, AllocError>
+    requires owned { spec.AreOwned entries.now }
+    requires terms { HaveTerms entries.now }
+    ensures { IfOk result (λ broken. spec.IsFirstBroken header.now entries.now sum_rules broken) }
 {
-    if !are_pools_counted(entries) {
-        return Some(ImageRule::Pools);
+    let pools = are_pools_counted(header.scp_value.upgrades.allocator(), entries)?;
+    if !pools {
+        return Ok(Some(ImageRule::Pools));
     }
     if !are_lumens_counted(header, entries) {
-        return Some(ImageRule::Lumens);
+        return Ok(Some(ImageRule::Lumens));
     }
-    None
+    Ok(None)
 }
 
 /// The first of the rules from the books on that is broken, if one is.
@@ -37,7 +41,6 @@ fn first_of_books(
     header: &LedgerHeader,
     entries: &EntryTable,
 ) -> Result<Option<ImageRule>, AllocError>
-    requires built { AreBuilt entries.now }
     requires owned { spec.AreOwned entries.now }
     requires terms { HaveTerms entries.now }
     ensures { IfOk result (λ broken. spec.IsFirstBroken header.now entries.now book_rules broken) }
@@ -51,16 +54,14 @@ fn first_of_books(
     if !sponsors {
         return Ok(Some(ImageRule::Sponsorship));
     }
-    Ok(first_of_sums(header, entries))
+    first_of_sums(header, entries)
 }
 
-/// The first rule of the entries behind a ledger that is broken, if one is. None of them is a pool or a line of pool
-/// shares.
+/// The first rule of the entries behind a ledger that is broken, if one is.
 pub fn first_broken(
     header: &LedgerHeader,
     entries: &EntryTable,
 ) -> Result<Option<ImageRule>, AllocError>
-    requires { AreBuilt entries.now }
     ensures { IfOk result (λ broken. spec.IsFirstBroken header.now entries.now spec.entry_rules broken) }
 {
     let within = are_in_range(header, entries)?;

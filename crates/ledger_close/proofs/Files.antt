@@ -52,7 +52,6 @@ told_of {T = T} answered file copied wrong answer law same told failed is =
 
 pub weaker : {P Q : Type 0} (wrong : ImageFault) → (P → Q) → IsFileFault wrong P → IsFileFault wrong Q
 weaker fault.NoMemory on h = tt
-weaker fault.NotBuilt on h = absurd h
 weaker (fault.BadImage rule.Header) on h = absurd h
 weaker (fault.BadImage rule.Version) on h = absurd h
 weaker (fault.BadImage rule.Fields) on h = absurd h

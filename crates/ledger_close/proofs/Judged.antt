@@ -38,7 +38,7 @@ use Rattle.close_rules.specs.declared.image_fault.ImageFault.{ImageFault}
 use Rattle.close_rules.specs.declared.image_fault.ImageFault.TheVariants as fault
 use Rattle.close_rules.specs.declared.image_fault.ImageRule.{ImageRule}
 use Rattle.close_rules.specs.declared.image_fault.ImageRule.TheVariants as rule
-use Rattle.close_rules.specs.State.{IsClosingState, IsSpelled, AreBuilt, max_file_total}
+use Rattle.close_rules.specs.State.{IsClosingState, IsSpelled, max_file_total}
 use Rattle.close_rules.specs.EntryRules.{IsFirstBroken, entry_rules}
 use Rattle.close_rules.specs.Images.{header_in, read_whole, if_whole, AreFilesOf, HasHeader}
 use Rattle.close_rules.specs.Images.{HasLevels, HasEntries, state_of}
@@ -111,23 +111,23 @@ early h m other none broken = never_first h m entry_rules other none broken
 
 -- the first rule of entries that is broken
 pub by_rule : (h : LedgerHeader) (levels : List Pair) (m : EntryMap) (first : ImageRule)
-    → list_hash levels ≡ h.bucket_list_hash → AreBuilt m → IsFirstBroken h m entry_rules (Some first)
+    → list_hash levels ≡ h.bucket_list_hash → IsFirstBroken h m entry_rules (Some first)
     → AreJudged h levels m (Err (fault.BadImage first))
-by_rule h levels m rule.ListHash hash built broken =
+by_rule h levels m rule.ListHash hash broken =
     absurd (early h m rule.ListHash
     ((λ e. cc), ((λ e. cc), ((λ e. cc), ((λ e. cc), ((λ e. cc), ((λ e. cc), ((λ e. cc), tt))))))) broken)
-by_rule h levels m rule.Header hash built broken = (hash, built, broken)
-by_rule h levels m rule.Version hash built broken = (hash, built, broken)
-by_rule h levels m rule.Fields hash built broken = (hash, built, broken)
-by_rule h levels m rule.Bucket hash built broken = (hash, built, broken)
-by_rule h levels m rule.Marks hash built broken = (hash, built, broken)
-by_rule h levels m rule.Entry hash built broken = (hash, built, broken)
-by_rule h levels m rule.Owner hash built broken = (hash, built, broken)
-by_rule h levels m rule.Liabilities hash built broken = (hash, built, broken)
-by_rule h levels m rule.Subentries hash built broken = (hash, built, broken)
-by_rule h levels m rule.Sponsorship hash built broken = (hash, built, broken)
-by_rule h levels m rule.Pools hash built broken = (hash, built, broken)
-by_rule h levels m rule.Lumens hash built broken = (hash, built, broken)
+by_rule h levels m rule.Header hash broken = (hash, broken)
+by_rule h levels m rule.Version hash broken = (hash, broken)
+by_rule h levels m rule.Fields hash broken = (hash, broken)
+by_rule h levels m rule.Bucket hash broken = (hash, broken)
+by_rule h levels m rule.Marks hash broken = (hash, broken)
+by_rule h levels m rule.Entry hash broken = (hash, broken)
+by_rule h levels m rule.Owner hash broken = (hash, broken)
+by_rule h levels m rule.Liabilities hash broken = (hash, broken)
+by_rule h levels m rule.Subentries hash broken = (hash, broken)
+by_rule h levels m rule.Sponsorship hash broken = (hash, broken)
+by_rule h levels m rule.Pools hash broken = (hash, broken)
+by_rule h levels m rule.Lumens hash broken = (hash, broken)
 
 pub has_entries : (image : StartImage) (h : LedgerHeader) (levels : List Pair) (m : EntryMap)
     → HasLevels image h levels → Stands levels m → list_hash levels ≡ h.bucket_list_hash → HasEntries image h levels m
@@ -138,38 +138,36 @@ pub by_entries : (network : Hash) (image : StartImage) (h : LedgerHeader) (level
     (wrong : ImageFault) → HasLevels image h levels → Stands levels m → AreJudged h levels m (Err wrong)
     → JudgesImage network image (Err wrong)
 by_entries network image h levels m fault.NoMemory has stands f = tt
-by_entries network image h levels m fault.NotBuilt has stands f =
-    (h, levels, m, has_entries image h levels m has stands f.0, f.1)
 by_entries network image h levels m (fault.BadImage rule.ListHash) has stands f = (h, levels, has, stands.marks, f)
 by_entries network image h levels m (fault.BadImage rule.Header) has stands f =
     absurd (early h m rule.Header
-    ((λ e. cc), ((λ e. cc), ((λ e. cc), ((λ e. cc), ((λ e. cc), ((λ e. cc), ((λ e. cc), tt))))))) f.2)
+    ((λ e. cc), ((λ e. cc), ((λ e. cc), ((λ e. cc), ((λ e. cc), ((λ e. cc), ((λ e. cc), tt))))))) f.1)
 by_entries network image h levels m (fault.BadImage rule.Version) has stands f =
     absurd (early h m rule.Version
-    ((λ e. cc), ((λ e. cc), ((λ e. cc), ((λ e. cc), ((λ e. cc), ((λ e. cc), ((λ e. cc), tt))))))) f.2)
+    ((λ e. cc), ((λ e. cc), ((λ e. cc), ((λ e. cc), ((λ e. cc), ((λ e. cc), ((λ e. cc), tt))))))) f.1)
 by_entries network image h levels m (fault.BadImage rule.Fields) has stands f =
     absurd (early h m rule.Fields
-    ((λ e. cc), ((λ e. cc), ((λ e. cc), ((λ e. cc), ((λ e. cc), ((λ e. cc), ((λ e. cc), tt))))))) f.2)
+    ((λ e. cc), ((λ e. cc), ((λ e. cc), ((λ e. cc), ((λ e. cc), ((λ e. cc), ((λ e. cc), tt))))))) f.1)
 by_entries network image h levels m (fault.BadImage rule.Bucket) has stands f =
     absurd (early h m rule.Bucket
-    ((λ e. cc), ((λ e. cc), ((λ e. cc), ((λ e. cc), ((λ e. cc), ((λ e. cc), ((λ e. cc), tt))))))) f.2)
+    ((λ e. cc), ((λ e. cc), ((λ e. cc), ((λ e. cc), ((λ e. cc), ((λ e. cc), ((λ e. cc), tt))))))) f.1)
 by_entries network image h levels m (fault.BadImage rule.Marks) has stands f =
     absurd (early h m rule.Marks
-    ((λ e. cc), ((λ e. cc), ((λ e. cc), ((λ e. cc), ((λ e. cc), ((λ e. cc), ((λ e. cc), tt))))))) f.2)
+    ((λ e. cc), ((λ e. cc), ((λ e. cc), ((λ e. cc), ((λ e. cc), ((λ e. cc), ((λ e. cc), tt))))))) f.1)
 by_entries network image h levels m (fault.BadImage rule.Entry) has stands f =
-    (h, levels, m, has_entries image h levels m has stands f.0, f.1, f.2)
+    (h, levels, m, has_entries image h levels m has stands f.0, f.1)
 by_entries network image h levels m (fault.BadImage rule.Owner) has stands f =
-    (h, levels, m, has_entries image h levels m has stands f.0, f.1, f.2)
+    (h, levels, m, has_entries image h levels m has stands f.0, f.1)
 by_entries network image h levels m (fault.BadImage rule.Liabilities) has stands f =
-    (h, levels, m, has_entries image h levels m has stands f.0, f.1, f.2)
+    (h, levels, m, has_entries image h levels m has stands f.0, f.1)
 by_entries network image h levels m (fault.BadImage rule.Subentries) has stands f =
-    (h, levels, m, has_entries image h levels m has stands f.0, f.1, f.2)
+    (h, levels, m, has_entries image h levels m has stands f.0, f.1)
 by_entries network image h levels m (fault.BadImage rule.Sponsorship) has stands f =
-    (h, levels, m, has_entries image h levels m has stands f.0, f.1, f.2)
+    (h, levels, m, has_entries image h levels m has stands f.0, f.1)
 by_entries network image h levels m (fault.BadImage rule.Pools) has stands f =
-    (h, levels, m, has_entries image h levels m has stands f.0, f.1, f.2)
+    (h, levels, m, has_entries image h levels m has stands f.0, f.1)
 by_entries network image h levels m (fault.BadImage rule.Lumens) has stands f =
-    (h, levels, m, has_entries image h levels m has stands f.0, f.1, f.2)
+    (h, levels, m, has_entries image h levels m has stands f.0, f.1)
 
 -- ---- what stands in files
 
@@ -301,9 +299,9 @@ is_legal image h levels m has kept =
     }
 
 is_closing : (network : Hash) (image : StartImage) (h : LedgerHeader) (levels : List Pair) (m : EntryMap)
-    → HasEntries image h levels m → IsSpelled ledger_header h → AreBuilt m → IsFirstBroken h m entry_rules None
+    → HasEntries image h levels m → IsSpelled ledger_header h → IsFirstBroken h m entry_rules None
     → IsClosingState (state_of network h levels m)
-is_closing network image h levels m has spelled built kept = record {
+is_closing network image h levels m has spelled kept = record {
   legal = is_legal image h levels m has kept;
   count = has.files.files.files.count;
   marked = has.marks;
@@ -311,7 +309,6 @@ is_closing network image h levels m has spelled built kept = record {
   hash = has.hash;
   header = spelled;
   entries = entries_spelled levels m has.files.files.files.have has.standing;
-  built = built;
   files = has.files.files.fit;
 }
 
@@ -331,8 +328,7 @@ pub is_kept : (network digest : Hash) (image : StartImage) (h : LedgerHeader) (m
     → IsWhole image h levels.pairs m → digest ≡ ledger_hash_of h → levels.seq ≡ h.ledger_seq
     → IsKept network digest h m levels
 is_kept network digest image h m levels w hashed number = record {
-  state =
-      is_closing network image h levels.pairs m (whole_has image h levels.pairs m w) w.header.1 w.judged.1 w.judged.2;
+  state = is_closing network image h levels.pairs m (whole_has image h levels.pairs m w) w.header.1 w.judged.1;
   hashed = hashed;
   number = number;
 }
@@ -340,4 +336,4 @@ is_kept network digest image h m levels w hashed number = record {
 pub whole_judged : (network : Hash) (image : StartImage) (h : LedgerHeader) (levels : List Pair) (m : EntryMap)
     → IsWhole image h levels m → JudgesImage network image (Ok (state_of network h levels m))
 whole_judged network image h levels m w =
-    (h, levels, m, whole_has image h levels m w, w.judged.1, w.judged.2, refl)
+    (h, levels, m, whole_has image h levels m w, w.judged.1, refl)

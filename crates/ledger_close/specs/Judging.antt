@@ -12,7 +12,7 @@ use Rattle.close_rules.specs.declared.image_fault.ImageFault.{ImageFault}
 use Rattle.close_rules.specs.declared.image_fault.ImageFault.TheVariants as fault
 use Rattle.close_rules.specs.declared.image_fault.ImageRule.{ImageRule}
 use Rattle.close_rules.specs.declared.image_fault.ImageRule.TheVariants as rule
-use Rattle.close_rules.specs.State.{IsSpelled, AreBuilt, max_file_total}
+use Rattle.close_rules.specs.State.{IsSpelled, max_file_total}
 use Rattle.close_rules.specs.EntryRules.{IsFirstBroken, entry_rules}
 use Rattle.close_rules.specs.Images.{header_in, HasHeader, AreFilesOf, BreaksVersion, BreaksFields}
 
@@ -54,10 +54,8 @@ IsMarksFault levels other = ⊥
 
 -- the hash of the levels and the entries were judged
 abbrev pub AreJudged : LedgerHeader → List Pair → EntryMap → Result (Unit {0}) ImageFault → Type 0
-AreJudged h levels m (Ok done) =
-    (list_hash levels ≡ h.bucket_list_hash) × AreBuilt m × IsFirstBroken h m entry_rules None
+AreJudged h levels m (Ok done) = (list_hash levels ≡ h.bucket_list_hash) × IsFirstBroken h m entry_rules None
 AreJudged h levels m (Err fault.NoMemory) = Unit {0}
-AreJudged h levels m (Err fault.NotBuilt) = (list_hash levels ≡ h.bucket_list_hash) × (AreBuilt m → ⊥)
 AreJudged h levels m (Err (fault.BadImage rule.ListHash)) = list_hash levels ≢ h.bucket_list_hash
 AreJudged h levels m (Err (fault.BadImage other)) =
-    (list_hash levels ≡ h.bucket_list_hash) × AreBuilt m × IsFirstBroken h m entry_rules (Some other)
+    (list_hash levels ≡ h.bucket_list_hash) × IsFirstBroken h m entry_rules (Some other)

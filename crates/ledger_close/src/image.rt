@@ -14,7 +14,7 @@ use bucket_core::laws::a_file_is_of_one_bucket;
 use bucket_levels::{LevelPair, Levels};
 use close_rules::{ImageFault, ImageRule};
 use entry_table::EntryTable;
-use image_rules::{are_built, are_fields_in_range, first_broken};
+use image_rules::{are_fields_in_range, first_broken};
 use item_list::ItemList;
 use ledger_types::{Hash, LedgerHeader};
 use level_entries::level_entries;
@@ -105,7 +105,7 @@ fn is_same_hash(a: &Hash, b: &Hash) -> bool
     a.0.as_slice() == b.0.as_slice()
 }
 
-/// The rules behind that one: the hash of the levels, kinds that are built, and the rules of entries.
+/// The rules behind that one: the hash of the levels, and the rules of entries.
 fn judge_entries(
     header: &LedgerHeader,
     levels: &Levels,
@@ -115,9 +115,6 @@ fn judge_entries(
 {
     if !is_same_hash(&levels.hash(), &header.bucket_list_hash) {
         return Err(broken(ImageRule::ListHash));
-    }
-    if !are_built(entries) {
-        return Err(ImageFault::NotBuilt);
     }
     match first_broken(header, entries)? {
         None => Ok(()),

@@ -1,21 +1,23 @@
 -- The two forms of legality: by what entries state, and by what books owe.
-use Rattle.std.proofs.Common.{◌≡◌, refl, sym, ap, subst, ◌∙◌}
-use Rattle.std.specs.Prelude.{◌-ℤ◌}
+use Rattle.std.proofs.Common.{◌≡◌, refl, sym, ap, subst, ◌∙◌, ℕ}
+use Rattle.std.specs.Prelude.{ℤ, pos, ◌-ℤ◌, if◌then◌else◌}
 use Rattle.std.specs.FinMap.{get}
 use Rattle.ledger_types.specs.declared.asset.Asset.{Asset}
 use Rattle.ledger_types.specs.declared.asset.Asset.TheVariants as asset
 use Rattle.ledger_types.specs.declared.header.LedgerHeader.{LedgerHeader}
 use Rattle.ledger_types.specs.declared.entry.LedgerEntry.{LedgerEntry}
 use Rattle.ledger_types.specs.declared.key.LedgerKey.{LedgerKey}
+use Rattle.ledger_types.specs.Keys.{key_of}
 use Rattle.entry_map.specs.EntryMap.{EntryMap}
 use Rattle.entry_sums.specs.Sums.{total}
 use Rattle.legal_rules.specs.Books.{Kind, Subentries, Sponsoring, Sponsored, Selling, Buying, Shares, ShareLines, Uses}
-use Rattle.legal_rules.specs.Books.{View, counted, stated_at}
-use Rattle.legal_rules.specs.PoolShares.{Pools}
+use Rattle.legal_rules.specs.Books.{View, counted, stated, stated_at}
+use Rattle.legal_rules.specs.EntryKeys.{is_key}
+use Rattle.legal_rules.specs.PoolShares.{Pools, uses}
 use Rattle.legal_rules.specs.Supply.{held}
 use Rattle.legal_rules.specs.Headers.{IsHeaderInRange}
 use Rattle.legal_rules.specs.Legal.{view, pools_in, IsBooked, IsLegal}
-use Rattle.legal_rules.specs.Owing.{nothing_owed, IsLegalOwing}
+use Rattle.legal_rules.specs.Owing.{weight, nothing_owed, IsLegalOwing, AreEntriesLegal}
 use Rattle.legal_rules.proofs.Numbers.{booked, owes_nothing, taken_off, put_on}
 use Rattle.legal_rules.proofs.Weighing.{total_weight}
 use Rattle.legal_rules.proofs.Needed.{needs_stand}
@@ -100,3 +102,36 @@ legal_of h pools m header legal =
       filled = λ k e there. (legal.entries k e there).filled;
       lumens = put_on h.total_coins h.fee_pool (total (held asset.Native) m) legal.supply;
     }
+
+-- ---- other views
+
+-- what is weighed depends on the pools alone
+same_weighed : (v w : View) → v.pools ≡ w.pools → (kind : Kind) (k : LedgerKey) (e : LedgerEntry)
+    → weight v kind k e ≡ weight w kind k e
+same_weighed v w same Uses k e =
+    λ i. uses (same i) k e.body -ℤ (if is_key (key_of e) k then stated Uses e.body else pos 0)
+same_weighed v w same other k e = refl
+
+-- the same entries, whatever asset is asked for
+viewed_by : (v w : View) (id_pool : ℕ) (sum : ℤ) (m : EntryMap) → v.pools ≡ w.pools
+    → IsLegalOwing v id_pool nothing_owed sum m → IsLegalOwing w id_pool nothing_owed (total (held w.asset) m) m
+viewed_by v w id_pool sum m same legal = record {
+  params = λ id. legal.params id ∙ (λ i. same i id);
+  keyed = legal.keyed;
+  entries = legal.entries;
+  offers = legal.offers;
+  books = λ kind k. sym (ap (λ f. total f m) (λ i e. same_weighed v w same kind k e i)) ∙ legal.books kind k;
+  supply = refl;
+}
+
+-- What owes nothing, by whatever it is viewed, is legal entries.
+pub entries_legal : (v : View) (id_pool : ℕ) (sum : ℤ) (m : EntryMap) → IsLegalOwing v id_pool nothing_owed sum m
+    → AreEntriesLegal id_pool m
+entries_legal v id_pool sum m legal =
+    let known : pools_in m ≡ v.pools = λ i id. legal.params id i in
+    viewed_by v (view m) id_pool sum m (sym known) legal
+
+-- Legal entries owe nothing, whatever asset is asked for.
+pub owing_of : (x : Asset) (id_pool : ℕ) (m : EntryMap) → AreEntriesLegal id_pool m
+    → IsLegalOwing (view_of x m) id_pool nothing_owed (total (held x) m) m
+owing_of x id_pool m legal = viewed_by (view m) (view_of x m) id_pool (total (held asset.Native) m) m refl legal

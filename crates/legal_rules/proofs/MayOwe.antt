@@ -7,7 +7,8 @@ use Rattle.ledger_types.specs.declared.key.LedgerKey.{LedgerKey}
 use Rattle.ledger_types.specs.declared.key.LedgerKey.TheVariants as key
 use Rattle.sponsor_laws.specs.Sums.{is_there}
 use Rattle.legal_rules.specs.EntryKeys.{is_key, for_account}
-use Rattle.legal_rules.specs.OneMore.{OneMoreIsRight}
+use Rattle.legal_rules.specs.OneMore.{IsOwedRightly, OneMoreIsRight}
+use Rattle.legal_rules.specs.Owing.{nothing_owed}
 
 not_above : (t : Bool) (n : ℕ) → neg_ℤ (if t then pos n else pos 0) ≤ℤ pos 0
 not_above true n = omega (arith, ints)
@@ -36,4 +37,15 @@ one_more_is_right id sponsor = record {
   trades = record { selling = λ k. omega (arith, ints); buying = λ k. omega (arith, ints) };
   covered = λ k. fewer (is_key (key.Account id) k) (if is_there sponsor then 1 else 0) 1
       (at_most_one (is_there sponsor));
+}
+
+pub nothing_right : IsOwedRightly nothing_owed
+nothing_right = record {
+  reserves = record {
+    subentries = λ k. omega (arith, ints);
+    sponsored = λ k. omega (arith, ints);
+    sponsoring = λ k. omega (arith, ints);
+  };
+  trades = record { selling = λ k. omega (arith, ints); buying = λ k. omega (arith, ints) };
+  covered = λ k. omega (arith, ints);
 }

@@ -14,7 +14,6 @@ use Rattle.ledger_types.specs.declared.asset.TrustLineAsset.{TrustLineAsset}
 use Rattle.ledger_types.specs.declared.asset.TrustLineAsset.TheVariants as line
 use Rattle.ledger_types.specs.declared.trust_line.TrustLineEntry.{TrustLineEntry}
 use Rattle.ledger_types.specs.declared.liquidity_pool.LiquidityPoolEntry.{LiquidityPoolEntry}
-use Rattle.ledger_types.specs.declared.header.LedgerHeader.{LedgerHeader}
 use Rattle.ledger_types.specs.declared.entry.LedgerEntry.{LedgerEntry}
 use Rattle.ledger_types.specs.declared.entry.LedgerEntryBody.{LedgerEntryBody}
 use Rattle.ledger_types.specs.declared.entry.LedgerEntryBody.TheVariants as body
@@ -42,7 +41,7 @@ use Rattle.legal_rules.specs.Ranges.{IsBodyInRange, IsPoolInRange}
 use Rattle.legal_rules.specs.OfferIds.{offer_with}
 use Rattle.legal_rules.specs.Sponsorships.{IsSponsorReady}
 use Rattle.legal_rules.specs.Needs.{keys_in}
-use Rattle.legal_rules.specs.Legal.{params_in, params_of, view, pools_in, IsLegal}
+use Rattle.legal_rules.specs.Legal.{params_in, params_of, view, pools_in}
 use Rattle.legal_rules.specs.Owing.{weighed, Owed, nothing_owed, in_book, plus, less, beside_reserves, IsEntryLegal}
 use Rattle.legal_rules.specs.Owing.{IsLegalOwing}
 use Rattle.legal_rules.specs.ShareLaws.{share_line, share_books, with_uses, map_with_uses_at, map_with_uses, with_lines}
@@ -254,19 +253,19 @@ pool_entry_known None params is = absurd (cc)
 pool_entry_known (Some e) params is = pool_body_known e.body params is
 
 -- a pool whose parameters are known stands
-pool_known : (m : EntryMap) (pool : Hash) (params : PoolParams) → pools_in m pool ≡ Some params
+pub pool_known : (m : EntryMap) (pool : Hash) (params : PoolParams) → pools_in m pool ≡ Some params
     → (p : LiquidityPoolEntry) × (pool_at m pool ≡ Some p)
 unfolding pool_at
 pool_known m pool params is = pool_entry_known (get m (key.LiquidityPool pool)) params is
 
 -- the parameters of a pool that stands are known
-params_known : (m : EntryMap) (pool : Hash) (p : LiquidityPoolEntry) → pool_at m pool ≡ Some p
+pub params_known : (m : EntryMap) (pool : Hash) (p : LiquidityPoolEntry) → pool_at m pool ≡ Some p
     → pools_in m pool ≡ Some p.params
 params_known m pool p stands =
     let found = pool_entry m pool p stands in
     ap params_of found.1.there ∙ ap params_in found.1.is
 
-pool_low : (v : View) (id_pool : ℕ) (owed : Owed) (sum : ℤ) (m : EntryMap) (pool : Hash) (p : LiquidityPoolEntry)
+pub pool_low : (v : View) (id_pool : ℕ) (owed : Owed) (sum : ℤ) (m : EntryMap) (pool : Hash) (p : LiquidityPoolEntry)
     → IsLegalOwing v id_pool owed sum m → pool_at m pool ≡ Some p → pos 0 ≤ℤ p.pool_shares_trust_line_count
 pool_low v id_pool owed sum m pool p legal stands =
     let found = pool_entry m pool p stands in
@@ -358,70 +357,63 @@ counted_alone id pool params ShareLines k = sym (nothing_plus _)
 counted_alone id pool params Uses k = sym (nothing_plus _)
 counted_alone id pool params kind k = refl
 
-module _ (h : LedgerHeader) (ctx : Ctx) (seq : ℕ) (id : AccountId) (pool : Hash) (p : LiquidityPoolEntry) (limit : ℤ)
-    (old added : EntryMap) (legal : IsLegal h old) (stands : pool_at old pool ≡ Some p)
-    (free : get old (key.TrustLine id (line.PoolShare pool)) ≡ None)
-    (range : IsEntryLegal h.id_pool (share_line seq None id pool (pos 0) limit)) (owner : HasAccount old id)
+module _ (v : View) (id_pool : ℕ) (coins : ℤ) (ctx : Ctx) (seq : ℕ) (id : AccountId) (pool : Hash)
+    (p : LiquidityPoolEntry) (limit : ℤ) (old added : EntryMap) (start : IsLegalOwing v id_pool nothing_owed coins old)
+    (stands : pool_at old pool ≡ Some p) (free : get old (key.TrustLine id (line.PoolShare pool)) ≡ None)
+    (range : IsEntryLegal id_pool (share_line seq None id pool (pos 0) limit)) (owner : HasAccount old id)
     (ready : IsSponsorReady ctx id old)
     (done : map_after_adding ctx id (share_line seq None id pool (pos 0) limit) old ≡ Ok added) where
-  abbrev v : View
-  v = view old
-
-  abbrev coins : ℤ
-  coins = h.total_coins -ℤ h.fee_pool
-
   abbrev new_line : LedgerEntry
   new_line = share_line seq None id pool (pos 0) limit
 
-  start : IsLegalOwing v h.id_pool nothing_owed coins old
-  start = owing_nothing h old legal
+  known : v.pools pool ≡ Some p.params
+  known = sym (start.params pool) ∙ params_known old pool p stands
 
-  known : pools_in old pool ≡ Some p.params
-  known = params_known old pool p stands
-
-  open_books : IsLegalOwing v h.id_pool (counts_of (pos 1) id pool p.params) coins added
-  open_books = legal_as v (IsEntryLegal h.id_pool) _ _ coins coins added
-      (share_line_added v h.id_pool h.id_pool nothing_owed coins ctx seq id pool p.params (pos 0) limit old added start
+  open_books : IsLegalOwing v id_pool (counts_of (pos 1) id pool p.params) coins added
+  open_books = legal_as v (IsEntryLegal id_pool) _ _ coins coins added
+      (share_line_added v id_pool id_pool nothing_owed coins ctx seq id pool p.params (pos 0) limit old added start
       known free (omega arith) range owner ready done) (counted_alone id pool p.params) refl
 
   line_stands : (i : AccountId) (x : TrustLineAsset) → get old (key.TrustLine i x) ≢ None
       → get added (key.TrustLine i x) ≢ None
-  line_stands i x there missing = there (sym (stands_still v h.id_pool h.id_pool nothing_owed coins ctx id new_line 2
+  line_stands i x there missing = there (sym (stands_still v id_pool id_pool nothing_owed coins ctx id new_line 2
       old start (record {
         subentry = subentry_of new_line.body id 2 refl;
         free = free;
         unsponsored = refl;
         legal = range;
         wide = omega arith;
-        offers = λ n. plus_none (total (offer_with n) old) (legal.offers n);
+        offers = λ n. plus_none (total (offer_with n) old) (start.offers n);
         owner_stands = owner;
         ready = ready;
       }) added done (key.TrustLine i x) (λ a same. absurd (cc)) (λ same. there (ap (get old) same ∙ free))) ∙ missing)
 
-  kept : HasNeededLines old id p.params → IsLegal h (map_with_share_lines (pos 1) id pool p.params added)
-  kept lines =
+  pub share_line_counted : HasNeededLines old id p.params
+      → IsLegalOwing v id_pool nothing_owed coins (map_with_share_lines (pos 1) id pool p.params added)
+  share_line_counted lines =
       let a = needed_line id p.params.asset_a in
       let b = needed_line id p.params.asset_b in
       let had_a = first_lines (λ k. get old k ≢ None) a (keys_in b) lines in
       let had_b = other_lines (λ k. get old k ≢ None) a (keys_in b) lines in
       let is_a = needs_line id p.params.asset_a in
       let is_b = needs_line id p.params.asset_b in
-      let can_a = can_use_more v h.id_pool _ coins added a is_a open_books
+      let can_a = can_use_more v id_pool _ coins added a is_a open_books
       (each_line old added a is_a line_stands had_a) in
-      let one = once (pos 1) id pool p.params v h.id_pool coins added open_books can_a in
+      let one = once (pos 1) id pool p.params v id_pool coins added open_books can_a in
       let after = map_with_uses (pos 1) id p.params.asset_a added in
-      let can_b = can_use_more v h.id_pool _ coins after b is_b one
+      let can_b = can_use_more v id_pool _ coins after b is_b one
       (each_line old after b is_b (λ i x there. stands_used (pos 1) added a can_a (key.TrustLine i x)
       (line_stands i x there)) had_b) in
-      let two = twice (pos 1) id pool p.params v h.id_pool coins added one can_b in
+      let two = twice (pos 1) id pool p.params v id_pool coins added one can_b in
       let now = pool_known _ pool p.params (two.params pool ∙ known) in
-      legal_of h (pools_in old) _ legal.header
-      (settled (pos 1) id pool p.params v h.id_pool coins added two now.0 now.1
-      (one_more _ (pool_low v h.id_pool _ coins _ pool now.0 two now.1)))
+      settled (pos 1) id pool p.params v id_pool coins added two now.0 now.1
+      (one_more _ (pool_low v id_pool _ coins _ pool now.0 two now.1))
 
 pub adding_share_lines_keep : AddingShareLinesKeep
 adding_share_lines_keep h ctx seq id pool p limit old added legal stands lines free range owner ready done =
-    kept h ctx seq id pool p limit old added legal stands free range owner ready done lines
+    legal_of h (pools_in old) _ legal.header
+    (share_line_counted (view old) h.id_pool (h.total_coins -ℤ h.fee_pool) ctx seq id pool p limit old added
+    (owing_nothing h old legal) stands free range owner ready done lines)
 
 -- ---- a line of pool shares states nothing
 
@@ -528,12 +520,12 @@ line_owes a c x y some is none nothing = omega (arith, ints)
 module _ (v : View) (id_pool : ℕ) (owed : Owed) (sum : ℤ) (m : EntryMap)
     (legal : IsLegalOwing v id_pool owed sum m) where
   -- as much is stated as is counted, and no less than nothing is
-  states_least : (kind : Kind) (k : LedgerKey) → pos 0 ≤ℤ (owed kind k +ℤ stated_at kind (get m k))
+  pub states_least : (kind : Kind) (k : LedgerKey) → pos 0 ≤ℤ (owed kind k +ℤ stated_at kind (get m k))
   states_least kind k = subst (λ n. pos 0 ≤ℤ n) (total_of v (IsEntryLegal id_pool) owed sum m legal kind k)
       (total_not_below (counted v kind k) m (λ q x at. counted_low id_pool v kind k x (legal.entries q x at).range))
 
   -- a line of which more uses are stated than are counted stands, and can be used once less
-  can_use_less : (o : Option LedgerKey) → IsLineKey o
+  pub can_use_less : (o : Option LedgerKey) → IsLineKey o
       → ((k : LedgerKey) → o ≡ Some k → owed Uses k ≤ℤ neg_ℤ (pos 1)) → CanUse (neg_ℤ (pos 1)) m o
   can_use_less None is less = tt
   can_use_less (Some (key.TrustLine id x)) is less =
@@ -543,7 +535,7 @@ module _ (v : View) (id_pool : ℕ) (owed : Owed) (sum : ℤ) (m : EntryMap)
       (λ missing. none_less (stated_at Uses (get m k)) (ap (stated_at Uses) missing) low) low
   can_use_less (Some other) is less = absurd is
 
-  can_count_less : (pool : Hash) (p : LiquidityPoolEntry) → pool_at m pool ≡ Some p
+  pub can_count_less : (pool : Hash) (p : LiquidityPoolEntry) → pool_at m pool ≡ Some p
       → owed ShareLines (key.LiquidityPool pool) ≤ℤ neg_ℤ (pos 1)
       → pos 0 ≤ℤ (p.pool_shares_trust_line_count +ℤ neg_ℤ (pos 1))
   can_count_less pool p stands less =
@@ -553,8 +545,9 @@ module _ (v : View) (id_pool : ℕ) (owed : Owed) (sum : ℤ) (m : EntryMap)
       (one_less (stated_at ShareLines (get m (key.LiquidityPool pool))) (owed ShareLines (key.LiquidityPool pool)) less
       (states_least ShareLines (key.LiquidityPool pool)))
 
-module _ (h : LedgerHeader) (id : AccountId) (pool : Hash) (was : TrustLineEntry) (p : LiquidityPoolEntry)
-    (m : EntryMap) (legal : IsLegal h m) (e : LedgerEntry) where
+module _ (now_v : View) (id_pool : ℕ) (lumens : ℤ) (id : AccountId) (pool : Hash) (was : TrustLineEntry)
+    (p : LiquidityPoolEntry) (m : EntryMap) (at_first : IsLegalOwing now_v id_pool nothing_owed lumens m)
+    (e : LedgerEntry) where
   abbrev share_key : LedgerKey
   share_key = key.TrustLine id (line.PoolShare pool)
 
@@ -564,20 +557,11 @@ module _ (h : LedgerHeader) (id : AccountId) (pool : Hash) (was : TrustLineEntry
   abbrev its : LedgerEntry
   its = with_line_body e share_line_was
 
-  abbrev now_v : View
-  now_v = view m
-
-  abbrev lumens : ℤ
-  lumens = h.total_coins -ℤ h.fee_pool
-
   abbrev fewer : Owed
   fewer = counts_of (neg_ℤ (pos 1)) id pool p.params
 
   module _ (there : get m share_key ≡ Some its) (empty : share_line_was.balance ≡ pos 0)
-      (known : pools_in m pool ≡ Some p.params) where
-    at_first : IsLegalOwing now_v h.id_pool nothing_owed lumens m
-    at_first = owing_nothing h m legal
-
+      (known : now_v.pools pool ≡ Some p.params) where
     abbrev own : LedgerKey → Bool
     own k = is_key share_key k
 
@@ -587,50 +571,55 @@ module _ (h : LedgerHeader) (id : AccountId) (pool : Hash) (was : TrustLineEntry
     counted_less Sponsoring k = refl
     counted_less Sponsored k = refl
     counted_less Selling k = nothing_stated (own k) (line_liabilities share_line_was).selling
-        (unbound_line id pool now_v h.id_pool lumens m at_first was e there).0
+        (unbound_line id pool now_v id_pool lumens m at_first was e there).0
     counted_less Buying k = nothing_stated (own k) (line_liabilities share_line_was).buying
-        (unbound_line id pool now_v h.id_pool lumens m at_first was e there).1
+        (unbound_line id pool now_v id_pool lumens m at_first was e there).1
     counted_less Shares k = no_shares_left (is_key (key.LiquidityPool pool) k) (own k) share_line_was.balance empty
     counted_less ShareLines k = one_line_less (is_key (key.LiquidityPool pool) k) (own k)
     counted_less Uses k =
         ap (λ o. pos 0 +ℤ neg_ℤ (uses_of k id o -ℤ (if own k then use_count share_line_was else pos 0))) known
         ∙ uses_taken (own k) (for_key k (needed_line id p.params.asset_a) (pos 1))
         (for_key k (needed_line id p.params.asset_b) (pos 1)) _ _ (use_count share_line_was)
-        (unused id pool now_v h.id_pool lumens m at_first was e there)
+        (unused id pool now_v id_pool lumens m at_first was e there)
         (for_less k (needed_line id p.params.asset_a) (pos 1)) (for_less k (needed_line id p.params.asset_b) (pos 1))
 
-    without : IsLegalOwing now_v h.id_pool fewer lumens (map_after_removing share_key m)
-    without = legal_as now_v (IsEntryLegal h.id_pool) _ fewer _ lumens _
-        (subentry_removed_so now_v h.id_pool nothing_owed lumens id 2 share_key its m at_first nothing_settled there
+    without : IsLegalOwing now_v id_pool fewer lumens (map_after_removing share_key m)
+    without = legal_as now_v (IsEntryLegal id_pool) _ fewer _ lumens _
+        (subentry_removed_so now_v id_pool nothing_owed lumens id 2 share_key its m at_first nothing_settled there
         refl)
         counted_less (minus_zero lumens)
 
-    left : IsLegal h (map_with_share_lines (neg_ℤ (pos 1)) id pool p.params (map_after_removing share_key m))
+    left : IsLegalOwing now_v id_pool nothing_owed lumens
+        (map_with_share_lines (neg_ℤ (pos 1)) id pool p.params (map_after_removing share_key m))
     left =
         let n = neg_ℤ (pos 1) in
         let one_self = natural_some 1 (omega arith) in
         let gone = map_after_removing share_key m in
         let a = needed_line id p.params.asset_a in
         let b = needed_line id p.params.asset_b in
-        let can_a = can_use_less now_v h.id_pool fewer lumens gone without a (needs_line id p.params.asset_a)
+        let can_a = can_use_less now_v id_pool fewer lumens gone without a (needs_line id p.params.asset_a)
         (λ k is. first_owes (for_key k a (pos 1)) (for_key k b (pos 1)) _ _ (for_itself k a (pos 1) is one_self)
         (for_key_low k b (pos 1) (natural_low 1)) (for_less k a (pos 1)) (for_less k b (pos 1))) in
-        let one = once n id pool p.params now_v h.id_pool lumens gone without can_a in
+        let one = once n id pool p.params now_v id_pool lumens gone without can_a in
         let after = map_with_uses n id p.params.asset_a gone in
-        let can_b = can_use_less now_v h.id_pool _ lumens after one b (needs_line id p.params.asset_b)
+        let can_b = can_use_less now_v id_pool _ lumens after one b (needs_line id p.params.asset_b)
         (λ k is. second_owes (for_key k b (pos 1)) (for_key k a n) _ _ (for_itself k b (pos 1) is one_self)
         (for_less k b (pos 1)) (used_is a k n)) in
-        let two = twice n id pool p.params now_v h.id_pool lumens gone one can_b in
+        let two = twice n id pool p.params now_v id_pool lumens gone one can_b in
         let now = pool_known _ pool p.params (two.params pool ∙ known) in
         let q = key.LiquidityPool pool in
-        legal_of h (pools_in m) _ legal.header
-        (settled n id pool p.params now_v h.id_pool lumens gone two now.0 now.1
-        (can_count_less now_v h.id_pool _ lumens _ two pool now.0 now.1 (line_owes (for_key q (Some q) (pos 1)) _ _ _
+        settled n id pool p.params now_v id_pool lumens gone two now.0 now.1
+        (can_count_less now_v id_pool _ lumens _ two pool now.0 now.1 (line_owes (for_key q (Some q) (pos 1)) _ _ _
         (for_itself q (Some q) (pos 1) refl one_self) (for_less q (Some q) (pos 1)) (used_elsewhere a n ShareLines q)
-        (used_elsewhere b n ShareLines q))))
+        (used_elsewhere b n ShareLines q)))
 
-pub removing_share_lines_keep : RemovingShareLinesKeep
-removing_share_lines_keep h id pool t p m legal stands empty pool_stands =
+-- an empty line is removed, and nothing counts it any more
+pub share_line_gone : (v : View) (id_pool : ℕ) (sum : ℤ) (id : AccountId) (pool : Hash) (t : TrustLineEntry)
+    (p : LiquidityPoolEntry) (m : EntryMap) → IsLegalOwing v id_pool nothing_owed sum m
+    → line_at m id (line.PoolShare pool) ≡ Some t → t.balance ≡ pos 0 → pool_at m pool ≡ Some p
+    → IsLegalOwing v id_pool nothing_owed sum (map_with_share_lines (neg_ℤ (pos 1)) id pool p.params
+    (map_after_removing (key.TrustLine id (line.PoolShare pool)) m))
+share_line_gone v id_pool sum id pool t p m legal stands empty pool_stands =
     let found = line_entry m id (line.PoolShare pool) t stands in
     let e = found.0 in
     let own : key.TrustLine t.account_id t.asset ≡ key.TrustLine id (line.PoolShare pool) =
@@ -640,4 +629,11 @@ removing_share_lines_keep h id pool t p m legal stands empty pool_stands =
     let same : e ≡ with_line_body e (of_shares id pool t) =
     (λ i. record e { body = found.1.is i })
     ∙ (λ i. with_line_body e (record t { account_id = ids i; asset = assets i })) in
-    left h id pool t p m legal e (found.1.there ∙ ap Some same) empty (params_known m pool p pool_stands)
+    left v id_pool sum id pool t p m legal e (found.1.there ∙ ap Some same) empty
+    (sym (legal.params pool) ∙ params_known m pool p pool_stands)
+
+pub removing_share_lines_keep : RemovingShareLinesKeep
+removing_share_lines_keep h id pool t p m legal stands empty pool_stands =
+    legal_of h (pools_in m) _ legal.header
+    (share_line_gone (view m) h.id_pool (h.total_coins -ℤ h.fee_pool) id pool t p m (owing_nothing h m legal) stands
+    empty pool_stands)

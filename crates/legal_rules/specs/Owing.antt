@@ -1,6 +1,7 @@
 -- A state within a transaction: what books owe, and the supply of one asset at hand.
 use Rattle.std.specs.Prelude.{◌≡◌, ℕ, ◌%◌, ℤ, pos, neg_ℤ, ◌+ℤ◌, ◌-ℤ◌, Some, if◌then◌else◌}
 use Rattle.ledger_types.specs.declared.ids.Hash.{Hash}
+use Rattle.ledger_types.specs.declared.asset.Asset.TheVariants as asset
 use Rattle.ledger_types.specs.declared.entry.LedgerEntry.{LedgerEntry}
 use Rattle.ledger_types.specs.declared.entry.LedgerEntryBody.{LedgerEntryBody}
 use Rattle.ledger_types.specs.declared.entry.LedgerEntryBody.TheVariants as body
@@ -16,7 +17,7 @@ use Rattle.legal_rules.specs.Supply.{held}
 use Rattle.legal_rules.specs.OfferIds.{AreOffersApart}
 use Rattle.legal_rules.specs.Bounds.{AreSubentriesFew, DoReservesFit, IsFilledOrEmpty}
 use Rattle.legal_rules.specs.Ranges.{IsEntryInRange}
-use Rattle.legal_rules.specs.Legal.{pools_in}
+use Rattle.legal_rules.specs.Legal.{view, pools_in}
 
 -- ---- what books owe
 
@@ -89,3 +90,7 @@ pub record IsLegalWith (view : View) (P : LedgerEntry → Type 0) (owed : Owed) 
 -- legal, but for what books owe, and with this supply of the asset at hand
 abbrev pub IsLegalOwing : View → (id_pool : ℕ) → Owed → (sum : ℤ) → EntryMap → Type 0
 IsLegalOwing view id_pool owed sum m = IsLegalWith view (IsEntryLegal id_pool) owed sum m
+
+-- The entries are those of a legal state, but that nothing is said of the header. Offers have ids up to `id_pool`.
+abbrev pub AreEntriesLegal : (id_pool : ℕ) → EntryMap → Type 0
+AreEntriesLegal id_pool m = IsLegalOwing (view m) id_pool nothing_owed (total (held asset.Native) m) m

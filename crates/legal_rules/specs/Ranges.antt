@@ -131,7 +131,7 @@ pub record IsBalanceInRange (balance : ClaimableBalanceEntry) : Type 0 where
   pub flags : balance_flags balance.ext ≤ 1
   pub claimants : AreClaimantsInRange balance.claimants
 
--- whether a pool's assets are valid follows from the lines that its holders need
+-- whether a pool's assets are valid isn't judged
 pub record IsPoolInRange (p : LiquidityPoolEntry) : Type 0 where
   pub fee : p.params.fee ≡ pos 30
   pub assets : asset_cmp p.params.asset_a p.params.asset_b ≡ Less

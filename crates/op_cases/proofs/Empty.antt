@@ -1,5 +1,5 @@
 -- A ledger without entries.
-use Rattle.std.proofs.Common.{◌≡◌, ap, sym, ◌∙◌, [], Some}
+use Rattle.std.proofs.Common.{◌≡◌, ap, sym, ◌∙◌, Bool, [], Some}
 use Rattle.std.proofs.lemmas.Option.{none-some}
 use Rattle.std.specs.FinMap.{from_entries, get-empty}
 use Rattle.ledger_types.specs.declared.ids.AccountId.{AccountId}
@@ -13,7 +13,7 @@ use Rattle.ledger_types.specs.KeyOrder.{key_cmp}
 use Rattle.entry_slots.specs.Accounts.{account_of, account_at}
 use Rattle.entry_slots.specs.Balances.{balance_of, balance_at}
 use Rattle.entry_slots.specs.Lines.{line_of, line_at}
-use Rattle.op_cases.specs.Ready.{IsReadyLedger}
+use Rattle.op_cases.specs.Ready.{IsPlainLedger, IsReadyLedger}
 
 nobody : (id : AccountId) (account : AccountEntry) → account_at (from_entries []) id ≡ Some account → ⊥
 unfolding account_at
@@ -30,12 +30,16 @@ unfolding balance_at
 no_balance id balance is =
     none-some balance (sym (ap balance_of (get-empty key_cmp (key.ClaimableBalance id))) ∙ is)
 
-pub nothing_is_ready : IsReadyLedger (from_entries [])
-nothing_is_ready = record {
+nothing_is_plain : IsPlainLedger (from_entries [])
+nothing_is_plain k e is = absurd (none-some e (sym (get-empty key_cmp k) ∙ is))
+
+pub nothing_is_ready : (has_to_be_plain : Bool) → IsReadyLedger has_to_be_plain (from_entries [])
+nothing_is_ready has_to_be_plain = record {
   ready = record { ready = λ id account is. absurd (nobody id account is) };
   in_range = record {
     accounts = record { in_range = λ id account is. absurd (nobody id account is) };
     lines = λ id held line is. absurd (no_line id held line is);
   };
   amounts = record { low = λ id balance is. absurd (no_balance id balance is) };
+  plain = λ asked. nothing_is_plain;
 }

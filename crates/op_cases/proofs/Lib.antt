@@ -1,2 +1,3 @@
 pub mod Amounts
 pub mod Empty
+pub mod Plain

@@ -1,21 +1,26 @@
 //! Ledgers to which operations may be applied: accounts and lines are in their ranges, others may pay for accounts, and
-//! no claimable balance has less than nothing.
+//! no claimable balance has less than nothing. Where an operation asks that pools are sound, there is neither a pool
+//! nor a line of shares.
 
-ghost use Rattle.std.specs.Prelude.{◌≡◌, ◌<◌, ◌+ℤ◌, ◌≤ℤ◌, pos, true, Some, [], IfOk, OnOk};
+ghost use Rattle.std.specs.Prelude.{◌≡◌, ◌<◌, ◌+ℤ◌, ◌≤ℤ◌, pos, true, Some, None, [], IfOk, OnOk};
 ghost use Rattle.std.specs.FinMap.{from_entries};
 ghost use Rattle.ledger_types.specs.declared.account.AccountEntry.{AccountEntry as AnAccount};
 ghost use Rattle.ledger_types.specs.declared.trust_line.TrustLineEntry.{TrustLineEntry as ALine};
 ghost use Rattle.entry_slots.specs.Accounts.{account_in, HasAccount};
 ghost use Rattle.entry_slots.specs.LineExtensions.{line_liabilities};
 ghost use Rattle.entry_slots.specs.Lines.{line_in};
+ghost use Rattle.entry_slots.specs.Pools.{pool_in};
 ghost use Rattle.reserve_rules.specs.Reserve.{IsInRange, IsLineInRange};
 ghost use Rattle.sponsor_rules.specs.Payers.{IsReadyAccount};
-ghost use Rattle.op_cases.specs.Ready.{IsReadyLedger, IsAmountLowIn};
+ghost use Rattle.legal_rules.specs.PoolShares.{pool_named};
+ghost use Rattle.op_cases.specs.Ready.{IsReadyLedger, IsAmountLowIn, IsPlain, IsPlainAccount, IsPlainLine};
+ghost use Rattle.op_cases.specs.Ready as spec;
 
 use entry_map::{Entries, MapBase};
-use entry_slots::{account_liabilities, line_liabilities, num_sponsored};
+use entry_slots::{account_liabilities, line_liabilities, num_sponsored, use_count};
 use ledger_types::{
-    AccountEntry, ClaimableBalanceEntry, LedgerEntry, LedgerEntryBody, TrustLineEntry,
+    AccountEntry, ClaimableBalanceEntry, LedgerEntry, LedgerEntryBody, TrustLineAsset,
+    TrustLineEntry,
 };
 use op_form::stands;
 use op_types::{Operation, OperationBody, OperationResult};
@@ -122,12 +127,68 @@ fn is_fine(entry: &LedgerEntry) -> bool
     }
 }
 
+/// Whether others pay for no more reserves of an account than it has.
+fn is_plain_account(account: &AccountEntry) -> bool
+    ensures { result ≡ true → IsPlainAccount account.now }
+{
+    num_sponsored(account) as u64 <= 2 + account.num_sub_entries as u64
+}
+
+/// Whether a line's asset isn't the shares of a pool.
+fn is_without_shares(asset: &TrustLineAsset) -> bool
+    ensures { result ≡ true → pool_named asset.now ≡ None }
+{
+    match asset {
+        TrustLineAsset::PoolShare(_) => false,
+        _ => true,
+    }
+}
+
+/// Whether a line isn't one of shares, and isn't used less often than never.
+fn is_plain_line(line: &TrustLineEntry) -> bool
+    ensures { result ≡ true → IsPlainLine line.now }
+{
+    // The limit is an i64.
+    let _limit = line.limit;
+    is_without_shares(&line.asset) && use_count(line) >= 0
+}
+
+/// Whether an entry is neither a pool nor a line of shares.
+fn is_plain(entry: &LedgerEntry) -> bool
+    ensures accounts { result ≡ true →
+        (account : AnAccount) → account_in entry.now.body ≡ Some account → IsPlainAccount account }
+    ensures lines { result ≡ true →
+        (line : ALine) → line_in entry.now.body ≡ Some line → IsPlainLine line }
+    ensures pools { result ≡ true → pool_in entry.now.body ≡ None }
+{
+    match &entry.body {
+        LedgerEntryBody::Account(account) => is_plain_account(account),
+        LedgerEntryBody::TrustLine(line) => is_plain_line(line),
+        LedgerEntryBody::LiquidityPool(_) => false,
+        _ => true,
+    }
+}
+
+/// Whether an entry is plain, where it has to be.
+fn is_plain_if(has_to_be_plain: bool, entry: &LedgerEntry) -> bool
+    ensures { result ≡ true → has_to_be_plain ≡ true → IsPlain entry.now.body }
+{
+    !has_to_be_plain || is_plain(entry)
+}
+
 /// Puts an entry, or answers false where operations could not be applied beside it.
-fn put(entries: &mut Entries<'_, MapBase>, entry: LedgerEntry) -> Result<bool, AllocError>
-    requires { IsReadyLedger entries.old.current }
-    ensures { OnOk result (IsReadyLedger entries.new.current) }
+fn put(
+    entries: &mut Entries<'_, MapBase>,
+    entry: LedgerEntry,
+    has_to_be_plain: bool,
+) -> Result<bool, AllocError>
+    requires { IsReadyLedger has_to_be_plain entries.old.current }
+    ensures { OnOk result (IsReadyLedger has_to_be_plain entries.new.current) }
 {
     if !is_fine(&entry) {
+        return Ok(false);
+    }
+    if !is_plain_if(has_to_be_plain, &entry) {
         return Ok(false);
     }
     entries.put(entry)?;
@@ -138,16 +199,27 @@ fn put(entries: &mut Entries<'_, MapBase>, entry: LedgerEntry) -> Result<bool, A
 pub fn put_all(
     entries: &mut Entries<'_, MapBase>,
     list: Vec<LedgerEntry>,
+    has_to_be_plain: bool,
 ) -> Result<bool, AllocError>
-    requires { IsReadyLedger entries.old.current }
-    ensures { OnOk result (IsReadyLedger entries.new.current) }
+    requires { IsReadyLedger has_to_be_plain entries.old.current }
+    ensures { OnOk result (IsReadyLedger has_to_be_plain entries.new.current) }
 {
     for entry in list {
-        if !put(entries, entry)? {
+        if !put(entries, entry, has_to_be_plain)? {
             return Ok(false);
         }
     }
     Ok(true)
+}
+
+/// Whether an operation asks that pools are sound, as they are where there are none.
+pub fn asks_for_pools(op: &Operation) -> bool
+    ensures { result ≡ spec.asks_for_pools op.now.body }
+{
+    match &op.body {
+        OperationBody::ChangeTrust(_) => true,
+        _ => false,
+    }
 }
 
 /// Applies an operation, or answers none where it may not be: its source doesn't stand, or the ledger is the last.
@@ -158,7 +230,7 @@ pub fn applied(
     ctx: &mut Ctx,
     entries: &mut Entries<'_, MapBase>,
 ) -> Result<Option<OperationResult>, AllocError>
-    requires { IsReadyLedger entries.old.current }
+    requires { IsReadyLedger (spec.asks_for_pools op.now.body) entries.old.current }
 {
     if ctx.seq >= 2_147_483_647 {
         return Ok(None);
@@ -176,7 +248,7 @@ fn applied_by_type(
 ) -> Result<OperationResult, AllocError>
     requires seq { ctx.old.seq < 2147483647 }
     requires source { HasAccount entries.old.current ctx.old.op_source }
-    requires ready { IsReadyLedger entries.old.current }
+    requires ready { IsReadyLedger (spec.asks_for_pools op.now.body) entries.old.current }
 {
     match &op.body {
         OperationBody::CreateAccount(_)

@@ -3,13 +3,13 @@
 
 ghost use Rattle.std.specs.Prelude.{◌≡◌, []};
 ghost use Rattle.std.specs.FinMap.{from_entries};
-ghost use Rattle.op_cases.specs.Ready.{IsReadyLedger};
+ghost use Rattle.op_cases.specs.Ready.{IsReadyLedger, asks_for_pools};
 
 use crate::answers::{answer, made_balance, moved_balance};
 use crate::balances::tell_id;
 use crate::changes::tell_changes;
 use crate::hexadecimal::{entry_of, operation_of};
-use crate::ledger::{applied, no_entries, put_all};
+use crate::ledger::{applied, asks_for_pools, no_entries, put_all};
 use crate::told::Told;
 use crate::words::account_named;
 use entry_map::{Batch, Entries, MapBase};
@@ -162,7 +162,7 @@ fn apply_and_tell<R: Print + AllocGlobal>(
     ctx: &mut Ctx,
     op: &Operation,
 ) -> io::Result<()>
-    requires { IsReadyLedger entries.old.current }
+    requires { IsReadyLedger (asks_for_pools op.now.body) entries.old.current }
 {
     let answered = applied(op, ctx, entries)?;
     tell_applied(rt, answered, before, entries)
@@ -175,7 +175,7 @@ fn run_ready<R: Print + AllocGlobal>(
     ctx: &mut Ctx,
     op: &Operation,
 ) -> io::Result<()>
-    requires { IsReadyLedger entries.old.current }
+    requires { IsReadyLedger (asks_for_pools op.now.body) entries.old.current }
 {
     let before = entries.changes()?;
     let open = ctx.sponsorships.len();
@@ -193,7 +193,7 @@ fn run_within<R: Print + AllocGlobal>(
     requires { entries.old.current ≡ from_entries [] }
 {
     let list = mem::replace(&mut script.entries, Vec::new(rt.alloc()));
-    if !put_all(entries, list)? {
+    if !put_all(entries, list, asks_for_pools(op))? {
         return println!(rt; "no ledger for operations");
     }
     run_ready(rt, entries, &mut script.ctx, op)

@@ -1,2 +1,11 @@
+pub mod Went
 pub mod OwnOffers
 pub mod Cancelling
+pub mod FlagNumbers
+pub mod Revoked
+pub mod Flagged
+pub mod Shares
+pub mod BalanceLeft
+pub mod SharesRevoked
+pub mod FlagTests
+pub mod Steps

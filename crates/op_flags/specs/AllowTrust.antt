@@ -65,7 +65,7 @@ abbrev pub line_allowed : Ctx → AllowTrustOp → EntryMap → AccountEntry →
 line_allowed ctx allow_op m source line =
     unless_refused (revoke_tests allow_op source line)
     (flagged ctx allow_op.trustor (asset_allowed ctx allow_op) (allowed_flags allow_op line)
-    (answer allow.Success) line m)
+    (answer allow.LowReserve) (answer allow.Success) line m)
 
 abbrev pub allow_trust : Ctx → AllowTrustOp → EntryMap → Attempt
 allow_trust ctx allow_op m =

@@ -1,21 +1,19 @@
 -- Flags of a line that its asset's issuer changes, and what goes with an authorisation (TrustFlagsOpFrameBase in
--- stellar-core; CAP-0018).
-use Rattle.std.specs.Prelude.{ℕ, pos, not, ◌&&◌, ◌∷◌, [], Bool, true, false}
-use Rattle.std.specs.Ordering.{int_eq}
+-- stellar-core; CAP-0018, CAP-0038).
+use Rattle.std.specs.Prelude.{◌≢◌, ℕ, ◌≤◌, ◌%◌, not, ◌&&◌, [], Bool, true, false, Result, Ok}
 use Rattle.ledger_types.specs.declared.ids.AccountId.{AccountId}
 use Rattle.ledger_types.specs.declared.asset.Asset.{Asset}
 use Rattle.ledger_types.specs.declared.trust_line.TrustLineEntry.{TrustLineEntry}
 use Rattle.op_types.specs.declared.operation_result.OperationResult.{OperationResult}
-use Rattle.op_types.specs.declared.operation_result.OperationResult.TheVariants.{NotSupported}
 use Rattle.entry_map.specs.EntryMap.{EntryMap}
 use Rattle.entry_slots.specs.Lines.{with_line}
-use Rattle.entry_slots.specs.LineExtensions.{use_count}
 use Rattle.sponsor_rules.specs.declared.context.Ctx.{Ctx}
 use Rattle.op_form.specs.Done.{Attempt}
 use Rattle.op_form.specs.Assets.{line_asset_of}
 use Rattle.op_form.specs.Flags.{has_any}
-use Rattle.op_form.specs.Steps.{unless_refused, success}
+use Rattle.op_form.specs.Steps.{after, success}
 use Rattle.op_flags.specs.Revoking.{map_without_offers}
+use Rattle.op_flags.specs.RevokedShares.{Revoked, shares_revoked}
 
 -- a line with other flags
 abbrev pub with_flags : ℕ → TrustLineEntry → TrustLineEntry
@@ -24,6 +22,10 @@ with_flags flags line = record line { flags = flags }
 -- AUTHORIZED (1) and AUTHORIZED_TO_MAINTAIN_LIABILITIES (2)
 abbrev pub authorizing : ℕ
 authorizing = 3
+
+-- what flags of a line can be: none above 4, and not both that authorise
+abbrev pub AreFlagsFit : ℕ → Type 0
+AreFlagsFit flags = (flags ≤ 7) × (flags % 4 ≢ 3)
 
 -- the line was authorised, at least to maintain liabilities, and isn't any more
 abbrev pub is_revoked : TrustLineEntry → (flags : ℕ) → Bool
@@ -34,11 +36,22 @@ abbrev pub map_after_revoking : AccountId → Asset → (revoked : Bool) → Ent
 map_after_revoking trustor held true m = map_without_offers trustor held m
 map_after_revoking trustor held false m = m
 
--- The line gets its new flags. With an authorisation that is taken back the account's pool shares in the asset would go
--- too. That isn't supported yet: a line that pools use keeps what it has.
-abbrev pub flagged : Ctx → AccountId → Asset → (flags : ℕ) → OperationResult → TrustLineEntry → EntryMap → Attempt
-flagged ctx trustor held flags succeeded line m =
+-- the line has its new flags, once the offers are gone
+abbrev pub map_after_flagging : AccountId → Asset → (flags : ℕ) → (revoked : Bool) → EntryMap → EntryMap
+map_after_flagging trustor held flags revoked m =
+    with_line (map_after_revoking trustor held revoked m) trustor (line_asset_of held) (with_flags flags)
+
+-- the account's shares in pools with the asset go with an authorisation that is taken back
+abbrev pub shares_left : Ctx → (low : OperationResult) → AccountId → Asset → (revoked : Bool) → EntryMap
+    → Result Revoked OperationResult
+shares_left ctx low trustor held true m = shares_revoked ctx low trustor held m
+shares_left ctx low trustor held false m = Ok (record { entries = m; moves = [] })
+
+-- The line gets its new flags. With an authorisation that is taken back go the account's offers in the asset and its
+-- pool shares. `low` is the operation's own result for a reserve that can't be paid.
+abbrev pub flagged : Ctx → AccountId → Asset → (flags : ℕ) → (low succeeded : OperationResult) → TrustLineEntry
+    → EntryMap → Attempt
+flagged ctx trustor held flags low succeeded line m =
     let revoked = is_revoked line flags in
-    unless_refused ((revoked && not (int_eq (use_count line) (pos 0)), NotSupported) ∷ [])
-    (success ctx succeeded (with_line (map_after_revoking trustor held revoked m) trustor (line_asset_of held)
-    (with_flags flags)) [])
+    after (shares_left ctx low trustor held revoked (map_after_flagging trustor held flags revoked m))
+    (λ left. success ctx succeeded left.entries left.moves)

@@ -65,7 +65,8 @@ flag_tests source line flags =
 abbrev pub line_set : Ctx → SetTrustLineFlagsOp → EntryMap → AccountEntry → TrustLineEntry → Attempt
 line_set ctx set_op m source line =
     unless_refused (flag_tests source line (new_flags set_op line))
-    (flagged ctx set_op.trustor set_op.asset (new_flags set_op line) (answer set.Success) line m)
+    (flagged ctx set_op.trustor set_op.asset (new_flags set_op line)
+    (answer set.LowReserve) (answer set.Success) line m)
 
 abbrev pub set_trust_line_flags : Ctx → SetTrustLineFlagsOp → EntryMap → Attempt
 set_trust_line_flags ctx set_op m =

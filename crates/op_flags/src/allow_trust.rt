@@ -1,11 +1,14 @@
 //! ALLOW_TRUST.
 
-ghost use Rattle.std.specs.Prelude.{◌≡◌, IfOk};
+ghost use Rattle.std.specs.Prelude.{◌≡◌, ◌<◌, ◌≤◌, Some, IfOk};
+ghost use Rattle.legal_rules.specs.Owing.{AreEntriesLegal};
+ghost use Rattle.op_form.specs.Assets.{line_of_asset};
 ghost use Rattle.op_form.specs.Done.{Makes};
-ghost use Rattle.trade_cross.specs.Crossable.{IsCrossable};
+ghost use Rattle.op_form.specs.Sequences.{last_seq};
 ghost use Rattle.op_flags.specs.AllowTrust as spec;
 
 use crate::line_flags::{AUTHORIZING, flag_line};
+use crate::revoker::Revoker;
 use entry_map::{Base, Entries};
 use entry_slots::{load_account, load_line};
 use ledger_types::{AccountEntry, AccountId, Asset, TrustLineEntry};
@@ -24,7 +27,8 @@ pub fn allow_trust<B: Base>(
     ctx: &Ctx,
     entries: &mut Entries<'_, B>,
 ) -> Result<OperationResult, AllocError>
-    requires crossable { IsCrossable entries.old.current }
+    requires seq { ctx.now.seq < last_seq }
+    requires legal { AreEntriesLegal ctx.now.id_pool entries.old.current }
     ensures { IfOk result (λ r.
         Makes r ctx.now entries.old entries.new (spec.allow_trust ctx.now op.now entries.old.current)) }
 {
@@ -89,7 +93,11 @@ fn allow_line<B: Base>(
     source: &AccountEntry,
     line: &TrustLineEntry,
 ) -> Result<OperationResult, AllocError>
-    requires crossable { IsCrossable entries.old.current }
+    requires seq { ctx.now.seq < last_seq }
+    requires legal { AreEntriesLegal ctx.now.id_pool entries.old.current }
+    requires authorize { op.now.authorize ≤ 2 }
+    requires stands { line_of_asset entries.old.current op.now.trustor (spec.asset_allowed ctx.now op.now) ≡
+        Some line.now }
     ensures { IfOk result (λ r.
         Makes r ctx.now entries.old entries.new (
         spec.line_allowed ctx.now op.now entries.old.current source.now line.now)) }
@@ -102,10 +110,10 @@ fn allow_line<B: Base>(
     flag_line(
         entries,
         ctx,
+        Revoker::AllowTrust,
         &op.trustor,
         &asset,
         flags,
         line,
-        answer(AllowTrustResult::Success),
     )
 }

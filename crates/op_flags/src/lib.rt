@@ -2,8 +2,11 @@
 #![tactic(auto)]
 
 mod allow_trust;
+mod left_balance;
 mod line_flags;
 mod operations;
+mod revoked_shares;
+mod revoker;
 mod revoking;
 mod set_trust_line_flags;
 

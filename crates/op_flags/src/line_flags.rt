@@ -1,16 +1,20 @@
 //! Flags of a line that its asset's issuer changes.
 
-ghost use Rattle.std.specs.Prelude.{◌≡◌, Some, IfOk, OnOk};
+ghost use Rattle.std.specs.Prelude.{◌≡◌, ◌<◌, true, false, Some, IfOk, OnOk};
 ghost use Rattle.entry_map.specs.Undo.{with_current};
 ghost use Rattle.entry_slots.specs.Lines as lines;
-ghost use Rattle.op_form.specs.Assets.{line_asset_of as line_asset};
+ghost use Rattle.legal_rules.specs.Owing.{AreEntriesLegal};
+ghost use Rattle.op_form.specs.Assets.{is_native, line_of_asset, line_asset_of as line_asset};
 ghost use Rattle.op_form.specs.Done.{Makes};
-ghost use Rattle.trade_cross.specs.Crossable.{IsCrossable};
+ghost use Rattle.op_form.specs.Sequences.{last_seq};
+ghost use Rattle.op_flags.specs.Outcomes.{low_answer, success_answer};
 ghost use Rattle.op_flags.specs.LineFlags as spec;
 
+use crate::revoked_shares::revoke_shares;
+use crate::revoker::{Revoker, success_answer};
 use crate::revoking::revoke_offers;
 use entry_map::{Base, Entries};
-use entry_slots::{LineSlot, load_line, store_line, use_count};
+use entry_slots::{LineSlot, load_line, store_line};
 use ledger_types::{AccountId, Asset, TrustLineEntry};
 use op_form::line_asset_of;
 use op_types::OperationResult;
@@ -27,49 +31,68 @@ fn is_revoked(line: &TrustLineEntry, flags: u32) -> bool
     line.flags & AUTHORIZING != 0 && flags & AUTHORIZING == 0
 }
 
-/// Where an authorisation is taken back, the account's offers in the asset go with it.
-fn revoke<B: Base>(
-    entries: &mut Entries<'_, B>,
-    ctx: &Ctx,
-    trustor: &AccountId,
-    asset: &Asset,
-    revoked: bool,
-) -> Result<(), AllocError>
-    requires crossable { IsCrossable entries.old.current }
-    ensures { OnOk result (
-        entries.new ≡
-        with_current entries.old (spec.map_after_revoking trustor.now asset.now revoked entries.old.current)) }
-{
-    if revoked {
-        revoke_offers(entries, ctx, trustor, asset)
-    } else {
-        Ok(())
-    }
-}
-
-/// Gives a line its new flags, and answers that this succeeded. Where an authorisation is taken back, the account's
-/// offers in the asset are removed first; of a line that pools use that isn't supported.
+/// Gives a line its new flags. Where an authorisation is taken back, the account's offers in the asset are removed first, and
+/// its shares of pools that have it are given back afterwards; where what these give can't be left, nothing has changed.
 pub fn flag_line<B: Base>(
     entries: &mut Entries<'_, B>,
     ctx: &Ctx,
+    by: Revoker,
     trustor: &AccountId,
     asset: &Asset,
     flags: u32,
     line: &TrustLineEntry,
-    succeeded: OperationResult,
 ) -> Result<OperationResult, AllocError>
-    requires crossable { IsCrossable entries.old.current }
+    requires seq { ctx.now.seq < last_seq }
+    requires legal { AreEntriesLegal ctx.now.id_pool entries.old.current }
+    requires issued { is_native asset.now ≡ false }
+    requires stands { line_of_asset entries.old.current trustor.now asset.now ≡ Some line.now }
+    requires flags { spec.AreFlagsFit flags }
     ensures { IfOk result (λ r.
         Makes r ctx.now entries.old entries.new (
-        spec.flagged ctx.now trustor.now asset.now flags succeeded line.now entries.old.current)) }
+        spec.flagged ctx.now trustor.now asset.now flags (low_answer by) (success_answer by) line.now
+        entries.old.current)) }
 {
-    let revoked = is_revoked(line, flags);
-    if revoked && use_count(line) != 0 {
-        return Ok(OperationResult::NotSupported);
+    if is_revoked(line, flags) {
+        return revoke(entries, ctx, by, trustor, asset, flags, line);
     }
-    revoke(entries, ctx, trustor, asset, revoked)?;
     set_flags(entries, trustor, asset, flags)?;
-    Ok(succeeded)
+    Ok(success_answer(by))
+}
+
+/// Gives a line flags that take its authorisation back.
+fn revoke<B: Base>(
+    entries: &mut Entries<'_, B>,
+    ctx: &Ctx,
+    by: Revoker,
+    trustor: &AccountId,
+    asset: &Asset,
+    flags: u32,
+    line: &TrustLineEntry,
+) -> Result<OperationResult, AllocError>
+    requires seq { ctx.now.seq < last_seq }
+    requires legal { AreEntriesLegal ctx.now.id_pool entries.old.current }
+    requires issued { is_native asset.now ≡ false }
+    requires stands { line_of_asset entries.old.current trustor.now asset.now ≡ Some line.now }
+    requires flags { spec.AreFlagsFit flags }
+    requires revoked { spec.is_revoked line.now flags ≡ true }
+    ensures { IfOk result (λ r.
+        Makes r ctx.now entries.old entries.new (
+        spec.flagged ctx.now trustor.now asset.now flags (low_answer by) (success_answer by) line.now
+        entries.old.current)) }
+{
+    entries.child()?;
+    revoke_offers(entries, ctx, trustor, asset)?;
+    set_flags(entries, trustor, asset, flags)?;
+    match revoke_shares(entries, ctx, by, trustor, asset)? {
+        None => {
+            entries.commit()?;
+            Ok(success_answer(by))
+        }
+        Some(refusal) => {
+            entries.drop_child();
+            Ok(refusal)
+        }
+    }
 }
 
 /// Gives the line other flags, if it stands. It is looked up here, since offers that were removed bound it.

@@ -1,8 +1,9 @@
 //! The operations of this crate, by their types.
 
-ghost use Rattle.std.specs.Prelude.{IfOk};
+ghost use Rattle.std.specs.Prelude.{◌<◌, IfOk};
+ghost use Rattle.legal_rules.specs.Owing.{AreEntriesLegal};
 ghost use Rattle.op_form.specs.Done.{Does};
-ghost use Rattle.trade_cross.specs.Crossable.{IsCrossable};
+ghost use Rattle.op_form.specs.Sequences.{last_seq};
 ghost use Rattle.op_flags.specs.Operations as spec;
 
 use crate::allow_trust::allow_trust;
@@ -13,15 +14,15 @@ use sponsor_rules::Ctx;
 use std::alloc::AllocError;
 
 /// Applies an operation of `ctx.op_source`: it answers the result, and changes the entries. Where the operation fails,
-/// nothing has changed. Operations of other types are not supported here, nor is taking an authorisation back of
-/// a line that pools use.
+/// nothing has changed. Operations of other types are not supported here.
 #[tactic(auto, unfolding(crate::specs::Operations::flags_operation))]
 pub fn apply<B: Base>(
     op: &Operation,
     ctx: &mut Ctx,
     entries: &mut Entries<'_, B>,
 ) -> Result<OperationResult, AllocError>
-    requires crossable { IsCrossable entries.old.current }
+    requires seq { ctx.old.seq < last_seq }
+    requires legal { AreEntriesLegal ctx.old.id_pool entries.old.current }
     ensures { IfOk result (λ r.
         Does r ctx.new entries.old entries.new (spec.flags_operation ctx.old op.now.body entries.old.current)) }
 {

@@ -19,7 +19,7 @@ use std::cmp::Ordering;
 use trade_cross::cancel_offer;
 
 /// Whether two assets are the same.
-fn is_same(a: &Asset, b: &Asset) -> bool
+pub fn is_same(a: &Asset, b: &Asset) -> bool
     ensures { result ≡ is_eq (asset_cmp a.now b.now) }
 {
     match a.cmp(b) {

@@ -1,12 +1,15 @@
 //! SET_TRUST_LINE_FLAGS.
 
-ghost use Rattle.std.specs.Prelude.{◌≡◌, IfOk};
+ghost use Rattle.std.specs.Prelude.{◌≡◌, ◌<◌, false, Some, IfOk};
 ghost use Rattle.entry_slots.specs.Tests.{first_fault};
+ghost use Rattle.legal_rules.specs.Owing.{AreEntriesLegal};
+ghost use Rattle.op_form.specs.Assets.{line_of_asset};
 ghost use Rattle.op_form.specs.Done.{Makes};
-ghost use Rattle.trade_cross.specs.Crossable.{IsCrossable};
+ghost use Rattle.op_form.specs.Sequences.{last_seq};
 ghost use Rattle.op_flags.specs.SetTrustLineFlags as spec;
 
 use crate::line_flags::{AUTHORIZING, flag_line};
+use crate::revoker::Revoker;
 use entry_map::{Base, Entries};
 use entry_slots::{load_account, load_line};
 use ledger_types::{AccountEntry, TrustLineEntry};
@@ -34,7 +37,8 @@ pub fn set_trust_line_flags<B: Base>(
     ctx: &Ctx,
     entries: &mut Entries<'_, B>,
 ) -> Result<OperationResult, AllocError>
-    requires crossable { IsCrossable entries.old.current }
+    requires seq { ctx.now.seq < last_seq }
+    requires legal { AreEntriesLegal ctx.now.id_pool entries.old.current }
     ensures { IfOk result (λ r.
         Makes r ctx.now entries.old entries.new (spec.set_trust_line_flags ctx.now op.now entries.old.current)) }
 {
@@ -120,7 +124,11 @@ fn set_line<B: Base>(
     source: &AccountEntry,
     line: &TrustLineEntry,
 ) -> Result<OperationResult, AllocError>
-    requires crossable { IsCrossable entries.old.current }
+    requires seq { ctx.now.seq < last_seq }
+    requires legal { AreEntriesLegal ctx.now.id_pool entries.old.current }
+    requires foreign { spec.is_foreign ctx.now op.now ≡ false }
+    requires few { spec.are_flags_bad op.now ≡ false }
+    requires stands { line_of_asset entries.old.current op.now.trustor op.now.asset ≡ Some line.now }
     ensures { IfOk result (λ r.
         Makes r ctx.now entries.old entries.new (
         spec.line_set ctx.now op.now entries.old.current source.now line.now)) }
@@ -131,11 +139,11 @@ fn set_line<B: Base>(
         None => flag_line(
             entries,
             ctx,
+            Revoker::SetTrustLineFlags,
             &op.trustor,
             &op.asset,
             flags,
             line,
-            answer(SetTrustLineFlagsResult::Success),
         ),
     }
 }

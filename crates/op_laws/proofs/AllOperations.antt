@@ -23,20 +23,24 @@ use Rattle.op_options.specs.Operations.{options_operation}
 use Rattle.op_options.specs.SetOptions.{set_options}
 use Rattle.op_payment.specs.Operations.{payment_operation}
 use Rattle.op_payment.specs.Payment.{payment}
+use Rattle.op_pool.specs.Deposit.{liquidity_pool_deposit}
+use Rattle.op_pool.specs.Operations.{pool_operation}
+use Rattle.op_pool.specs.Withdraw.{liquidity_pool_withdraw}
 use Rattle.op_sponsor.specs.BeginSponsoringFutureReserves.{begin_sponsoring}
 use Rattle.op_sponsor.specs.EndSponsoringFutureReserves.{end_sponsoring}
 use Rattle.op_sponsor.specs.Operations.{sponsor_operation}
 use Rattle.op_sponsor.specs.RevokeSponsorship.{revoke_sponsorship}
-use Rattle.op_trust.specs.ChangeTrust.{change_trust}
-use Rattle.op_trust.specs.Operations.{trust_operation}
+use Rattle.op_trust.specs.Operations.{change_trust, trust_operation}
 use Rattle.op_form.specs.Done.{Done, Attempt, done_of}
 use Rattle.op_laws.specs.AnyOperation.{any_operation}
 use Rattle.op_laws.specs.Laws.{IsLawful, AllLawful}
 use Rattle.op_laws.specs.Underway.{IsUnderway}
 use Rattle.op_laws.proofs.BumpSequence.{bump_sequence_is_lawful}
+use Rattle.op_laws.proofs.ChangeTrust.{change_trust_is_lawful}
 use Rattle.op_laws.proofs.Claims.{claim_claimable_balance_is_lawful, clawback_claimable_balance_is_lawful}
 use Rattle.op_laws.proofs.Claims.{create_claimable_balance_is_lawful}
 use Rattle.op_laws.proofs.Clawbacks.{clawback_is_lawful}
+use Rattle.op_laws.proofs.Deposits.{liquidity_pool_deposit_is_lawful}
 use Rattle.op_laws.proofs.Lawful.{lawful_still}
 use Rattle.op_laws.proofs.LineFlags.{allow_trust_is_lawful, set_trust_line_flags_is_lawful}
 use Rattle.op_laws.proofs.ManageData.{manage_data_is_lawful}
@@ -49,7 +53,7 @@ use Rattle.op_laws.proofs.Revoking.{revoke_sponsorship_is_lawful}
 use Rattle.op_laws.proofs.SetOptions.{set_options_is_lawful}
 use Rattle.op_laws.proofs.Sponsorships.{begin_sponsoring_is_lawful, end_sponsoring_is_lawful}
 use Rattle.legal_rules.proofs.Leaving.{leaves_itself}
-use Rattle.op_laws.proofs.TrustLines.{change_trust_is_lawful}
+use Rattle.op_laws.proofs.Withdrawals.{liquidity_pool_withdraw_is_lawful}
 
 -- An operation that fails leaves all as it was.
 pub failed_is_lawful : (ctx : Ctx) (m : EntryMap) → IsUnderway ctx m → (result : OperationResult)
@@ -64,7 +68,7 @@ attempted ctx m under (Err result) lawful = failed_is_lawful ctx m under result
 
 pub all_are_lawful : AllLawful
 unfolding any_operation account_operation options_operation payment_operation trust_operation flags_operation
-    claim_operation sponsor_operation offers_operation
+    claim_operation sponsor_operation offers_operation pool_operation
 all_are_lawful ctx (body.CreateAccount op) m fit under stands = attempted ctx m under (create_account ctx op m)
     (λ done is. create_account_is_lawful ctx op m done under stands is)
 all_are_lawful ctx (body.AccountMerge op) m fit under stands = attempted ctx m under (account_merge ctx op m)
@@ -110,4 +114,8 @@ all_are_lawful ctx body.EndSponsoringFutureReserves m fit under stands = attempt
     (λ done is. end_sponsoring_is_lawful ctx tt m done under stands is)
 all_are_lawful ctx (body.RevokeSponsorship op) m fit under stands = attempted ctx m under (revoke_sponsorship ctx op m)
     (λ done is. revoke_sponsorship_is_lawful ctx op m done under stands is)
+all_are_lawful ctx (body.LiquidityPoolDeposit op) m fit under stands = attempted ctx m under
+    (liquidity_pool_deposit ctx op m) (λ done is. liquidity_pool_deposit_is_lawful ctx op m done under stands is)
+all_are_lawful ctx (body.LiquidityPoolWithdraw op) m fit under stands = attempted ctx m under
+    (liquidity_pool_withdraw ctx op m) (λ done is. liquidity_pool_withdraw_is_lawful ctx op m done under stands is)
 all_are_lawful ctx other m fit under stands = failed_is_lawful ctx m under NotSupported

@@ -17,7 +17,7 @@ use Rattle.entry_slots.specs.Tests.{Tests}
 use Rattle.reserve_rules.specs.Reserve.{IsLineInRange, line_available, line_room}
 use Rattle.sponsor_rules.specs.declared.context.Ctx.{Ctx}
 use Rattle.legal_rules.specs.Legal.{view}
-use Rattle.legal_rules.specs.Owing.{nothing_owed, IsLegalOwing}
+use Rattle.legal_rules.specs.Owing.{nothing_owed, IsLegalOwing, AreEntriesLegal}
 use Rattle.legal_rules.specs.Supply.{of_asset}
 use Rattle.op_form.specs.declared.amounts.CreditFault.{CreditFault}
 use Rattle.op_form.specs.declared.amounts.CreditFault.TheVariants as credit
@@ -31,7 +31,6 @@ use Rattle.op_form.specs.Done.{OfAccount}
 use Rattle.op_form.specs.Flags.{is_authorized}
 use Rattle.op_form.specs.Lumens.{map_after_lumens_credit, map_after_lumens_debit}
 use Rattle.op_form.proofs.Balances.{line_more_in_range}
-use Rattle.op_laws.specs.Underway.{AreEntriesLegal}
 use Rattle.op_laws.proofs.Lawful.{ShiftsLegal}
 use Rattle.legal_rules.proofs.LinesLeft.{line_legal}
 use Rattle.op_laws.proofs.LineChanges.{line_shifted, line_left}

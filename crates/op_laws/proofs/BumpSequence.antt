@@ -22,7 +22,7 @@ use Rattle.op_laws.specs.Laws.{IsLawful, IsBumpFit, AreLawfulWhere}
 use Rattle.op_laws.proofs.Lawful.{KeepsLegal, lawful_still}
 use Rattle.op_laws.proofs.Payments.{numbered_books, numbered_range}
 use Rattle.legal_rules.proofs.Leaving.{IsNext, account_kept}
-use Rattle.op_laws.proofs.Tests.{went_on}
+use Rattle.op_flags.proofs.Went.{went_on}
 use Rattle.legal_rules.proofs.Passed.{first_passed}
 
 -- ---- an account whose sequence number alone may differ

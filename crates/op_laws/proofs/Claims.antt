@@ -1,5 +1,5 @@
 -- CREATE_CLAIMABLE_BALANCE, CLAIM_CLAIMABLE_BALANCE and CLAWBACK_CLAIMABLE_BALANCE are lawful.
-use Rattle.std.proofs.Common.{◌≡◌, ◌≢◌, refl, sym, ap, subst, ◌∙◌, ℕ, ◌*◌, Bool, true, false, not, ◌||◌}
+use Rattle.std.proofs.Common.{◌≡◌, ◌≢◌, refl, sym, ap, subst, ◌∙◌, ℕ, Bool, true, false, not, ◌||◌}
 use Rattle.std.proofs.Common.{◌∷◌, [], length, map, is_some, Option, Some, None, Ok, arith}
 use Rattle.std.proofs.lemmas.Int.{ints}
 use Rattle.std.specs.Prelude.{ℤ, pos, neg_ℤ, int_le, ◌+ℤ◌, ◌≤ℤ◌, if◌then◌else◌}
@@ -25,21 +25,20 @@ use Rattle.op_types.specs.declared.balance_results.ClawbackClaimableBalanceResul
 use Rattle.op_types.specs.declared.operation_result.OperationResult.{OperationResult}
 use Rattle.op_types.specs.declared.operation_result.OperationResult.TheVariants.{NotSupported}
 use Rattle.valid_values.specs.Assets.{is_valid_asset}
-use Rattle.entry_map.specs.EntryMap.{EntryMap, put, erase}
+use Rattle.entry_map.specs.EntryMap.{EntryMap, erase}
 use Rattle.entry_slots.specs.Accounts.{account_at, with_account, HasAccount}
 use Rattle.entry_slots.specs.Balances.{balance_at}
-use Rattle.entry_slots.specs.EntrySponsor.{sponsor_of, with_sponsor}
+use Rattle.entry_slots.specs.EntrySponsor.{sponsor_of}
 use Rattle.entry_slots.specs.Lines.{line_at, with_line}
 use Rattle.entry_slots.specs.Tests.{Tests}
 use Rattle.entry_sums.specs.Sums.{part}
 use Rattle.entry_sums.proofs.Lookups.{put_elsewhere}
-use Rattle.reserve_rules.specs.Reserve.{available}
 use Rattle.sponsor_rules.specs.declared.context.Ctx.{Ctx}
-use Rattle.sponsor_rules.specs.Adding.{map_after_adding, map_after_adding_balance}
-use Rattle.sponsor_rules.specs.Payers.{open_sponsor, payer_by, payer_of, payer_tests_at}
-use Rattle.sponsor_rules.specs.Paying.{map_after_charging, map_after_releasing}
+use Rattle.sponsor_rules.specs.Adding.{map_after_adding}
+use Rattle.sponsor_rules.specs.Payers.{open_sponsor, payer_of}
+use Rattle.sponsor_rules.specs.Paying.{map_after_releasing}
 use Rattle.sponsor_rules.specs.Removing.{map_after_removing, map_after_removing_entry}
-use Rattle.legal_rules.specs.Owing.{nothing_owed}
+use Rattle.legal_rules.specs.Owing.{nothing_owed, AreEntriesLegal}
 use Rattle.legal_rules.specs.Ranges.{IsBodyInRange, IsBalanceInRange}
 use Rattle.legal_rules.specs.Supply.{of_asset, held}
 use Rattle.legal_rules.proofs.Given.{sponsors_ready}
@@ -51,8 +50,7 @@ use Rattle.op_form.specs.declared.amounts.DebitFault.TheVariants as debit
 use Rattle.op_form.specs.Amounts.{map_after_credit, map_after_debit, map_after_line_debit_of}
 use Rattle.op_form.specs.Amounts.{line_debit_tests, with_less}
 use Rattle.op_form.specs.Assets.{is_issued_by, line_asset_of}
-use Rattle.op_form.specs.Done.{Done, Move}
-use Rattle.op_form.specs.Done.{OfAccount, OfBalance}
+use Rattle.op_form.specs.Done.{Done, OfAccount, OfBalance}
 use Rattle.op_form.specs.Lumens.{map_after_lumens_debit, with_less_lumens}
 use Rattle.op_claim.specs.ClaimClaimableBalance as claiming
 use Rattle.op_claim.specs.ClawbackClaimableBalance as clawing
@@ -61,80 +59,47 @@ use Rattle.op_claim.specs.CreateClaimableBalance as creating
 use Rattle.op_claim.specs.Predicates.{fixed_claimant}
 use Rattle.op_laws.specs.Laws.{IsLawful, AreLawful, AreLawfulWhere, AreClaimantsFew}
 use Rattle.op_laws.specs.Moves.{issued, is_issuer}
-use Rattle.op_laws.specs.Underway.{AreEntriesLegal, IsUnderway}
+use Rattle.op_laws.specs.Underway.{IsUnderway}
 use Rattle.op_laws.proofs.Amounts.{IsMoved, unless_issuer, shifts_as, shifts_both, amount_taken}
 use Rattle.op_laws.proofs.Amounts.{amount_given}
 use Rattle.op_laws.proofs.Amounts.{ok_of}
-use Rattle.legal_rules.proofs.ChargesLeft.{charging_kept, releasing_kept, erased_left, payer_had, put_beside}
+use Rattle.op_laws.proofs.AsideMoves.{balance_issues_none, less_of, put_aside_issued, taken_back, taken_back_issued}
+use Rattle.legal_rules.proofs.ChargesLeft.{releasing_kept, erased_left}
 use Rattle.op_laws.proofs.IssuedMoves.{same_issuer, issued_so, issued_by_move}
 use Rattle.op_laws.proofs.Lawful.{lawful_with, shifted_after}
-use Rattle.op_laws.proofs.NewBalances.{IsBalanceEntry, balance_entry, claimants_in_range, new_flags, no_balance}
+use Rattle.op_flags.proofs.BalanceLeft.{balance_left, no_balance, new_flags, payer_stands}
+use Rattle.op_laws.proofs.NewBalances.{IsBalanceEntry, balance_entry, claimants_in_range}
 use Rattle.op_laws.proofs.Paying.{given}
-use Rattle.legal_rules.specs.Holdings.{IsKeyed, none_more, both_more, under_key}
-use Rattle.legal_rules.proofs.Holdings.{none_before, still_holds, put_holds}
+use Rattle.legal_rules.specs.Holdings.{none_more, both_more, under_key}
+use Rattle.legal_rules.proofs.Holdings.{still_holds}
 use Rattle.legal_rules.proofs.Holdings.{cancelled}
-use Rattle.legal_rules.proofs.Leaving.{Leaves, leaves_both, leaves_as, keeps_then, accounts_kept, keyed_put}
+use Rattle.legal_rules.proofs.Leaving.{Leaves, leaves_both, leaves_as, keeps_then}
 use Rattle.op_laws.proofs.Told.{more_for, account_place, balance_place, moved, move_tells, more_turned, redeemed_more}
 use Rattle.op_laws.proofs.Told.{balance_more}
-use Rattle.op_laws.proofs.Tests.{went_on, went_after_some, went_after_step}
+use Rattle.op_flags.proofs.Went.{went_on, went_after_some, went_after_step}
 use Rattle.legal_rules.proofs.Passed.{first_passed, neither, passed}
-use Rattle.op_laws.proofs.Tests.{went_after_charge}
+use Rattle.op_flags.proofs.Went.{went_after_charge}
 use Rattle.op_laws.proofs.TrustLines.{not_true}
 
 -- ---- what moves issue and give
 
-no_issuer : (held : Asset) (id : ClaimableBalanceId) → false ≡ is_issuer held (OfBalance id)
-no_issuer asset.Native id = refl
-no_issuer (asset.Alphanum4 code issuer) id = refl
-no_issuer (asset.Alphanum12 code issuer) id = refl
-
-claimed_of : (b t : Bool) (n : ℤ)
-    → (neg_ℤ (if b then n else pos 0) +ℤ (if t then pos 0 else (if b then n else pos 0)))
-    ≡ (if b then issued_so false t n else pos 0)
-claimed_of true true n = omega (arith, ints)
-claimed_of true false n = omega (arith, ints)
-claimed_of false true n = refl
-claimed_of false false n = refl
-
-abbrev claimed : ClaimableBalanceId → AccountId → Asset → ℤ → Move
-claimed id to held n = record { from = OfBalance id; to = OfAccount to; asset = held; amount = n }
-
 claimed_issued : (x held : Asset) (id : ClaimableBalanceId) (to : AccountId) (n : ℤ)
-    → (neg_ℤ (of_asset x held n) +ℤ unless_issuer x held to n) ≡ issued x (claimed id to held n ∷ [])
+    → (neg_ℤ (of_asset x held n) +ℤ unless_issuer x held to n) ≡ issued x (taken_back (OfBalance id) to held n ∷ [])
 claimed_issued x held id to n =
-    claimed_of (is_eq (asset_cmp x held)) (is_issued_by held to) n
-    ∙ (λ i. of_asset x held (issued_so (no_issuer held id i) (same_issuer held to i) n))
-    ∙ issued_by_move x held (OfBalance id) (OfAccount to) n
+    ap (λ k. k +ℤ unless_issuer x held to n) (less_of x held n)
+    ∙ taken_back_issued x held (OfBalance id) to n (balance_issues_none held id)
 
 clawed_of : (b : Bool) (n : ℤ) → neg_ℤ (if b then n else pos 0) ≡ (if b then issued_so false true n else pos 0)
 clawed_of true n = omega (arith, ints)
 clawed_of false n = refl
 
 clawed_issued : (x held : Asset) (id : ClaimableBalanceId) (to : AccountId) (n : ℤ) → is_issued_by held to ≡ true
-    → neg_ℤ (of_asset x held n) ≡ issued x (claimed id to held n ∷ [])
+    → neg_ℤ (of_asset x held n) ≡ issued x (taken_back (OfBalance id) to held n ∷ [])
 clawed_issued x held id to n issuer =
     clawed_of (is_eq (asset_cmp x held)) n
-    ∙ (λ i. of_asset x held (issued_so (no_issuer held id i) (sym issuer i) n))
+    ∙ (λ i. of_asset x held (issued_so (balance_issues_none held id i) (sym issuer i) n))
     ∙ (λ i. of_asset x held (issued_so (is_issuer held (OfBalance id)) (same_issuer held to i) n))
     ∙ issued_by_move x held (OfBalance id) (OfAccount to) n
-
-aside_of : (b t : Bool) (n : ℤ)
-    → ((if t then pos 0 else (if b then neg_ℤ n else pos 0)) +ℤ (if b then n else pos 0))
-    ≡ (if b then issued_so t false n else pos 0)
-aside_of true true n = omega (arith, ints)
-aside_of true false n = omega (arith, ints)
-aside_of false true n = refl
-aside_of false false n = refl
-
-abbrev aside : AccountId → ClaimableBalanceId → Asset → ℤ → Move
-aside from id held n = record { from = OfAccount from; to = OfBalance id; asset = held; amount = n }
-
-aside_issued : (x held : Asset) (from : AccountId) (id : ClaimableBalanceId) (n : ℤ)
-    → (unless_issuer x held from (neg_ℤ n) +ℤ of_asset x held n) ≡ issued x (aside from id held n ∷ [])
-aside_issued x held from id n =
-    aside_of (is_eq (asset_cmp x held)) (is_issued_by held from) n
-    ∙ (λ i. of_asset x held (issued_so (same_issuer held from i) (no_issuer held id i) n))
-    ∙ issued_by_move x held (OfAccount from) (OfBalance id) n
 
 -- ---- a balance that is removed
 
@@ -289,34 +254,7 @@ module _ (ctx : Ctx) (id : AccountId) (n : ℤ) (m new : EntryMap) (balance : Cl
   balance_beside (asset.Alphanum12 code issuer) is =
       by_issuer (asset.Alphanum12 code issuer) (is_issued_by (asset.Alphanum12 code issuer) id) refl is
 
--- ---- a balance that is added
-
--- a balance is put where nothing was held
-balance_left : (ctx : Ctx) (m : EntryMap) (payer : AccountId) (k : ℕ) (e : LedgerEntry) (new : EntryMap) → IsKeyed m
-    → ((id : AccountId) → key.Account id ≢ key_of e) → get m (key_of e) ≡ None
-    → map_after_adding_balance ctx e payer k m ≡ Ok new
-    → Leaves ctx.base_reserve (under_key (key_of e) (λ x. held x e)) m new
-balance_left ctx m payer k e new keyed apart free done =
-    let now = map_after_charging k (Some payer) m in
-    let added = with_sponsor (Some payer) e in
-    let test = passed (payer_tests_at ctx m payer k) (put now added) new done in
-    let first = charging_kept ctx.base_reserve k (Some payer) m keyed
-    (λ x is. let same : payer ≡ x = cc in subst (λ w. (a : AccountEntry) → account_at m w ≡ Some a
-    → pos (k * ctx.base_reserve) ≤ℤ available a ctx.base_reserve) same (payer_had ctx m payer k test.0)) in
-    let more = under_key (key_of e) (λ x. held x e) in
-    subst (Leaves ctx.base_reserve more m) test.1
-    (keeps_then ctx.base_reserve more m now (put now added) first
-    (accounts_kept ctx.base_reserve more now (put now added) (keyed_put now added first.keyed)
-    (put_beside now added apart)
-    (put_holds now added (λ x. held x e) (λ x. sym (ap (λ n. n +ℤ held x e)
-    (still_holds m now first.holds (key_of e) x ∙ ap (part (held x)) free) ∙ none_before (held x e))))))
-
-payer_stands : (m : EntryMap) (owner : AccountId) (o : Option AccountId) → HasAccount m owner
-    → ((sponsor : AccountId) → o ≡ Some sponsor → HasAccount m sponsor) → HasAccount m (payer_by owner o)
-payer_stands m owner None stands sponsors = stands
-payer_stands m owner (Some sponsor) stands sponsors = sponsors sponsor refl
-
-at_least_one : (n : ℤ) → int_le n (pos 0) ≡ false → pos 1 ≤ℤ n
+pub at_least_one : (n : ℤ) → int_le n (pos 0) ≡ false → pos 1 ≤ℤ n
 at_least_one n h = grind (arith, ints)
 
 plus_none : (x : ℤ) → x ≤ℤ pos 1 → (x +ℤ pos 0) ≤ℤ pos 1
@@ -383,7 +321,7 @@ module _ (ctx : Ctx) (op : CreateClaimableBalanceOp) (m : EntryMap) (done : Done
       let still_free = balance_beside ctx src n m now (creating.new_id ctx) op.asset first.1 ∙ free in
       subst (IsLawful ctx m) same (lawful_with ctx m under all result new moves
       (shifts_as ctx.id_pool (λ x. unless_issuer x op.asset src (neg_ℤ n) +ℤ of_asset x op.asset n)
-      (λ x. issued x moves) m new (λ x. aside_issued x op.asset src (creating.new_id ctx) n)
+      (λ x. issued x moves) m new (λ x. put_aside_issued x op.asset src to n (balance_issues_none op.asset (creating.new_id ctx)))
       (shifts_both ctx.id_pool shift (λ x. of_asset x op.asset n) m now new one.shifts
       (λ v sum legal. balance_added_so v ctx.id_pool nothing_owed sum ctx src balance entry now new legal refl (record {
         free = still_free;

@@ -31,9 +31,10 @@ use Rattle.op_laws.proofs.LineFlags.{issued_is}
 use Rattle.op_laws.proofs.Payment.{above, asset_move}
 use Rattle.legal_rules.proofs.Leaving.{leaves_as}
 use Rattle.op_laws.proofs.Told.{account_place, moved, move_tells, redeemed_more, line_more}
-use Rattle.op_laws.proofs.Tests.{went_on, went_after_some}
+use Rattle.op_flags.proofs.Went.{went_on, went_after_some}
 use Rattle.legal_rules.proofs.Passed.{first_passed, neither}
-use Rattle.op_laws.proofs.TrustLines.{not_less, not_true}
+use Rattle.op_laws.proofs.LineLimits.{not_less}
+use Rattle.op_laws.proofs.TrustLines.{not_true}
 
 -- an asset has one issuer
 other_issuer : (held : Asset) (id other : AccountId) → is_issued_by held id ≡ true → is_same_account other id ≡ false

@@ -15,7 +15,7 @@ use Rattle.sponsor_rules.specs.declared.context.Ctx.{Ctx}
 use Rattle.sponsor_rules.specs.declared.context.Sponsorship.{Sponsorship}
 use Rattle.legal_rules.specs.Books.{View}
 use Rattle.legal_rules.specs.Supply.{held}
-use Rattle.legal_rules.specs.Owing.{nothing_owed, IsLegalOwing}
+use Rattle.legal_rules.specs.Owing.{nothing_owed, IsLegalOwing, AreEntriesLegal}
 use Rattle.legal_rules.specs.Sponsorships.{AreSponsorshipsSound}
 use Rattle.legal_rules.specs.Legal.{view}
 use Rattle.legal_rules.proofs.Legality.{view_of}
@@ -24,9 +24,9 @@ use Rattle.op_form.specs.Done.{Done, OfAccount, Move}
 use Rattle.op_laws.specs.Laws.{IsCovered, IsLawful}
 use Rattle.op_laws.specs.Moves.{gained, issued, AreTold}
 use Rattle.legal_rules.specs.Supply.{lumens_at}
-use Rattle.op_laws.specs.Underway.{AreEntriesLegal, IsUnderway, AreDrawn, KeepsTerms}
+use Rattle.op_laws.specs.Underway.{IsUnderway, AreDrawn, KeepsTerms}
 use Rattle.op_laws.proofs.Lumens.{nothing_issued}
-use Rattle.op_laws.proofs.Settled.{entries_legal, owing_of}
+use Rattle.legal_rules.proofs.Legality.{entries_legal, owing_of}
 use Rattle.legal_rules.specs.Holdings.{IsKeyed, Increase, none_more, HoldsMore}
 use Rattle.legal_rules.proofs.Holdings.{lumens_there}
 use Rattle.legal_rules.specs.Holdings.{IsAfter, IsCoveredBy}
@@ -68,13 +68,13 @@ none_drawn count was now same = record { low = omega arith; high = omega arith }
 plus_none : (x y n : ℤ) → x ≡ y → n ≡ pos 0 → x ≡ (y +ℤ n)
 plus_none x y n same none = omega (arith, ints)
 
-covered_as : (ctx : Ctx) (m : EntryMap) (id : AccountId) (a : AccountEntry) → a.account_id ≡ id
+pub covered_as : (ctx : Ctx) (m : EntryMap) (id : AccountId) (a : AccountEntry) → a.account_id ≡ id
     → IsCoveredBy ctx.base_reserve (account_at m id) a → IsCovered ctx m a
 covered_as ctx m id a named (inl low) = inl low
 covered_as ctx m id a named (inr was) = inr (was.0, ap (account_at m) named ∙ was.1, was.2)
 
 -- what is told of each holder tells the lumens of each account
-lumens_told_by : (m new : EntryMap) (moves : List Move) → IsKeyed m → IsKeyed new → AreTold m new moves
+pub lumens_told_by : (m new : EntryMap) (moves : List Move) → IsKeyed m → IsKeyed new → AreTold m new moves
     → (id : AccountId) → lumens_at new id ≡ (lumens_at m id +ℤ gained asset.Native (OfAccount id) moves)
 lumens_told_by m new moves keyed also told id =
     lumens_there new id also ∙ told asset.Native (OfAccount id) refl

@@ -49,7 +49,7 @@ use Rattle.op_laws.proofs.Lawful.{KeepsLegal, lawful_still}
 use Rattle.legal_rules.specs.Holdings.{IsKeyed, none_more}
 use Rattle.legal_rules.proofs.Holdings.{put_same}
 use Rattle.legal_rules.proofs.Leaving.{Leaves, keeps_both, accounts_kept, keyed_put}
-use Rattle.op_laws.proofs.Tests.{went_on, went_after_charge}
+use Rattle.op_flags.proofs.Went.{went_on, went_after_charge}
 use Rattle.legal_rules.proofs.Passed.{first_passed, neither}
 
 -- ---- the entry of data
@@ -285,7 +285,7 @@ removed_lawful ctx m under name done is =
 
 -- ---- the operation
 
-not_empty : (n : ℕ) → nat_eq n 0 ≡ false → 1 ≤ n
+pub not_empty : (n : ℕ) → nat_eq n 0 ≡ false → 1 ≤ n
 not_empty n h = grind arith
 
 not_false : (b : Bool) → not b ≡ false → b ≡ true

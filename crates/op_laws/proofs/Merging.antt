@@ -74,7 +74,7 @@ use Rattle.legal_rules.proofs.Holdings.{none_before, holds_both}
 use Rattle.legal_rules.proofs.Holdings.{holds_as, still_holds, erase_holds, cancelled}
 use Rattle.legal_rules.specs.Holdings.{IsAfter}
 use Rattle.legal_rules.proofs.Leaving.{Leaves, leaves_itself, leaves_both, keeps_both}
-use Rattle.op_laws.proofs.Tests.{went_on, went_after_some}
+use Rattle.op_flags.proofs.Went.{went_on, went_after_some}
 use Rattle.legal_rules.proofs.Passed.{first_passed, neither}
 
 -- ---- an account without its first signer

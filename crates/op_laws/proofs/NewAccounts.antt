@@ -64,7 +64,7 @@ use Rattle.legal_rules.proofs.Holdings.{put_holds}
 use Rattle.legal_rules.specs.Holdings.{IsAfter}
 use Rattle.legal_rules.proofs.Leaving.{Leaves, is_itself_after, leaves_both, leaves_as, keyed_put}
 use Rattle.legal_rules.proofs.Passed.{passed, first_passed, neither}
-use Rattle.op_laws.proofs.Tests.{went_on, went_after_some, went_after_charge}
+use Rattle.op_flags.proofs.Went.{went_on, went_after_some, went_after_charge}
 
 -- ---- where no account stands
 

@@ -1,6 +1,6 @@
 -- What a new claimable balance is: in its ranges, under a key where nothing stands.
 use Rattle.std.proofs.Common.{◌≡◌, ◌≢◌, refl, sym, ap, subst, ◌∙◌, ℕ, zero, suc, ◌≤◌, Bool, true, false, not}
-use Rattle.std.proofs.Common.{◌&&◌, ◌||◌, List, [], ◌∷◌, map, length, is_some, Option, Some, None, arith}
+use Rattle.std.proofs.Common.{◌&&◌, ◌||◌, List, [], ◌∷◌, map, length, Option, Some, None, arith}
 use Rattle.std.proofs.lemmas.Int.{ints}
 use Rattle.std.proofs.lemmas.List.{length-map}
 use Rattle.std.proofs.lemmas.List.Elements.{All-nil, All-cons}
@@ -19,18 +19,15 @@ use Rattle.ledger_types.specs.declared.entry.LedgerEntry.{LedgerEntry}
 use Rattle.ledger_types.specs.declared.entry.LedgerEntryBody.{LedgerEntryBody}
 use Rattle.ledger_types.specs.declared.entry.LedgerEntryBody.TheVariants as body
 use Rattle.ledger_types.specs.declared.key.LedgerKey.TheVariants as key
-use Rattle.ledger_types.specs.Keys.{key_of, key_of_body}
 use Rattle.valid_values.specs.Predicates.{is_valid_below, is_valid_level, is_valid_predicate, is_valid_stored_predicate}
 use Rattle.entry_map.specs.EntryMap.{EntryMap}
 use Rattle.entry_slots.specs.Balances.{balance_in, balance_of, balance_at}
 use Rattle.reserve_rules.specs.Reserve.{greatest_i64}
 use Rattle.sponsor_rules.specs.Payers.{is_same_account}
 use Rattle.sponsor_rules.proofs.Ids.{is_itself}
-use Rattle.legal_rules.specs.Ranges.{AreClaimantsInRange, balance_flags}
+use Rattle.legal_rules.specs.Ranges.{AreClaimantsInRange}
 use Rattle.op_claim.specs.Predicates.{fixed_level, fixed_below, fixed_claimant, time_after}
-use Rattle.op_form.specs.Flags.{flagged_ext}
 use Rattle.op_claim.specs.CreateClaimableBalance as spec
-use Rattle.legal_rules.specs.Holdings.{IsKeyed}
 use Rattle.legal_rules.proofs.Passed.{neither}
 use Rattle.op_laws.proofs.TrustLines.{not_true}
 
@@ -157,34 +154,6 @@ claimants_in_range t cs h few =
       apart = all_apart t cs first.1;
       predicates = all_valid t cs (not_true (spec.are_predicates_valid cs) last.1);
     }
-
-pub new_flags : (can : Bool) → balance_flags (flagged_ext can) ≤ 1
-new_flags true = omega arith
-new_flags false = omega arith
-
--- ---- keys
-
-no_balance_body : (b : LedgerEntryBody) (id : ClaimableBalanceId) → key_of_body b ≡ key.ClaimableBalance id
-    → balance_in b ≡ None → ⊥
-no_balance_body (body.ClaimableBalance balance) id own none = absurd (cc)
-no_balance_body other id own none = absurd (cc)
-
-no_balance_of : (o : Option LedgerEntry) (id : ClaimableBalanceId)
-    → ((e : LedgerEntry) → o ≡ Some e → key_of e ≡ key.ClaimableBalance id) → balance_of o ≡ None → o ≡ None
-no_balance_of None id own none = refl
-no_balance_of (Some e) id own none = absurd (no_balance_body e.body id (own e refl) none)
-
-none_of : (o : Option ClaimableBalanceEntry) → is_some o ≡ false → o ≡ None
-none_of None h = refl
-none_of (Some balance) h = absurd (cc)
-
--- where no balance stands under its key, nothing does
-pub no_balance : (m : EntryMap) (id : ClaimableBalanceId) → IsKeyed m → is_some (balance_at m id) ≡ false
-    → get m (key.ClaimableBalance id) ≡ None
-unfolding balance_at
-no_balance m id keyed none =
-    no_balance_of (get m (key.ClaimableBalance id)) id (keyed (key.ClaimableBalance id))
-    (none_of (balance_of (get m (key.ClaimableBalance id))) none)
 
 -- ---- a balance that stands
 

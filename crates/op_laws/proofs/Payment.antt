@@ -35,7 +35,7 @@ use Rattle.op_laws.proofs.Lumens.{lumens_move, itself_told, none_issued}
 use Rattle.legal_rules.specs.Holdings.{none_more}
 use Rattle.legal_rules.proofs.Leaving.{leaves_itself, leaves_both}
 use Rattle.op_laws.proofs.Told.{more_for, account_place, moved, move_tells}
-use Rattle.op_laws.proofs.Tests.{went_on, went_after_step}
+use Rattle.op_flags.proofs.Went.{went_on, went_after_step}
 use Rattle.legal_rules.proofs.Passed.{first_passed, neither}
 
 pub above : (n : ℤ) → int_le n (pos 0) ≡ false → pos 0 ≤ℤ n

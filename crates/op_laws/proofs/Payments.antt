@@ -26,7 +26,7 @@ use Rattle.op_laws.specs.Steps.{FeesSettle, SeqNumsSettle}
 use Rattle.legal_rules.specs.Holdings.{none_more}
 use Rattle.legal_rules.proofs.Holdings.{account_same}
 use Rattle.op_laws.proofs.Issued.{none_moved}
-use Rattle.op_laws.proofs.Settled.{entries_legal, owing_of}
+use Rattle.legal_rules.proofs.Legality.{entries_legal, owing_of}
 use Rattle.op_laws.proofs.Told.{told_by, tells_nothing}
 
 -- ---- fees

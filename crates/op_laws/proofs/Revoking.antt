@@ -45,7 +45,7 @@ use Rattle.legal_rules.proofs.ReservesLeft.{next_edited}
 use Rattle.legal_rules.specs.Holdings.{IsKeyed, none_more}
 use Rattle.legal_rules.proofs.Leaving.{IsNext, Leaves, leaves_itself, keeps_both}
 use Rattle.legal_rules.proofs.Passed.{passed}
-use Rattle.op_laws.proofs.Tests.{went_on, went_after_some, went_after_charge}
+use Rattle.op_flags.proofs.Went.{went_on, went_after_some, went_after_charge}
 
 module _ (ctx : Ctx) (m new : EntryMap) (keyed : IsKeyed m) where
   abbrev IsLeft : EntryMap → Type 0

@@ -74,7 +74,7 @@ use Rattle.op_laws.proofs.SignerWeights.{weighed_legal, weighed_left}
 use Rattle.legal_rules.specs.Holdings.{IsKeyed, none_more}
 use Rattle.legal_rules.proofs.Leaving.{IsNext, Leaves, leaves_itself, keeps_both, account_kept}
 use Rattle.legal_rules.proofs.Passed.{passed, first_passed, neither}
-use Rattle.op_laws.proofs.Tests.{went_on, went_after, went_after_some, went_after_charge}
+use Rattle.op_flags.proofs.Went.{went_on, went_after, went_after_some, went_after_charge}
 
 -- ---- keys of signers
 

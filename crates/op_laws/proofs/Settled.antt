@@ -1,7 +1,7 @@
 -- Settled entries, by the forms in which changes are stated, and what they give.
-use Rattle.std.proofs.Common.{◌≡◌, refl, sym, ap, subst, ◌∙◌, ℕ, ◌≤◌, Bool, true, false, Option, Some, None, arith}
+use Rattle.std.proofs.Common.{◌≡◌, refl, ap, subst, ℕ, ◌≤◌, Bool, true, false, Option, Some, None, arith}
 use Rattle.std.proofs.lemmas.Int.{ints}
-use Rattle.std.specs.Prelude.{ℤ, pos, ◌+ℤ◌, ◌-ℤ◌, ◌≤ℤ◌, if◌then◌else◌}
+use Rattle.std.specs.Prelude.{ℤ, pos, ◌+ℤ◌, ◌≤ℤ◌, if◌then◌else◌}
 use Rattle.std.specs.FinMap.{get}
 use Rattle.std.specs.Ordering.{is_eq}
 use Rattle.ledger_types.specs.declared.ids.AccountId.{AccountId}
@@ -16,7 +16,6 @@ use Rattle.ledger_types.specs.declared.entry.LedgerEntryBody.{LedgerEntryBody}
 use Rattle.ledger_types.specs.declared.entry.LedgerEntryBody.TheVariants as body
 use Rattle.ledger_types.specs.declared.key.LedgerKey.{LedgerKey}
 use Rattle.ledger_types.specs.declared.key.LedgerKey.TheVariants as key
-use Rattle.ledger_types.specs.Keys.{key_of}
 use Rattle.ledger_types.specs.KeyOrder.{asset_cmp}
 use Rattle.entry_map.specs.EntryMap.{EntryMap}
 use Rattle.entry_slots.specs.AccountExtensions.{num_sponsored}
@@ -25,56 +24,20 @@ use Rattle.entry_slots.specs.Lines.{line_at}
 use Rattle.reserve_rules.specs.Reserve.{IsLineInRange}
 use Rattle.entry_sums.specs.Sums.{total}
 use Rattle.entry_sums.proofs.Summing.{total_not_below}
-use Rattle.legal_rules.specs.EntryKeys.{is_key}
-use Rattle.legal_rules.specs.Books.{Kind, Subentries, Sponsored, Uses, View, stated}
-use Rattle.legal_rules.specs.PoolShares.{uses}
+use Rattle.legal_rules.specs.Books.{Subentries, Sponsored, stated}
 use Rattle.legal_rules.specs.Ranges.{IsBodyInRange}
 use Rattle.legal_rules.specs.Supply.{of_asset, of_line, held_in, held}
 use Rattle.legal_rules.specs.Legal.{view, pools_in}
-use Rattle.legal_rules.specs.Owing.{weight, nothing_owed, IsEntryLegal, IsLegalOwing}
+use Rattle.legal_rules.specs.Owing.{nothing_owed, IsEntryLegal, IsLegalOwing, AreEntriesLegal}
 use Rattle.legal_rules.proofs.Bounded.{account_legal}
 use Rattle.legal_rules.proofs.Covered.{sponsored_at_most, account_states}
 use Rattle.legal_rules.proofs.Given.{sponsors_ready}
-use Rattle.legal_rules.proofs.Legality.{owing_nothing_of, legal_of, view_of}
+use Rattle.legal_rules.proofs.Legality.{owing_nothing_of, legal_of}
 use Rattle.legal_rules.proofs.Liable.{line_entry}
 use Rattle.legal_rules.proofs.Numbers.{taken_off}
-use Rattle.op_offers.proofs.OutOfBook.{nothing_right}
-use Rattle.op_laws.specs.Underway.{AreEntriesLegal}
+use Rattle.pool_shares.proofs.Sound.{entries_sound}
 use Rattle.op_laws.specs.Steps.{LegalSettles, SettledLegal, SettledAccounts, SettledReady, SettledInRange, SettledHeld}
-use Rattle.op_laws.specs.Steps.{SettledCrossable, SettledFew, SettledAmounts, UnderwayManageable}
-
--- ---- other views
-
--- what is weighed depends on the pools alone
-same_weight : (v w : View) → v.pools ≡ w.pools → (kind : Kind) (k : LedgerKey) (e : LedgerEntry)
-    → weight v kind k e ≡ weight w kind k e
-same_weight v w same Uses k e =
-    λ i. uses (same i) k e.body -ℤ (if is_key (key_of e) k then stated Uses e.body else pos 0)
-same_weight v w same other k e = refl
-
--- the same entries, whatever asset is asked for
-viewed_by : (v w : View) (id_pool : ℕ) (sum : ℤ) (m : EntryMap) → v.pools ≡ w.pools
-    → IsLegalOwing v id_pool nothing_owed sum m → IsLegalOwing w id_pool nothing_owed (total (held w.asset) m) m
-viewed_by v w id_pool sum m same legal = record {
-  params = λ id. legal.params id ∙ (λ i. same i id);
-  keyed = legal.keyed;
-  entries = legal.entries;
-  offers = legal.offers;
-  books = λ kind k. sym (ap (λ f. total f m) (λ i e. same_weight v w same kind k e i)) ∙ legal.books kind k;
-  supply = refl;
-}
-
--- What owes nothing, by whatever it is viewed, is legal entries.
-pub entries_legal : (v : View) (id_pool : ℕ) (sum : ℤ) (m : EntryMap) → IsLegalOwing v id_pool nothing_owed sum m
-    → AreEntriesLegal id_pool m
-entries_legal v id_pool sum m legal =
-    let known : pools_in m ≡ v.pools = λ i id. legal.params id i in
-    viewed_by v (view m) id_pool sum m (sym known) legal
-
--- Legal entries owe nothing, whatever asset is asked for.
-pub owing_of : (x : Asset) (id_pool : ℕ) (m : EntryMap) → AreEntriesLegal id_pool m
-    → IsLegalOwing (view_of x m) id_pool nothing_owed (total (held x) m) m
-owing_of x id_pool m legal = viewed_by (view m) (view_of x m) id_pool (total (held asset.Native) m) m refl legal
+use Rattle.op_laws.specs.Steps.{SettledSound, SettledFew, SettledAmounts, UnderwayManageable}
 
 -- ---- legal states
 
@@ -125,15 +88,8 @@ settled_in_range id_pool m settled = record {
   lines = λ id held t stands. line_in_range id_pool m id held t settled.legal stands;
 }
 
-pub settled_crossable : SettledCrossable
-settled_crossable id_pool m settled = record {
-  view = view m;
-  id_pool = id_pool;
-  owed = nothing_owed;
-  sum = total (held asset.Native) m;
-  legal = settled.legal;
-  right = nothing_right;
-}
+pub settled_sound : SettledSound
+settled_sound id_pool m settled = entries_sound id_pool m settled.legal
 
 -- ---- what is held
 

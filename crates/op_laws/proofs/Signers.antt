@@ -30,7 +30,7 @@ use Rattle.op_laws.specs.Steps.{PreauthsSettle}
 use Rattle.legal_rules.proofs.ChargesLeft.{discharged_kept}
 use Rattle.legal_rules.proofs.ReservesLeft.{no_subentry_means, next_edited}
 use Rattle.op_laws.proofs.Issued.{none_moved}
-use Rattle.op_laws.proofs.Settled.{entries_legal, owing_of}
+use Rattle.legal_rules.proofs.Legality.{entries_legal, owing_of}
 use Rattle.op_laws.proofs.Told.{told_by, tells_nothing}
 use Rattle.legal_rules.specs.Holdings.{none_more}
 use Rattle.legal_rules.proofs.Leaving.{IsNext, Leaves, leaves_itself}

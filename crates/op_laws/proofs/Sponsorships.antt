@@ -32,7 +32,7 @@ use Rattle.legal_rules.specs.Holdings.{none_more}
 use Rattle.legal_rules.proofs.Holdings.{holds_itself}
 use Rattle.legal_rules.proofs.Leaving.{is_itself_after}
 use Rattle.op_laws.proofs.Told.{tells_nothing}
-use Rattle.op_laws.proofs.Tests.{went_on, went_after_some}
+use Rattle.op_flags.proofs.Went.{went_on, went_after_some}
 use Rattle.legal_rules.proofs.Passed.{first_passed}
 
 -- ---- other sponsorships

@@ -112,6 +112,11 @@ balance_place asset.Native id = (key.ClaimableBalance id, refl)
 balance_place (asset.Alphanum4 code issuer) id = (key.ClaimableBalance id, refl)
 balance_place (asset.Alphanum12 code issuer) id = (key.ClaimableBalance id, refl)
 
+pub pool_place : (held : Asset) (id : Hash) → HasPlace held (OfPool id)
+pool_place asset.Native id = (key.LiquidityPool id, refl)
+pool_place (asset.Alphanum4 code issuer) id = (key.LiquidityPool id, refl)
+pool_place (asset.Alphanum12 code issuer) id = (key.LiquidityPool id, refl)
+
 -- the same holder
 same_holder : (q h : Holder) → is_holder q h ≡ true → h ≡ q
 same_holder (OfAccount id) (OfAccount other) is = ap OfAccount (same_account other id is)
@@ -287,3 +292,9 @@ pub balance_more : (held : Asset) (id : ClaimableBalanceId) (n : ℤ) (k : Ledge
 balance_more asset.Native id n k x = refl
 balance_more (asset.Alphanum4 code issuer) id n k x = refl
 balance_more (asset.Alphanum12 code issuer) id n k x = refl
+
+pub pool_more : (held : Asset) (id : Hash) (n : ℤ) (k : LedgerKey) (x : Asset)
+    → under_key (key.LiquidityPool id) (λ y. of_asset y held n) k x ≡ more_for held (OfPool id) n k x
+pool_more asset.Native id n k x = refl
+pool_more (asset.Alphanum4 code issuer) id n k x = refl
+pool_more (asset.Alphanum12 code issuer) id n k x = refl

@@ -104,7 +104,8 @@ module _ (by : Measure) (linear : IsLinear by) (trade : Trade) (source : Account
 
 -- ---- measures
 
-sum_if : (t : Bool) (a b : ℤ) → (if t then a +ℤ b else pos 0) ≡ ((if t then a else pos 0) +ℤ (if t then b else pos 0))
+pub sum_if : (t : Bool) (a b : ℤ)
+    → (if t then a +ℤ b else pos 0) ≡ ((if t then a else pos 0) +ℤ (if t then b else pos 0))
 sum_if true a b = refl
 sum_if false a b = refl
 
@@ -149,7 +150,8 @@ kept_unless : (b : Bool) (x held : Asset) (at : LedgerKey) (n : ℤ)
 kept_unless true x held at n = refl
 kept_unless false x held at n = refl
 
-holder_kept : (x held : Asset) (id : AccountId) (n : ℤ) → kept_at x (holder id held) held n ≡ held_by x held id n
+pub holder_kept : (x held : Asset) (id : AccountId) (n : ℤ)
+    → kept_at x (holder id held) held n ≡ unless_issuer x held id n
 holder_kept x asset.Native id n = refl
 holder_kept x (asset.Alphanum4 code issuer) id n = kept_unless (is_same_account issuer id) x
     (asset.Alphanum4 code issuer) (key.TrustLine id (line.Alphanum4 code issuer)) n
@@ -162,8 +164,8 @@ more_unless : (b : Bool) (held : Asset) (at : LedgerKey) (n : ℤ) (k : LedgerKe
 more_unless true held at n k x = refl
 more_unless false held at n k x = refl
 
-holder_more : (held : Asset) (id : AccountId) (n : ℤ) (k : LedgerKey) (x : Asset)
-    → more_where (holder id held) held n k x ≡ more_by k x held id n
+pub holder_more : (held : Asset) (id : AccountId) (n : ℤ) (k : LedgerKey) (x : Asset)
+    → more_where (holder id held) held n k x ≡ more_for held (OfAccount id) n k x
 holder_more asset.Native id n k x = refl
 holder_more (asset.Alphanum4 code issuer) id n k x =
     more_unless (is_same_account issuer id) (asset.Alphanum4 code issuer)

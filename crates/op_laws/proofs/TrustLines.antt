@@ -1,7 +1,6 @@
--- CHANGE_TRUST is lawful.
+-- CHANGE_TRUST of a line in an asset is lawful.
 use Rattle.std.proofs.Common.{◌≡◌, ◌≢◌, refl, sym, ap, subst, ◌∙◌, ℕ, ◌%◌, ◌≤◌, Bool, true, false, not, ◌||◌, ◌∷◌, []}
 use Rattle.std.proofs.Common.{is_some, bit_or, Option, Some, None, Ok, arith}
-use Rattle.std.proofs.lemmas.Bool.Decides.{Decides-int_eq}
 use Rattle.std.proofs.lemmas.Int.{ints}
 use Rattle.std.specs.Prelude.{ℤ, pos, neg_ℤ, int_lt, ◌+ℤ◌, ◌-ℤ◌, ◌≤ℤ◌, if◌then◌else◌}
 use Rattle.std.specs.FinMap.{get}
@@ -21,7 +20,6 @@ use Rattle.ledger_types.specs.declared.key.LedgerKey.TheVariants as key
 use Rattle.ledger_types.specs.Keys.{key_of, key_of_body}
 use Rattle.ledger_types.specs.KeyOrder.{asset_cmp}
 use Rattle.op_types.specs.declared.trust_results.ChangeTrustResult.TheVariants as trust
-use Rattle.op_types.specs.declared.operation_result.OperationResult.TheVariants.{NotSupported}
 use Rattle.valid_values.specs.Assets.{is_valid_asset}
 use Rattle.entry_map.specs.EntryMap.{EntryMap, erase}
 use Rattle.entry_slots.specs.Accounts.{account_at, HasAccount}
@@ -42,34 +40,30 @@ use Rattle.legal_rules.specs.Books.{View}
 use Rattle.legal_rules.specs.Legal.{view}
 use Rattle.legal_rules.specs.Owing.{weighed, nothing_owed, beside_reserves, IsEntryLegal}
 use Rattle.legal_rules.specs.Ranges.{IsHeldIn, AreLineFlags, IsTrustLineInRange}
-use Rattle.legal_rules.specs.Supply.{of_asset, of_line, held as held_of}
+use Rattle.legal_rules.specs.Supply.{of_line, held as held_of}
 use Rattle.legal_rules.proofs.Given.{sponsors_ready}
 use Rattle.legal_rules.proofs.Kept.{subentry_added_so}
 use Rattle.legal_rules.proofs.Numbers.{plus_nothing}
 use Rattle.legal_rules.proofs.PaidFor.{nothing_settled}
 use Rattle.legal_rules.proofs.Removing.{subentry_removed, owns}
 use Rattle.legal_rules.proofs.Steps.{legal_as}
-use Rattle.legal_rules.proofs.Liable.{line_entry, with_line_body}
+use Rattle.legal_rules.proofs.Liable.{int_same, line_entry, with_line_body}
 use Rattle.legal_rules.proofs.Subentries.{subentry_of}
 use Rattle.op_form.specs.Assets.{is_native, is_issued_by, issuer_at, line_asset_of, line_of_asset}
 use Rattle.op_form.specs.Done.{Done}
 use Rattle.op_form.specs.Flags.{is_auth_required, is_account_clawback_enabled}
 use Rattle.op_form.specs.Steps.{success}
 use Rattle.op_trust.specs.ChangeTrust as spec
-use Rattle.op_laws.specs.Laws.{IsLawful, AreLawfulWhere, IsLimitFit}
-use Rattle.op_laws.specs.Moves.{issued}
+use Rattle.op_laws.specs.Laws.{IsLawful}
 use Rattle.op_laws.specs.Underway.{IsUnderway}
-use Rattle.op_laws.proofs.Amounts.{shifts_as}
 use Rattle.legal_rules.proofs.ChargesLeft.{subentry_kept, discharged_kept, erased_kept}
-use Rattle.op_laws.proofs.Lawful.{KeepsLegal, lawful_still, lawful_with}
+use Rattle.op_laws.proofs.Lawful.{KeepsLegal, lawful_still}
 use Rattle.legal_rules.proofs.LinesLeft.{line_legal}
-use Rattle.op_laws.proofs.LineChanges.{line_shifted, line_kept}
-use Rattle.op_laws.proofs.Lumens.{nothing_issued}
+use Rattle.op_laws.proofs.LineLimits.{not_below, not_zero, nothing_in_line, line_limited_lawful}
 use Rattle.legal_rules.specs.Holdings.{IsKeyed, none_more}
 use Rattle.legal_rules.proofs.Holdings.{still_holds}
 use Rattle.legal_rules.proofs.Leaving.{Leaves, keeps_both}
-use Rattle.op_laws.proofs.Told.{tells_nothing}
-use Rattle.op_laws.proofs.Tests.{went_on, went_after_some, went_after_charge}
+use Rattle.op_flags.proofs.Went.{went_on, went_after_some, went_after_charge}
 use Rattle.legal_rules.proofs.Passed.{first_passed, neither}
 
 -- ---- keys
@@ -85,7 +79,7 @@ no_line_of : (o : Option LedgerEntry) (id : AccountId) (held : TrustLineAsset)
 no_line_of None id held own none = refl
 no_line_of (Some e) id held own none = absurd (no_line_body e.body id held (own e refl) none)
 
-no_line : (m : EntryMap) (id : AccountId) (held : TrustLineAsset) → IsKeyed m → line_at m id held ≡ None
+pub no_line : (m : EntryMap) (id : AccountId) (held : TrustLineAsset) → IsKeyed m → line_at m id held ≡ None
     → get m (key.TrustLine id held) ≡ None
 unfolding line_at
 no_line m id held keyed none = no_line_of (get m (key.TrustLine id held)) id held (keyed (key.TrustLine id held)) none
@@ -167,20 +161,6 @@ held_in_it (asset.Alphanum12 code issuer) id issued valid other = (valid, apart_
 
 -- ---- numbers
 
-pub not_below : (n : ℤ) → int_lt n (pos 0) ≡ false → pos 0 ≤ℤ n
-not_below n h = grind (arith, ints)
-
-pub not_less : (x y : ℤ) → int_lt x y ≡ false → y ≤ℤ x
-not_less x y h = grind (arith, ints)
-
-is_zero : (n : ℤ) → int_eq n (pos 0) ≡ true → n ≡ pos 0
-is_zero n h = (Decides-int_eq n (pos 0)).0 h
-
-not_zero : (n : ℤ) → pos 0 ≤ℤ n → int_eq n (pos 0) ≡ false → pos 1 ≤ℤ n
-not_zero n low h =
-    let apart : n ≢ pos 0 = λ same. let is = (Decides-int_eq n (pos 0)).1 same in absurd (cc) in
-    omega (arith, ints)
-
 pub not_true : (b : Bool) → not b ≡ false → b ≡ true
 not_true true h = refl
 not_true false h = absurd (cc)
@@ -197,14 +177,8 @@ minus_none x h none = omega (arith, ints)
 plus_none : (x : ℤ) → x ≤ℤ pos 1 → (x +ℤ pos 0) ≤ℤ pos 1
 plus_none x le = omega (arith, ints)
 
-none_each : (b n : ℤ) → pos 0 ≤ℤ b → pos 0 ≤ℤ n → (b +ℤ n) ≤ℤ pos 0 → (b ≡ pos 0) × (n ≡ pos 0)
-none_each b n low also le = (omega (arith, ints), omega (arith, ints))
-
 none_within : (s b : ℤ) → b ≡ pos 0 → pos 0 ≤ℤ s → s ≤ℤ b → s ≡ pos 0
 none_within s b none low le = omega (arith, ints)
-
-pub no_less : (b : ℤ) → (b -ℤ b) ≡ pos 0
-no_less b = omega (arith, ints)
 
 -- ---- adding
 
@@ -296,30 +270,8 @@ module _ (ctx : Ctx) (m : EntryMap) (under : IsUnderway ctx m) (stands : HasAcco
         let also = went.1 in
         let made : Done = record { result = spec.answer trust.Success; entries = new; ctx = ctx; moves = [] } in
         let same : made ≡ done = cc in
-        let was = line_legal (view m) ctx.id_pool nothing_owed _ m src its t under.settled.legal there in
-        subst (IsLawful ctx m) same (lawful_with ctx m under none_more (spec.answer trust.Success) new []
-        (shifts_as ctx.id_pool (λ x. of_asset x held (t.balance -ℤ t.balance)) (λ x. issued x []) m new
-        (λ x. ap (λ n. of_asset x held n) (no_less t.balance) ∙ same_zero (is_eq (asset_cmp x held))
-        ∙ sym (nothing_issued x))
-        (line_shifted ctx.id_pool m src held issued_asset (spec.with_limit limit) t there
-        (record { id = refl; asset = refl; liabilities = refl; uses = refl })
-        (record {
-          range = record {
-            balance = was.range.range.balance;
-            buying = was.range.range.buying;
-            selling = was.range.range.selling;
-            covered = was.range.range.covered;
-            fits = not_less limit (t.balance +ℤ (line_liabilities t).buying) exceeded;
-          };
-          limit = not_zero limit low some;
-          greatest = high;
-          held = was.range.held;
-          flags = was.range.flags;
-          uses = was.range.uses;
-        }) was.bound))
-        (line_kept ctx.id_pool m src held issued_asset (spec.with_limit limit) t there
-        (record { id = refl; asset = refl; liabilities = refl; uses = refl }) ctx.base_reserve under.settled.legal.keyed
-        refl) tells_nothing)
+        subst (IsLawful ctx m) same
+        (line_limited_lawful ctx m under its limit t there exceeded (not_zero limit low some) high)
 
     -- ---- removing
 
@@ -327,27 +279,21 @@ module _ (ctx : Ctx) (m : EntryMap) (under : IsUnderway ctx m) (stands : HasAcco
     its_key = key.TrustLine src its
 
     module _ (none : int_eq limit (pos 0) ≡ true) (unused : use_count t ≡ pos 0) where
+      nothing_in : (t.balance ≡ pos 0) × ((line_liabilities t).buying ≡ pos 0)
+      nothing_in = nothing_in_line t
+          (line_legal (view m) ctx.id_pool nothing_owed _ m src its t under.settled.legal there).range.range limit
+          exceeded none
+
       its_line : IsIdleLine t held
       its_line =
           let was = line_legal (view m) ctx.id_pool nothing_owed _ m src its t under.settled.legal there in
           let r = was.range.range in
-          let le = subst (λ n. (t.balance +ℤ (line_liabilities t).buying) ≤ℤ n) (is_zero limit none)
-          (not_less limit (t.balance +ℤ (line_liabilities t).buying) exceeded) in
-          let both = none_each t.balance (line_liabilities t).buying r.balance r.buying le in
           record {
             asset = was.asset;
-            selling = none_within (line_liabilities t).selling t.balance both.0 r.selling r.covered;
-            buying = both.1;
+            selling = none_within (line_liabilities t).selling t.balance nothing_in.0 r.selling r.covered;
+            buying = nothing_in.1;
             uses = unused;
           }
-
-      its_balance : t.balance ≡ pos 0
-      its_balance =
-          let was = line_legal (view m) ctx.id_pool nothing_owed _ m src its t under.settled.legal there in
-          let r = was.range.range in
-          let le = subst (λ n. (t.balance +ℤ (line_liabilities t).buying) ≤ℤ n) (is_zero limit none)
-          (not_less limit (t.balance +ℤ (line_liabilities t).buying) exceeded) in
-          (none_each t.balance (line_liabilities t).buying r.balance r.buying le).0
 
       module _ (e : LedgerEntry) (at : get m (key.TrustLine ctx.op_source (line_asset_of held))
           ≡ Some (with_line_body e t)) where
@@ -363,7 +309,7 @@ module _ (ctx : Ctx) (m : EntryMap) (under : IsUnderway ctx m) (stands : HasAcco
             (subentry_of (body.TrustLine t) t.account_id times refl))
             (λ kind k. none_taken _ (nothing_counted v e t held its_line kind k))
             (minus_none sum (of_line v.asset t.asset t.balance)
-            (ap (of_line v.asset t.asset) its_balance ∙ nothing_held v.asset t.asset))
+            (ap (of_line v.asset t.asset) nothing_in.0 ∙ nothing_held v.asset t.asset))
 
         had : (a : AccountEntry) → account_at m t.account_id ≡ Some a → times ≤ a.num_sub_entries
         had a standing =
@@ -382,7 +328,7 @@ module _ (ctx : Ctx) (m : EntryMap) (under : IsUnderway ctx m) (stands : HasAcco
             keeps_both ctx.base_reserve m now (erase now its_key) first
             (erased_kept ctx.base_reserve now its_key first.keyed (λ id same. absurd (cc))
             (λ x. still_holds m now first.holds its_key x ∙ ap (part (held_of x)) at
-            ∙ ap (of_line x t.asset) its_balance ∙ nothing_held x t.asset))
+            ∙ ap (of_line x t.asset) nothing_in.0 ∙ nothing_held x t.asset))
 
     removed_lawful : (done : Done) → int_eq limit (pos 0) ≡ true → spec.removed ctx held t m ≡ Ok done
         → IsLawful ctx m done
@@ -391,7 +337,7 @@ module _ (ctx : Ctx) (m : EntryMap) (under : IsUnderway ctx m) (stands : HasAcco
         let went = went_on ((not (int_eq (use_count t) (pos 0)), spec.answer trust.CannotDelete) ∷ [])
         (success ctx (spec.answer trust.Success) new []) done is in
         let test = first_passed (not (int_eq (use_count t) (pos 0))) (spec.answer trust.CannotDelete) [] went.0 in
-        let unused = is_zero (use_count t) (not_true (int_eq (use_count t) (pos 0)) test.0) in
+        let unused = int_same (use_count t) (pos 0) (not_true (int_eq (use_count t) (pos 0)) test.0) in
         let also = went.1 in
         let made : Done = record { result = spec.answer trust.Success; entries = new; ctx = ctx; moves = [] } in
         let same : made ≡ done = cc in
@@ -403,7 +349,7 @@ module _ (ctx : Ctx) (m : EntryMap) (under : IsUnderway ctx m) (stands : HasAcco
         (subst (KeepsLegal ctx.id_pool m) removed_so (removed_legal none unused found.0 at))
         (subst (Leaves ctx.base_reserve none_more m) removed_so (removed_left none unused found.0 at)))
 
--- ---- the operation
+-- ---- CHANGE_TRUST of a line in an asset
 
 module _ (ctx : Ctx) (m : EntryMap) (done : Done) (under : IsUnderway ctx m) (stands : HasAccount m ctx.op_source)
     (limit : ℤ) (high : limit ≤ℤ greatest_i64) where
@@ -431,8 +377,9 @@ module _ (ctx : Ctx) (m : EntryMap) (done : Done) (under : IsUnderway ctx m) (st
         added_lawful ctx m under stands held issued_asset limit valid other (not_zero limit low test.0) high issuer.0
         done there issuer.2
 
-  by_asset : (held : Asset) → spec.asset_changed ctx held limit m ≡ Ok done → IsLawful ctx m done
-  by_asset held is =
+  -- Each CHANGE_TRUST of a line in an asset that succeeds is lawful.
+  pub asset_trust_is_lawful : (held : Asset) → spec.asset_trust ctx held limit m ≡ Ok done → IsLawful ctx m done
+  asset_trust_is_lawful held is =
       let went = went_on (spec.asked_tests ctx held limit) _ done is in
       let below = int_lt limit (pos 0) in
       let native = is_native held in
@@ -444,8 +391,3 @@ module _ (ctx : Ctx) (m : EntryMap) (done : Done) (under : IsUnderway ctx m) (st
       let first = neither below native third.0 in
       by_line held first.1 (not_below limit first.0) (not_true (is_valid_asset held) third.1) last.1
       (line_of_asset m ctx.op_source held) refl went.1
-
-pub change_trust_is_lawful : AreLawfulWhere IsLimitFit spec.change_trust
-change_trust_is_lawful ctx op m done fit under stands is =
-    let went = went_after_some (spec.asset_asked op.line) NotSupported _ done is in
-    by_asset ctx m done under stands op.limit fit went.0 went.2

@@ -13,10 +13,11 @@ use Rattle.op_flags.specs.Operations.{flags_operation}
 use Rattle.op_offers.specs.Operations.{offers_operation}
 use Rattle.op_options.specs.Operations.{options_operation}
 use Rattle.op_payment.specs.Operations.{payment_operation}
+use Rattle.op_pool.specs.Operations.{pool_operation}
 use Rattle.op_sponsor.specs.Operations.{sponsor_operation}
 use Rattle.op_trust.specs.Operations.{trust_operation}
 
--- Operations of the other types are not supported yet.
+-- Path payments are not supported yet.
 unfoldable pub any_operation : Ctx → OperationBody → EntryMap → Done
 any_operation ctx (body.CreateAccount op) m = account_operation ctx (body.CreateAccount op) m
 any_operation ctx (body.AccountMerge op) m = account_operation ctx (body.AccountMerge op) m
@@ -39,4 +40,6 @@ any_operation ctx (body.BeginSponsoringFutureReserves op) m =
     sponsor_operation ctx (body.BeginSponsoringFutureReserves op) m
 any_operation ctx body.EndSponsoringFutureReserves m = sponsor_operation ctx body.EndSponsoringFutureReserves m
 any_operation ctx (body.RevokeSponsorship op) m = sponsor_operation ctx (body.RevokeSponsorship op) m
+any_operation ctx (body.LiquidityPoolDeposit op) m = pool_operation ctx (body.LiquidityPoolDeposit op) m
+any_operation ctx (body.LiquidityPoolWithdraw op) m = pool_operation ctx (body.LiquidityPoolWithdraw op) m
 any_operation ctx other m = done_of ctx m (Err NotSupported)

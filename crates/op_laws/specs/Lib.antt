@@ -3,3 +3,4 @@ pub mod Underway
 pub mod Moves
 pub mod Laws
 pub mod Steps
+pub mod CrossedBooks

@@ -17,7 +17,7 @@ use Rattle.legal_rules.specs.Legal.{IsLegal}
 use Rattle.legal_rules.specs.Payments.{with_paid, with_seq_num}
 use Rattle.legal_rules.specs.Supply.{held, lumens_of}
 use Rattle.legal_rules.specs.Ranges.{IsAccountInRange}
-use Rattle.trade_cross.specs.Crossable.{IsCrossable}
+use Rattle.pool_shares.specs.Premises.{ArePoolsSound}
 use Rattle.op_form.specs.Premises.{AccountsAreReady, BalancesAreInRange, AreAmountsLow}
 use Rattle.op_offers.specs.Calls.{IsManageable}
 use Rattle.op_laws.specs.Laws.{AllLawful}
@@ -63,9 +63,9 @@ SettledReady = (id_pool : ℕ) (m : EntryMap) → IsSettled id_pool m → Accoun
 abbrev pub SettledInRange : Type 0
 SettledInRange = (id_pool : ℕ) (m : EntryMap) → IsSettled id_pool m → BalancesAreInRange m
 
--- books of offers can be crossed, and offers removed
-abbrev pub SettledCrossable : Type 0
-SettledCrossable = (id_pool : ℕ) (m : EntryMap) → IsSettled id_pool m → IsCrossable m
+-- pools and lines of their shares are sound
+abbrev pub SettledSound : Type 0
+SettledSound = (id_pool : ℕ) (m : EntryMap) → IsSettled id_pool m → ArePoolsSound m
 
 -- each account has at most 20 signers (MAX_SIGNERS in Stellar-ledger-entries.x)
 pub record AreSignersFew (m : EntryMap) : Type 0 where
@@ -97,7 +97,7 @@ pub record TransactionLaws : Type 0 where
   pub few : SettledFew
   pub ready : SettledReady
   pub in_range : SettledInRange
-  pub crossable : SettledCrossable
+  pub sound : SettledSound
   pub amounts : SettledAmounts
   pub held : SettledHeld
   pub manageable : UnderwayManageable

@@ -1,21 +1,15 @@
 -- What holds before and behind each operation of a transaction.
 use Rattle.std.specs.Prelude.{◌≡◌, ℕ, ◌+◌, ◌<◌, ◌≤◌, ◌+ℤ◌, List}
 use Rattle.ledger_types.specs.declared.asset.Asset.{Asset}
-use Rattle.ledger_types.specs.declared.asset.Asset.TheVariants as asset
 use Rattle.entry_map.specs.EntryMap.{EntryMap}
 use Rattle.entry_sums.specs.Sums.{total}
 use Rattle.sponsor_rules.specs.declared.context.Ctx.{Ctx}
-use Rattle.legal_rules.specs.Legal.{view}
-use Rattle.legal_rules.specs.Owing.{nothing_owed, IsLegalOwing}
+use Rattle.legal_rules.specs.Owing.{AreEntriesLegal}
 use Rattle.legal_rules.specs.Sponsorships.{AreSponsorshipsSound}
 use Rattle.legal_rules.specs.Supply.{held}
 use Rattle.op_form.specs.Sequences.{last_seq}
 use Rattle.op_form.specs.Done.{Move}
 use Rattle.op_laws.specs.Moves.{issued, AreTold}
-
--- The entries are those of a legal state, but that nothing is said of the header. Offers have ids up to `id_pool`.
-abbrev pub AreEntriesLegal : (id_pool : ℕ) → EntryMap → Type 0
-AreEntriesLegal id_pool m = IsLegalOwing (view m) id_pool nothing_owed (total (held asset.Native) m) m
 
 -- what holds of the entries between two transactions, when so many ids are drawn
 pub record IsSettled (id_pool : ℕ) (m : EntryMap) : Type 0 where

@@ -3,5 +3,6 @@
 //! available, or what it had.
 #![tactic(auto)]
 
+pub mod crossed_books;
 pub mod operations;
 pub mod steps;

@@ -16,7 +16,9 @@ ghost use Rattle.op_claim.specs.ClawbackClaimableBalance.{clawback_claimable_bal
 ghost use Rattle.op_claim.specs.CreateClaimableBalance.{create_claimable_balance};
 ghost use Rattle.op_flags.specs.AllowTrust.{allow_trust};
 ghost use Rattle.op_flags.specs.SetTrustLineFlags.{set_trust_line_flags};
-ghost use Rattle.op_trust.specs.ChangeTrust.{change_trust};
+ghost use Rattle.op_pool.specs.Deposit.{liquidity_pool_deposit};
+ghost use Rattle.op_pool.specs.Withdraw.{liquidity_pool_withdraw};
+ghost use Rattle.op_trust.specs.Operations.{change_trust};
 ghost use Rattle.op_laws.specs.Laws.{AreLawful, AreLawfulWhere, AllLawful, IsBumpFit, IsLimitFit};
 ghost use Rattle.op_laws.specs.Laws.{AreClaimantsFew};
 ghost use Rattle.op_types.specs.declared.offer_ops.ManageSellOfferOp.{ManageSellOfferOp};
@@ -117,6 +119,16 @@ pub fn create_passive_sell_offer_is_lawful()
 /// Each MANAGE_BUY_OFFER that succeeds is lawful.
 pub fn manage_buy_offer_is_lawful()
     ensures { AreLawful (λ ctx (op : ManageBuyOfferOp) m. attempt_of ctx (body.ManageBuyOffer op) m) }
+{}
+
+/// Each LIQUIDITY_POOL_DEPOSIT that succeeds is lawful.
+pub fn liquidity_pool_deposit_is_lawful()
+    ensures { AreLawful liquidity_pool_deposit }
+{}
+
+/// Each LIQUIDITY_POOL_WITHDRAW that succeeds is lawful.
+pub fn liquidity_pool_withdraw_is_lawful()
+    ensures { AreLawful liquidity_pool_withdraw }
 {}
 
 /// Every operation is lawful, whether it succeeds or fails.

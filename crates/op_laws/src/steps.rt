@@ -42,9 +42,9 @@ pub fn settled_in_range()
     ensures { spec.SettledInRange }
 {}
 
-/// Settled entries are such that books of offers can be crossed, and offers removed.
-pub fn settled_crossable()
-    ensures { spec.SettledCrossable }
+/// Pools of settled entries, and lines of their shares, are in order.
+pub fn settled_sound()
+    ensures { spec.SettledSound }
 {}
 
 /// Each account of settled entries has at most 20 signers.
@@ -79,7 +79,7 @@ pub fn transaction_laws()
     settled_few();
     settled_ready();
     settled_in_range();
-    settled_crossable();
+    settled_sound();
     settled_amounts();
     settled_held();
     underway_manageable();

@@ -28,7 +28,7 @@ use Rattle.op_offers.specs.Calls.{IsManageable, IsSellable, IsSound}
 use Rattle.op_offers.specs.Managing.{sell_fault, buy_fault, old_asked, changed, managed_at, Managed, Removed}
 use Rattle.op_offers.specs.Selling.{map_without_offer}
 use Rattle.op_offers.proofs.OldOffers.{old_counted, old_rightly}
-use Rattle.op_offers.proofs.OutOfBook.{nothing_right}
+use Rattle.legal_rules.proofs.MayOwe.{nothing_right}
 use Rattle.op_offers.proofs.Tested.{valid_ask}
 
 -- ---- the entry of an offer that was loaded

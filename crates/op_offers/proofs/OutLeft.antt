@@ -30,7 +30,8 @@ use Rattle.trade_cross.proofs.Left.{removing_left}
 use Rattle.trade_cross.proofs.StepLeft.{release_left}
 use Rattle.trade_cross.proofs.StepLegal.{IsOpen, settled_then, lets, still_held, release_open}
 use Rattle.op_offers.specs.Selling.{map_without_offer}
-use Rattle.op_offers.proofs.OutOfBook.{nothing_right, erased_held}
+use Rattle.legal_rules.proofs.MayOwe.{nothing_right}
+use Rattle.op_offers.proofs.OutOfBook.{erased_held}
 
 module _ (v : View) (id_pool : ℕ) (sum : ℤ) (old : OfferEntry) (e : LedgerEntry) (m : EntryMap)
     (legal : IsLegalOwing v id_pool nothing_owed sum m) (there : get m (offer_key old) ≡ Some e)

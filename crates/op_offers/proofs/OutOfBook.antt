@@ -27,6 +27,7 @@ use Rattle.legal_rules.specs.Books.{Kind, Subentries, Sponsoring, Sponsored, Vie
 use Rattle.legal_rules.specs.OfferIds.{offer_with, offer_with_in}
 use Rattle.legal_rules.specs.OfferLaws.{trade_books}
 use Rattle.legal_rules.specs.Owing.{nothing_owed, plus, less, weighed, IsEntryLegal}
+use Rattle.legal_rules.proofs.MayOwe.{nothing_right}
 use Rattle.legal_rules.proofs.OffersKept.{with_offer_body}
 use Rattle.legal_rules.proofs.Putting.{erase_legal}
 use Rattle.legal_rules.proofs.Releasing.{still_there}
@@ -34,22 +35,11 @@ use Rattle.legal_rules.proofs.Steps.{legal_as}
 use Rattle.trade_cross.specs.Crossing.{offer_key}
 use Rattle.op_offers.specs.Selling.{map_without_offer}
 use Rattle.trade_cross.specs.Accounts.{IsHeld}
-use Rattle.legal_rules.specs.OneMore.{IsOwedRightly, one_more}
+use Rattle.legal_rules.specs.OneMore.{one_more}
 use Rattle.op_offers.specs.SellingLaws.{OldOffersOut}
 use Rattle.legal_rules.proofs.ChargesLeft.{erase_beside}
 use Rattle.legal_rules.specs.Holdings.{IsKeyed}
 use Rattle.trade_cross.proofs.StepLegal.{release_open}
-
-pub nothing_right : IsOwedRightly nothing_owed
-nothing_right = record {
-  reserves = record {
-    subentries = λ k. omega (arith, ints);
-    sponsored = λ k. omega (arith, ints);
-    sponsoring = λ k. omega (arith, ints);
-  };
-  trades = record { selling = λ k. omega (arith, ints); buying = λ k. omega (arith, ints) };
-  covered = λ k. omega (arith, ints);
-}
 
 -- ---- what is owed
 

@@ -37,9 +37,9 @@ use Rattle.op_pool.specs.Calls.{IsDepositBy, is_either_unusable, does_pass, amou
 use Rattle.op_pool.specs.Calls.{is_price_wrong, is_pool_full, DoesDepositFit}
 use Rattle.op_pool.specs.Deposit.{answer, do_shares_pass, deposit_by, map_after_depositing, move_of_a}
 use Rattle.op_pool.specs.Deposit.{move_of_b, put_in}
-use Rattle.op_pool.specs.Premises.{ArePoolsSound}
+use Rattle.pool_shares.specs.Premises.{ArePoolsSound}
 use Rattle.op_pool.proofs.Fitting.{not_less, neither, rises, given_fits, payments_fit}
-use Rattle.op_pool.proofs.Loaded.{line_loaded, pool_loaded}
+use Rattle.pool_shares.proofs.Loaded.{line_loaded, pool_loaded}
 
 -- ---- what is put in
 

@@ -1,11 +1,11 @@
 -- That the sums of deposits and withdrawals fit.
-use Rattle.std.proofs.Common.{◌≡◌, ◌≢◌, ◌⊎◌, inl, inr, refl, sym, ap, ◌∙◌}
+use Rattle.std.proofs.Common.{◌≡◌, ◌⊎◌, inl, inr, refl, sym, ap, ◌∙◌}
 use Rattle.std.proofs.Common.{ℕ, ◌≤◌, true, false, Bool, Option, Some, None}
 use Rattle.std.proofs.Common.{arith}
 use Rattle.std.proofs.lemmas.Int.{ints}
 use Rattle.std.proofs.lemmas.Bool.{ltb-false}
 use Rattle.std.specs.Prelude.{◌||◌, ℤ, pos, neg_ℤ, ◌+ℤ◌, ◌-ℤ◌, ◌≤ℤ◌, int_lt, nat_lt}
-use Rattle.std.specs.declared.cmp.Ordering.TheVariants.{Less, Equal}
+use Rattle.std.specs.declared.cmp.Ordering.TheVariants.{Less}
 use Rattle.std.specs.FinMap.{get}
 use Rattle.ledger_types.specs.declared.ids.AccountId.{AccountId}
 use Rattle.ledger_types.specs.declared.ids.Hash.{Hash}
@@ -19,7 +19,6 @@ use Rattle.ledger_types.specs.declared.key.LedgerKey.{LedgerKey}
 use Rattle.ledger_types.specs.declared.key.LedgerKey.TheVariants as key
 use Rattle.ledger_types.specs.KeyOrder.{asset_cmp}
 use Rattle.entry_map.specs.EntryMap.{EntryMap}
-use Rattle.entry_map.proofs.Pairs.{tied}
 use Rattle.entry_slots.specs.Accounts.{account_of, account_at}
 use Rattle.entry_slots.specs.AccountExtensions.{account_liabilities}
 use Rattle.entry_slots.specs.Lines.{line_of, line_at}
@@ -37,10 +36,11 @@ use Rattle.trade_cross.proofs.HoldersApart.{holders_apart}
 use Rattle.trade_cross.proofs.Paying.{within}
 use Rattle.pool_shares.specs.Withdrawing.{share_key, with_change, map_with_shares}
 use Rattle.pool_shares.proofs.Beside.{paying_beside, paying_keyed, pool_beside, pool_keyed}
+use Rattle.pool_shares.proofs.Sound.{assets_apart}
 use Rattle.pool_shares.proofs.Uses.{no_pool, no_shares}
 use Rattle.op_form.specs.Premises.{BalancesAreInRange}
 use Rattle.op_pool.specs.Calls.{DoPaymentsFit}
-use Rattle.op_pool.specs.Premises.{ArePoolsSound}
+use Rattle.pool_shares.specs.Premises.{ArePoolsSound}
 
 -- ---- tests
 
@@ -212,26 +212,25 @@ module _ (m : EntryMap) (keyed : IsKeyed m) (id : AccountId) (pool : Hash) (para
   now_keyed : IsKeyed now
   now_keyed = pool_keyed line_changed pool (with_change a b shares) (paying_keyed m keyed (share_key id pool) shares)
 
-  beside : (held : Asset) (q : LedgerKey) → holder id held ≡ Some q → get now q ≡ get m q
+  -- what an account has of any asset stands as it did
+  pub beside : (held : Asset) (q : LedgerKey) → holder id held ≡ Some q → get now q ≡ get m q
   beside held q is =
       pool_beside line_changed (paying_keyed m keyed (share_key id pool) shares) pool (with_change a b shares)
       (λ p. refl) q (λ same. no_pool id held pool (is ∙ ap Some same))
       ∙ paying_beside m keyed (share_key id pool) shares q (λ same. no_shares id id held pool (is ∙ sym same))
 
-  apart : params.asset_a ≢ params.asset_b
-  apart same = let equal : asset_cmp params.asset_a params.asset_b ≡ Equal =
-      tied params.asset_a params.asset_b same in absurd (cc)
-
-  second_fits : DoesPaymentFit m (holder id params.asset_b) y
-      → DoesPaymentFit (paying (holder id params.asset_a) x now) (holder id params.asset_b) y
-  second_fits fits =
-      payment_still m (paying (holder id params.asset_a) x now) (holder id params.asset_b) y
-      (λ q is. paying_beside now now_keyed (holder id params.asset_a) x q
-      (λ same. holders_apart id params.asset_a params.asset_b apart q same is) ∙ beside params.asset_b q is) fits
+  -- and so does the second asset once the first is paid
+  pub second_beside : (q : LedgerKey) → holder id params.asset_b ≡ Some q
+      → get (paying (holder id params.asset_a) x now) q ≡ get m q
+  second_beside q is =
+      paying_beside now now_keyed (holder id params.asset_a) x q
+      (λ same. holders_apart id params.asset_a params.asset_b (assets_apart params below) q same is)
+      ∙ beside params.asset_b q is
 
   pub payments_fit : DoesPaymentFit m (holder id params.asset_a) x → DoesPaymentFit m (holder id params.asset_b) y
       → DoPaymentsFit id params x y now
   payments_fit first second = record {
     first = payment_still m now (holder id params.asset_a) x (beside params.asset_a) first;
-    second = second_fits second;
+    second = payment_still m (paying (holder id params.asset_a) x now) (holder id params.asset_b) y second_beside
+        second;
   }

@@ -1,4 +1,3 @@
 pub mod Fitting
-pub mod Loaded
 pub mod Deposits
 pub mod Withdrawals

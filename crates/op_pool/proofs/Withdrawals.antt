@@ -22,10 +22,10 @@ use Rattle.pool_shares.specs.declared.withdrawing.Part.{Part as PartOfCall}
 use Rattle.pool_shares.specs.Withdrawing.{Part, part_of}
 use Rattle.op_form.specs.Premises.{BalancesAreInRange}
 use Rattle.op_pool.specs.Calls.{signed_part, is_below_minimum, is_either_full, part_tests, DoesWithdrawalFit}
-use Rattle.op_pool.specs.Premises.{ArePoolsSound}
+use Rattle.pool_shares.specs.Premises.{ArePoolsSound}
 use Rattle.op_pool.specs.Withdraw.{answer}
 use Rattle.op_pool.proofs.Fitting.{neither, falls, taken_fits, payments_fit}
-use Rattle.op_pool.proofs.Loaded.{line_loaded, pool_loaded}
+use Rattle.pool_shares.proofs.Loaded.{line_loaded, pool_loaded}
 
 taken_from : (there n : ℤ) → n ≤ℤ there → pos 0 ≤ℤ (there +ℤ neg_ℤ n)
 taken_from there n within = omega (arith, ints)

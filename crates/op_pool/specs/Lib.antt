@@ -1,5 +1,4 @@
 pub mod Deposit
 pub mod Withdraw
-pub mod Premises
 pub mod Calls
 pub mod Operations

@@ -12,7 +12,7 @@ ghost use Rattle.op_form.specs.Done.{Makes};
 ghost use Rattle.op_form.specs.Premises.{BalancesAreInRange};
 ghost use Rattle.op_pool.specs.Calls as calls;
 ghost use Rattle.op_pool.specs.Deposit as spec;
-ghost use Rattle.op_pool.specs.Premises.{ArePoolsSound};
+ghost use Rattle.pool_shares.specs.Premises.{ArePoolsSound};
 
 use crate::depositing::{deposit_by, is_malformed, is_pool_full, is_price_wrong};
 use crate::holdings::{is_asset_short, is_asset_unusable, pay_both, turned};

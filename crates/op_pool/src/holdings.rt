@@ -9,7 +9,7 @@ ghost use Rattle.trade_cross.specs.Places.{place_key};
 ghost use Rattle.op_form.specs.Premises.{BalancesAreInRange};
 ghost use Rattle.op_pool.specs.Calls.{DoPaymentsFit, map_after_payments};
 ghost use Rattle.op_pool.specs.Deposit.{is_unusable};
-ghost use Rattle.op_pool.specs.Premises.{ArePoolsSound};
+ghost use Rattle.pool_shares.specs.Premises.{ArePoolsSound};
 
 use entry_map::{Base, Entries};
 use entry_slots::load_line;

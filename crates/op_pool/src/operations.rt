@@ -4,7 +4,7 @@ ghost use Rattle.std.specs.Prelude.{IfOk};
 ghost use Rattle.op_form.specs.Done.{Does};
 ghost use Rattle.op_form.specs.Premises.{BalancesAreInRange};
 ghost use Rattle.op_pool.specs.Operations as spec;
-ghost use Rattle.op_pool.specs.Premises.{ArePoolsSound};
+ghost use Rattle.pool_shares.specs.Premises.{ArePoolsSound};
 
 use crate::deposit::liquidity_pool_deposit;
 use crate::withdraw::liquidity_pool_withdraw;

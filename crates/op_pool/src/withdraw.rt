@@ -11,7 +11,7 @@ ghost use Rattle.pool_shares.specs.Withdrawing as withdrawing;
 ghost use Rattle.op_form.specs.Done.{Makes};
 ghost use Rattle.op_form.specs.Premises.{BalancesAreInRange};
 ghost use Rattle.op_pool.specs.Calls as calls;
-ghost use Rattle.op_pool.specs.Premises.{ArePoolsSound};
+ghost use Rattle.pool_shares.specs.Premises.{ArePoolsSound};
 ghost use Rattle.op_pool.specs.Withdraw as spec;
 
 use crate::holdings::{most_of_asset, pay_both, turned};

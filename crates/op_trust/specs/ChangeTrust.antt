@@ -1,20 +1,16 @@
--- CHANGE_TRUST for credit assets (ChangeTrustOpFrame in stellar-core; CAP-0033 for who pays, CAP-0035 for the flags).
+-- CHANGE_TRUST for assets (ChangeTrustOpFrame in stellar-core; CAP-0033 for who pays, CAP-0035 for the flags).
 use Rattle.std.specs.Prelude.{ℕ, ◌+◌, ℤ, pos, ◌+ℤ◌, int_lt, bit_or, not, ◌||◌, ◌∷◌, [], is_some, Bool}
 use Rattle.std.specs.Prelude.{Option, Some, None, if◌then◌else◌}
 use Rattle.std.specs.Ordering.{int_eq}
 use Rattle.ledger_types.specs.declared.asset.Asset.{Asset}
-use Rattle.ledger_types.specs.declared.asset.Asset.TheVariants as asset
-use Rattle.ledger_types.specs.declared.asset.ChangeTrustAsset.{ChangeTrustAsset}
-use Rattle.ledger_types.specs.declared.asset.ChangeTrustAsset.TheVariants as asked
 use Rattle.ledger_types.specs.declared.account.AccountEntry.{AccountEntry}
 use Rattle.ledger_types.specs.declared.trust_line.TrustLineEntry.{TrustLineEntry}
 use Rattle.ledger_types.specs.declared.entry.LedgerEntry.{LedgerEntry}
 use Rattle.ledger_types.specs.declared.entry.LedgerEntryBody.TheVariants as body
 use Rattle.ledger_types.specs.declared.key.LedgerKey.TheVariants as key
 use Rattle.op_types.specs.declared.operation_result.OperationResult.{OperationResult}
-use Rattle.op_types.specs.declared.operation_result.OperationResult.TheVariants.{Inner, NotSupported}
+use Rattle.op_types.specs.declared.operation_result.OperationResult.TheVariants.{Inner}
 use Rattle.op_types.specs.declared.operation_result.OperationResultTr.TheVariants as tr
-use Rattle.op_types.specs.declared.trust_ops.ChangeTrustOp.{ChangeTrustOp}
 use Rattle.op_types.specs.declared.trust_results.ChangeTrustResult.{ChangeTrustResult}
 use Rattle.op_types.specs.declared.trust_results.ChangeTrustResult.TheVariants as trust
 use Rattle.valid_values.specs.Assets.{is_valid_asset}
@@ -32,13 +28,6 @@ use Rattle.op_form.specs.Steps.{unless_refused, after_some, after_charge, succes
 
 abbrev pub answer : ChangeTrustResult → OperationResult
 answer code = Inner (tr.ChangeTrust code)
-
--- the asset of a line that is asked for, where it isn't of pool shares
-abbrev pub asset_asked : ChangeTrustAsset → Option Asset
-asset_asked asked.Native = Some asset.Native
-asset_asked (asked.Alphanum4 code issuer) = Some (asset.Alphanum4 code issuer)
-asset_asked (asked.Alphanum12 code issuer) = Some (asset.Alphanum12 code issuer)
-asset_asked (asked.PoolShare params) = None
 
 -- ---- tests
 
@@ -111,11 +100,6 @@ changed ctx held limit m None =
     unless_refused ((int_eq limit (pos 0), answer trust.InvalidLimit) ∷ [])
     (after_some (issuer_at m held) (answer trust.NoIssuer) (λ issuer. added ctx held limit issuer m))
 
-abbrev pub asset_changed : Ctx → Asset → ℤ → EntryMap → Attempt
-asset_changed ctx held limit m =
+abbrev pub asset_trust : Ctx → Asset → ℤ → EntryMap → Attempt
+asset_trust ctx held limit m =
     unless_refused (asked_tests ctx held limit) (changed ctx held limit m (line_of_asset m ctx.op_source held))
-
--- Lines of pool shares are not supported yet.
-abbrev pub change_trust : Ctx → ChangeTrustOp → EntryMap → Attempt
-change_trust ctx trust_op m =
-    after_some (asset_asked trust_op.line) NotSupported (λ held. asset_changed ctx held trust_op.limit m)

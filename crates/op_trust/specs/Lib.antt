@@ -1,2 +1,3 @@
 pub mod ChangeTrust
+pub mod ShareTrust
 pub mod Operations

@@ -1,4 +1,4 @@
-//! CHANGE_TRUST.
+//! CHANGE_TRUST for assets.
 
 ghost use Rattle.std.specs.Prelude.{◌≡◌, ◌<◌, Some, None, IfOk, OnOk};
 ghost use Rattle.entry_map.specs.EntryMap.{EntryMap as AMap};
@@ -16,13 +16,14 @@ ghost use Rattle.op_trust.specs.ChangeTrust as spec;
 use entry_map::{Base, Entries};
 use entry_slots::{LineSlot, line_liabilities, load_line, store_line, use_count};
 use ledger_types::{
-    AccountEntry, Asset, ChangeTrustAsset, LedgerEntry, LedgerEntryBody, LedgerKey, TrustLineEntry,
+    AccountEntry, AccountId, Asset, LedgerEntry, LedgerEntryBody, LedgerKey, TrustLineAsset,
+    TrustLineEntry,
 };
 use op_form::{
     fault_result, is_account_clawback_enabled, is_auth_required, is_issued_by, is_native,
     line_asset_of, load_issuer,
 };
-use op_types::{ChangeTrustOp, ChangeTrustResult, OperationResult, OperationResultTr};
+use op_types::{ChangeTrustResult, OperationResult, OperationResultTr};
 use sponsor_rules::{AddFault, Ctx, add_entry, remove_entry};
 use std::alloc::AllocError;
 use valid_values::is_valid_asset;
@@ -33,46 +34,15 @@ const AUTHORIZED: u32 = 1;
 /// TRUSTLINE_CLAWBACK_ENABLED_FLAG of a trust line.
 const TRUSTLINE_CLAWBACK_ENABLED: u32 = 4;
 
-/// CHANGE_TRUST: makes the source's line in an asset, gives it another limit, or removes it. Lines of pool shares are
-/// not supported.
-pub fn change_trust<B: Base>(
-    op: &ChangeTrustOp,
-    ctx: &Ctx,
-    entries: &mut Entries<'_, B>,
-) -> Result<OperationResult, AllocError>
-    requires seq { ctx.now.seq < last_seq }
-    requires ready { AccountsAreReady entries.old.current }
-    requires in_range { BalancesAreInRange entries.old.current }
-    ensures { IfOk result (λ r.
-        Makes r ctx.now entries.old entries.new (spec.change_trust ctx.now op.now entries.old.current)) }
-{
-    match asset_asked(&op.line) {
-        None => Ok(OperationResult::NotSupported),
-        Some(asset) => change(&asset, op.limit, ctx, entries),
-    }
-}
-
 /// What the operation answers.
-fn answer(code: ChangeTrustResult) -> OperationResult
+pub fn answer(code: ChangeTrustResult) -> OperationResult
     ensures { result ≡ spec.answer code }
 {
     OperationResult::Inner(OperationResultTr::ChangeTrust(code))
 }
 
-/// The asset of a line that is asked for, where it isn't of pool shares.
-fn asset_asked(line: &ChangeTrustAsset) -> Option<Asset>
-    ensures { result ≡ spec.asset_asked line.now }
-{
-    match *line {
-        ChangeTrustAsset::Native => Some(Asset::Native),
-        ChangeTrustAsset::Alphanum4 { code, issuer } => Some(Asset::Alphanum4 { code, issuer }),
-        ChangeTrustAsset::Alphanum12 { code, issuer } => Some(Asset::Alphanum12 { code, issuer }),
-        ChangeTrustAsset::PoolShare(_) => None,
-    }
-}
-
-/// Changes the source's line in an asset.
-fn change<B: Base>(
+/// CHANGE_TRUST for an asset: makes the source's line in it, gives it another limit, or removes it.
+pub fn change_asset_trust<B: Base>(
     asset: &Asset,
     limit: i64,
     ctx: &Ctx,
@@ -82,7 +52,7 @@ fn change<B: Base>(
     requires ready { AccountsAreReady entries.old.current }
     requires in_range { BalancesAreInRange entries.old.current }
     ensures { IfOk result (λ r.
-        Makes r ctx.now entries.old entries.new (spec.asset_changed ctx.now asset.now limit entries.old.current)) }
+        Makes r ctx.now entries.old entries.new (spec.asset_trust ctx.now asset.now limit entries.old.current)) }
 {
     if limit < 0
         || is_native(asset)
@@ -98,7 +68,7 @@ fn change<B: Base>(
 }
 
 /// Whether a limit doesn't hold a line's balance and what the account's offers would take.
-fn is_exceeded(limit: i64, line: &TrustLineEntry) -> bool
+pub fn is_exceeded(limit: i64, line: &TrustLineEntry) -> bool
     requires { IsLineInRange line.now }
     ensures { result ≡ spec.is_exceeded limit line.now }
 {
@@ -168,25 +138,24 @@ fn limit_line<B: Base>(
     if load_issuer(entries, asset)?.is_none() {
         return Ok(answer(ChangeTrustResult::NoIssuer));
     }
-    store_limit(asset, limit, ctx, entries, slot)?;
+    store_limit(entries, &ctx.op_source, &line_asset_of(asset), limit, slot)?;
     Ok(answer(ChangeTrustResult::Success))
 }
 
 /// Stores the line that was loaded with another limit.
 #[tactic(auto, unfolding(entry_slots::specs::Lines::with_line))]
-fn store_limit<B: Base>(
-    asset: &Asset,
-    limit: i64,
-    ctx: &Ctx,
+pub fn store_limit<B: Base>(
     entries: &mut Entries<'_, B>,
+    id: &AccountId,
+    held: &TrustLineAsset,
+    limit: i64,
     slot: LineSlot,
 ) -> Result<(), AllocError>
-    requires { Some slot ≡ lines.line_slot_at entries.old.current ctx.now.op_source (assets.line_asset_of asset.now) }
+    requires { Some slot ≡ lines.line_slot_at entries.old.current id.now held.now }
     ensures { OnOk result (
         entries.new ≡
         with_current entries.old (
-        lines.with_line entries.old.current ctx.now.op_source (assets.line_asset_of asset.now)
-        (spec.with_limit limit))) }
+        lines.with_line entries.old.current id.now held.now (spec.with_limit limit))) }
 {
     let mut slot = slot;
     slot.line.limit = limit;

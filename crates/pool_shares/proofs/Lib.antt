@@ -1,3 +1,11 @@
 pub mod Beside
 pub mod Uses
 pub mod Holding
+pub mod Sound
+pub mod Sharing
+pub mod Gone
+pub mod Counted
+pub mod GoneLeft
+pub mod Shared
+pub mod Loaded
+pub mod Parts

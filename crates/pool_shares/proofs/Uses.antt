@@ -65,13 +65,13 @@ fit_still n m new (Some (key.TrustLine id held)) still fits =
     λ t stands. fits t (sym (ap line_of (still (key.TrustLine id held) refl)) ∙ stands)
 fit_still n m new other still fits = tt
 
-lines_still : (n : ℤ) (m new : EntryMap) (pool : Hash)
+pub lines_still : (n : ℤ) (m new : EntryMap) (pool : Hash)
     → get new (key.LiquidityPool pool) ≡ get m (key.LiquidityPool pool) → DoLinesFit n pool m → DoLinesFit n pool new
 unfolding pool_at
 lines_still n m new pool still fits = λ p stands. fits p (sym (ap pool_of still) ∙ stands)
 
 -- no account has an asset under a pool's key, or in a line of shares
-abbrev IsPlain : LedgerKey → Type 0
+abbrev pub IsPlain : LedgerKey → Type 0
 IsPlain (key.LiquidityPool pool) = ⊥
 IsPlain (key.TrustLine id (line.PoolShare pool)) = ⊥
 IsPlain other = Unit {0}
@@ -121,37 +121,44 @@ module _ (n : ℤ) (id : AccountId) (pool : Hash) (params : PoolParams) (m : Ent
       ∙ uses_beside m fits.keyed n (holder id params.asset_a) (key.LiquidityPool pool) (no_pool id params.asset_a pool))
       fits.lines)
 
--- ---- behind the line that is removed
+-- ---- counts that fit where lines and the pool stand as they did
 
-module _ (n : ℤ) (m : EntryMap) (keyed : IsKeyed m) (owner : AccountId) (pool : Hash) where
-  abbrev share_key : LedgerKey
-  share_key = key.TrustLine owner (line.PoolShare pool)
-
-  abbrev gone : EntryMap
-  gone = map_after_removing share_key m
-
+module _ (n : ℤ) (m new : EntryMap)
+    (still : (owner : AccountId) (held : TrustLineAsset) → IsPlain (key.TrustLine owner held)
+    → get new (key.TrustLine owner held) ≡ get m (key.TrustLine owner held)) where
   fits_behind : (o : Option LedgerKey) → ((q : LedgerKey) → o ≡ Some q → IsPlain q) → DoUsesFitAt n m o
-      → DoUsesFitAt n gone o
+      → DoUsesFitAt n new o
   unfolding line_at
-  fits_behind (Some (key.TrustLine account held)) plain fit = λ t stands. fit t
-      (sym (ap line_of (removing_beside share_key m keyed (key.TrustLine account held)
-      (λ same. subst IsPlain same (plain (key.TrustLine account held) refl)) (λ other same. absurd (cc)))) ∙ stands)
+  fits_behind (Some (key.TrustLine owner held)) plain fit = λ t stands. fit t
+      (sym (ap line_of (still owner held (plain (key.TrustLine owner held) refl))) ∙ stands)
   fits_behind other plain fit = tt
 
-  not_removed : (id : AccountId) (x : Asset) → DoUsesFit n id x m → DoUsesFit n id x gone
-  not_removed id x fits = fits_needed n id x gone
+  pub uses_behind : (id : AccountId) (x : Asset) → DoUsesFit n id x m → DoUsesFit n id x new
+  uses_behind id x fits = fits_needed n id x new
       (fits_behind (holder id x) (λ q is. holder_plain id x q is) (fits_by_holder n id x m fits))
+
+pub fits_beside : (n : ℤ) (id : AccountId) (pool : Hash) (params : PoolParams) (m new : EntryMap)
+    → DoShareLinesFit n id pool params m → IsKeyed new
+    → ((owner : AccountId) (held : TrustLineAsset) → IsPlain (key.TrustLine owner held)
+    → get new (key.TrustLine owner held) ≡ get m (key.TrustLine owner held))
+    → DoLinesFit n pool new → DoShareLinesFit n id pool params new
+fits_beside n id pool params m new fits keyed still lines = record {
+  keyed = keyed;
+  apart = fits.apart;
+  a = uses_behind n m new still id params.asset_a fits.a;
+  b = uses_behind n m new still id params.asset_b fits.b;
+  lines = lines;
+}
+
+-- ---- behind the line that is removed
 
 pub still_fits : (n : ℤ) (id : AccountId) (pool : Hash) (params : PoolParams) (m : EntryMap)
     → DoShareLinesFit n id pool params m
     → DoShareLinesFit n id pool params (map_after_removing (key.TrustLine id (line.PoolShare pool)) m)
 still_fits n id pool params m fits =
     let k = key.TrustLine id (line.PoolShare pool) in
-    record {
-      keyed = removing_keyed k m fits.keyed;
-      apart = fits.apart;
-      a = not_removed n m fits.keyed id pool id params.asset_a fits.a;
-      b = not_removed n m fits.keyed id pool id params.asset_b fits.b;
-      lines = lines_still n m _ pool (removing_beside k m fits.keyed (key.LiquidityPool pool)
-          (λ same. absurd (cc)) (λ other same. absurd (cc))) fits.lines;
-    }
+    fits_beside n id pool params m (map_after_removing k m) fits (removing_keyed k m fits.keyed)
+    (λ owner held plain. removing_beside k m fits.keyed (key.TrustLine owner held) (λ same. subst IsPlain same plain)
+    (λ other same. absurd (cc)))
+    (lines_still n m _ pool (removing_beside k m fits.keyed (key.LiquidityPool pool)
+    (λ same. absurd (cc)) (λ other same. absurd (cc))) fits.lines)

@@ -3,3 +3,5 @@ pub mod Withdrawing
 pub mod ShareLines
 pub mod AccountPools
 pub mod Held
+pub mod Premises
+pub mod Laws

@@ -3,6 +3,7 @@
 #![tactic(auto)]
 
 mod account_pools;
+pub mod laws;
 mod share_lines;
 mod withdrawing;
 

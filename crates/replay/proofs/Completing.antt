@@ -51,7 +51,6 @@ failing passphrase input out err status.Usage did short = absurd short
 failing passphrase input out err status.Refused did short = absurd short
 failing passphrase input out err (status.BadInput at) did short = absurd short
 failing passphrase input out err (status.BadImage rule) did short = absurd short
-failing passphrase input out err status.ImageNotBuilt did short = absurd short
 
 answered_own : (passphrase bytes : List ℕ) (input out err : Seen) (end : Status) (o : Outcome)
     → DidCatchUp passphrase input out err end → AnsweredTo passphrase bytes out end → IsOutcome passphrase bytes o

@@ -67,7 +67,6 @@ same_starts : (judged : Result ClosingState ImageFault) (p : Place) (a b : Outco
     → IsStarted judged p b → a ≡ b
 same_starts (Ok s) p a b x y = runs_are_one s p a b x y
 same_starts (Err (fault.BadImage rule)) p a b x y = x ∙ sym y
-same_starts (Err fault.NotBuilt) p a b x y = x ∙ sym y
 same_starts (Err fault.NoMemory) p a b x y = absurd x
 
 same_outcomes : (network : Hash) (r : Reading XdrFault StartImage) (a b : Outcome) → IsOutcomeOf network r a

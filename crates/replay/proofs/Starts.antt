@@ -198,14 +198,6 @@ unjudged passphrase image at ahead input (status.BadImage rule) c is out h = rec
   write_fault = λ e. absurd cc;
   no_usage = λ e. cc;
 }
-unjudged passphrase image at ahead input status.ImageNotBuilt c is out h = record {
-  answered = judged_end passphrase image at ahead input status.ImageNotBuilt (Err image_fault.NotBuilt) c is
-      (λ p. refl) out h;
-  ended = λ e. absurd cc;
-  read_fault = λ e. absurd cc;
-  write_fault = λ e. absurd cc;
-  no_usage = λ e. cc;
-}
 unjudged passphrase image at ahead input status.NoMemory c is out h = unread_memory passphrase input out h
 unjudged passphrase image at ahead input status.Done c is out h = absurd cc
 unjudged passphrase image at ahead input status.Usage c is out h = absurd cc

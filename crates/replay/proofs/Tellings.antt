@@ -27,7 +27,6 @@ started_front : (network : Hash) (image : StartImage) (p : Place) (judged : Resu
     → IsOutputFrontOf network (Ok (image, p)) o.text
 started_front network image p (Ok s) o is h = inr (s, is, inr (o, h, whole_front o.text))
 started_front network image p (Err (fault.BadImage rule)) o is h = inl (ap (λ (x : Outcome). x.text) h)
-started_front network image p (Err fault.NotBuilt) o is h = inl (ap (λ (x : Outcome). x.text) h)
 started_front network image p (Err fault.NoMemory) o is h = absurd h
 
 outcome_front : (network : Hash) (r : Reading XdrFault StartImage) (o : Outcome) → IsOutcomeOf network r o

@@ -44,7 +44,6 @@ IsUnstarted passphrase input end = (out : Seen) → Received out [] → CaughtUp
 abbrev pub IsJudgedSo : Hash → StartImage → Result ClosingState Status → Type 0
 IsJudgedSo network image (Ok s) = IsJudged network image (Ok s)
 IsJudgedSo network image (Err (status.BadImage rule)) = IsJudged network image (Err (image_fault.BadImage rule))
-IsJudgedSo network image (Err status.ImageNotBuilt) = IsJudged network image (Err image_fault.NotBuilt)
 IsJudgedSo network image (Err end) = end ≡ status.NoMemory
 
 -- a ledger starts behind an image

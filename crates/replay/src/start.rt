@@ -76,7 +76,6 @@ fn judge(passphrase: &str, image: StartImage) -> Result<Ledger, Status>
     match Ledger::from_image(image, network) {
         Ok(ledger) => Ok(ledger),
         Err(ImageFault::BadImage { rule }) => Err(Status::BadImage { rule }),
-        Err(ImageFault::NotBuilt) => Err(Status::ImageNotBuilt),
         Err(ImageFault::NoMemory) => Err(Status::NoMemory),
     }
 }

@@ -14,7 +14,6 @@ status_code status.WriteFault = 5
 status_code status.NoMemory = 8
 status_code (status.BadInput at) = 9
 status_code (status.BadImage rule) = 10
-status_code status.ImageNotBuilt = 10
 
 -- a line ends with a newline
 abbrev pub ended_line : List ℕ → List ℕ
@@ -30,7 +29,6 @@ status_line status.WriteFault = ended_line (codes "write fault")
 status_line status.NoMemory = ended_line (codes "no memory")
 status_line (status.BadInput at) = ended_line (codes "bad input at " ++ decimal at)
 status_line (status.BadImage rule) = ended_line (codes "bad image rule " ++ decimal (number_of rule))
-status_line status.ImageNotBuilt = ended_line (codes "bad image not built")
 
 -- the ends at which the output may stop before the whole text
 abbrev pub IsCutShort : Status → Type 0

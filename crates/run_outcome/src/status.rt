@@ -24,8 +24,6 @@ pub enum Status {
     BadInput { at: u128 },
     /// 10: the image breaks this rule, the first one that it breaks.
     BadImage { rule: ImageRule },
-    /// 10: the image has a pool or a line of pool shares.
-    ImageNotBuilt,
 }
 
 impl Status {
@@ -42,7 +40,6 @@ impl Status {
             Status::NoMemory => 8,
             Status::BadInput { .. } => 9,
             Status::BadImage { .. } => 10,
-            Status::ImageNotBuilt => 10,
         }
     }
 }

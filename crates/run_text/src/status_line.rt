@@ -33,6 +33,5 @@ pub fn line_of(alloc: Global, status: Status) -> Result<Vec<u8>, AllocError>
         Status::BadImage { rule } => {
             numbered_line(alloc, b"bad image rule ", u128::from(rule.number()))
         }
-        Status::ImageNotBuilt => b"bad image not built\n".to_vec(alloc),
     }
 }

@@ -1,20 +1,13 @@
 -- Which operations can be applied so far.
 use Rattle.std.specs.Prelude.{ℕ, Bool, true, false, not, List, Option}
 use Rattle.std.specs.List.{list_any, position}
-use Rattle.ledger_types.specs.declared.asset.ChangeTrustAsset.{ChangeTrustAsset}
-use Rattle.ledger_types.specs.declared.asset.ChangeTrustAsset.TheVariants as asked
 use Rattle.op_types.specs.declared.operation.Operation.{Operation}
 use Rattle.op_types.specs.declared.operation.OperationBody.{OperationBody}
 use Rattle.op_types.specs.declared.operation.OperationBody.TheVariants as body
 use Rattle.op_types.specs.declared.transaction.TransactionEnvelope.{TransactionEnvelope}
 use Rattle.op_types.specs.declared.transaction.TransactionEnvelope.TheVariants as envelope
 
--- a line of pool shares
-abbrev pub is_pool_share : ChangeTrustAsset → Bool
-is_pool_share (asked.PoolShare params) = true
-is_pool_share other = false
-
--- all but those of paths and pools; CHANGE_TRUST but for pool shares
+-- all but path payments
 abbrev pub is_built : OperationBody → Bool
 is_built (body.CreateAccount op) = true
 is_built (body.Payment op) = true
@@ -22,7 +15,7 @@ is_built (body.SetOptions op) = true
 is_built (body.ManageSellOffer op) = true
 is_built (body.CreatePassiveSellOffer op) = true
 is_built (body.ManageBuyOffer op) = true
-is_built (body.ChangeTrust op) = not (is_pool_share op.line)
+is_built (body.ChangeTrust op) = true
 is_built (body.AllowTrust op) = true
 is_built (body.AccountMerge op) = true
 is_built body.Inflation = true
@@ -36,6 +29,8 @@ is_built (body.RevokeSponsorship op) = true
 is_built (body.Clawback op) = true
 is_built (body.ClawbackClaimableBalance op) = true
 is_built (body.SetTrustLineFlags op) = true
+is_built (body.LiquidityPoolDeposit op) = true
+is_built (body.LiquidityPoolWithdraw op) = true
 is_built other = false
 
 -- the operations of an envelope; of a fee bump, those of its inner transaction

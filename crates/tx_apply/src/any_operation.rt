@@ -2,7 +2,8 @@
 
 ghost use Rattle.std.specs.Prelude.{◌<◌, IfOk};
 ghost use Rattle.entry_slots.specs.Accounts.{HasAccount};
-ghost use Rattle.trade_cross.specs.Crossable.{IsCrossable};
+ghost use Rattle.legal_rules.specs.Owing.{AreEntriesLegal};
+ghost use Rattle.pool_shares.specs.Premises.{ArePoolsSound};
 ghost use Rattle.op_form.specs.Sequences.{last_seq};
 ghost use Rattle.op_form.specs.Done.{Does};
 ghost use Rattle.op_form.specs.Premises as premises;
@@ -26,7 +27,8 @@ pub(crate) fn apply_operation<B: Base>(
     requires source { HasAccount entries.old.current ctx.old.op_source }
     requires ready { premises.AccountsAreReady entries.old.current }
     requires in_range { premises.BalancesAreInRange entries.old.current }
-    requires crossable { IsCrossable entries.old.current }
+    requires legal { AreEntriesLegal ctx.old.id_pool entries.old.current }
+    requires sound { ArePoolsSound entries.old.current }
     requires amounts { premises.AreAmountsLow entries.old.current }
     requires manageable { IsManageable ctx.old entries.old.current }
     ensures { IfOk result (λ answer. Does answer ctx.new entries.old entries.new
@@ -52,6 +54,9 @@ pub(crate) fn apply_operation<B: Base>(
         | OperationBody::ClaimClaimableBalance(_)
         | OperationBody::Clawback(_)
         | OperationBody::ClawbackClaimableBalance(_) => op_claim::apply(operation, ctx, entries),
+        OperationBody::LiquidityPoolDeposit(_) | OperationBody::LiquidityPoolWithdraw(_) => {
+            op_pool::apply(operation, ctx, entries)
+        }
         OperationBody::BeginSponsoringFutureReserves(_)
         | OperationBody::EndSponsoringFutureReserves
         | OperationBody::RevokeSponsorship(_) => op_sponsor::apply(operation, ctx, entries),

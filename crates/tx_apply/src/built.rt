@@ -4,24 +4,14 @@ ghost use Rattle.std.specs.Prelude.{◌≡◌, not};
 ghost use Rattle.std.specs.List.{list_any};
 ghost use Rattle.tx_apply.specs.Built as spec;
 
-use ledger_types::ChangeTrustAsset;
 use op_types::{Operation, OperationBody, TransactionEnvelope};
-
-fn is_pool_share(line: &ChangeTrustAsset) -> bool
-    ensures { result ≡ spec.is_pool_share line.now }
-{
-    match line {
-        ChangeTrustAsset::PoolShare(_) => true,
-        _ => false,
-    }
-}
 
 fn is_built(body: &OperationBody) -> bool
     ensures { result ≡ spec.is_built body.now }
 {
     match body {
-        OperationBody::ChangeTrust(op) => !is_pool_share(&op.line),
         OperationBody::CreateAccount(_)
+        | OperationBody::ChangeTrust(_)
         | OperationBody::Payment(_)
         | OperationBody::ManageSellOffer(_)
         | OperationBody::CreatePassiveSellOffer(_)
@@ -39,7 +29,9 @@ fn is_built(body: &OperationBody) -> bool
         | OperationBody::RevokeSponsorship(_)
         | OperationBody::Clawback(_)
         | OperationBody::ClawbackClaimableBalance(_)
-        | OperationBody::SetTrustLineFlags(_) => true,
+        | OperationBody::SetTrustLineFlags(_)
+        | OperationBody::LiquidityPoolDeposit(_)
+        | OperationBody::LiquidityPoolWithdraw(_) => true,
         _ => false,
     }
 }

@@ -1,4 +1,5 @@
 use Rattle.std.proofs.Common.{subst, sym, OnOk}
+use Rattle.legal_rules.specs.Legal.{pools_in}
 use Rattle.image_rules.specs.Counts.{Adds}
 use Rattle.image_rules.specs.Books.{counted_else}
 use Rattle.image_rules.proofs.books.add_entry.Goals as goal
@@ -6,9 +7,11 @@ use Rattle.image_rules.proofs.books.add_entry.Goals as goal
 pub returns-in-Sponsoring : goal.returns-in-Sponsoring
 returns-in-Sponsoring c =
     subst (λ b. OnOk c.add_payers.result (Adds c.args.tally.now c.add_payers.new.tally
-    (λ k. counted_else b k c.args.entry.now))) (sym c.in-Sponsoring.is) c.add_payers.ensures
+    (λ k. counted_else (pools_in c.args.entries.now) b k c.args.entry.now)))
+    (sym c.in-Sponsoring.is) c.add_payers.ensures
 
 pub returns-in-Sponsored : goal.returns-in-Sponsored
 returns-in-Sponsored c =
     subst (λ b. OnOk c.add_paid_for.result (Adds c.args.tally.now c.add_paid_for.new.tally
-    (λ k. counted_else b k c.args.entry.now))) (sym c.in-Sponsored.is) c.add_paid_for.ensures
+    (λ k. counted_else (pools_in c.args.entries.now) b k c.args.entry.now)))
+    (sym c.in-Sponsored.is) c.add_paid_for.ensures

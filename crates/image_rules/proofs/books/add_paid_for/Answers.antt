@@ -1,7 +1,6 @@
 use Rattle.std.proofs.lemmas.Result.{on_ok_weaker}
 use Rattle.legal_rules.specs.EntryKeys.{for_account}
-use Rattle.image_rules.specs.declared.books.Book.TheVariants as book
-use Rattle.image_rules.specs.Books.{counted_else}
+use Rattle.image_rules.specs.Books.{owner_is_paid}
 use Rattle.image_rules.proofs.Counting.{added_both}
 use Rattle.image_rules.proofs.Naming.{sponsored_sum}
 use Rattle.image_rules.proofs.books.add_paid_for.Goals as goal
@@ -13,6 +12,6 @@ returns c =
     on_ok_weaker c.add_for-2.result
     (added_both c.args.tally.now c.add_for.new.tally c.add_for-2.new.tally
     (λ k. for_account k owner c.paid_for.result) (λ k. for_account k owner c.sponsored_signers.result)
-    (λ k. counted_else book.Sponsored k e)
+    (λ k. owner_is_paid k e)
     (λ k. sponsored_sum k e owner c.paid_for.result c.sponsored_signers.result c.other_owner-owner.ensures
     c.paid_for.ensures c.sponsored_signers.ensures) c.in_ok-add_for.ensures) c.add_for-2.ensures

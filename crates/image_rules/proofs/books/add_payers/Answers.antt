@@ -1,8 +1,7 @@
 use Rattle.std.proofs.lemmas.Result.{on_ok_weaker}
 use Rattle.legal_rules.specs.EntryKeys.{for_account}
 use Rattle.legal_rules.specs.Reserves.{for_each, signer_sponsors_in}
-use Rattle.image_rules.specs.declared.books.Book.TheVariants as book
-use Rattle.image_rules.specs.Books.{counted_else}
+use Rattle.image_rules.specs.Books.{payers_pay}
 use Rattle.image_rules.proofs.Counting.{added_both}
 use Rattle.image_rules.proofs.Naming.{sponsoring_sum}
 use Rattle.image_rules.proofs.books.add_payers.Goals as goal
@@ -13,6 +12,6 @@ returns c =
     on_ok_weaker c.add_signers.result
     (added_both c.args.tally.now c.add_for.new.tally c.add_signers.new.tally
     (λ k. for_account k c.sponsor_in.result c.multiplicity.result) (λ k. for_each k (signer_sponsors_in e.body))
-    (λ k. counted_else book.Sponsoring k e)
+    (λ k. payers_pay k e)
     (λ k. sponsoring_sum k e c.sponsor_in.result c.multiplicity.result c.sponsor_in.ensures c.multiplicity.ensures)
     c.in_ok-add_for.ensures) c.add_signers.ensures

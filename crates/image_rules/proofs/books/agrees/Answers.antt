@@ -7,7 +7,7 @@ use Rattle.ledger_types.specs.declared.key.LedgerKey.TheVariants as key
 use Rattle.legal_rules.specs.Books.{stated}
 use Rattle.image_rules.specs.Counts.{count_at}
 use Rattle.image_rules.specs.Books.{kind_of, own_count, AgreesIn}
-use Rattle.image_rules.proofs.Booked.{line_states}
+use Rattle.image_rules.proofs.Booked.{states_count}
 use Rattle.image_rules.proofs.books.agrees.Goals as goal
 
 pub returns-in-TrustLine : goal.returns-in-TrustLine
@@ -16,7 +16,18 @@ returns-in-TrustLine c =
     let fits : FitsSigned w64 c.stated_by_line.result = search rules in
     subst (λ b. AgreesIn c.args.tally.now c.args.book (own_count c.args.book c.args.entry.now) b
     c.is_count-in-TrustLine.result) (sym c.in-TrustLine.is)
-    (line_states c.count_of-in-TrustLine.result (count_at c.args.tally.now (key.TrustLine t.account_id t.asset))
+    (states_count c.count_of-in-TrustLine.result (count_at c.args.tally.now (key.TrustLine t.account_id t.asset))
     _ (stated (kind_of c.args.book) (body.TrustLine t)) c.is_count-in-TrustLine.result
     c.is_count-in-TrustLine.ensures c.count_of-in-TrustLine.ensures
     (c.stated_by_line.ensures ∙ sym (to_z-of_z w64 c.stated_by_line.result fits)))
+
+pub returns-in-LiquidityPool : goal.returns-in-LiquidityPool
+returns-in-LiquidityPool c =
+    let p = c.in-LiquidityPool.pool in
+    let fits : FitsSigned w64 c.stated_by_pool.result = search rules in
+    subst (λ b. AgreesIn c.args.tally.now c.args.book (own_count c.args.book c.args.entry.now) b
+    c.is_count-in-LiquidityPool.result) (sym c.in-LiquidityPool.is)
+    (states_count c.count_of-in-LiquidityPool.result (count_at c.args.tally.now (key.LiquidityPool p.pool_id))
+    _ (stated (kind_of c.args.book) (body.LiquidityPool p)) c.is_count-in-LiquidityPool.result
+    c.is_count-in-LiquidityPool.ensures c.count_of-in-LiquidityPool.ensures
+    (c.stated_by_pool.ensures ∙ sym (to_z-of_z w64 c.stated_by_pool.result fits)))

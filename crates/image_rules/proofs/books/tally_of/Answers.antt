@@ -1,4 +1,5 @@
 use Rattle.std.proofs.Common.{subst, sym, arith}
+use Rattle.legal_rules.specs.Legal.{pools_in}
 use Rattle.image_rules.specs.Counts.{count_at, IsCountOf}
 use Rattle.image_rules.specs.Books.{counted_else}
 use Rattle.image_rules.specs.Terms.{AreTerms}
@@ -14,7 +15,7 @@ pub loop-place-preserved : goal.loop-place-preserved
 loop-place-preserved c k =
     let m = c.args.entries.now in
     let i = c.loop-place.place in
-    let f = counted_else c.args.book k in
+    let f = counted_else (pools_in m) c.args.book k in
     subst (IsCountOf (count_at c.add_entry.new.tally k)) (sym (sum_more f m i c.entry.result.now c.entry.ensures.entry))
     (c.in_ok-add_entry.ensures k (sum_before f m i) (c.loop-place.invariant k))
 
@@ -22,5 +23,5 @@ pub returns : goal.returns
 returns c k =
     let m = c.args.entries.now in
     subst (IsCountOf (count_at c.loop-place.tally k))
-    (sum_of_all (counted_else c.args.book k) m c.loop-place.place (omega arith))
+    (sum_of_all (counted_else (pools_in m) c.args.book k) m c.loop-place.place (omega arith))
     (c.loop-place.invariant k)

@@ -1,4 +1,5 @@
 use Rattle.ledger_types.specs.declared.key.LedgerKey.{LedgerKey}
+use Rattle.legal_rules.specs.Legal.{pools_in}
 use Rattle.image_rules.specs.Counts.{count_at, IsCountOf}
 use Rattle.image_rules.specs.Books.{counted_else}
 use Rattle.image_rules.proofs.Listed.{sum_before}
@@ -6,4 +7,4 @@ use Rattle.image_rules.proofs.books.tally_of.Given as goal
 
 abbrev pub invariant-loop-place : goal.invariant-loop-place
 invariant-loop-place l = (k : LedgerKey) → IsCountOf (count_at l.tally k)
-    (sum_before (counted_else l.book k) l.entries l.place)
+    (sum_before (counted_else (pools_in l.entries) l.book k) l.entries l.place)

@@ -1,12 +1,7 @@
 use Rattle.std.proofs.Common.{refl, arith}
-use Rattle.image_rules.specs.EntryTests.{MayTake, Passes}
+use Rattle.image_rules.specs.EntryTests.{Passes}
 use Rattle.image_rules.proofs.Listed.{holds_of_all, holds_at}
 use Rattle.image_rules.proofs.entry_tests.do_all_pass.Goals as goal
-
-pub passes-requires : goal.passes-requires
-passes-requires c =
-    holds_at (λ x. MayTake c.args.test x.body) c.args.entries.now c.loop-place.place c.entry.result.now c.requires
-    c.entry.ensures.entry
 
 pub returns-then-not-passes : goal.returns-then-not-passes
 returns-then-not-passes c = (

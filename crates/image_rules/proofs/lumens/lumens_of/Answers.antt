@@ -2,13 +2,13 @@ use Rattle.std.proofs.Common.{◌∙◌, arith}
 use Rattle.std.proofs.lemmas.Int.{ints, to_z-of_z}
 use Rattle.ledger_types.specs.declared.asset.Asset.TheVariants as asset
 use Rattle.legal_rules.specs.Supply.{held}
-use Rattle.close_rules.specs.State.{IsBuiltBody}
+use Rattle.image_rules.specs.Terms.{AreTerms}
 use Rattle.image_rules.proofs.Listed.{holds_at, sum_more, sum_of_all}
 use Rattle.image_rules.proofs.lumens.lumens_of.Goals as goal
 
 pub lumens_in-requires : goal.lumens_in-requires
 lumens_in-requires c =
-    holds_at (λ x. IsBuiltBody x.body) c.args.entries.now c.loop-place.place c.entry.result.now c.requires
+    holds_at (λ x. AreTerms x.body) c.args.entries.now c.loop-place.place c.entry.result.now c.requires
     c.entry.ensures.entry
 
 pub loop-place-preserved : goal.loop-place-preserved

@@ -2,7 +2,6 @@ use Rattle.std.proofs.Common.{◌≢◌, None, All, refl, arith}
 use Rattle.std.specs.FinMap.{get}
 use Rattle.legal_rules.specs.Needs.{needed_keys}
 use Rattle.legal_rules.specs.Legal.{pools_in}
-use Rattle.close_rules.specs.State.{IsBuiltBody}
 use Rattle.image_rules.proofs.Listed.{holds_of_all, holds_at, stands_at}
 use Rattle.image_rules.proofs.Booked.{keyed_each}
 use Rattle.image_rules.proofs.owners.are_all_owned.Goals as goal
@@ -12,10 +11,7 @@ is_owned-requires c =
     let m = c.args.entries.now in
     let e = c.entry.result.now in
     let there = stands_at m c.loop-place.place e (keyed_each m c.entry.ensures.keyed) c.entry.ensures.entry in
-    record {
-      built = holds_at (λ x. IsBuiltBody x.body) m c.loop-place.place e c.requires c.entry.ensures.entry;
-      stands = λ none. cc (there, none);
-    }
+    λ none. cc (there, none)
 
 pub returns-then-not-owned : goal.returns-then-not-owned
 returns-then-not-owned c =

@@ -44,7 +44,6 @@ are_liable-requires c = record {
 
 pub first_of_books-requires : goal.first_of_books-requires
 first_of_books-requires c = record {
-  built = c.requires;
   owned = c.in_ok-owned.ensures.0 c.if-not-owned.false;
   terms = terms_of c.args.header.now c.args.entries.now (c.in_ok-within.ensures.0 c.if-not-within.false);
 }

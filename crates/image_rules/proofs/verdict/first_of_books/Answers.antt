@@ -1,4 +1,5 @@
 use Rattle.std.proofs.Common.{◌∷◌, Some}
+use Rattle.std.proofs.lemmas.Result.{IfOk-weaker}
 use Rattle.close_rules.specs.declared.image_fault.ImageRule.TheVariants as rule
 use Rattle.image_rules.specs.RuleLists.{sum_rules}
 use Rattle.image_rules.proofs.Judged.{broken_first, kept_first}
@@ -17,8 +18,8 @@ returns-then-not-sponsors c =
     (λ kept. let said = c.in_ok-sponsors.ensures.1 kept in cc))
 
 pub returns : goal.returns
-returns c =
-    kept_first c.args.header.now c.args.entries.now rule.Subentries (rule.Sponsorship ∷ sum_rules)
-    c.first_of_sums.result (c.in_ok-subentries.ensures.0 c.if-not-subentries.false)
-    (kept_first c.args.header.now c.args.entries.now rule.Sponsorship sum_rules c.first_of_sums.result
-    (c.in_ok-sponsors.ensures.0 c.if-not-sponsors.false) c.first_of_sums.ensures)
+returns c = IfOk-weaker c.first_of_sums.result _ _ (λ answer rest.
+    kept_first c.args.header.now c.args.entries.now rule.Subentries (rule.Sponsorship ∷ sum_rules) answer
+    (c.in_ok-subentries.ensures.0 c.if-not-subentries.false)
+    (kept_first c.args.header.now c.args.entries.now rule.Sponsorship sum_rules answer
+    (c.in_ok-sponsors.ensures.0 c.if-not-sponsors.false) rest)) c.first_of_sums.ensures

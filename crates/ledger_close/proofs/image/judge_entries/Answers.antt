@@ -1,7 +1,6 @@
 use Rattle.std.proofs.Common.{rules, ◌≡◌, Some, None, Option, sym, subst, Err}
 use Rattle.bucket_levels.specs.Hash.{list_hash}
 use Rattle.close_rules.specs.declared.image_fault.ImageFault.{ImageFault}
-use Rattle.close_rules.specs.State.{AreBuilt}
 use Rattle.close_rules.specs.EntryRules.{IsFirstBroken, entry_rules}
 use Rattle.close_rules.specs.declared.image_fault.ImageRule.{ImageRule}
 use Rattle.ledger_close.specs.Judging.{AreJudged}
@@ -11,19 +10,17 @@ use Rattle.ledger_close.proofs.image.judge_entries.Goals as goal
 pub returns-in-None : goal.returns-in-None
 returns-in-None c =
     let hash : list_hash c.args.levels.now.pairs ≡ c.args.header.now.bucket_list_hash = search rules in
-    let built : AreBuilt c.args.entries.now = search rules in
     let broken : IsFirstBroken c.args.header.now c.args.entries.now entry_rules None =
     subst (λ (o : Option ImageRule). IsFirstBroken c.args.header.now c.args.entries.now entry_rules o) c.in-None.is
     c.in_ok-first_broken.ensures in
-    (hash, built, broken)
+    (hash, broken)
 
 pub returns-in-Some : goal.returns-in-Some
 returns-in-Some c =
     let hash : list_hash c.args.levels.now.pairs ≡ c.args.header.now.bucket_list_hash = search rules in
-    let built : AreBuilt c.args.entries.now = search rules in
     let broken : IsFirstBroken c.args.header.now c.args.entries.now entry_rules (Some c.in-Some.rule) =
     subst (λ (o : Option ImageRule). IsFirstBroken c.args.header.now c.args.entries.now entry_rules o) c.in-Some.is
     c.in_ok-first_broken.ensures in
     subst (λ (f : ImageFault). AreJudged c.args.header.now c.args.levels.now.pairs c.args.entries.now (Err f))
     (sym c.broken-in-Some.ensures)
-    (by_rule c.args.header.now c.args.levels.now.pairs c.args.entries.now c.in-Some.rule hash built broken)
+    (by_rule c.args.header.now c.args.levels.now.pairs c.args.entries.now c.in-Some.rule hash broken)

@@ -3,7 +3,7 @@ use Rattle.ledger_types.specs.declared.asset.TrustLineAsset.TheVariants.{PoolSha
 use Rattle.entry_slots.specs.Tests.{first_fault}
 use Rattle.op_pool.specs.Calls.{amount_tests}
 use Rattle.op_pool.proofs.Deposits.{fits_as}
-use Rattle.op_pool.proofs.Loaded.{line_loaded, pool_loaded}
+use Rattle.pool_shares.proofs.Loaded.{line_loaded, pool_loaded}
 use Rattle.op_pool.proofs.deposit.put_in.Goals as goal
 
 pub deposit_by-requires-clause-range : goal.deposit_by-requires-clause-range

@@ -2,7 +2,7 @@ use Rattle.std.proofs.Common.{◌≡◌, None, rules}
 use Rattle.ledger_types.specs.declared.asset.TrustLineAsset.TheVariants.{PoolShare}
 use Rattle.entry_slots.specs.Tests.{first_fault}
 use Rattle.op_pool.specs.Calls.{part_tests}
-use Rattle.op_pool.proofs.Loaded.{line_loaded, pool_loaded}
+use Rattle.pool_shares.proofs.Loaded.{line_loaded, pool_loaded}
 use Rattle.op_pool.proofs.Withdrawals.{not_above, fits_as}
 use Rattle.op_pool.proofs.withdraw.take_out.Goals as goal
 

@@ -52,8 +52,8 @@ level-requires-clause-spellable g c =
     } in (
       c.args.worked.entries,
       c.requires.worked.batch,
-      (c.entries_stay_spellable.ensures c.args.self.now c.args.closing c.args.worked.entries can
-          c.requires.worked.entries).0,
+      c.entries_stay_spellable.ensures c.args.self.now c.args.closing c.args.worked.entries can
+          c.requires.worked.entries,
     )
 
 pub file_total-bytes-requires : goal.file_total-bytes-requires

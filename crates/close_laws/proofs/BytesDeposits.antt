@@ -1,0 +1,128 @@
+-- Deposits into pools and withdrawals from them leave the bytes of entries.
+use Rattle.std.proofs.Common.{◌≡◌, subst, ℕ, false, ◌||◌, Some, None, arith}
+use Rattle.std.proofs.lemmas.Int.{ints}
+use Rattle.std.specs.Prelude.{ℤ, pos, neg_ℤ, ◌+ℤ◌, ◌≤ℤ◌, int_le, int_lt}
+use Rattle.ledger_types.specs.declared.asset.TrustLineAsset.TheVariants as line
+use Rattle.ledger_types.specs.declared.trust_line.TrustLineEntry.{TrustLineEntry}
+use Rattle.ledger_types.specs.declared.liquidity_pool.LiquidityPoolEntry.{LiquidityPoolEntry}
+use Rattle.op_types.specs.declared.pool_ops.LiquidityPoolDepositOp.{LiquidityPoolDepositOp}
+use Rattle.op_types.specs.declared.pool_ops.LiquidityPoolWithdrawOp.{LiquidityPoolWithdrawOp}
+use Rattle.op_types.specs.declared.pool_results.LiquidityPoolDepositResult.TheVariants as depositing
+use Rattle.op_types.specs.declared.pool_results.LiquidityPoolWithdrawResult.TheVariants as withdrawing
+use Rattle.entry_map.specs.EntryMap.{EntryMap}
+use Rattle.entry_slots.specs.Lines.{line_at}
+use Rattle.entry_slots.specs.Pools.{pool_at}
+use Rattle.entry_slots.specs.Tests.{first_fault}
+use Rattle.reserve_rules.specs.Reserve.{greatest_i64}
+use Rattle.sponsor_rules.specs.declared.context.Ctx.{Ctx}
+use Rattle.pool_math.specs.Pools.{Deposit}
+use Rattle.legal_rules.specs.Trades.{holder}
+use Rattle.legal_rules.proofs.Passed.{neither}
+use Rattle.trade_cross.specs.Holdings.{paying}
+use Rattle.pool_shares.specs.Withdrawing.{Part, part_of, map_with_shares, map_after_withdrawing}
+use Rattle.op_pool.specs.Deposit as depositing_into
+use Rattle.op_pool.specs.Deposit.{deposit_by, does_pass, is_pool_full}
+use Rattle.op_pool.specs.Withdraw as withdrawing_from
+use Rattle.op_pool.proofs.Fitting.{not_less}
+use Rattle.close_laws.proofs.Bytes.{AreBytes}
+use Rattle.close_laws.proofs.BytesCrossing.{paying_bytes}
+use Rattle.close_laws.proofs.BytesPools.{MayHave, shares_bytes, may_give}
+use Rattle.close_laws.proofs.BytesSteps.{AreWorkBytes, Work, Leaves, tested, behind, behind_some}
+use Rattle.close_laws.proofs.PassedTests.{all_pass}
+
+-- ---- deposits
+
+-- what doesn't pass 64 bits may be had
+does_not_pass : (there : ℤ) (more : ℕ) → does_pass there more ≡ false → (there +ℤ pos more) ≤ℤ greatest_i64
+does_not_pass there more less = not_less greatest_i64 (there +ℤ pos more) less
+
+may_take : (p : LiquidityPoolEntry) (d : Deposit) → is_pool_full p d ≡ false
+    → MayHave (pos d.a) (pos d.b) (pos d.shares) p
+may_take p d less =
+    let shares = neither (does_pass p.reserve_a d.a || does_pass p.reserve_b d.b)
+    (does_pass p.total_pool_shares d.shares) less in
+    let assets = neither (does_pass p.reserve_a d.a) (does_pass p.reserve_b d.b) shares.0 in
+    record {
+      first = does_not_pass p.reserve_a d.a assets.0;
+      second = does_not_pass p.reserve_b d.b assets.1;
+      total = does_not_pass p.total_pool_shares d.shares shares.1;
+    }
+
+module _ (ctx : Ctx) (op : LiquidityPoolDepositOp) (share : TrustLineEntry) (pool : LiquidityPoolEntry) (d : Deposit)
+    (m : EntryMap) (stands : pool_at m op.pool_id ≡ Some pool) (work : AreWorkBytes ctx m) where
+  abbrev put_in : EntryMap
+  put_in = map_with_shares ctx.op_source op.pool_id (pos d.a) (pos d.b) (pos d.shares) m
+
+  same_pool : (p : LiquidityPoolEntry) → pool_at m op.pool_id ≡ Some p → pool ≡ p
+  same_pool p at = cc
+
+  pool_filled : is_pool_full pool d ≡ false → AreBytes put_in
+  pool_filled less =
+      shares_bytes ctx.op_source op.pool_id (pos d.a) (pos d.b) (pos d.shares) m
+      (λ p at bytes. subst (MayHave (pos d.a) (pos d.b) (pos d.shares)) (same_pool p at) (may_take pool d less))
+      work.entries
+
+  not_full : first_fault (depositing_into.given_tests ctx op share pool d m) ≡ None → is_pool_full pool d ≡ false
+  not_full none = (all_pass (depositing_into.given_tests ctx op share pool d m) none).1.1.1.1.1.0
+
+  put_leaves : Leaves (depositing_into.put_in ctx op share pool d m)
+  put_leaves =
+      let a = holder ctx.op_source pool.params.asset_a in
+      let b = holder ctx.op_source pool.params.asset_b in
+      tested Work (depositing_into.given_tests ctx op share pool d m) _ (λ none. record {
+        gives = record {
+          entries = paying_bytes b (neg_ℤ (pos d.b)) (paying a (neg_ℤ (pos d.a)) put_in)
+              (paying_bytes a (neg_ℤ (pos d.a)) put_in (pool_filled (not_full none)));
+          sponsors = work.sponsors;
+        };
+      })
+
+pub deposited : (ctx : Ctx) (op : LiquidityPoolDepositOp) (m : EntryMap) → AreWorkBytes ctx m
+    → Leaves (depositing_into.liquidity_pool_deposit ctx op m)
+deposited ctx op m work =
+    behind Work (depositing_into.disabled_tests ctx) _
+    (behind Work (depositing_into.deposit_tests op) _
+    (behind_some Work (line_at m ctx.op_source (line.PoolShare op.pool_id))
+    (depositing_into.answer depositing.NoTrust) _
+    (λ share held. behind_some Work (pool_at m op.pool_id) (depositing_into.answer depositing.NoTrust) _
+    (λ pool stands. put_leaves ctx op share pool (deposit_by op pool) m stands work))))
+
+-- ---- withdrawals
+
+some_taken : (n : ℤ) → int_le n (pos 0) ≡ false → pos 0 ≤ℤ n
+some_taken n more = grind (arith, ints)
+
+amount_low : (op : LiquidityPoolWithdrawOp) → first_fault (withdrawing_from.withdraw_tests op) ≡ None
+    → pos 0 ≤ℤ op.amount
+amount_low op none =
+    let tests = (all_pass (withdrawing_from.withdraw_tests op) none).0 in
+    let first = neither (int_le op.amount (pos 0) || int_lt op.min_amount_a (pos 0)) (int_lt op.min_amount_b (pos 0))
+    tests in
+    some_taken op.amount (neither (int_le op.amount (pos 0)) (int_lt op.min_amount_a (pos 0)) first.0).0
+
+taken_leaves : (ctx : Ctx) (op : LiquidityPoolWithdrawOp) (pool : LiquidityPoolEntry) (part : Part) (m : EntryMap)
+    → pos 0 ≤ℤ op.amount → AreWorkBytes ctx m → Leaves (withdrawing_from.taken ctx op pool part m)
+taken_leaves ctx op pool part m low work =
+    let a = holder ctx.op_source pool.params.asset_a in
+    let b = holder ctx.op_source pool.params.asset_b in
+    let given_back = map_after_withdrawing ctx.op_source op.pool_id op.amount part m in
+    behind Work (withdrawing_from.taken_tests ctx op pool part m) _ (record {
+      gives = record {
+        entries = paying_bytes b (pos part.b) (paying a (pos part.a) given_back)
+            (paying_bytes a (pos part.a) given_back
+            (shares_bytes ctx.op_source op.pool_id (neg_ℤ (pos part.a)) (neg_ℤ (pos part.b)) (neg_ℤ op.amount) m
+            (λ p at bytes. may_give part.a part.b op.amount p bytes low) work.entries));
+        sponsors = work.sponsors;
+      };
+    })
+
+pub withdrawn : (ctx : Ctx) (op : LiquidityPoolWithdrawOp) (m : EntryMap) → AreWorkBytes ctx m
+    → Leaves (withdrawing_from.liquidity_pool_withdraw ctx op m)
+withdrawn ctx op m work =
+    behind Work (withdrawing_from.disabled_tests ctx) _
+    (tested Work (withdrawing_from.withdraw_tests op) _
+    (λ none. behind_some Work (line_at m ctx.op_source (line.PoolShare op.pool_id))
+    (withdrawing_from.answer withdrawing.NoTrust) _
+    (λ share held. behind Work (withdrawing_from.share_tests op share) _
+    (behind_some Work (pool_at m op.pool_id) (withdrawing_from.answer withdrawing.NoTrust) _
+    (λ pool stands. taken_leaves ctx op pool (part_of pool op.amount) m (amount_low op none) work)))))

@@ -1,0 +1,89 @@
+-- A claimable balance that is added: what it leaves, and that it can be.
+use Rattle.std.proofs.Common.{◌≡◌, ◌≢◌, refl, sym, ap, subst, ◌∙◌, ℕ, ◌*◌, Bool, true, false, is_some, Option, Some, None, Ok, arith, ◌≤◌}
+use Rattle.std.specs.Prelude.{ℤ, pos, ◌+ℤ◌, ◌≤ℤ◌}
+use Rattle.std.specs.FinMap.{get}
+use Rattle.ledger_types.specs.declared.ids.AccountId.{AccountId}
+use Rattle.ledger_types.specs.declared.ids.ClaimableBalanceId.{ClaimableBalanceId}
+use Rattle.ledger_types.specs.declared.account.AccountEntry.{AccountEntry}
+use Rattle.ledger_types.specs.declared.claimable_balance.ClaimableBalanceEntry.{ClaimableBalanceEntry}
+use Rattle.ledger_types.specs.declared.entry.LedgerEntry.{LedgerEntry}
+use Rattle.ledger_types.specs.declared.key.LedgerKey.{LedgerKey}
+use Rattle.ledger_types.specs.Keys.{key_of, key_of_body}
+use Rattle.entry_map.specs.EntryMap.{EntryMap, put}
+use Rattle.entry_slots.specs.Accounts.{account_at, HasAccount}
+use Rattle.entry_slots.specs.Balances.{balance_at, balance_in, balance_of}
+use Rattle.entry_slots.specs.EntrySponsor.{with_sponsor}
+use Rattle.entry_sums.specs.Sums.{part}
+use Rattle.reserve_rules.specs.Reserve.{available}
+use Rattle.sponsor_rules.specs.declared.context.Ctx.{Ctx}
+use Rattle.sponsor_rules.specs.Adding.{map_after_adding_balance}
+use Rattle.sponsor_rules.specs.Payers.{payer_by, payer_tests_at}
+use Rattle.sponsor_rules.specs.Paying.{map_after_charging}
+use Rattle.legal_rules.specs.Ranges.{balance_flags}
+use Rattle.legal_rules.specs.Supply.{held}
+use Rattle.op_form.specs.Flags.{flagged_ext}
+use Rattle.legal_rules.proofs.ChargesLeft.{charging_kept, payer_had, put_beside}
+use Rattle.legal_rules.specs.Holdings.{IsKeyed, under_key}
+use Rattle.legal_rules.proofs.Holdings.{none_before, still_holds, put_holds}
+use Rattle.legal_rules.proofs.Leaving.{Leaves, keeps_then, accounts_kept, keyed_put}
+use Rattle.legal_rules.proofs.Passed.{passed}
+use Rattle.ledger_types.specs.declared.entry.LedgerEntryBody.{LedgerEntryBody}
+use Rattle.ledger_types.specs.declared.entry.LedgerEntryBody.TheVariants as body
+use Rattle.ledger_types.specs.declared.key.LedgerKey.TheVariants as key
+
+-- ---- a balance that is added
+
+-- a balance is put where nothing was held
+pub balance_left : (ctx : Ctx) (m : EntryMap) (payer : AccountId) (k : ℕ) (e : LedgerEntry) (new : EntryMap) → IsKeyed m
+    → ((id : AccountId) → key.Account id ≢ key_of e) → get m (key_of e) ≡ None
+    → map_after_adding_balance ctx e payer k m ≡ Ok new
+    → Leaves ctx.base_reserve (under_key (key_of e) (λ x. held x e)) m new
+balance_left ctx m payer k e new keyed apart free done =
+    let now = map_after_charging k (Some payer) m in
+    let added = with_sponsor (Some payer) e in
+    let test = passed (payer_tests_at ctx m payer k) (put now added) new done in
+    let first = charging_kept ctx.base_reserve k (Some payer) m keyed
+    (λ x is. let same : payer ≡ x = cc in subst (λ w. (a : AccountEntry) → account_at m w ≡ Some a
+    → pos (k * ctx.base_reserve) ≤ℤ available a ctx.base_reserve) same (payer_had ctx m payer k test.0)) in
+    let more = under_key (key_of e) (λ x. held x e) in
+    subst (Leaves ctx.base_reserve more m) test.1
+    (keeps_then ctx.base_reserve more m now (put now added) first
+    (accounts_kept ctx.base_reserve more now (put now added) (keyed_put now added first.keyed)
+    (put_beside now added apart)
+    (put_holds now added (λ x. held x e) (λ x. sym (ap (λ n. n +ℤ held x e)
+    (still_holds m now first.holds (key_of e) x ∙ ap (part (held x)) free) ∙ none_before (held x e))))))
+
+pub payer_stands : (m : EntryMap) (owner : AccountId) (o : Option AccountId) → HasAccount m owner
+    → ((sponsor : AccountId) → o ≡ Some sponsor → HasAccount m sponsor) → HasAccount m (payer_by owner o)
+payer_stands m owner None stands sponsors = stands
+payer_stands m owner (Some sponsor) stands sponsors = sponsors sponsor refl
+
+-- ---- flags
+
+pub new_flags : (can : Bool) → balance_flags (flagged_ext can) ≤ 1
+new_flags true = omega arith
+new_flags false = omega arith
+
+-- ---- keys
+
+no_balance_body : (b : LedgerEntryBody) (id : ClaimableBalanceId) → key_of_body b ≡ key.ClaimableBalance id
+    → balance_in b ≡ None → ⊥
+no_balance_body (body.ClaimableBalance balance) id own none = absurd (cc)
+no_balance_body other id own none = absurd (cc)
+
+no_balance_of : (o : Option LedgerEntry) (id : ClaimableBalanceId)
+    → ((e : LedgerEntry) → o ≡ Some e → key_of e ≡ key.ClaimableBalance id) → balance_of o ≡ None → o ≡ None
+no_balance_of None id own none = refl
+no_balance_of (Some e) id own none = absurd (no_balance_body e.body id (own e refl) none)
+
+none_of : (o : Option ClaimableBalanceEntry) → is_some o ≡ false → o ≡ None
+none_of None h = refl
+none_of (Some balance) h = absurd (cc)
+
+-- where no balance stands under its key, nothing does
+pub no_balance : (m : EntryMap) (id : ClaimableBalanceId) → IsKeyed m → is_some (balance_at m id) ≡ false
+    → get m (key.ClaimableBalance id) ≡ None
+unfolding balance_at
+no_balance m id keyed none =
+    no_balance_of (get m (key.ClaimableBalance id)) id (keyed (key.ClaimableBalance id))
+    (none_of (balance_of (get m (key.ClaimableBalance id))) none)

@@ -1,0 +1,152 @@
+-- The pool of a new line of shares: it is made where it doesn't stand, and nothing else changes.
+use Rattle.std.proofs.Common.{◌≡◌, refl, sym, ap, ◌∙◌, ℕ, true, false, not, ◌||◌, inr, Option, Some, None, arith}
+use Rattle.std.proofs.lemmas.Int.{ints}
+use Rattle.std.specs.Prelude.{ℤ, pos}
+use Rattle.std.specs.Ordering.{int_eq, is_lt, is_eq}
+use Rattle.std.specs.declared.cmp.Ordering.{Ordering}
+use Rattle.std.specs.declared.cmp.Ordering.TheVariants.{Less, Equal, Greater}
+use Rattle.std.specs.FinMap.{get}
+use Rattle.ledger_types.specs.declared.ids.AccountId.{AccountId}
+use Rattle.ledger_types.specs.declared.ids.Hash.{Hash}
+use Rattle.ledger_types.specs.declared.asset.Asset.{Asset}
+use Rattle.ledger_types.specs.declared.asset.PoolParams.{PoolParams}
+use Rattle.ledger_types.specs.declared.asset.TrustLineAsset.{TrustLineAsset}
+use Rattle.ledger_types.specs.declared.liquidity_pool.LiquidityPoolEntry.{LiquidityPoolEntry}
+use Rattle.ledger_types.specs.declared.entry.LedgerEntry.{LedgerEntry}
+use Rattle.ledger_types.specs.declared.entry.LedgerEntryBody.{LedgerEntryBody}
+use Rattle.ledger_types.specs.declared.entry.LedgerEntryBody.TheVariants as body
+use Rattle.ledger_types.specs.declared.key.LedgerKey.TheVariants as key
+use Rattle.ledger_types.specs.Keys.{key_of, key_of_body}
+use Rattle.ledger_types.specs.KeyOrder.{asset_cmp}
+use Rattle.valid_values.specs.Assets.{is_valid_asset}
+use Rattle.entry_map.specs.EntryMap.{EntryMap, put}
+use Rattle.entry_slots.specs.Pools.{pool_in, pool_of, pool_at}
+use Rattle.entry_sums.specs.Sums.{part}
+use Rattle.entry_sums.proofs.Lookups.{put_there, put_elsewhere}
+use Rattle.legal_rules.specs.Books.{View}
+use Rattle.legal_rules.specs.Holdings.{IsKeyed, none_more}
+use Rattle.legal_rules.specs.Owing.{nothing_owed, IsEntryLegal, IsLegalOwing}
+use Rattle.legal_rules.specs.PoolLaws.{new_pool}
+use Rattle.legal_rules.specs.Ranges.{IsPoolInRange}
+use Rattle.legal_rules.specs.Supply.{held}
+use Rattle.legal_rules.proofs.ChargesLeft.{put_beside}
+use Rattle.legal_rules.proofs.Holdings.{none_if, put_same}
+use Rattle.legal_rules.proofs.Leaving.{Leaves, leaves_itself, accounts_kept, keyed_put}
+use Rattle.legal_rules.proofs.Liable.{int_same}
+use Rattle.legal_rules.proofs.Numbers.{both_none}
+use Rattle.legal_rules.proofs.Passed.{neither}
+use Rattle.legal_rules.proofs.PoolsKept.{pool_put}
+use Rattle.pool_shares.specs.ShareLines.{empty_pool, map_with_pool, map_with_pool_by}
+use Rattle.pool_shares.proofs.Gone.{IsLegalNow, as_it_stands}
+use Rattle.op_trust.specs.ShareTrust as spec
+use Rattle.op_trust.proofs.Counts.{same_params}
+use Rattle.op_laws.proofs.TrustLines.{not_true}
+
+-- a pool with these parameters stands, and nothing else changed
+pub record IsPooled (id_pool base : ℕ) (pool : Hash) (params : PoolParams) (m now : EntryMap) : Type 0 where
+  pub legal : (v : View) (sum : ℤ) → IsLegalOwing v id_pool nothing_owed sum m → IsLegalNow v id_pool sum now
+  pub left : Leaves base none_more m now
+  pub its : LiquidityPoolEntry
+  pub stands : pool_at now pool ≡ Some its
+  pub same : its.params ≡ params
+  pub lines : (id : AccountId) (a : TrustLineAsset) → get now (key.TrustLine id a) ≡ get m (key.TrustLine id a)
+
+-- ---- a pool that doesn't stand
+
+-- where no pool stands under its key, nothing does
+no_pool_body : (b : LedgerEntryBody) (pool : Hash) → key_of_body b ≡ key.LiquidityPool pool → pool_in b ≡ None → ⊥
+no_pool_body (body.LiquidityPool p) pool own none = absurd (cc)
+no_pool_body other pool own none = absurd (cc)
+
+no_pool_of : (o : Option LedgerEntry) (pool : Hash)
+    → ((e : LedgerEntry) → o ≡ Some e → key_of e ≡ key.LiquidityPool pool) → pool_of o ≡ None → o ≡ None
+no_pool_of None pool own none = refl
+no_pool_of (Some e) pool own none = absurd (no_pool_body e.body pool (own e refl) none)
+
+no_pool : (m : EntryMap) (pool : Hash) → IsKeyed m → pool_at m pool ≡ None → get m (key.LiquidityPool pool) ≡ None
+unfolding pool_at
+no_pool m pool keyed none = no_pool_of (get m (key.LiquidityPool pool)) pool (keyed (key.LiquidityPool pool)) none
+
+-- ---- a new pool
+
+less_of : (o : Ordering) → is_lt o ≡ true → o ≡ Less
+less_of Less is = refl
+less_of Equal is = absurd (cc)
+less_of Greater is = absurd (cc)
+
+new_in_range : (params : PoolParams) → spec.is_pool_bad params ≡ false
+    → IsPoolInRange (empty_pool (spec.pool_named_by params) params)
+new_in_range params good =
+    let bad_a = not (is_valid_asset params.asset_a) in
+    let bad_b = not (is_valid_asset params.asset_b) in
+    let bad_order = not (is_lt (asset_cmp params.asset_a params.asset_b)) in
+    let bad_fee = not (int_eq params.fee (pos 30)) in
+    let last = neither (bad_a || bad_b || bad_order) bad_fee good in
+    let third = neither (bad_a || bad_b) bad_order last.0 in
+    record {
+      fee = int_same params.fee (pos 30) (not_true (int_eq params.fee (pos 30)) last.1);
+      assets = less_of (asset_cmp params.asset_a params.asset_b)
+          (not_true (is_lt (asset_cmp params.asset_a params.asset_b)) third.1);
+      id = refl;
+      reserve_a = omega (arith, ints);
+      reserve_b = omega (arith, ints);
+      shares = omega (arith, ints);
+      lines = omega (arith, ints);
+    }
+
+module _ (id_pool base seq : ℕ) (params : PoolParams) (m : EntryMap) (keyed : IsKeyed m)
+    (good : spec.is_pool_bad params ≡ false) where
+  abbrev pool : Hash
+  pool = spec.pool_named_by params
+
+  abbrev made : LedgerEntry
+  made = new_pool seq (empty_pool pool params)
+
+  module _ (free : get m (key.LiquidityPool pool) ≡ None) where
+    made_legal : IsEntryLegal id_pool made
+    made_legal = record {
+      range = record { body = new_in_range params good; paid = refl };
+      bound = tt;
+      few = tt;
+      fits = tt;
+      filled = inr (refl, refl, refl);
+    }
+
+    holds_nothing : (x : Asset) → held x made ≡ part (held x) (get m (key_of made))
+    holds_nothing x =
+        both_none _ _ (none_if (is_eq (asset_cmp x params.asset_a)) (pos 0) refl)
+        (none_if (is_eq (asset_cmp x params.asset_b)) (pos 0) refl) ∙ sym (ap (part (held x)) free)
+
+    made_stands : pool_at (put m made) pool ≡ Some (empty_pool pool params)
+    unfolding pool_at
+    made_stands = ap pool_of (put_there m made)
+
+    made_so : IsPooled id_pool base pool params m (put m made)
+    made_so = record {
+      legal = λ v sum legal. pool_put v id_pool sum m seq (empty_pool pool params) legal free
+          (record { reserve_a = refl; reserve_b = refl; shares = refl; lines = refl }) made_legal;
+      left = accounts_kept base none_more m (put m made) (keyed_put m made keyed)
+          (put_beside m made (λ id same. absurd (cc))) (put_same m made holds_nothing);
+      its = empty_pool pool params;
+      stands = made_stands;
+      same = refl;
+      lines = λ id a. put_elsewhere m made (key.TrustLine id a) (λ same. absurd (cc));
+    }
+
+  -- ---- whether it stands or is made
+
+  pooled_by : (o : Option LiquidityPoolEntry) → pool_at m pool ≡ o → spec.is_taken params o ≡ false
+      → IsPooled id_pool base pool params m (map_with_pool_by seq pool params m o)
+  pooled_by (Some p) there free = record {
+    legal = λ v sum legal. as_it_stands v id_pool sum m legal;
+    left = leaves_itself base m keyed;
+    its = p;
+    stands = there;
+    same = same_params p.params params free;
+    lines = λ id a. refl;
+  }
+  pooled_by None none free = made_so (no_pool m pool keyed none)
+
+  pub pooled : spec.is_taken params (pool_at m pool) ≡ false
+      → IsPooled id_pool base pool params m (map_with_pool seq pool params m)
+  pooled free = pooled_by (pool_at m pool) refl free

@@ -1,0 +1,206 @@
+-- LIQUIDITY_POOL_WITHDRAW is lawful.
+use Rattle.std.proofs.Common.{◌≡◌, sym, subst, ◌∙◌, false, ◌||◌, List, [], ◌∷◌, Option, Some, Ok, arith}
+use Rattle.std.proofs.lemmas.Int.{ints}
+use Rattle.std.specs.Prelude.{ℤ, pos, neg_ℤ, ◌+ℤ◌, ◌≤ℤ◌, int_le, int_lt, nat_lt}
+use Rattle.ledger_types.specs.declared.ids.AccountId.{AccountId}
+use Rattle.ledger_types.specs.declared.ids.Hash.{Hash}
+use Rattle.ledger_types.specs.declared.asset.Asset.{Asset}
+use Rattle.ledger_types.specs.declared.asset.Asset.TheVariants as asset
+use Rattle.ledger_types.specs.declared.asset.TrustLineAsset.TheVariants as line
+use Rattle.ledger_types.specs.declared.trust_line.TrustLineEntry.{TrustLineEntry}
+use Rattle.ledger_types.specs.declared.liquidity_pool.LiquidityPoolEntry.{LiquidityPoolEntry}
+use Rattle.ledger_types.specs.declared.key.LedgerKey.{LedgerKey}
+use Rattle.op_types.specs.declared.pool_ops.LiquidityPoolWithdrawOp.{LiquidityPoolWithdrawOp}
+use Rattle.op_types.specs.declared.pool_results.LiquidityPoolWithdrawResult.TheVariants as withdrawing
+use Rattle.entry_map.specs.EntryMap.{EntryMap}
+use Rattle.entry_slots.specs.Accounts.{HasAccount}
+use Rattle.entry_slots.specs.Lines.{line_at}
+use Rattle.entry_slots.specs.Pools.{pool_at}
+use Rattle.entry_sums.specs.Sums.{total}
+use Rattle.sponsor_rules.specs.declared.context.Ctx.{Ctx}
+use Rattle.legal_rules.specs.Holdings.{Increase, both_more}
+use Rattle.legal_rules.specs.Legal.{view}
+use Rattle.legal_rules.specs.Owing.{nothing_owed}
+use Rattle.legal_rules.specs.Supply.{of_asset, held as held_of}
+use Rattle.legal_rules.specs.Trades.{holder}
+use Rattle.legal_rules.proofs.Leaving.{leaves_as}
+use Rattle.legal_rules.proofs.LinesLeft.{IsLegalLine, line_legal}
+use Rattle.legal_rules.proofs.Passed.{first_passed, neither}
+use Rattle.trade_cross.specs.Holdings.{most_taken}
+use Rattle.trade_cross.proofs.Paying.{CanPay}
+use Rattle.pool_shares.specs.Withdrawing.{Part, part_of}
+use Rattle.pool_shares.proofs.Parts.{can_withdraw}
+use Rattle.pool_shares.proofs.Sound.{IsLegalPool, pool_legal, first_used, second_used, sound_of}
+use Rattle.op_form.specs.Done.{Done, OfAccount, OfPool, Move}
+use Rattle.op_pool.specs.Withdraw.{answer, disabled_tests, withdraw_tests, share_tests, taken_tests, map_after_taking}
+use Rattle.op_pool.specs.Withdraw.{move_of_a, move_of_b, taken, liquidity_pool_withdraw}
+use Rattle.op_pool.proofs.Fitting.{not_less}
+use Rattle.op_laws.specs.Laws.{IsLawful, AreLawful}
+use Rattle.op_laws.specs.Moves.{issued}
+use Rattle.op_laws.specs.Underway.{IsUnderway}
+use Rattle.op_laws.proofs.Amounts.{IsMoved, unless_issuer, shifts_as}
+use Rattle.op_laws.proofs.AsideMoves.{pool_issues_none, taken_back_issued}
+use Rattle.op_laws.proofs.Claims.{at_least_one}
+use Rattle.op_laws.proofs.Issued.{issued_behind}
+use Rattle.op_laws.proofs.Lawful.{lawful_with}
+use Rattle.op_laws.proofs.PoolPayments.{holder_stands, takes_so, shift_of, more_of, pool_before, account_before}
+use Rattle.op_laws.proofs.PoolPayments.{both_taken}
+use Rattle.op_flags.proofs.Went.{went_on, went_after_some}
+use Rattle.op_laws.proofs.Told.{Tells, more_for, account_place, pool_place, moved, move_tells, tells_both}
+
+-- ---- what may be taken out
+
+no_more : (x y z : ℤ) → x ≤ℤ y → y ≤ℤ z → x ≤ℤ z
+no_more x y z first second = omega (arith, ints)
+
+low_of : (x : ℤ) → pos 1 ≤ℤ x → pos 0 ≤ℤ x
+low_of x some = omega (arith, ints)
+
+-- ---- what a withdrawal moves
+
+module _ (ctx : Ctx) (op : LiquidityPoolWithdrawOp) (p : LiquidityPoolEntry) (part : Part) where
+  abbrev a : Asset
+  a = p.params.asset_a
+
+  abbrev b : Asset
+  b = p.params.asset_b
+
+  abbrev src : AccountId
+  src = ctx.op_source
+
+  abbrev pool : Hash
+  pool = op.pool_id
+
+  abbrev out_a : ℤ
+  out_a = pos part.a
+
+  abbrev out_b : ℤ
+  out_b = pos part.b
+
+  abbrev moves : List Move
+  moves = move_of_a ctx op p part ∷ move_of_b ctx op p part ∷ []
+
+  shifted : (x : Asset) → shift_of p src (neg_ℤ out_a) (neg_ℤ out_b) out_a out_b x ≡ issued x moves
+  shifted x =
+      pool_before (of_asset x a (neg_ℤ out_a)) (of_asset x b (neg_ℤ out_b)) (unless_issuer x a src out_a)
+      (unless_issuer x b src out_b)
+      ∙ (λ i. taken_back_issued x a (OfPool pool) src out_a (pool_issues_none a pool) i
+      +ℤ taken_back_issued x b (OfPool pool) src out_b (pool_issues_none b pool) i)
+      ∙ sym (issued_behind x (move_of_a ctx op p part ∷ []) (move_of_b ctx op p part ∷ []))
+
+  abbrev more_a : Increase
+  more_a = moved a (OfPool pool) (OfAccount src) out_a
+
+  abbrev more_b : Increase
+  more_b = moved b (OfPool pool) (OfAccount src) out_b
+
+  more_is : (k : LedgerKey) (x : Asset)
+      → more_of p src pool (neg_ℤ out_a) (neg_ℤ out_b) out_a out_b k x ≡ both_more more_a more_b k x
+  more_is k x = account_before (more_for a (OfPool pool) (neg_ℤ out_a) k x) (more_for b (OfPool pool) (neg_ℤ out_b) k x)
+      (more_for a (OfAccount src) out_a k x) (more_for b (OfAccount src) out_b k x)
+
+  tells : Tells (both_more more_a more_b) moves
+  tells = tells_both more_a more_b (move_of_a ctx op p part ∷ []) (move_of_b ctx op p part ∷ [])
+      (move_tells a (OfPool pool) (OfAccount src) out_a (pool_place a pool) (account_place a src))
+      (move_tells b (OfPool pool) (OfAccount src) out_b (pool_place b pool) (account_place b src))
+
+  -- a withdrawal that moves both amounts is lawful
+  withdrawal_lawful : (m : EntryMap) → IsUnderway ctx m
+      → IsMoved ctx.id_pool ctx.base_reserve (shift_of p src (neg_ℤ out_a) (neg_ℤ out_b) out_a out_b)
+      (more_of p src pool (neg_ℤ out_a) (neg_ℤ out_b) out_a out_b) m (map_after_taking src op p part m)
+      → IsLawful ctx m (record {
+        result = answer withdrawing.Success;
+        entries = map_after_taking src op p part m;
+        ctx = ctx;
+        moves = moves;
+      })
+  withdrawal_lawful m under both =
+      let new = map_after_taking src op p part m in
+      lawful_with ctx m under (both_more more_a more_b) (answer withdrawing.Success) new moves
+      (shifts_as ctx.id_pool (shift_of p src (neg_ℤ out_a) (neg_ℤ out_b) out_a out_b) (λ x. issued x moves) m new
+      shifted both.shifts)
+      (leaves_as ctx.base_reserve (more_of p src pool (neg_ℤ out_a) (neg_ℤ out_b) out_a out_b)
+      (both_more more_a more_b) m new both.left more_is) tells
+
+-- ---- the operation
+
+module _ (ctx : Ctx) (op : LiquidityPoolWithdrawOp) (m : EntryMap) (done : Done) (under : IsUnderway ctx m)
+    (source : HasAccount m ctx.op_source) (some : pos 1 ≤ℤ op.amount) (t : TrustLineEntry) (p : LiquidityPoolEntry)
+    (has : line_at m ctx.op_source (line.PoolShare op.pool_id) ≡ Some t) (stands : pool_at m op.pool_id ≡ Some p)
+    (enough : op.amount ≤ℤ t.balance) where
+  abbrev part_out : Part
+  part_out = part_of p op.amount
+
+  abbrev lumens : ℤ
+  lumens = total (held_of asset.Native) m
+
+  its : IsLegalLine ctx.op_source (line.PoolShare op.pool_id) t
+  its = line_legal (view m) ctx.id_pool nothing_owed lumens m ctx.op_source (line.PoolShare op.pool_id) t
+      under.settled.legal has
+
+  was : IsLegalPool op.pool_id p
+  was = pool_legal (view m) ctx.id_pool nothing_owed lumens m op.pool_id p under.settled.legal stands
+
+  -- there are as many shares of the pool
+  of_all : op.amount ≤ℤ p.total_pool_shares
+  of_all = no_more op.amount t.balance p.total_pool_shares enough
+      ((sound_of (view m) ctx.id_pool lumens m under.settled.legal).shares ctx.op_source op.pool_id t p has stands)
+
+  abbrev takes_a : Option LedgerKey
+  takes_a = holder ctx.op_source p.params.asset_a
+
+  abbrev takes_b : Option LedgerKey
+  takes_b = holder ctx.op_source p.params.asset_b
+
+  takes_first : nat_lt (most_taken m takes_a) part_out.a ≡ false → CanPay m takes_a (pos part_out.a)
+  takes_first room = takes_so (view m) ctx.id_pool ctx.base_reserve lumens m under.settled.legal part_out.a takes_a
+      (holder_stands m ctx.op_source source p.params.asset_a
+      (first_used (view m) ctx.id_pool lumens m under.settled.legal ctx.op_source op.pool_id t has p stands)) room
+
+  takes_second : nat_lt (most_taken m takes_b) part_out.b ≡ false → CanPay m takes_b (pos part_out.b)
+  takes_second room = takes_so (view m) ctx.id_pool ctx.base_reserve lumens m under.settled.legal part_out.b takes_b
+      (holder_stands m ctx.op_source source p.params.asset_b
+      (second_used (view m) ctx.id_pool lumens m under.settled.legal ctx.op_source op.pool_id t has p stands)) room
+
+  taken_lawful : taken ctx op p part_out m ≡ Ok done → IsLawful ctx m done
+  taken_lawful is =
+      let tested = went_on (taken_tests ctx op p part_out m) _ done is in
+      let under_a = int_lt (pos part_out.a) op.min_amount_a in
+      let under_b = int_lt (pos part_out.b) op.min_amount_b in
+      let full_a = nat_lt (most_taken m takes_a) part_out.a in
+      let full_b = nat_lt (most_taken m takes_b) part_out.b in
+      let first = first_passed (under_a || under_b) (answer withdrawing.UnderMinimum)
+      ((full_a || full_b, answer withdrawing.LineFull) ∷ []) tested.0 in
+      let second = first_passed (full_a || full_b) (answer withdrawing.LineFull) [] first.1 in
+      let room = neither full_a full_b second.0 in
+      let both = both_taken ctx.id_pool ctx.base_reserve m under.settled.legal ctx.op_source op.pool_id t p has stands
+      (neg_ℤ (pos part_out.a)) (neg_ℤ (pos part_out.b)) (neg_ℤ op.amount)
+      (can_withdraw ctx.op_source op.pool_id t p op.amount its was (low_of op.amount some) enough of_all) part_out.a part_out.b (takes_first room.0)
+      (takes_second room.1) in
+      let also = tested.1 in
+      let made : Done = record {
+        result = answer withdrawing.Success;
+        entries = map_after_taking ctx.op_source op p part_out m;
+        ctx = ctx;
+        moves = moves ctx op p part_out;
+      } in
+      let same : made ≡ done = cc in
+      subst (IsLawful ctx m) same (withdrawal_lawful ctx op p part_out m under both)
+
+pub liquidity_pool_withdraw_is_lawful : AreLawful liquidity_pool_withdraw
+liquidity_pool_withdraw_is_lawful ctx op m done under source is =
+    let enabled = went_on (disabled_tests ctx) _ done is in
+    let formed = went_on (withdraw_tests op) _ done enabled.1 in
+    let line_found = went_after_some (line_at m ctx.op_source (line.PoolShare op.pool_id)) (answer withdrawing.NoTrust)
+    _ done formed.1 in
+    let held = went_on (share_tests op line_found.0) _ done line_found.2 in
+    let pool_found = went_after_some (pool_at m op.pool_id) (answer withdrawing.NoTrust) _ done held.1 in
+    let none = int_le op.amount (pos 0) in
+    let below_a = int_lt op.min_amount_a (pos 0) in
+    let below_b = int_lt op.min_amount_b (pos 0) in
+    let test = first_passed (none || below_a || below_b) (answer withdrawing.Malformed) [] formed.0 in
+    let least = neither (none || below_a) below_b test.0 in
+    let some = neither none below_a least.0 in
+    let short = first_passed (int_lt line_found.0.balance op.amount) (answer withdrawing.Underfunded) [] held.0 in
+    taken_lawful ctx op m done under source (at_least_one op.amount some.0) line_found.0 pool_found.0 line_found.1
+    pool_found.1 (not_less line_found.0.balance op.amount short.0) pool_found.2

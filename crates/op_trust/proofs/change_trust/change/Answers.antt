@@ -1,8 +1,0 @@
-use Rattle.std.proofs.Common.{◌∙◌, ap}
-use Rattle.entry_slots.specs.Lines.{line_of_slot}
-use Rattle.op_trust.proofs.change_trust.change.Goals as goal
-
-pub change_line-requires-clause-in_range : goal.change_line-requires-clause-in_range
-change_line-requires-clause-in_range g c =
-    c.requires.in_range.lines c.args.ctx.now.op_source c.line_asset_of.result c.in-Some.slot.line
-    (c.in_ok-slot.ensures.line ∙ ap line_of_slot c.in-Some.is)

@@ -1,0 +1,114 @@
+-- What counting a line of shares leaves: no account changes, and nothing is held that wasn't.
+use Rattle.std.proofs.Common.{◌≡◌, refl, sym, ap, subst, ◌∙◌, ℕ, Option, Some, None}
+use Rattle.std.specs.FinMap.{get}
+use Rattle.std.specs.Prelude.{ℤ}
+use Rattle.ledger_types.specs.declared.ids.AccountId.{AccountId}
+use Rattle.ledger_types.specs.declared.ids.Hash.{Hash}
+use Rattle.ledger_types.specs.declared.asset.Asset.{Asset}
+use Rattle.ledger_types.specs.declared.asset.PoolParams.{PoolParams}
+use Rattle.ledger_types.specs.declared.asset.TrustLineAsset.{TrustLineAsset}
+use Rattle.ledger_types.specs.declared.trust_line.TrustLineEntry.{TrustLineEntry}
+use Rattle.ledger_types.specs.declared.liquidity_pool.LiquidityPoolEntry.{LiquidityPoolEntry}
+use Rattle.ledger_types.specs.declared.entry.LedgerEntry.{LedgerEntry}
+use Rattle.ledger_types.specs.declared.entry.LedgerEntryBody.{LedgerEntryBody}
+use Rattle.ledger_types.specs.declared.entry.LedgerEntryBody.TheVariants as body
+use Rattle.ledger_types.specs.declared.key.LedgerKey.{LedgerKey}
+use Rattle.ledger_types.specs.declared.key.LedgerKey.TheVariants as key
+use Rattle.ledger_types.specs.Keys.{key_of_body}
+use Rattle.entry_map.specs.EntryMap.{EntryMap, put}
+use Rattle.entry_slots.specs.Lines.{line_in, line_of, line_at, with_line_in, with_line_of, with_line}
+use Rattle.entry_slots.specs.Pools.{pool_in, pool_of, pool_at, with_pool_in, with_pool_of, with_pool}
+use Rattle.entry_sums.specs.Sums.{part}
+use Rattle.legal_rules.specs.Holdings.{IsKeyed, none_more}
+use Rattle.legal_rules.specs.PoolShares.{needed_line}
+use Rattle.legal_rules.specs.ShareLaws.{with_uses, map_with_uses_at, map_with_uses, with_lines, map_with_lines}
+use Rattle.legal_rules.specs.ShareLaws.{map_with_share_lines}
+use Rattle.legal_rules.specs.Supply.{held, held_in}
+use Rattle.legal_rules.proofs.Changed.{with_pool_body, IsPoolEntry, pool_entry}
+use Rattle.legal_rules.proofs.ChargesLeft.{put_beside}
+use Rattle.legal_rules.proofs.Holdings.{put_same}
+use Rattle.legal_rules.proofs.Leaving.{Leaves, leaves_itself, keeps_both, accounts_kept, keyed_put}
+use Rattle.legal_rules.proofs.LinesLeft.{line_kept}
+use Rattle.pool_shares.proofs.Sharing.{with_pool_is}
+
+-- ---- what doesn't stand isn't changed
+
+no_line_in : (m : EntryMap) (e : LedgerEntry) (change : TrustLineEntry → TrustLineEntry) (b : LedgerEntryBody)
+    → line_in b ≡ None → with_line_in m e change b ≡ m
+no_line_in m e change (body.TrustLine t) none = absurd (cc)
+no_line_in m e change other none = refl
+
+no_line_of : (m : EntryMap) (change : TrustLineEntry → TrustLineEntry) (o : Option LedgerEntry) → line_of o ≡ None
+    → with_line_of m change o ≡ m
+no_line_of m change None none = refl
+no_line_of m change (Some e) none = no_line_in m e change e.body none
+
+pub no_line_changed : (m : EntryMap) (id : AccountId) (a : TrustLineAsset) (change : TrustLineEntry → TrustLineEntry)
+    → line_at m id a ≡ None → with_line m id a change ≡ m
+unfolding line_at with_line
+no_line_changed m id a change none = no_line_of m change (get m (key.TrustLine id a)) none
+
+no_pool_in : (m : EntryMap) (e : LedgerEntry) (change : LiquidityPoolEntry → LiquidityPoolEntry) (b : LedgerEntryBody)
+    → pool_in b ≡ None → with_pool_in m e change b ≡ m
+no_pool_in m e change (body.LiquidityPool p) none = absurd (cc)
+no_pool_in m e change other none = refl
+
+no_pool_of : (m : EntryMap) (change : LiquidityPoolEntry → LiquidityPoolEntry) (o : Option LedgerEntry)
+    → pool_of o ≡ None → with_pool_of m change o ≡ m
+no_pool_of m change None none = refl
+no_pool_of m change (Some e) none = no_pool_in m e change e.body none
+
+no_pool_changed : (m : EntryMap) (pool : Hash) (change : LiquidityPoolEntry → LiquidityPoolEntry)
+    → pool_at m pool ≡ None → with_pool m pool change ≡ m
+unfolding pool_at with_pool
+no_pool_changed m pool change none = no_pool_of m change (get m (key.LiquidityPool pool)) none
+
+-- ---- lines and pools that count more or less
+
+module _ (base : ℕ) (n : ℤ) where
+  module _ (m : EntryMap) (keyed : IsKeyed m) (id : AccountId) (a : TrustLineAsset) where
+    line_by : (o : Option TrustLineEntry) → line_at m id a ≡ o → Leaves base none_more m (with_line m id a (with_uses n))
+    line_by None none = subst (Leaves base none_more m) (sym (no_line_changed m id a (with_uses n) none))
+        (leaves_itself base m keyed)
+    line_by (Some t) there = line_kept m id a (with_uses n) t there refl refl base keyed refl
+
+  uses_left_at : (m : EntryMap) → IsKeyed m → (o : Option LedgerKey) → Leaves base none_more m (map_with_uses_at n o m)
+  uses_left_at m keyed (Some (key.TrustLine id a)) = line_by m keyed id a (line_at m id a) refl
+  uses_left_at m keyed other = leaves_itself base m keyed
+
+  module _ (m : EntryMap) (keyed : IsKeyed m) (pool : Hash) where
+    module _ (p : LiquidityPoolEntry) (e : LedgerEntry) (here : IsPoolEntry m pool p e) where
+      abbrev put_pool : LedgerEntry
+      put_pool = with_pool_body e (with_lines n p)
+
+      its_key : key.LiquidityPool p.pool_id ≡ key.LiquidityPool pool
+      its_key = sym (ap key_of_body here.is) ∙ keyed (key.LiquidityPool pool) e here.there
+
+      held_same : (x : Asset) → held_in x (body.LiquidityPool (with_lines n p))
+          ≡ part (held x) (get m (key.LiquidityPool p.pool_id))
+      held_same x = sym (ap (λ q. part (held x) (get m q)) its_key ∙ ap (part (held x)) here.there
+          ∙ ap (held_in x) here.is)
+
+      pool_put : Leaves base none_more m (with_pool m pool (with_lines n))
+      pool_put = subst (Leaves base none_more m) (sym (with_pool_is m pool (with_lines n) p e here))
+          (accounts_kept base none_more m (put m put_pool) (keyed_put m put_pool keyed)
+          (put_beside m put_pool (λ other same. absurd (cc))) (put_same m put_pool held_same))
+
+    pool_by : (o : Option LiquidityPoolEntry) → pool_at m pool ≡ o → Leaves base none_more m (map_with_lines n pool m)
+    pool_by None none = subst (Leaves base none_more m) (sym (no_pool_changed m pool (with_lines n) none))
+        (leaves_itself base m keyed)
+    pool_by (Some p) there = let found = pool_entry m pool p there in pool_put p found.0 found.1
+
+    lines_left : Leaves base none_more m (map_with_lines n pool m)
+    lines_left = pool_by (pool_at m pool) refl
+
+  pub counts_left : (m : EntryMap) → IsKeyed m → (id : AccountId) (pool : Hash) (params : PoolParams)
+      → Leaves base none_more m (map_with_share_lines n id pool params m)
+  counts_left m keyed id pool params =
+      let now = map_with_uses n id params.asset_a m in
+      let then_now = map_with_uses n id params.asset_b now in
+      let first = uses_left_at m keyed (needed_line id params.asset_a) in
+      let second = uses_left_at now first.keyed (needed_line id params.asset_b) in
+      keeps_both base m now (map_with_share_lines n id pool params m) first
+      (keeps_both base now then_now (map_with_share_lines n id pool params m) second
+      (lines_left then_now second.keyed pool))

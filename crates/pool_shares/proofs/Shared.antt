@@ -1,0 +1,87 @@
+-- What stands of a pool and of an account's line of its shares, once these have changed.
+use Rattle.std.proofs.Common.{◌≡◌, ◌≢◌, refl, sym, ap, subst, ◌∙◌, Some}
+use Rattle.std.specs.FinMap.{get}
+use Rattle.std.specs.Prelude.{ℤ}
+use Rattle.ledger_types.specs.declared.ids.AccountId.{AccountId}
+use Rattle.ledger_types.specs.declared.ids.Hash.{Hash}
+use Rattle.ledger_types.specs.declared.asset.TrustLineAsset.{TrustLineAsset}
+use Rattle.ledger_types.specs.declared.asset.TrustLineAsset.TheVariants as line
+use Rattle.ledger_types.specs.declared.trust_line.TrustLineEntry.{TrustLineEntry}
+use Rattle.ledger_types.specs.declared.liquidity_pool.LiquidityPoolEntry.{LiquidityPoolEntry}
+use Rattle.ledger_types.specs.declared.key.LedgerKey.{LedgerKey}
+use Rattle.ledger_types.specs.declared.key.LedgerKey.TheVariants as key
+use Rattle.ledger_types.specs.Keys.{key_of_body}
+use Rattle.entry_map.specs.EntryMap.{EntryMap, put}
+use Rattle.entry_slots.specs.Lines.{line_of, line_at}
+use Rattle.entry_slots.specs.Pools.{pool_of, pool_at}
+use Rattle.entry_sums.proofs.Lookups.{put_there}
+use Rattle.legal_rules.specs.Holdings.{IsKeyed}
+use Rattle.legal_rules.proofs.Changed.{with_pool_body, pool_entry}
+use Rattle.legal_rules.proofs.Liable.{line_entry, with_line_body, with_line_is}
+use Rattle.trade_cross.specs.Holdings.{line_paid, paying}
+use Rattle.trade_cross.specs.Places.{DoesFit}
+use Rattle.pool_shares.specs.Fits.{DoLinesFit, DoShareLinesFit}
+use Rattle.pool_shares.specs.Withdrawing.{share_key, with_change, map_with_shares}
+use Rattle.pool_shares.proofs.Beside.{paying_beside, paying_keyed, pool_beside, pool_keyed}
+use Rattle.pool_shares.proofs.Sharing.{pool_still, with_pool_is}
+use Rattle.pool_shares.proofs.Uses.{IsPlain, fits_beside}
+
+module _ (m : EntryMap) (keyed : IsKeyed m) (id : AccountId) (pool : Hash) (a b shares : ℤ) where
+  abbrev paid : EntryMap
+  paid = paying (share_key id pool) shares m
+
+  abbrev now : EntryMap
+  now = map_with_shares id pool a b shares m
+
+  paid_keyed : IsKeyed paid
+  paid_keyed = paying_keyed m keyed (share_key id pool) shares
+
+  pub shared_keyed : IsKeyed now
+  shared_keyed = pool_keyed paid pool (with_change a b shares) paid_keyed
+
+  -- each other entry stands as it did
+  pub shared_beside : (q : LedgerKey) → q ≢ key.LiquidityPool pool → q ≢ key.TrustLine id (line.PoolShare pool)
+      → get now q ≡ get m q
+  shared_beside q no_pool no_line =
+      pool_beside paid paid_keyed pool (with_change a b shares) (λ p. refl) q no_pool
+      ∙ paying_beside m keyed (share_key id pool) shares q (λ same. no_line (cc))
+
+  pub line_now : (t : TrustLineEntry) → line_at m id (line.PoolShare pool) ≡ Some t
+      → line_at now id (line.PoolShare pool) ≡ Some (line_paid shares t)
+  unfolding line_at
+  line_now t has =
+      let k = key.TrustLine id (line.PoolShare pool) in
+      let found = line_entry m id (line.PoolShare pool) t has in
+      let e = with_line_body found.0 (line_paid shares t) in
+      let own : key.TrustLine t.account_id t.asset ≡ k = sym (ap key_of_body found.1.is) ∙ keyed k found.0 found.1.there
+      in
+      let there : get paid k ≡ Some e =
+      ap (λ x. get x k) (with_line_is m id (line.PoolShare pool) (line_paid shares) t found.0 found.1)
+      ∙ subst (λ q. get (put m e) q ≡ Some e) own (put_there m e) in
+      ap line_of (pool_beside paid paid_keyed pool (with_change a b shares) (λ p. refl) k (λ same. absurd (cc)) ∙ there)
+
+  module _ (p : LiquidityPoolEntry) (stands : pool_at m pool ≡ Some p) where
+    pub pool_now : pool_at now pool ≡ Some (with_change a b shares p)
+    unfolding pool_at
+    pool_now =
+        let k = key.LiquidityPool pool in
+        let found = pool_entry paid pool p (pool_still m keyed id pool shares p stands) in
+        let e = with_pool_body found.0 (with_change a b shares p) in
+        let own : key.LiquidityPool p.pool_id ≡ k = sym (ap key_of_body found.1.is) ∙ paid_keyed k found.0 found.1.there
+        in
+        let there : get now k ≡ Some e =
+        ap (λ x. get x k) (with_pool_is paid pool (with_change a b shares) p found.0 found.1)
+        ∙ subst (λ q. get (put paid e) q ≡ Some e) own (put_there paid e) in
+        ap pool_of there
+
+    -- what counts a line of shares can count as many more as it could
+    pub shared_fits : (n : ℤ) → DoShareLinesFit n id pool p.params m → DoShareLinesFit n id pool p.params now
+    shared_fits n fits = fits_beside n id pool p.params m now fits shared_keyed
+        (λ owner held plain. shared_beside (key.TrustLine owner held) (λ same. absurd (cc))
+        (λ same. subst IsPlain same plain)) lines
+      where
+        lines : DoLinesFit n pool now
+        lines x there =
+            let same : with_change a b shares p ≡ x = (let is : Some (with_change a b shares p) ≡ Some x =
+            sym pool_now ∙ there in cc) in
+            subst (λ (q : LiquidityPoolEntry). DoesFit q.pool_shares_trust_line_count n) same (fits.lines p stands)

@@ -1,0 +1,234 @@
+-- Shares of a pool that an account takes or gives back, with amounts of both assets: the state stays legal.
+use Rattle.std.proofs.Common.{◌≡◌, refl, sym, ap, subst, ◌∙◌, ℕ, ◌%◌, Bool, true, false, Some, arith}
+use Rattle.std.proofs.lemmas.Int.{ints}
+use Rattle.std.specs.Prelude.{ℤ, pos, ◌+ℤ◌, ◌-ℤ◌, ◌≤ℤ◌, if◌then◌else◌}
+use Rattle.std.specs.FinMap.{get}
+use Rattle.std.specs.Ordering.{is_eq}
+use Rattle.ledger_types.specs.declared.ids.AccountId.{AccountId}
+use Rattle.ledger_types.specs.declared.ids.Hash.{Hash}
+use Rattle.ledger_types.specs.declared.asset.Asset.{Asset}
+use Rattle.ledger_types.specs.declared.asset.TrustLineAsset.{TrustLineAsset}
+use Rattle.ledger_types.specs.declared.asset.TrustLineAsset.TheVariants as line
+use Rattle.ledger_types.specs.declared.trust_line.TrustLineEntry.{TrustLineEntry}
+use Rattle.ledger_types.specs.declared.liquidity_pool.LiquidityPoolEntry.{LiquidityPoolEntry}
+use Rattle.ledger_types.specs.declared.entry.LedgerEntry.{LedgerEntry}
+use Rattle.ledger_types.specs.declared.entry.LedgerEntryBody.TheVariants as body
+use Rattle.ledger_types.specs.declared.key.LedgerKey.{LedgerKey}
+use Rattle.ledger_types.specs.declared.key.LedgerKey.TheVariants as key
+use Rattle.ledger_types.specs.KeyOrder.{asset_cmp}
+use Rattle.ledger_types.specs.Keys.{key_of_body}
+use Rattle.entry_map.specs.EntryMap.{EntryMap, put}
+use Rattle.entry_slots.specs.LineExtensions.{line_liabilities}
+use Rattle.entry_slots.specs.Lines.{line_at}
+use Rattle.entry_slots.specs.Pools.{pool_of, pool_at, with_pool, with_pool_in, with_pool_of}
+use Rattle.entry_sums.specs.Sums.{part}
+use Rattle.legal_rules.specs.Bounds.{IsFilledOrEmpty}
+use Rattle.legal_rules.specs.Books.{Kind, Shares, ShareLines, View}
+use Rattle.legal_rules.specs.ChangeLaws.{in_shares}
+use Rattle.legal_rules.specs.EntryKeys.{is_key}
+use Rattle.legal_rules.specs.Holdings.{IsKeyed, none_more, under_key, HoldsMore}
+use Rattle.legal_rules.specs.Owing.{nothing_owed, in_book, plus, IsEntryLegal, IsLegalOwing}
+use Rattle.legal_rules.specs.Ranges.{AreLineFlags, IsPoolInRange, IsTrustLineInRange}
+use Rattle.legal_rules.specs.Supply.{of_asset, of_line, held_in, held as held_of}
+use Rattle.legal_rules.proofs.ChargesLeft.{put_beside}
+use Rattle.legal_rules.proofs.Changed.{line_changed, pool_changed, pool_entry, with_pool_body, IsPoolEntry}
+use Rattle.legal_rules.proofs.Holdings.{put_holds}
+use Rattle.legal_rules.proofs.Leaving.{Leaves, leaves_as, accounts_kept, keeps_then, keyed_put}
+use Rattle.legal_rules.proofs.LinesLeft.{IsLegalLine, line_left, line_legal}
+use Rattle.legal_rules.proofs.Steps.{legal_as}
+use Rattle.trade_cross.specs.Holdings.{line_paid, paying}
+use Rattle.pool_shares.specs.Withdrawing.{share_key, with_change, map_with_shares}
+use Rattle.pool_shares.proofs.Beside.{paying_beside, paying_keyed}
+
+-- ---- a line of shares that is changed
+
+covered_still : (s n : ℤ) → s ≡ pos 0 → pos 0 ≤ℤ n → s ≤ℤ n
+covered_still s n none low = omega (arith, ints)
+
+fits_still : (n b limit : ℤ) → b ≡ pos 0 → n ≤ℤ limit → (n +ℤ b) ≤ℤ limit
+fits_still n b limit none le = omega (arith, ints)
+
+-- no offer binds a line of shares, which has no flag
+pub shares_unbound : (id : AccountId) (pool : Hash) (t : TrustLineEntry) → IsLegalLine id (line.PoolShare pool) t
+    → ((line_liabilities t).selling ≡ pos 0) × ((line_liabilities t).buying ≡ pos 0)
+shares_unbound id pool t its =
+    let flags : t.flags ≡ 0 = subst (λ a. AreLineFlags a t.flags) its.asset its.range.flags in
+    its.bound (ap (λ (f : ℕ). f % 4) flags)
+
+shares_in_range : (id : AccountId) (pool : Hash) (t : TrustLineEntry) (shares : ℤ)
+    → IsLegalLine id (line.PoolShare pool) t → pos 0 ≤ℤ (t.balance +ℤ shares) → (t.balance +ℤ shares) ≤ℤ t.limit
+    → IsTrustLineInRange (line_paid shares t)
+shares_in_range id pool t shares its low le =
+    let unbound = shares_unbound id pool t its in
+    let was = its.range in
+    record {
+      range = record {
+        balance = low;
+        buying = was.range.buying;
+        selling = was.range.selling;
+        covered = covered_still (line_liabilities t).selling (t.balance +ℤ shares) unbound.0 low;
+        fits = fits_still (t.balance +ℤ shares) (line_liabilities t).buying t.limit unbound.1 le;
+      };
+      limit = was.limit;
+      greatest = was.greatest;
+      held = was.held;
+      flags = was.flags;
+      uses = was.uses;
+    }
+
+-- ---- what books owe, and what is held in all
+
+cancels : (t : Bool) (b p s : ℤ)
+    → ((pos 0 +ℤ (if t then (b +ℤ s) -ℤ b else pos 0)) +ℤ ((if t then p -ℤ (p +ℤ s) else pos 0) +ℤ pos 0)) ≡ pos 0
+cancels true b p s = omega (arith, ints)
+cancels false b p s = refl
+
+counts_still : (t : Bool) (n : ℤ)
+    → ((pos 0 +ℤ pos 0) +ℤ (pos 0 +ℤ (if t then n -ℤ n else pos 0))) ≡ pos 0
+counts_still true n = omega (arith, ints)
+counts_still false n = refl
+
+-- the pool and the line have so many shares more
+nothing_left : (pool : Hash) (held : TrustLineAsset) → held ≡ line.PoolShare pool → (b p s lines : ℤ) (kind : Kind)
+    (k : LedgerKey)
+    → plus (plus nothing_owed (in_shares held ((b +ℤ s) -ℤ b)))
+    (plus (in_book Shares (key.LiquidityPool pool) (p -ℤ (p +ℤ s)))
+    (in_book ShareLines (key.LiquidityPool pool) (lines -ℤ lines))) kind k ≡ nothing_owed kind k
+nothing_left pool held is b p s lines Shares k =
+    ap (λ a. (pos 0 +ℤ in_shares a ((b +ℤ s) -ℤ b) Shares k)
+    +ℤ (in_book Shares (key.LiquidityPool pool) (p -ℤ (p +ℤ s)) Shares k +ℤ pos 0)) is
+    ∙ cancels (is_key (key.LiquidityPool pool) k) b p s
+nothing_left pool held is b p s lines ShareLines k = counts_still (is_key (key.LiquidityPool pool) k) lines
+nothing_left pool held is b p s lines kind k = refl
+
+sum_so : (s t : Bool) (sum line_new line_old x y a b : ℤ) → line_new ≡ pos 0 → line_old ≡ pos 0
+    → ((sum +ℤ (line_new -ℤ line_old))
+    +ℤ ((if s then (x +ℤ a) -ℤ x else pos 0) +ℤ (if t then (y +ℤ b) -ℤ y else pos 0)))
+    ≡ (sum +ℤ ((if s then a else pos 0) +ℤ (if t then b else pos 0)))
+sum_so true true sum new old x y a b none nothing = omega (arith, ints)
+sum_so true false sum new old x y a b none nothing = omega (arith, ints)
+sum_so false true sum new old x y a b none nothing = omega (arith, ints)
+sum_so false false sum new old x y a b none nothing = omega (arith, ints)
+
+-- a line of shares holds no asset
+no_asset_in : (x : Asset) (pool : Hash) (held : TrustLineAsset) (n : ℤ) → held ≡ line.PoolShare pool
+    → of_line x held n ≡ pos 0
+no_asset_in x pool held n is = ap (λ a. of_line x a n) is
+
+-- ---- the change
+
+-- Shares that an account takes of a pool, or gives back, with amounts of both assets: what they may be.
+pub record CanShare (t : TrustLineEntry) (p : LiquidityPoolEntry) (a b shares : ℤ) : Type 0 where
+  pub low : pos 0 ≤ℤ (t.balance +ℤ shares)
+  pub within : (t.balance +ℤ shares) ≤ℤ t.limit
+  pub range : IsPoolInRange (with_change a b shares p)
+  pub filled : IsFilledOrEmpty (body.LiquidityPool (with_change a b shares p))
+
+-- both amounts of an asset more
+abbrev pub both_of : LiquidityPoolEntry → (a b : ℤ) → Asset → ℤ
+both_of p a b x = of_asset x p.params.asset_a a +ℤ of_asset x p.params.asset_b b
+
+module _ (m : EntryMap) (keyed : IsKeyed m) (id : AccountId) (pool : Hash) (shares : ℤ) where
+  abbrev line_now : EntryMap
+  line_now = paying (share_key id pool) shares m
+
+  -- the pool stands as it did once the line is changed
+  pub pool_still : (p : LiquidityPoolEntry) → pool_at m pool ≡ Some p → pool_at line_now pool ≡ Some p
+  unfolding pool_at
+  pool_still p stands =
+      ap pool_of (paying_beside m keyed (share_key id pool) shares (key.LiquidityPool pool) (λ same. absurd (cc)))
+      ∙ stands
+
+module _ (v : View) (id_pool : ℕ) (sum : ℤ) (m : EntryMap) (id : AccountId) (pool : Hash) (t : TrustLineEntry)
+    (p : LiquidityPoolEntry) (a b shares : ℤ) where
+  -- The state stays legal, with so much more of both assets in all.
+  pub sharing_legal : IsLegalOwing v id_pool nothing_owed sum m → line_at m id (line.PoolShare pool) ≡ Some t
+      → pool_at m pool ≡ Some p → CanShare t p a b shares
+      → IsLegalOwing v id_pool nothing_owed (sum +ℤ both_of p a b v.asset) (map_with_shares id pool a b shares m)
+  sharing_legal legal has stands can =
+      let its = line_legal v id_pool nothing_owed sum m id (line.PoolShare pool) t legal has in
+      let first = line_changed v id_pool nothing_owed sum m id (line.PoolShare pool) (line_paid shares) t legal has
+      (record { id = refl; asset = refl; liabilities = refl; uses = refl })
+      (shares_in_range id pool t shares its can.low can.within) its.bound in
+      legal_as v (IsEntryLegal id_pool) _ nothing_owed _ _ (map_with_shares id pool a b shares m)
+      (pool_changed v id_pool _ _ (paying (share_key id pool) shares m) pool (with_change a b shares) p first
+      (pool_still m legal.keyed id pool shares p stands) (record { id = refl; params = refl }) can.range can.filled)
+      (nothing_left pool t.asset its.asset t.balance p.total_pool_shares shares p.pool_shares_trust_line_count)
+      (sum_so (is_eq (asset_cmp v.asset p.params.asset_a)) (is_eq (asset_cmp v.asset p.params.asset_b)) sum
+      (of_line v.asset t.asset (t.balance +ℤ shares)) (of_line v.asset t.asset t.balance) p.reserve_a p.reserve_b a b
+      (no_asset_in v.asset pool t.asset (t.balance +ℤ shares) its.asset)
+      (no_asset_in v.asset pool t.asset t.balance its.asset))
+
+-- ---- what is left
+
+pub with_pool_is : (m : EntryMap) (id : Hash) (f : LiquidityPoolEntry → LiquidityPoolEntry) (p : LiquidityPoolEntry)
+    (e : LedgerEntry) → IsPoolEntry m id p e → with_pool m id f ≡ put m (with_pool_body e (f p))
+unfolding with_pool
+with_pool_is m id f p e here = ap (with_pool_of m f) here.there ∙ ap (with_pool_in m e f) here.is
+
+more_of : (s t : Bool) (x y a b : ℤ)
+    → ((if s then x +ℤ a else pos 0) +ℤ (if t then y +ℤ b else pos 0))
+    ≡ (((if s then x else pos 0) +ℤ (if t then y else pos 0)) +ℤ ((if s then a else pos 0) +ℤ (if t then b else pos 0)))
+more_of true true x y a b = omega (arith, ints)
+more_of true false x y a b = omega (arith, ints)
+more_of false true x y a b = omega (arith, ints)
+more_of false false x y a b = refl
+
+module _ (base : ℕ) (m : EntryMap) (keyed : IsKeyed m) (pool : Hash) (p : LiquidityPoolEntry)
+    (stands : pool_at m pool ≡ Some p) (a b shares : ℤ) where
+  abbrev new : EntryMap
+  new = with_pool m pool (with_change a b shares)
+
+  abbrev at : LedgerKey
+  at = key.LiquidityPool pool
+
+  found : (e : LedgerEntry) × IsPoolEntry m pool p e
+  found = pool_entry m pool p stands
+
+  its_key : key.LiquidityPool p.pool_id ≡ at
+  its_key = sym (ap key_of_body found.1.is) ∙ keyed at found.0 found.1.there
+
+  had : (x : Asset) → part (held_of x) (get m (key.LiquidityPool p.pool_id)) ≡ held_in x (body.LiquidityPool p)
+  had x =
+      ap (λ q. part (held_of x) (get m q)) its_key ∙ ap (part (held_of x)) found.1.there ∙ ap (held_in x) found.1.is
+
+  has_more : (x : Asset) → held_in x (body.LiquidityPool (with_change a b shares p))
+      ≡ (part (held_of x) (get m (key.LiquidityPool p.pool_id)) +ℤ both_of p a b x)
+  has_more x =
+      more_of (is_eq (asset_cmp x p.params.asset_a)) (is_eq (asset_cmp x p.params.asset_b)) p.reserve_a p.reserve_b a b
+      ∙ ap (λ n. n +ℤ both_of p a b x) (sym (had x))
+
+  -- No account changes, and the pool holds so much more.
+  pub pool_left : Leaves base (under_key at (both_of p a b)) m new
+  pool_left =
+      let e = with_pool_body found.0 (with_change a b shares p) in
+      subst (Leaves base (under_key at (both_of p a b)) m)
+      (sym (with_pool_is m pool (with_change a b shares) p found.0 found.1))
+      (accounts_kept base (under_key at (both_of p a b)) m (put m e) (keyed_put m e keyed)
+      (put_beside m e (λ other same. absurd (cc)))
+      (subst (λ q. HoldsMore (under_key q (both_of p a b)) m (put m e)) its_key
+      (put_holds m e (both_of p a b) has_more)))
+
+none_in_shares : (t : Bool) → (if t then pos 0 else pos 0) ≡ pos 0
+none_in_shares true = refl
+none_in_shares false = refl
+
+module _ (base : ℕ) (m : EntryMap) (keyed : IsKeyed m) (id : AccountId) (pool : Hash) (t : TrustLineEntry)
+    (p : LiquidityPoolEntry) (has : line_at m id (line.PoolShare pool) ≡ Some t) (stands : pool_at m pool ≡ Some p)
+    (a b shares : ℤ) where
+  -- The account's line holds shares, and no asset.
+  line_holds_none : Leaves base none_more m (paying (share_key id pool) shares m)
+  line_holds_none = leaves_as base
+      (under_key (key.TrustLine id (line.PoolShare pool))
+      (λ x. of_line x (line.PoolShare pool) ((t.balance +ℤ shares) -ℤ t.balance))) none_more m
+      (paying (share_key id pool) shares m)
+      (line_left m id (line.PoolShare pool) (line_paid shares) t has refl refl base keyed)
+      (λ k x. none_in_shares (is_key k (key.TrustLine id (line.PoolShare pool))))
+
+  -- No account changes, and the pool holds so much more of both assets.
+  pub sharing_left : Leaves base (under_key (key.LiquidityPool pool) (both_of p a b)) m
+      (map_with_shares id pool a b shares m)
+  sharing_left = keeps_then base (under_key (key.LiquidityPool pool) (both_of p a b)) m
+      (paying (share_key id pool) shares m) (map_with_shares id pool a b shares m) line_holds_none
+      (pool_left base (paying (share_key id pool) shares m) (paying_keyed m keyed (share_key id pool) shares) pool p
+      (pool_still m keyed id pool shares p stands) a b shares)

@@ -9,8 +9,8 @@ state say: both are then run in turn, and the last lines tell what PROGRAM takes
 Images of 1,000, 10,000 and 100,000 accounts are opened, and then 50 records of 100 transactions are handed in one by one, of two mixes.
 One is of accounts: payments, new accounts, options, data, sequence numbers, data that another account pays for, and merges. The other is
 of assets: lines that are made and changed, what is issued, paid and redeemed in them, authorisations taken back and given, claimable
-balances made, claimed and clawed back, and clawback. A third mix, of offers (`trading.py`), is run behind images of 10,000 and 100,000
-offers in 20 books. What the program prints is compared with what the ledger in Python beside `close_cases` says. Images of 98 and 980
+balances made, claimed and clawed back, and clawback. A third mix, of offers (`trading.py`), and a fourth, of all 24 operations
+(`everything.py`), are run behind images of 10,000 and 100,000 offers in 20 books, the fourth with ten pools. What the program prints is compared with what the ledger in Python beside `close_cases` says. Images of 98 and 980
 offers of one account are opened too; it can't have more than 1,000 subentries. So are images of pools (`pooling.py`): of 1,000 and 10,000
 pools with a line of shares each, and of one pool with 1,000 and 10,000 lines.
 
@@ -36,6 +36,7 @@ from measuring import TOP, built, run, stop
 sys.path[:0] = [f"{TOP}/crates/close_cases", f"{TOP}/crates/tx_cases"]
 import ledger_model as model  # noqa: E402
 import set_cases as sets  # noqa: E402
+from everything import Doer, world  # noqa: E402
 from pooling import many_pools, one_pool, pooled  # noqa: E402
 from trading import TAKERS, Taker, market  # noqa: E402
 
@@ -74,6 +75,12 @@ def accounts(count, flags):
 def offers(sellers, each, takers):
     """An image of so many sellers with so many offers each, and of so many who have none."""
     entries, coins = market(sellers, each, takers)
+    return image(entries, coins, sellers * each)
+
+
+def everything(sellers, each, takers):
+    """An image of so many sellers with so many offers each, of takers, and of ten pools."""
+    entries, coins = world(sellers, each, takers)
     return image(entries, coins, sellers * each)
 
 
@@ -239,16 +246,18 @@ def tell(name, count, what, size, done, opening, peak, closing, longest):
 
 def given(count, mix):
     """The image of a mix, and who makes its transactions."""
-    if mix == "offers":
+    if mix == OFFER_MIX:
         return offers(count // 20, 20, TAKERS), Taker(count)
+    if mix == WHOLE_MIX:
+        return everything(count // 20, 20, TAKERS), Doer()
     if mix == "accounts, assets":
         return accounts(count, CLAWING), Holder(count, SENDERS)
     return accounts(count, 0), Sender(count, count // 2)
 
 
-ASSET_MIX, ACCOUNT_MIX, OFFER_MIX = "accounts, assets", "accounts, accounts", "offers"
+ASSET_MIX, ACCOUNT_MIX, OFFER_MIX, WHOLE_MIX = "accounts, assets", "accounts, accounts", "offers", "offers, all operations"
 RUNS = [(count, mix) for count in (1_000, 10_000, 100_000) for mix in (ASSET_MIX, ACCOUNT_MIX)] + [
-    (count, OFFER_MIX) for count in (10_000, 100_000)
+    (count, mix) for mix in (OFFER_MIX, WHOLE_MIX) for count in (10_000, 100_000)
 ]
 
 

@@ -820,29 +820,16 @@ def rewritten():
     case("rewritten: a line changed and changed back", story, "end 6", 1)
 
 
-def not_built():
-    """Sets with operations that aren't built, beside all that are."""
-    legal = image([*holders(a=(60, 100, 5)), B])
-    built = [
+def all_at_once():
+    """Each operation on assets in one transaction."""
+    operations = [
         pay("a", 1), sets.change_trust(), sets.allow_trust("b", 1), sets.create_claimable(1, "b"), sets.claim(ID),
         sets.revoke(sets.pool_key(ID)), sets.clawback("b", 1), sets.clawback_claimable(ID), sets.set_line_flags("b"),
     ]
-    first = sent("a", 1, *built, fee=900)
     codes = [(1, 0), (6, 0), (7, -2), (14, 0), (15, -1), (18, -5), (19, -1), (20, -1), (21, -1)]
     results = [sets.set_aside(sets.balance_id("a", 1, 3)) if kind == 14 else R(kind, number) for kind, number in codes]
-    case("not built: none of these", Story(legal).close(first, wants=[sets.failed(*results)]), "end 6", 1)
-    for name, op in [
-        ("PATH_PAYMENT_STRICT_RECEIVE", sets.path_payment("b", 1)), ("PATH_PAYMENT_STRICT_SEND", sets.path_payment("b", 1, kind=13)),
-    ]:
-        case(f"not built: {name}", Story(legal).refused(first, sent("a", 2, NOTHING, op, fee=200)), "refused 6 NotBuilt 1")
-    along = sent("b", 1, sets.path_payment("a", 1))
-    bump = sets.bumped("b", 200, sent("a", 1, sets.path_payment("b", 1, kind=13)))
-    old = sets.First(sets.Tx("b", 1, [sets.path_payment("a", 1)]), [])
-    for name, listed, place in [
-        ("the third", [first, sent("b", 1, pay("a", 1)), along, bump], 2), ("in a fee bump", [first, bump, along], 1),
-        ("in the first version", [old, bump], 0), ("beside a source that isn't there", [sent("n", 1, pay("a", 1)), first, along], 2),
-    ]:
-        case(f"not built: {name}", Story(legal).refused(*listed), f"refused 6 NotBuilt {place}")
+    story = Story(image([*holders(a=(60, 100, 5)), B])).close(sent("a", 1, *operations, fee=900), wants=[sets.failed(*results)])
+    case("each operation in one transaction", story, "end 6", 1)
 
 
 def asset_records():
@@ -957,5 +944,5 @@ def asset_story():
 PARTS = [
     line_ranges, claimable_ranges, asset_rules, asset_rules_at_once, offer_ranges, offer_rules, asset_files, payments, lines, many_lines, authorisation, clawbacks,
     set_aside_codes, set_aside, claims, times, clawed_balances, sponsored_lines, sponsored_balances, all_sponsored,
-    sponsored_reserves, sponsored_signers, rewritten, not_built, asset_records, consequences, asset_story,
+    sponsored_reserves, sponsored_signers, rewritten, all_at_once, asset_records, consequences, asset_story,
 ]

@@ -271,12 +271,6 @@ OPERATIONS = {
 }
 
 
-def is_built(op):
-    """Whether the program applies an operation, which it doesn't with path payments so far."""
-    kind, _ = op["body"]
-    return kind not in (2, 13)
-
-
 def level_of(op):
     """The place of the threshold that an operation's signatures have to reach."""
     kind, body = op["body"]
@@ -552,9 +546,6 @@ class Ledger:
         upgrade = upgraded(header, value["upgrades"])
         listed = [Sent(self.network, spelled) for spelled in record["set"]["txs"]]
         order = in_order(listed, digest)
-        for place, sent in enumerate(listed):
-            if not all(is_built(op) for op in sent.operations):
-                raise BadRecord(f"NotBuilt {place}")
         top = Layer(self.entries)
         for sent in order:
             if top.account(sent.payer) is None:

@@ -16,6 +16,7 @@ from ledger_model import DEAD, GREATEST, HEADER, INIT, LIVE, NO_HASH, catchup, i
 import set_cases as sets  # ledger_model puts its folder first
 from asset_cases import PARTS as ASSET_PARTS
 from offer_cases import PARTS as OFFER_PARTS
+from path_cases import PARTS as PATH_PARTS
 from pool_cases import PARTS as POOL_PARTS
 from pool_image_cases import PARTS as POOL_IMAGE_PARTS
 from revocation_cases import PARTS as REVOCATION_PARTS
@@ -84,7 +85,7 @@ def header_rules():
 
 
 def file_rules():
-    """Rules 4 to 6, and entries that aren't built."""
+    """Rules 4 to 6, and an offer that no rule before the seventh refuses."""
     two = items((DEAD, D), (DEAD, D))
     for name, file in [
         ("META twice", raw(META_18, META_18)), ("a byte behind META", marked(META_18 + bytes(4))), ("three bytes", b"\x80\0\0"),
@@ -184,9 +185,6 @@ def rules_at_once():
     case("rule 7 and a pool", image([wrong, pool(sha(b"an id"))]), "10 bad image rule 7")
 
 
-PATH = sets.path_payment("b", 1)
-
-
 def bad_records():
     """Records that don't read."""
     legal = image([A, B])
@@ -218,7 +216,7 @@ def bad_records():
     # the first predicate of an operation begins at 168, and each level of it has 8 bytes
     deepest, deeper = (sets.create_claimable(1, [("b", predicate(levels))]) for levels in (32, 33))
     bad("a predicate of 33 levels", lambda story: story.record(sent("a", 1, deeper)), "BadXdr 424 TooDeep")
-    bad("a predicate of 32 levels", lambda story: story.record(sent("a", 1, PATH, deepest)), "NotBuilt 0")
+    bad("a predicate of 32 levels", lambda story: story.record(sent("z", 1, deepest)), "FeeSourceMissing 0")
 
 
 def terms():
@@ -271,9 +269,6 @@ def upgrades():
 
 def set_faults():
     legal = image([A, B])
-    second = Story(legal).refused(sent("a", 1, NOTHING), sent("b", 1, NOTHING, PATH))
-    case("a path payment in the second transaction", second, "refused 6 NotBuilt 1")
-    case("two path payments", Story(legal).refused(sent("b", 2, PATH), sent("a", 1, PATH)), "refused 6 NotBuilt 0")
     story = Story(legal)
     strangers = [sent("a", 1, NOTHING), *(sent(name, 1, NOTHING) for name in "wxyz")]
     spelled = [envelope.xdr() for envelope in strangers]
@@ -286,6 +281,11 @@ def set_faults():
     bump = sets.bumped("z", 200, sent("a", 1, NOTHING))
     case("a payer of a fee bump that isn't there", Story(legal).refused(bump), "refused 6 FeeSourceMissing 0")
     case("an inner source that isn't there", Story(legal).close(sets.bumped("a", 200, sent("z", 1, NOTHING))), "end 6", 1)
+    # path payments in transactions that don't come to them
+    exact, least = sets.path_payment("b", 1), sets.path_payment("b", 1, kind=13)
+    early, old = sent("a", 2, exact, least, fee=200), sets.First(sets.Tx("b", 1, [exact]), [])
+    story = Story(legal).close(early, old, sets.bumped("b", 200, sent("z", 1, least)))
+    case("path payments that aren't come to", story, "end 6", 1)
 
 
 def faults_at_once():
@@ -296,15 +296,13 @@ def faults_at_once():
     last = Story(image([A], seq=2**31 - 1))
     case("faults: no record, behind the last ledger", Story(last.data).add(last.record() + b"\0"), "refused 2147483648 BadXdr 88 Trailing")
     case("faults: another number behind the last ledger", Story(last.data).refused(seq=3), "refused 2147483648 SeqEnd")
-    one, lost = sent("a", 1, PATH), sent("z", 1, PATH)
     for name, fault, end in [
         ("number, ledger before", dict(seq=9, previous=NO_HASH), "WrongSeq 6 9"),
         ("ledger before, hash of the set", dict(previous=NO_HASH, digest=NO_HASH), f"WrongPrevious {here} {zero}"),
         ("hash of the set, time", dict(digest=NO_HASH, time=0), f"WrongSetHash {sha(bytes.fromhex(here)).hex()} {zero}"),
         ("time, upgrade", dict(time=0, upgrades=fee), "StaleTime 1000 0"),
         ("upgrade, one that isn't made", dict(upgrades=[*version, *fee]), "BadUpgrade 1"),
-        ("upgrade that isn't made, operation", dict(listed=[one], upgrades=version), "UpgradeOutOfProfile 0"),
-        ("operation, source", dict(listed=[sent("z", 1, NOTHING), one, lost]), "NotBuilt 1"),
+        ("upgrade that isn't made, source", dict(listed=[sent("z", 1, NOTHING)], upgrades=version), "UpgradeOutOfProfile 0"),
     ]:
         listed = fault.pop("listed", [])
         case(f"faults: {name}", Story(legal).refused(*listed, **fault), f"refused 6 {end}")
@@ -426,6 +424,7 @@ def compare(folder):
 PARTS = [
     ("", [forms, header_rules, file_rules, entry_rules, rules_at_once, bad_records, terms, upgrades, set_faults, faults_at_once, closes]),
     ("assets ", ASSET_PARTS), ("trades ", OFFER_PARTS), ("pools ", POOL_IMAGE_PARTS + SHARE_LINE_PARTS + POOL_PARTS + REVOCATION_PARTS),
+    ("paths ", PATH_PARTS),
 ]
 
 

@@ -1082,21 +1082,21 @@ def pools():
         case(f"pools_{name}", [A], [sent("a", 1, op)], [(100, failed(ran(kind, number)))], 100, [paid])
 
 
+def paths():
+    """Path payments in transactions that don't come to them."""
+    out_of_turn, old = sent("a", 2, path_payment("b", 1)), First(Tx("a", 1, [path_payment("b", 1)]), [])
+    spent = [A.but(balance=999_999_900), B]
+    case("path_payment_sequence", [A, B], [out_of_turn], [(100, BAD_SEQ)], 100, spent)
+    case("path_payment_not_supported", [A, B], [old], [(100, NOT_SUPPORTED)], 100, spent)
+    unsigned = sent("a", 1, path_payment("b", 1, kind=13), signatures=[])
+    case("path_payment_fee_bump", [A, B], [bumped("b", 200, unsigned)], [(200, inner(-13, unsigned, BAD_AUTH))], 200,
+         [A.but(seq=1), B.but(balance=999_999_800)])
+
+
 def refusals():
     """Sets that are refused, and states that are none."""
     fine = sent("a", 1, NOTHING)
-    unbuilt = sent("a", 2, NOTHING, path_payment("b", 1))
     lost = sent("z", 1, NOTHING)
-    case("not_built", [A, B], [fine, unbuilt], fault="operation not built in transaction 1")
-    case("not_built_before_fee_source", [A, B], [lost, fine, unbuilt, sent("b", 1, path_payment("a", 1))],
-         fault="operation not built in transaction 2")
-    # the first in the list, though it is applied later
-    case("not_built_first_listed", [A, B], [unbuilt, sent("b", 1, path_payment("a", 1))], fault="operation not built in transaction 0")
-    case("not_built_inner", [A, B], [fine, bumped("b", 200, unbuilt)], fault="operation not built in transaction 1")
-    case("not_built_first_version", [A, B], [First(Tx("a", 1, [path_payment("b", 1)]), [])], fault="operation not built in transaction 0")
-    for name, op in [("path_receive", path_payment("b", 1)), ("path_send", path_payment("b", 1, kind=13))]:
-        built = sent("a", 1, payment("b", 1, asset=USD), change_trust(), fee=200)
-        case(f"not_built_{name}", [A, B], [built, sent("a", 2, op)], fault="operation not built in transaction 1")
     case("no_fee_source", [A], [fine, lost], fault="no fee source for transaction 1")
     # the first in the order of application: y's first transaction, which is listed last
     case("no_fee_source_first_applied", [A], [sent("y", 2, NOTHING), fine, sent("y", 1, NOTHING)], fault="no fee source for transaction 2")
@@ -1143,7 +1143,7 @@ def thousand():
 
 def main():
     for part in (one_transaction, fees, early_checks, signatures, balances, operations, lines, claimables, offers, pools,
-                 first_version, fee_bumps, preauthorised, order, refusals, thousand):
+                 first_version, fee_bumps, preauthorised, order, paths, refusals, thousand):
         part()
     folder = os.path.join(os.path.dirname(os.path.abspath(__file__)), "data")
     with open(os.path.join(folder, "cases.txt"), "w", encoding="ascii") as table:

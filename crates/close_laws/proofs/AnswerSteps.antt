@@ -31,6 +31,10 @@ pub not_supported : IsAnswer operation.NotSupported
 unfolding operation_result
 not_supported = record { within = tt }
 
+pub exceeded : IsAnswer operation.ExceededWorkLimit
+unfolding operation_result
+exceeded = record { within = tt }
+
 pub charged : (found : AddFault) (low : OperationResult) → IsAnswer low → IsAnswer (fault_result found low)
 unfolding operation_result
 charged fault.TooManySubentries low answers = record { within = tt }

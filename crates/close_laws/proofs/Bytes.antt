@@ -5,7 +5,10 @@ use Rattle.std.proofs.lemmas.List.Elements.{All-head, All-tail}
 use Rattle.std.specs.Prelude.{option_map, ◌≤ℤ◌}
 use Rattle.std.specs.List.{find}
 use Rattle.std.specs.FinMap.{get}
+use Rattle.ledger_types.specs.Ids.{account_of}
 use Rattle.ledger_types.specs.declared.ids.AccountId.{AccountId}
+use Rattle.ledger_types.specs.declared.ids.MuxedAccount.{MuxedAccount}
+use Rattle.ledger_types.specs.declared.ids.MuxedAccount.TheVariants as muxed
 use Rattle.ledger_types.specs.declared.signer.Signer.{Signer}
 use Rattle.ledger_types.specs.declared.account.AccountEntry.{AccountEntry}
 use Rattle.ledger_types.specs.declared.account.AccountEntryExtensionV2.{AccountEntryExtensionV2}
@@ -23,10 +26,10 @@ use Rattle.ledger_types.specs.declared.entry.LedgerEntryExtensionV1.{LedgerEntry
 use Rattle.ledger_types.specs.declared.key.LedgerKey.{LedgerKey}
 use Rattle.ledger_types.specs.declared.key.LedgerKey.TheVariants as key
 use Rattle.xdr_core.specs.Leaves.{i64, fixed, var}
-use Rattle.xdr_core.specs.Combinators.{option}
+use Rattle.xdr_core.specs.Combinators.{constant, option}
 use Rattle.xdr_core.specs.Xdr.{optional}
 use Rattle.xdr_entries.specs.Basic as basic
-use Rattle.xdr_entries.specs.Basic.{account_id, signer_key}
+use Rattle.xdr_entries.specs.Basic.{account_id, muxed_account, signer_key}
 use Rattle.xdr_entries.specs.Entries.{claimant}
 use Rattle.entry_map.specs.EntryMap.{EntryMap, put, erase}
 use Rattle.entry_sums.specs.Sums.{EachEntry}
@@ -62,6 +65,17 @@ some_id id spelled = record { within = spelled.within; sized = spelled.sized }
 pub id_of_some : (id : AccountId) → IsIdIf (Some id) → IsId id
 unfolding option
 id_of_some id spelled = record { within = spelled.within; sized = spelled.sized }
+
+key_id : (bytes : List ℕ) → IsSpelled (fixed 32) bytes → IsId (record { 0 = bytes })
+unfolding account_id constant
+key_id bytes spelled = record { within = (tt, spelled.within); sized = (tt, spelled.sized) }
+
+-- the account that a muxed one names
+pub muxed_id : (source : MuxedAccount) → IsSpelled muxed_account source → IsId (account_of source)
+unfolding muxed_account
+muxed_id (muxed.Ed25519 bytes) spelled = key_id bytes (record { within = spelled.within; sized = spelled.sized })
+muxed_id (muxed.MuxedEd25519 id bytes) spelled =
+    key_id bytes (record { within = spelled.within.1; sized = spelled.sized.1 })
 
 -- ---- entries
 

@@ -1,10 +1,11 @@
 -- Offers that are crossed leave the bytes of entries, and what is told of them keeps the bounds on lengths.
 use Rattle.std.proofs.Common.{◌≡◌, refl, sym, subst, ◌∙◌, ℕ, ◌-◌, ◌≤◌, zero, suc, Bool, true, false}
-use Rattle.std.proofs.Common.{length, All, Option, Some, None, arith}
+use Rattle.std.proofs.Common.{List, [], ◌∷◌, length, All, Option, Some, None, arith}
 use Rattle.std.proofs.Math.Nat.{min-le_right}
 use Rattle.std.proofs.lemmas.Int.{ints}
-use Rattle.std.proofs.lemmas.List.Elements.{All-nil, All-cons}
+use Rattle.std.proofs.lemmas.List.Elements.{All-nil, All-cons, All-head, All-tail}
 use Rattle.std.specs.Prelude.{ℤ, pos, neg_ℤ, ◌+ℤ◌, ◌≤ℤ◌, min, unsigned_abs, if◌then◌else◌}
+use Rattle.std.specs.List.{AllByRecursion}
 use Rattle.ledger_types.specs.declared.ids.AccountId.{AccountId}
 use Rattle.ledger_types.specs.declared.claim_atom.ClaimAtom.{ClaimAtom}
 use Rattle.ledger_types.specs.declared.offer.OfferEntry.{OfferEntry}
@@ -116,6 +117,11 @@ abs_some other le = absurd (omega (arith, ints))
 -- an offer that was taken, as it is told
 pub record IsTold (one : ClaimAtom) : Type 0 where
   pub within : claim_atom.within one
+
+pub all_told : (atoms : List ClaimAtom) → All IsTold atoms → AllByRecursion claim_atom.within atoms
+all_told [] all = tt
+all_told (one ∷ atoms) all =
+    ((All-head IsTold one atoms all).within, all_told atoms (All-tail IsTold one atoms all))
 
 atom_told : (o : OfferEntry) (a : Amounts) → AreOfferBytes o → IsTold (atom_of o a)
 unfolding claim_atom i64

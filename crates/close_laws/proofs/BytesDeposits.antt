@@ -89,7 +89,7 @@ deposited ctx op m work =
 
 -- ---- withdrawals
 
-some_taken : (n : ℤ) → int_le n (pos 0) ≡ false → pos 0 ≤ℤ n
+pub some_taken : (n : ℤ) → int_le n (pos 0) ≡ false → pos 0 ≤ℤ n
 some_taken n more = grind (arith, ints)
 
 amount_low : (op : LiquidityPoolWithdrawOp) → first_fault (withdrawing_from.withdraw_tests op) ≡ None

@@ -62,6 +62,8 @@ use Rattle.op_options.specs.OptionSigner as signers
 use Rattle.op_options.specs.OptionTests as tests
 use Rattle.op_options.specs.SetOptions as options
 use Rattle.op_options.specs.Operations.{options_operation}
+use Rattle.op_payment.specs.PathReceive as receiving
+use Rattle.op_payment.specs.PathSend as sending
 use Rattle.op_payment.specs.Payment as paying
 use Rattle.op_payment.specs.Operations.{payment_operation}
 use Rattle.op_trust.specs.Operations.{change_trust, trust_operation}
@@ -93,6 +95,7 @@ use Rattle.close_laws.proofs.SharesGiven.{can_revoke}
 use Rattle.close_laws.proofs.BytesTrust.{trust_changed, trust_allowed, flags_set}
 use Rattle.close_laws.proofs.BytesClaims.{balance_created, balance_claimed, clawed_back, balance_clawed_back}
 use Rattle.close_laws.proofs.ManagedOffers.{CanTrade, offer_sold, passively_sold, offer_bought}
+use Rattle.close_laws.proofs.PathPayments.{path_received, path_sent}
 use Rattle.close_laws.proofs.BytesAmounts.{numbers, debit_bytes, credit_bytes, taken_bytes, given_bytes}
 use Rattle.close_laws.proofs.BytesMaps.{adding_account_bytes, adding_subentry_bytes, removing_bytes}
 use Rattle.close_laws.proofs.BytesMaps.{moving_bytes, adding_signer_bytes, removing_signer_bytes, moving_signer_bytes}
@@ -490,6 +493,12 @@ any_bytes ctx (body.ManageData op) m can id spelled work = done_leaves ctx m (ma
     (data_managed ctx op m id spelled work)
 any_bytes ctx (body.Payment op) m can id spelled work =
     done_leaves ctx m (paying.payment ctx op m) work (payment_paid ctx op m work)
+any_bytes ctx (body.PathPaymentStrictReceive op) m can id spelled work =
+    done_leaves ctx m (receiving.path_payment_strict_receive ctx op m) work
+    (path_received ctx op m can.under.settled.legal spelled work).leaves
+any_bytes ctx (body.PathPaymentStrictSend op) m can id spelled work =
+    done_leaves ctx m (sending.path_payment_strict_send ctx op m) work
+    (path_sent ctx op m can.under.settled.legal spelled work).leaves
 any_bytes ctx (body.ChangeTrust op) m can id spelled work =
     done_leaves ctx m (change_trust ctx op m) work (trust_changed ctx op m id spelled work)
 any_bytes ctx (body.AllowTrust op) m can id spelled work =

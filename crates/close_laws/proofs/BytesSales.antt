@@ -18,11 +18,11 @@ use Rattle.legal_rules.specs.Owing.{Owed, IsLegalOwing}
 use Rattle.legal_rules.proofs.MayOwe.{one_more_is_right}
 use Rattle.trade_cross.specs.declared.crossed.CrossEnd.{CrossEnd}
 use Rattle.trade_cross.specs.declared.crossed.CrossEnd.TheVariants.{Converted, Partial, BadPrice, CrossSelf, TooMany}
-use Rattle.trade_cross.specs.Crossing.{Crossing, converted, left_of as left_of_trade}
+use Rattle.trade_cross.specs.Crossing.{most_crossings, Crossing, converted, left_of as left_of_trade}
 use Rattle.trade_cross.specs.Holdings.{most_given, most_taken, paying}
 use Rattle.trade_cross.proofs.Binding.{given_fits}
 use Rattle.op_offers.specs.Selling.{Asked, source_gives_at, source_takes_at, trade_of, settled, left_of}
-use Rattle.op_offers.specs.Selling.{offer_left, map_after_keeping, most_crossings, kept, Sold, sold}
+use Rattle.op_offers.specs.Selling.{offer_left, map_after_keeping, kept, Sold, sold}
 use Rattle.op_offers.specs.SellingLaws.{IsAskedRightly}
 use Rattle.op_offers.proofs.Sold.{capped_fits, legal_now, sells_fit, legal_paid, right_then, sold_is}
 use Rattle.close_rules.specs.State.{IsSpelled}

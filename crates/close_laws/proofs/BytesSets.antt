@@ -2,11 +2,9 @@
 use Rattle.std.proofs.Common.{◌≡◌, refl, sym, subst, ℕ, suc, ◌+◌, ◌<◌, ◌≤◌, ℤ, List, [], ◌∷◌, All, Option, Some, None}
 use Rattle.std.proofs.Common.{Bool, true, false, if◌then◌else◌, not, length, nat_eq, neg_ℤ, arith}
 use Rattle.std.proofs.lemmas.List.Elements.{All-nil, All-head, All-tail}
-use Rattle.ledger_types.specs.Ids.{account_of}
 use Rattle.ledger_types.specs.declared.ids.AccountId.{AccountId}
 use Rattle.ledger_types.specs.declared.ids.Hash.{Hash}
 use Rattle.ledger_types.specs.declared.ids.MuxedAccount.{MuxedAccount}
-use Rattle.ledger_types.specs.declared.ids.MuxedAccount.TheVariants as muxed
 use Rattle.ledger_types.specs.declared.account.AccountEntry.{AccountEntry}
 use Rattle.ledger_types.specs.declared.signer.SignerKey.TheVariants.{PreAuthTx}
 use Rattle.op_types.specs.declared.operation.Operation.{Operation}
@@ -19,10 +17,9 @@ use Rattle.op_types.specs.declared.transaction.TransactionEnvelope.TheVariants a
 use Rattle.op_types.specs.declared.transaction.TransactionSet.{TransactionSet}
 use Rattle.op_types.specs.declared.transaction_result.TransactionOutcome.{TransactionOutcome}
 use Rattle.op_types.specs.declared.transaction_result.TransactionOutcome.TheVariants as outcome
-use Rattle.xdr_core.specs.Leaves.{fixed}
-use Rattle.xdr_core.specs.Combinators.{constant, option}
+use Rattle.xdr_core.specs.Combinators.{option}
 use Rattle.xdr_core.specs.Xdr.{optional}
-use Rattle.xdr_entries.specs.Basic.{account_id, muxed_account}
+use Rattle.xdr_entries.specs.Basic.{muxed_account}
 use Rattle.xdr_tx.specs.Operations.{operation}
 use Rattle.xdr_tx.specs.Transactions.{transaction, fee_bump_transaction}
 use Rattle.xdr_tx.specs.Transactions.{fee_bump_envelope, transaction_envelope, transaction_set}
@@ -41,7 +38,7 @@ use Rattle.op_laws.specs.Laws.{AllLawful}
 use Rattle.op_laws.specs.Steps.{TransactionLaws, LegalSettles}
 use Rattle.op_laws.specs.Underway.{IsSettled, IsUnderway}
 use Rattle.value_hashes.specs.Hashes.{signed_hash_of, transaction_hash_of}
-use Rattle.tx_apply.specs.Built.{operations_of}
+use Rattle.tx_apply.specs.Operations.{operations_of}
 use Rattle.tx_apply.specs.Checks as checks
 use Rattle.tx_apply.specs.FeeBump as bump
 use Rattle.tx_apply.specs.Fees.{fee_of, map_after_fee, fees_taken}
@@ -63,22 +60,12 @@ use Rattle.close_laws.proofs.SpelledSets.{envelopes_spelled, operations_spelled,
 use Rattle.close_laws.proofs.SpelledSets.{body_spelled, body_fit, operations_fit}
 use Rattle.close_laws.proofs.FewDrawn.{set_fits}
 use Rattle.close_laws.proofs.ManagedOffers.{CanTrade}
-use Rattle.close_laws.proofs.Bytes.{IsId, AreBytes, with_account_bytes, IsOpener, AreSponsors}
+use Rattle.close_laws.proofs.Bytes.{IsId, muxed_id, AreBytes, with_account_bytes, IsOpener, AreSponsors}
 use Rattle.close_laws.proofs.BytesMaps.{removing_signer_bytes}
 use Rattle.close_laws.proofs.BytesSteps.{AreWorkBytes}
 use Rattle.close_laws.proofs.BytesOperations.{any_bytes}
 
 -- ---- sources
-
-key_id : (key : List ℕ) → IsSpelled (fixed 32) key → IsId (record { 0 = key })
-unfolding account_id constant
-key_id key spelled = record { within = (tt, spelled.within); sized = (tt, spelled.sized) }
-
-muxed_id : (source : MuxedAccount) → IsSpelled muxed_account source → IsId (account_of source)
-unfolding muxed_account
-muxed_id (muxed.Ed25519 key) spelled = key_id key (record { within = spelled.within; sized = spelled.sized })
-muxed_id (muxed.MuxedEd25519 id key) spelled =
-    key_id key (record { within = spelled.within.1; sized = spelled.sized.1 })
 
 some_source : (source : MuxedAccount) → IsSpelled (optional muxed_account) (Some source)
     → IsSpelled muxed_account source

@@ -7,7 +7,7 @@ use Rattle.xdr_tx.specs.Operations.{operation}
 use Rattle.xdr_tx.specs.Transactions.{transaction_set}
 use Rattle.fee_rules.specs.Turns.{apply_order_of}
 use Rattle.fee_rules.proofs.Ordered.{places_stand}
-use Rattle.tx_apply.specs.Built.{operations_of}
+use Rattle.tx_apply.specs.Operations.{operations_of}
 use Rattle.tx_apply.specs.Laws.{operation_total, CanDraw}
 use Rattle.tx_apply.specs.Set.{envelopes_in_order}
 use Rattle.tx_apply.proofs.Conserving.{all_at}

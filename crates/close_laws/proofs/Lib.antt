@@ -19,6 +19,8 @@ pub mod PassedTests
 pub mod PoolsBeside
 pub mod BytesCrossing
 pub mod BytesPools
+pub mod BytesHops
+pub mod BytesPaths
 pub mod BytesShares
 pub mod BytesDeposits
 pub mod BytesClaims
@@ -27,7 +29,10 @@ pub mod SharesGiven
 pub mod BytesRevoked
 pub mod BytesTrust
 pub mod BytesSales
+pub mod TradeSteps
 pub mod ManagedOffers
+pub mod PathAnswers
+pub mod PathPayments
 pub mod BytesOperations
 pub mod BytesSets
 pub mod Short

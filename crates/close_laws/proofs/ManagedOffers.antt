@@ -1,10 +1,9 @@
 -- Operations on offers leave the bytes of entries, and what they answer keeps the bounds on lengths.
-use Rattle.std.proofs.Common.{◌≡◌, refl, sym, ap, subst, ◌∙◌, ℕ, ◌+◌, ◌≤◌, zero, suc, Bool, true, false, List, [], ◌∷◌}
+use Rattle.std.proofs.Common.{◌≡◌, refl, sym, ap, subst, ◌∙◌, ℕ, ◌+◌, ◌≤◌, zero, suc, Bool, true, false, List, []}
 use Rattle.std.proofs.Common.{length, All, Option, Some, None, Result, Ok, Err, arith}
-use Rattle.std.proofs.lemmas.List.Elements.{All-nil, All-head, All-tail}
+use Rattle.std.proofs.lemmas.List.Elements.{All-nil}
 use Rattle.std.specs.Prelude.{ℤ, pos, if◌then◌else◌}
 use Rattle.std.specs.FinMap.{get}
-use Rattle.std.specs.List.{AllByRecursion}
 use Rattle.std.specs.Ordering.{int_eq}
 use Rattle.ledger_types.specs.declared.ids.AccountId.{AccountId}
 use Rattle.ledger_types.specs.declared.asset.Asset.TheVariants as asset
@@ -24,13 +23,13 @@ use Rattle.op_types.specs.declared.offer_results.ManageOfferEffect.TheVariants a
 use Rattle.op_types.specs.declared.offer_results.ManageOfferResult.{ManageOfferResult}
 use Rattle.op_types.specs.declared.offer_results.ManageOfferResult.TheVariants as manage
 use Rattle.op_types.specs.declared.operation.OperationBody.TheVariants as operation
-use Rattle.op_types.specs.declared.operation_result.OperationResult.TheVariants.{Inner, ExceededWorkLimit}
+use Rattle.op_types.specs.declared.operation_result.OperationResult.TheVariants.{Inner}
 use Rattle.xdr_core.specs.Leaves.{i64}
 use Rattle.xdr_core.specs.Combinators.{list}
 use Rattle.xdr_entries.specs.Basic as basic
 use Rattle.xdr_tx.specs.Operations.{operation_body, manage_sell_offer_op, create_passive_sell_offer_op}
 use Rattle.xdr_tx.specs.Operations.{manage_buy_offer_op}
-use Rattle.xdr_results.specs.Answers.{claim_atom, manage_offer_effect, manage_offer_success, manage_offer_result}
+use Rattle.xdr_results.specs.Answers.{manage_offer_effect, manage_offer_success, manage_offer_result}
 use Rattle.xdr_results.specs.Results.{operation_result_tr, operation_result}
 use Rattle.entry_map.specs.EntryMap.{EntryMap}
 use Rattle.entry_slots.specs.Accounts.{HasAccount}
@@ -51,7 +50,6 @@ use Rattle.legal_rules.specs.Trades.{holder}
 use Rattle.legal_rules.proofs.Given.{sponsors_ready}
 use Rattle.trade_cross.specs.Cancelling.{map_after_cancelling}
 use Rattle.trade_cross.specs.Crossing.{offer_key}
-use Rattle.op_form.specs.Done.{Attempt}
 use Rattle.op_offers.specs.declared.answers.Kind.{Kind}
 use Rattle.op_offers.specs.declared.answers.Kind.TheVariants as kind
 use Rattle.op_offers.specs.declared.ask.Ask.{Ask}
@@ -71,15 +69,16 @@ use Rattle.op_offers.proofs.Tested.{IsValidAsk, valid_ask}
 use Rattle.op_laws.specs.Underway.{IsUnderway}
 use Rattle.tx_apply.specs.Laws.{CanDraw}
 use Rattle.close_rules.specs.State.{IsSpelled}
-use Rattle.close_laws.proofs.AnswerSteps.{IsAnswer, charged, Answers, IsDone}
+use Rattle.close_laws.proofs.AnswerSteps.{IsAnswer, exceeded, charged, Answers, IsDone}
 use Rattle.close_laws.proofs.Bytes.{IsId, no_id, AreOfferBytes, AreBodyBytes, AreEntryBytes, AreBytes}
 use Rattle.close_laws.proofs.Bytes.{erase_bytes, open_sponsor_id}
-use Rattle.close_laws.proofs.BytesCrossing.{amount_spelled, IsTold}
+use Rattle.close_laws.proofs.BytesCrossing.{amount_spelled, IsTold, all_told}
 use Rattle.close_laws.proofs.BytesMaps.{AreBytesIf, sponsored_bytes, counting_bytes}
 use Rattle.close_laws.proofs.BytesOffers.{releasing_bytes, cancelling_bytes}
 use Rattle.close_laws.proofs.BytesSales.{IsAskedBytes, AreSold, left_bytes, sold_bytes}
 use Rattle.close_laws.proofs.BytesSteps.{AreWorkBytes, Leaves}
 use Rattle.close_laws.proofs.ShortOffers.{offer_short}
+use Rattle.close_laws.proofs.TradeSteps.{IsTraded}
 
 -- ---- what is asked for
 
@@ -309,10 +308,6 @@ offered kind.Sell code within = record { within = within }
 offered kind.Passive code within = record { within = within }
 offered kind.Buy code within = record { within = within }
 
-exceeded : IsAnswer ExceededWorkLimit
-unfolding operation_result
-exceeded = record { within = tt }
-
 code_within : (found : OfferFault) → manage_offer_result.within (code_of found)
 unfolding manage_offer_result
 code_within fault.Malformed = tt
@@ -345,11 +340,6 @@ effect_within Made asked (suc n) bytes spelled =
     (offer_short (offer_left asked (suc n)) (left_bytes asked (suc n) bytes spelled) bytes.flags).within
 effect_within Changed asked (suc n) bytes spelled =
     (offer_short (offer_left asked (suc n)) (left_bytes asked (suc n) bytes spelled) bytes.flags).within
-
-all_told : (atoms : List ClaimAtom) → All IsTold atoms → AllByRecursion claim_atom.within atoms
-all_told [] all = tt
-all_told (one ∷ atoms) all =
-    ((All-head IsTold one atoms all).within, all_told atoms (All-tail IsTold one atoms all))
 
 success_within : (atoms : List ClaimAtom) (what : ManageOfferEffect) → length atoms ≤ 1000 → All IsTold atoms
     → manage_offer_effect.within what
@@ -400,11 +390,6 @@ purchase_managed : (ctx : Ctx) (op : ManageBuyOfferOp) (m : EntryMap) → CanTra
     → AreManaged (managed ctx (ask_to_buy op) m)
 purchase_managed ctx op m can id spelled work =
     its_managed ctx (ask_to_buy op) m can (omega arith) id (purchase_asked op spelled) work
-
--- what an operation on offers leaves and answers
-pub record IsTraded (attempt : Attempt) : Type 0 where
-  pub leaves : Leaves attempt
-  pub answers : Answers IsDone attempt
 
 traded : (ctx : Ctx) (m : EntryMap) (of : Kind) (r : Result Managed OfferFault) → AreWorkBytes ctx m → AreManaged r
     → IsTraded (attempt_of_managed ctx (answer_of of) r)

@@ -75,6 +75,8 @@ use Rattle.op_options.specs.OptionSigner as signers
 use Rattle.op_options.specs.OptionTests as tests
 use Rattle.op_options.specs.SetOptions as options
 use Rattle.op_options.specs.Operations.{options_operation}
+use Rattle.op_payment.specs.PathReceive as receiving
+use Rattle.op_payment.specs.PathSend as sending
 use Rattle.op_payment.specs.Payment as paying
 use Rattle.op_payment.specs.Operations.{payment_operation}
 use Rattle.op_trust.specs.Operations.{change_trust, trust_operation}
@@ -102,6 +104,7 @@ use Rattle.close_laws.proofs.AnswerSteps.{done_answers}
 use Rattle.close_laws.proofs.Bytes.{IsId}
 use Rattle.close_laws.proofs.BytesSteps.{AreWorkBytes}
 use Rattle.close_laws.proofs.ManagedOffers.{CanTrade, offer_sold, passively_sold, offer_bought}
+use Rattle.close_laws.proofs.PathPayments.{path_received, path_sent}
 use Rattle.close_laws.proofs.PoolAnswers.{deposit_answers, withdraw_answers}
 use Rattle.close_laws.proofs.TrustAnswers.{trust_answers, allow_answers, flag_answers}
 use Rattle.close_laws.proofs.ClaimAnswers.{create_balance_answers, claim_answers, clawback_answers}
@@ -340,6 +343,12 @@ any_answers ctx (body.ManageData op) m can id spelled work =
     done_answers ctx m (managing.manage_data ctx op m) (data_answers ctx op m)
 any_answers ctx (body.Payment op) m can id spelled work =
     done_answers ctx m (paying.payment ctx op m) (pay_answers ctx op m)
+any_answers ctx (body.PathPaymentStrictReceive op) m can id spelled work =
+    done_answers ctx m (receiving.path_payment_strict_receive ctx op m)
+    (path_received ctx op m can.under.settled.legal spelled work).answers
+any_answers ctx (body.PathPaymentStrictSend op) m can id spelled work =
+    done_answers ctx m (sending.path_payment_strict_send ctx op m)
+    (path_sent ctx op m can.under.settled.legal spelled work).answers
 any_answers ctx (body.ChangeTrust op) m can id spelled work =
     done_answers ctx m (change_trust ctx op m) (trust_answers ctx op m)
 any_answers ctx (body.AllowTrust op) m can id spelled work =

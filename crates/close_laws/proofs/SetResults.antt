@@ -38,7 +38,7 @@ use Rattle.op_form.specs.DefaultResults.{default_result}
 use Rattle.op_laws.specs.Laws.{AllLawful}
 use Rattle.op_laws.specs.Steps.{TransactionLaws, LegalSettles}
 use Rattle.value_hashes.specs.Hashes.{signed_hash_of, transaction_hash_of}
-use Rattle.tx_apply.specs.Built.{operations_of}
+use Rattle.tx_apply.specs.Operations.{operations_of}
 use Rattle.tx_apply.specs.Checks as checks
 use Rattle.tx_apply.specs.FeeBump as bump
 use Rattle.op_types.specs.InnerOutcome.{inner_outcome}

@@ -24,7 +24,7 @@ use Rattle.xdr_tx.specs.Transactions.{transaction_envelope, transaction_set}
 use Rattle.xdr_header.specs.declared.record.CloseRecord.{CloseRecord}
 use Rattle.xdr_header.specs.Records.{close_record}
 use Rattle.op_laws.specs.Laws.{IsFit}
-use Rattle.tx_apply.specs.Built.{operations_of}
+use Rattle.tx_apply.specs.Operations.{operations_of}
 use Rattle.tx_apply.specs.Laws.{AreFit, AreAllFit}
 use Rattle.close_rules.specs.State.{IsSpelled}
 use Rattle.close_laws.proofs.Spelled.{each_spelled, few_spelled}

@@ -15,7 +15,6 @@ use Rattle.entry_slots.specs.Tests.{Tests, first_fault}
 use Rattle.fee_rules.specs.SetHash.{hash_of_set}
 use Rattle.op_form.specs.Sequences.{last_seq}
 use Rattle.header_chain.specs.Upgrades.{upgrade_in, first_place, is_bad_at, is_out_of_profile}
-use Rattle.tx_apply.specs.Built.{unbuilt_place}
 use Rattle.tx_apply.specs.Set.{missing_place}
 use Rattle.close_rules.specs.declared.close_fault.CloseFault.{CloseFault}
 use Rattle.close_rules.specs.declared.close_fault.CloseFault.TheVariants as fault
@@ -80,9 +79,7 @@ upgrade_fault s closing =
 -- ---- its set
 
 unfoldable pub set_fault : ClosingState → CloseRecord → Option CloseFault
-set_fault s closing =
-    option_or (option_map fault.NotBuilt (unbuilt_place closing.tx_set.txs))
-    (option_map fault.FeeSourceMissing (missing_place s.entries closing.tx_set))
+set_fault s closing = option_map fault.FeeSourceMissing (missing_place s.entries closing.tx_set)
 
 -- ---- all of these
 

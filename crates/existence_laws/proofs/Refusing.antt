@@ -7,7 +7,6 @@ use Rattle.std.specs.Option.{option_or}
 use Rattle.xdr_header.specs.declared.record.CloseRecord.{CloseRecord}
 use Rattle.entry_slots.specs.Tests.{Tests, first_fault}
 use Rattle.header_chain.specs.Upgrades.{upgrade_in, first_place, is_bad_at, is_out_of_profile}
-use Rattle.tx_apply.specs.Built.{unbuilt_place}
 use Rattle.tx_apply.specs.Set.{missing_place}
 use Rattle.close_rules.specs.declared.close_fault.CloseFault.{CloseFault}
 use Rattle.close_rules.specs.declared.close_fault.CloseFault.TheVariants as fault
@@ -47,22 +46,18 @@ of_terms : (s : ClosingState) (closing : CloseRecord) → IfAny (term_fault s cl
 unfolding term_fault
 of_terms s closing = first (term_tests s closing) (tt, (tt, (tt, (tt, (tt, tt)))))
 
-of_places : (f g : ℕ → CloseFault) → ((n : ℕ) → IsOfRecord (f n)) → ((n : ℕ) → IsOfRecord (g n)) → (a b : Option ℕ)
-    → IfAny (option_or (option_map f a) (option_map g b))
-of_places f g own_f own_g a b = either (option_map f a) (option_map g b) (mapped f own_f a) (mapped g own_g b)
-
 of_upgrades : (s : ClosingState) (closing : CloseRecord) → IfAny (upgrade_fault s closing)
 unfolding upgrade_fault
 of_upgrades s closing =
     let asked = map upgrade_in closing.scp_value.upgrades in
-    of_places fault.BadUpgrade fault.UpgradeOutOfProfile (λ n. tt) (λ n. tt) (first_place (is_bad_at asked) asked)
-    (first_place (λ i. is_out_of_profile s.header (slice_get asked i)) asked)
+    let bad = first_place (is_bad_at asked) asked in
+    let out_of_profile = first_place (λ i. is_out_of_profile s.header (slice_get asked i)) asked in
+    either (option_map fault.BadUpgrade bad) (option_map fault.UpgradeOutOfProfile out_of_profile)
+    (mapped fault.BadUpgrade (λ n. tt) bad) (mapped fault.UpgradeOutOfProfile (λ n. tt) out_of_profile)
 
 of_set : (s : ClosingState) (closing : CloseRecord) → IfAny (set_fault s closing)
 unfolding set_fault
-of_set s closing =
-    of_places fault.NotBuilt fault.FeeSourceMissing (λ n. tt) (λ n. tt) (unbuilt_place closing.tx_set.txs)
-    (missing_place s.entries closing.tx_set)
+of_set s closing = mapped fault.FeeSourceMissing (λ n. tt) (missing_place s.entries closing.tx_set)
 
 of_record : (s : ClosingState) (closing : CloseRecord) → IfAny (record_fault s closing)
 unfolding record_fault

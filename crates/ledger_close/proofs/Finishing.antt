@@ -167,7 +167,6 @@ answered s bytes closing (Err (fault.WrongSetHash have given)) text reads is = (
 answered s bytes closing (Err (fault.StaleTime last given)) text reads is = (closing, reads, is)
 answered s bytes closing (Err (fault.BadUpgrade index)) text reads is = (closing, reads, is)
 answered s bytes closing (Err (fault.UpgradeOutOfProfile index)) text reads is = (closing, reads, is)
-answered s bytes closing (Err (fault.NotBuilt index)) text reads is = (closing, reads, is)
 answered s bytes closing (Err (fault.FeeSourceMissing index)) text reads is = (closing, reads, is)
 answered s bytes closing (Err (fault.LedgerFull total)) text reads is = (
   is.1.0,

@@ -15,7 +15,6 @@ use Rattle.xdr_core.specs.declared.fault.XdrKind.{XdrKind}
 use Rattle.header_chain.specs.Upgrades.{upgraded_if, all_upgraded, upgrade_in, first_place, is_bad_at}
 use Rattle.header_chain.specs.Upgrades.{is_out_of_profile}
 use Rattle.entry_slots.specs.Tests.{Tests, first_fault}
-use Rattle.tx_apply.specs.Built.{unbuilt_place}
 use Rattle.tx_apply.specs.Set.{missing_place}
 use Rattle.close_rules.specs.declared.close_fault.CloseFault.{CloseFault}
 use Rattle.close_rules.specs.declared.close_fault.CloseFault.TheVariants as fault
@@ -76,33 +75,32 @@ terms_of_record : (s : ClosingState) (closing : CloseRecord) (f : CloseFault) �
 unfolding term_fault
 terms_of_record s closing f is = first_of_record (term_tests s closing) f (terms_known s closing) is
 
-mapped_of_record : (make : ℕ → CloseFault) (a b : Option ℕ) (other : ℕ → CloseFault) (f : CloseFault)
-    → ((n : ℕ) → IsOfRecord (make n)) → ((n : ℕ) → IsOfRecord (other n))
-    → option_or (option_map make a) (option_map other b) ≡ Some f → IsOfRecord f
-mapped_of_record make (Some n) b other f known k is = subst IsOfRecord (cc) (known n)
-mapped_of_record make None (Some n) other f known k is = subst IsOfRecord (cc) (k n)
-mapped_of_record make None None other f known k is = absurd (cc)
+mapped_of_record : (make : ℕ → CloseFault) (a : Option ℕ) (f : CloseFault) → ((n : ℕ) → IsOfRecord (make n))
+    → option_map make a ≡ Some f → IsOfRecord f
+mapped_of_record make (Some n) f known is = subst IsOfRecord (cc) (known n)
+mapped_of_record make None f known is = absurd (cc)
+
+either : (a b : Option CloseFault) (f : CloseFault) → (a ≡ Some f → IsOfRecord f) → (b ≡ Some f → IsOfRecord f)
+    → option_or a b ≡ Some f → IsOfRecord f
+either (Some x) b f p q is = p is
+either None b f p q is = q is
 
 upgrades_of_record : (s : ClosingState) (closing : CloseRecord) (f : CloseFault) → upgrade_fault s closing ≡ Some f
     → IsOfRecord f
 unfolding upgrade_fault
 upgrades_of_record s closing f is =
     let asked = map upgrade_in closing.scp_value.upgrades in
-    mapped_of_record fault.BadUpgrade (first_place (is_bad_at asked) asked)
-    (first_place (λ i. is_out_of_profile s.header (slice_get asked i)) asked) fault.UpgradeOutOfProfile f
-    (λ n. tt) (λ n. tt) is
+    let bad = first_place (is_bad_at asked) asked in
+    let out_of_profile = first_place (λ i. is_out_of_profile s.header (slice_get asked i)) asked in
+    either (option_map fault.BadUpgrade bad) (option_map fault.UpgradeOutOfProfile out_of_profile) f
+    (mapped_of_record fault.BadUpgrade bad f (λ n. tt))
+    (mapped_of_record fault.UpgradeOutOfProfile out_of_profile f (λ n. tt)) is
 
 set_of_record : (s : ClosingState) (closing : CloseRecord) (f : CloseFault) → set_fault s closing ≡ Some f
     → IsOfRecord f
 unfolding set_fault
 set_of_record s closing f is =
-    mapped_of_record fault.NotBuilt (unbuilt_place closing.tx_set.txs) (missing_place s.entries closing.tx_set)
-    fault.FeeSourceMissing f (λ n. tt) (λ n. tt) is
-
-either : (a b : Option CloseFault) (f : CloseFault) → (a ≡ Some f → IsOfRecord f) → (b ≡ Some f → IsOfRecord f)
-    → option_or a b ≡ Some f → IsOfRecord f
-either (Some x) b f p q is = p is
-either None b f p q is = q is
+    mapped_of_record fault.FeeSourceMissing (missing_place s.entries closing.tx_set) f (λ n. tt) is
 
 of_record : (s : ClosingState) (closing : CloseRecord) (f : CloseFault) → record_fault s closing ≡ Some f
     → IsOfRecord f
@@ -149,7 +147,6 @@ refused s closing (fault.WrongSetHash have given) is = is
 refused s closing (fault.StaleTime last given) is = is
 refused s closing (fault.BadUpgrade index) is = is
 refused s closing (fault.UpgradeOutOfProfile index) is = is
-refused s closing (fault.NotBuilt index) is = is
 refused s closing (fault.FeeSourceMissing index) is = is
 refused s closing (fault.LedgerFull total) is = absurd (of_record s closing (fault.LedgerFull total) is)
 refused s closing fault.NoMemory is = tt
@@ -167,7 +164,6 @@ by_cause s closing (fault.StaleTime last given) P is known = refused s closing (
 by_cause s closing (fault.BadUpgrade index) P is known = refused s closing (fault.BadUpgrade index) (known _ is)
 by_cause s closing (fault.UpgradeOutOfProfile index) P is known =
     refused s closing (fault.UpgradeOutOfProfile index) (known _ is)
-by_cause s closing (fault.NotBuilt index) P is known = refused s closing (fault.NotBuilt index) (known _ is)
 by_cause s closing (fault.FeeSourceMissing index) P is known =
     refused s closing (fault.FeeSourceMissing index) (known _ is)
 by_cause s closing (fault.LedgerFull total) P is known = refused s closing (fault.LedgerFull total) (known _ is)
@@ -195,7 +191,6 @@ goes_on s closing (Err (fault.WrongSetHash have given)) none is = absurd is
 goes_on s closing (Err (fault.StaleTime last given)) none is = absurd is
 goes_on s closing (Err (fault.BadUpgrade index)) none is = absurd is
 goes_on s closing (Err (fault.UpgradeOutOfProfile index)) none is = absurd is
-goes_on s closing (Err (fault.NotBuilt index)) none is = absurd is
 goes_on s closing (Err (fault.FeeSourceMissing index)) none is = absurd is
 goes_on s closing (Err (fault.LedgerFull total)) none is = (none, is)
 goes_on s closing (Err fault.NoMemory) none is = tt
@@ -212,7 +207,6 @@ any_fault (fault.WrongSetHash have given) P h = h
 any_fault (fault.StaleTime last given) P h = h
 any_fault (fault.BadUpgrade index) P h = h
 any_fault (fault.UpgradeOutOfProfile index) P h = h
-any_fault (fault.NotBuilt index) P h = h
 any_fault (fault.FeeSourceMissing index) P h = h
 any_fault (fault.LedgerFull total) P h = h
 any_fault fault.NoMemory P h = tt

@@ -33,11 +33,10 @@ pub refused_set : (s : ClosingState) (closing : CloseRecord) (old new : Undo) (f
     → IsAnswer (setting_in s closing) closing.tx_set old new (Err f)
     → FaultIs (fault_of_set f) (λ g. set_fault s closing ≡ Some g)
 unfolding set_fault
-refused_set s closing old new (set.NotBuilt index) begun answer = rw answer.0 refl
 refused_set s closing old new (set.FeeSourceMissing index) begun answer =
     let missing : missing_place s.entries closing.tx_set ≡ Some index =
-    ap (λ (u : Undo). missing_place u.current closing.tx_set) (sym begun) ∙ answer.1 in
-    rw (answer.0, missing) refl
+    ap (λ (u : Undo). missing_place u.current closing.tx_set) (sym begun) ∙ answer.0 in
+    rw missing refl
 refused_set s closing old new set.NoMemory begun answer = tt
 
 pub applied_set : (s : ClosingState) (closing : CloseRecord) (old new : Undo) (done : SetDone) → old ≡ started s.entries
@@ -45,8 +44,8 @@ pub applied_set : (s : ClosingState) (closing : CloseRecord) (old new : Undo) (d
 unfolding set_fault
 applied_set s closing old new done begun answer =
     let payable : missing_place s.entries closing.tx_set ≡ None =
-    ap (λ (u : Undo). missing_place u.current closing.tx_set) (sym begun) ∙ answer.0.payable in
-    rw (answer.0.built, payable) refl
+    ap (λ (u : Undo). missing_place u.current closing.tx_set) (sym begun) ∙ answer.0 in
+    rw payable refl
 
 pub applied_done : (s : ClosingState) (closing : CloseRecord) (old new : Undo) (done : SetDone)
     → old ≡ started s.entries

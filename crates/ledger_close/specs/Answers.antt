@@ -61,7 +61,6 @@ IsJudgedBy s closing (Err wrong) = IsUpgradedBy s closing (Err wrong)
 
 -- the fault of a close whose set isn't applied
 abbrev pub fault_of_set : SetFault → CloseFault
-fault_of_set (set.NotBuilt index) = fault.NotBuilt index
 fault_of_set (set.FeeSourceMissing index) = fault.FeeSourceMissing index
 fault_of_set set.NoMemory = fault.NoMemory
 

@@ -29,7 +29,6 @@ fn fault_of(fault: SetFault) -> CloseFault
     ensures { result ≡ answer.fault_of_set fault }
 {
     match fault {
-        SetFault::NotBuilt { index } => CloseFault::NotBuilt { index },
         SetFault::FeeSourceMissing { index } => CloseFault::FeeSourceMissing { index },
         SetFault::NoMemory => CloseFault::NoMemory,
     }

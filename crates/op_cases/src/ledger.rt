@@ -223,8 +223,8 @@ pub fn asks_for_pools(op: &Operation) -> bool
 }
 
 /// Applies an operation, or answers none where it may not be: its source doesn't stand, or the ledger is the last.
-/// ALLOW_TRUST and SET_TRUST_LINE_FLAGS aren't applied here: they ask for a legal ledger, which these small ones
-/// aren't.
+/// Operations on offers and pools, payments along paths, ALLOW_TRUST and SET_TRUST_LINE_FLAGS aren't applied here: they
+/// ask for a legal ledger, which these small ones aren't.
 pub fn applied(
     op: &Operation,
     ctx: &mut Ctx,
@@ -266,6 +266,7 @@ fn applied_by_type(
         | OperationBody::ClaimClaimableBalance(_)
         | OperationBody::Clawback(_)
         | OperationBody::ClawbackClaimableBalance(_) => op_claim::apply(op, ctx, entries),
-        _ => op_payment::apply(op, ctx, entries),
+        OperationBody::Payment(_) => op_payment::apply(op, ctx, entries),
+        _ => Ok(OperationResult::NotSupported),
     }
 }

@@ -1,4 +1,5 @@
 pub mod Done
+pub mod AtomMoves
 pub mod Steps
 pub mod Faults
 pub mod Premises

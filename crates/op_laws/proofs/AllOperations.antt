@@ -22,6 +22,8 @@ use Rattle.op_options.specs.ManageData.{manage_data}
 use Rattle.op_options.specs.Operations.{options_operation}
 use Rattle.op_options.specs.SetOptions.{set_options}
 use Rattle.op_payment.specs.Operations.{payment_operation}
+use Rattle.op_payment.specs.PathReceive.{path_payment_strict_receive}
+use Rattle.op_payment.specs.PathSend.{path_payment_strict_send}
 use Rattle.op_payment.specs.Payment.{payment}
 use Rattle.op_pool.specs.Deposit.{liquidity_pool_deposit}
 use Rattle.op_pool.specs.Operations.{pool_operation}
@@ -48,6 +50,7 @@ use Rattle.op_laws.proofs.ManageOffers.{manage_sell_offer_is_lawful, create_pass
 use Rattle.op_laws.proofs.ManageOffers.{manage_buy_offer_is_lawful}
 use Rattle.op_laws.proofs.Merging.{account_merge_is_lawful}
 use Rattle.op_laws.proofs.NewAccounts.{create_account_is_lawful}
+use Rattle.op_laws.proofs.PathOperations.{path_receive_is_lawful, path_send_is_lawful}
 use Rattle.op_laws.proofs.Payment.{payment_is_lawful}
 use Rattle.op_laws.proofs.Revoking.{revoke_sponsorship_is_lawful}
 use Rattle.op_laws.proofs.SetOptions.{set_options_is_lawful}
@@ -91,6 +94,10 @@ all_are_lawful ctx (body.ManageData op) m fit under stands = attempted ctx m und
     (λ done is. manage_data_is_lawful ctx op m done under stands is)
 all_are_lawful ctx (body.Payment op) m fit under stands = attempted ctx m under (payment ctx op m)
     (λ done is. payment_is_lawful ctx op m done under stands is)
+all_are_lawful ctx (body.PathPaymentStrictReceive op) m fit under stands = attempted ctx m under
+    (path_payment_strict_receive ctx op m) (λ done is. path_receive_is_lawful ctx op m done under stands is)
+all_are_lawful ctx (body.PathPaymentStrictSend op) m fit under stands = attempted ctx m under
+    (path_payment_strict_send ctx op m) (λ done is. path_send_is_lawful ctx op m done under stands is)
 all_are_lawful ctx (body.ChangeTrust op) m fit under stands = attempted ctx m under (change_trust ctx op m)
     (λ done is. change_trust_is_lawful ctx op m done fit under stands is)
 all_are_lawful ctx (body.AllowTrust op) m fit under stands = attempted ctx m under (allow_trust ctx op m)
@@ -118,4 +125,3 @@ all_are_lawful ctx (body.LiquidityPoolDeposit op) m fit under stands = attempted
     (liquidity_pool_deposit ctx op m) (λ done is. liquidity_pool_deposit_is_lawful ctx op m done under stands is)
 all_are_lawful ctx (body.LiquidityPoolWithdraw op) m fit under stands = attempted ctx m under
     (liquidity_pool_withdraw ctx op m) (λ done is. liquidity_pool_withdraw_is_lawful ctx op m done under stands is)
-all_are_lawful ctx other m fit under stands = failed_is_lawful ctx m under NotSupported

@@ -14,7 +14,7 @@ use Rattle.legal_rules.specs.Supply.{of_asset}
 use Rattle.op_form.specs.Assets.{is_issued_by}
 use Rattle.op_form.specs.Done.{Holder, OfAccount, OfBalance, OfPool, Move}
 use Rattle.op_laws.specs.Moves.{issued, is_issuer}
-use Rattle.op_laws.proofs.Amounts.{unless_issuer}
+use Rattle.op_payment.proofs.Shifts.{unless_issuer}
 use Rattle.op_laws.proofs.IssuedMoves.{same_issuer, issued_so, issued_by_move}
 
 pub balance_issues_none : (held : Asset) (id : ClaimableBalanceId) → false ≡ is_issuer held (OfBalance id)

@@ -60,16 +60,18 @@ use Rattle.op_claim.specs.Predicates.{fixed_claimant}
 use Rattle.op_laws.specs.Laws.{IsLawful, AreLawful, AreLawfulWhere, AreClaimantsFew}
 use Rattle.op_laws.specs.Moves.{issued, is_issuer}
 use Rattle.op_laws.specs.Underway.{IsUnderway}
-use Rattle.op_laws.proofs.Amounts.{IsMoved, unless_issuer, shifts_as, shifts_both, amount_taken}
+use Rattle.op_payment.proofs.Amounts.{IsMoved}
+use Rattle.op_payment.proofs.Shifts.{unless_issuer, shifts_as, shifts_both}
+use Rattle.op_laws.proofs.Amounts.{amount_taken}
 use Rattle.op_laws.proofs.Amounts.{amount_given}
-use Rattle.op_laws.proofs.Amounts.{ok_of}
+use Rattle.op_payment.proofs.Amounts.{ok_of}
 use Rattle.op_laws.proofs.AsideMoves.{balance_issues_none, less_of, put_aside_issued, taken_back, taken_back_issued}
 use Rattle.legal_rules.proofs.ChargesLeft.{releasing_kept, erased_left}
 use Rattle.op_laws.proofs.IssuedMoves.{same_issuer, issued_so, issued_by_move}
 use Rattle.op_laws.proofs.Lawful.{lawful_with, shifted_after}
 use Rattle.op_flags.proofs.BalanceLeft.{balance_left, no_balance, new_flags, payer_stands}
 use Rattle.op_laws.proofs.NewBalances.{IsBalanceEntry, balance_entry, claimants_in_range}
-use Rattle.op_laws.proofs.Paying.{given}
+use Rattle.op_payment.proofs.Paying.{given}
 use Rattle.legal_rules.specs.Holdings.{none_more, both_more, under_key}
 use Rattle.legal_rules.proofs.Holdings.{still_holds}
 use Rattle.legal_rules.proofs.Holdings.{cancelled}

@@ -24,7 +24,8 @@ use Rattle.op_form.specs.Flags.{is_line_clawback_enabled}
 use Rattle.op_claim.specs.Clawback as spec
 use Rattle.op_laws.specs.Laws.{IsLawful, AreLawful}
 use Rattle.op_laws.specs.Moves.{issued}
-use Rattle.op_laws.proofs.Amounts.{in_line, shifts_as, line_given}
+use Rattle.op_payment.proofs.Amounts.{in_line, line_given}
+use Rattle.op_payment.proofs.Shifts.{shifts_as}
 use Rattle.op_laws.proofs.IssuedMoves.{same_both_ways, same_issuer, issued_so, issued_by_move}
 use Rattle.op_laws.proofs.Lawful.{lawful_with}
 use Rattle.op_laws.proofs.LineFlags.{issued_is}

@@ -31,17 +31,13 @@ use Rattle.legal_rules.specs.Holdings.{IsKeyed, Increase, none_more, HoldsMore}
 use Rattle.legal_rules.proofs.Holdings.{lumens_there}
 use Rattle.legal_rules.specs.Holdings.{IsAfter, IsCoveredBy}
 use Rattle.legal_rules.proofs.Leaving.{Leaves}
+use Rattle.op_payment.proofs.Shifts.{ShiftsLegal}
 use Rattle.op_laws.proofs.Told.{Tells, told_by, tells_nothing}
 
 -- A change keeps a state legal, and the supply of the asset at hand, by whatever it is viewed.
 abbrev pub KeepsLegal : ℕ → (old new : EntryMap) → Type 0
 KeepsLegal id_pool old new = (v : View) (sum : ℤ) → IsLegalOwing v id_pool nothing_owed sum old
     → IsLegalOwing v id_pool nothing_owed sum new
-
--- A change keeps a state legal, and shifts the supply of the asset at hand, by whatever it is viewed.
-abbrev pub ShiftsLegal : ℕ → (Asset → ℤ) → (old new : EntryMap) → Type 0
-ShiftsLegal id_pool shift old new = (v : View) (sum : ℤ) → IsLegalOwing v id_pool nothing_owed sum old
-    → IsLegalOwing v id_pool nothing_owed (sum +ℤ shift v.asset) new
 
 -- The same where ids are drawn up to `next`.
 abbrev pub DrawsLegal : (id_pool next : ℕ) → (Asset → ℤ) → (old new : EntryMap) → Type 0

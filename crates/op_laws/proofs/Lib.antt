@@ -5,10 +5,8 @@ pub mod Lumens
 pub mod Issued
 pub mod Lawful
 pub mod IssuedMoves
-pub mod LineChanges
 pub mod Amounts
 pub mod BumpSequence
-pub mod Paying
 pub mod Payment
 pub mod Sponsorships
 pub mod ManageData
@@ -32,7 +30,12 @@ pub mod LineFlags
 pub mod Clawbacks
 pub mod NewBalances
 pub mod Claims
+pub mod MoveSums
 pub mod TradeMoves
+pub mod Carrying
+pub mod Hopping
+pub mod PathPayments
+pub mod PathOperations
 pub mod PoolPayments
 pub mod Deposits
 pub mod Withdrawals

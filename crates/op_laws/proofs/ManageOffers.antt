@@ -30,7 +30,7 @@ use Rattle.legal_rules.specs.Trades.{holder}
 use Rattle.legal_rules.proofs.Given.{sponsors_ready}
 use Rattle.trade_cross.specs.Cancelling.{map_after_cancelling}
 use Rattle.trade_cross.specs.Crossing.{offer_key}
-use Rattle.op_form.specs.Done.{Done}
+use Rattle.op_form.specs.Done.{Done, OfAccount}
 use Rattle.op_offers.specs.declared.answers.Kind.TheVariants as kind
 use Rattle.op_offers.specs.declared.ask.Ask.{Ask}
 use Rattle.op_offers.specs.declared.fault.OfferFault.{OfferFault}
@@ -39,7 +39,8 @@ use Rattle.op_offers.specs.Asked.{ask_to_sell, ask_passively, ask_to_buy, is_mal
 use Rattle.op_offers.specs.Managing.{Effect, Made, Changed, Managed, Removed, drawn, of_sold, unless_some, unless_lines}
 use Rattle.op_offers.specs.Managing.{sell_fault, buy_fault, with_reserve, new_asked, made, old_asked, changed}
 use Rattle.op_offers.specs.Managing.{managed_old, managed_at, managed}
-use Rattle.op_offers.specs.Operations.{Answer, answer_of, success_answer, effect_of, moves_of, attempt_of_managed}
+use Rattle.op_form.specs.AtomMoves.{moves_of}
+use Rattle.op_offers.specs.Operations.{Answer, answer_of, success_answer, effect_of, attempt_of_managed}
 use Rattle.op_offers.specs.Operations.{attempt_of}
 use Rattle.op_offers.specs.Selling.{Asked, Sold, sold, map_without_offer}
 use Rattle.op_offers.proofs.NewOffers.{new_counted, new_left, new_rightly}
@@ -76,14 +77,14 @@ module _ (ctx : Ctx) (ask : Ask) (m : EntryMap) (under : IsUnderway ctx m) (stan
         result = result;
         entries = s.entries;
         ctx = after;
-        moves = moves_of ctx.op_source s.crossed.atoms;
+        moves = moves_of (OfAccount ctx.op_source) s.crossed.atoms;
       } in
       let same : made ≡ done = cc in
       subst (IsLawful ctx m) same (subst (λ x. IsLawful ctx m (record {
         result = result;
         entries = s.entries;
         ctx = after;
-        moves = moves_of x s.crossed.atoms;
+        moves = moves_of (OfAccount x) s.crossed.atoms;
       })) own (sale_is_lawful ctx next asked m now under ready s sale result))
 
   -- the lines pass their tests

@@ -65,7 +65,7 @@ use Rattle.op_laws.specs.Underway.{IsUnderway}
 use Rattle.legal_rules.proofs.ChargesLeft.{releasing_kept, erase_beside}
 use Rattle.op_laws.proofs.Lawful.{KeepsLegal, AreEachAfter, terms_kept, lawful_by}
 use Rattle.op_laws.proofs.Lumens.{lumens_move, lumens_told, none_issued}
-use Rattle.op_laws.proofs.Paying.{IsTaken, taken, taken_legal, taken_left}
+use Rattle.op_payment.proofs.Paying.{IsTaken, taken, taken_legal, taken_left}
 use Rattle.legal_rules.proofs.ReservesLeft.{pays_less}
 use Rattle.op_laws.proofs.Signers.{signer_kept, without_means}
 use Rattle.op_laws.proofs.SetOptions.{is_its_key}

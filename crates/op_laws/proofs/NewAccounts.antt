@@ -56,7 +56,7 @@ use Rattle.legal_rules.proofs.ChargesLeft.{payers_had, charging_kept, IsChargedF
 use Rattle.op_laws.proofs.Lawful.{KeepsLegal, lawful_here}
 use Rattle.op_laws.proofs.Lumens.{lumens_move, lumens_told, none_issued}
 use Rattle.legal_rules.proofs.Multiples.{still_available}
-use Rattle.op_laws.proofs.Paying.{IsGiven, not_less, given, given_legal, given_left, given_back}
+use Rattle.op_payment.proofs.Paying.{IsGiven, not_less, given, given_legal, given_left, given_back}
 use Rattle.legal_rules.proofs.ReservesLeft.{reserves_of, pays_more, paid_more}
 use Rattle.legal_rules.specs.Holdings.{IsKeyed, none_more, both_more, under_key, for_one, HoldsMore}
 use Rattle.legal_rules.proofs.Holdings.{none_before}

@@ -28,7 +28,8 @@ use Rattle.op_payment.specs.Payment.{payment_move, payment_tests, taken_and_give
 use Rattle.op_laws.specs.Laws.{IsLawful, AreLawful}
 use Rattle.op_laws.specs.Moves.{issued}
 use Rattle.op_laws.specs.Underway.{IsUnderway}
-use Rattle.op_laws.proofs.Amounts.{unless_issuer, shifts_as, shifts_both, amount_taken, amount_given}
+use Rattle.op_payment.proofs.Shifts.{unless_issuer, shifts_as, shifts_both}
+use Rattle.op_laws.proofs.Amounts.{amount_taken, amount_given}
 use Rattle.op_laws.proofs.IssuedMoves.{same_issuer, issued_so, issued_by_move}
 use Rattle.op_laws.proofs.Lawful.{lawful_here, lawful_with, shifted_after}
 use Rattle.op_laws.proofs.Lumens.{lumens_move, itself_told, none_issued}

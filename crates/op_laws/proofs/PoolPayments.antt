@@ -47,8 +47,9 @@ use Rattle.pool_shares.proofs.Sharing.{CanShare, both_of, sharing_legal, sharing
 use Rattle.pool_shares.proofs.Sound.{line_stands_so, pool_legal}
 use Rattle.op_form.specs.Done.{OfAccount, OfPool}
 use Rattle.op_pool.proofs.Fitting.{not_less, beside, second_beside}
-use Rattle.op_laws.proofs.Amounts.{IsMoved, unless_issuer}
-use Rattle.op_laws.proofs.Lawful.{ShiftsLegal}
+use Rattle.op_payment.proofs.Amounts.{IsMoved}
+use Rattle.op_payment.proofs.Shifts.{unless_issuer}
+use Rattle.op_payment.proofs.Shifts.{ShiftsLegal}
 use Rattle.op_laws.proofs.Told.{more_for, pool_more}
 use Rattle.op_laws.proofs.TradeMoves.{sum_if, holder_kept, holder_more}
 

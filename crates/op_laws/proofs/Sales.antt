@@ -1,5 +1,5 @@
 -- An operation that sells an offer is lawful, by what it does before the sale.
-use Rattle.std.proofs.Common.{◌≡◌, refl, ap, subst, ◌∙◌, ℕ, ◌+◌, ◌≤◌, zero, suc, Ok, arith}
+use Rattle.std.proofs.Common.{◌≡◌, refl, ap, subst, ◌∙◌, ℕ, ◌+◌, ◌≤◌, zero, suc, List, Ok, arith}
 use Rattle.std.specs.Prelude.{ℤ, pos, neg_ℤ, ◌+ℤ◌}
 use Rattle.ledger_types.specs.declared.asset.Asset.{Asset}
 use Rattle.ledger_types.specs.declared.asset.Asset.TheVariants as asset
@@ -17,9 +17,9 @@ use Rattle.legal_rules.specs.Sponsorships.{AreSponsorshipsSound}
 use Rattle.legal_rules.specs.Supply.{held}
 use Rattle.legal_rules.proofs.Leaving.{Leaves, leaves_as, keeps_then}
 use Rattle.trade_cross.specs.CrossingLaws.{kept_at, kept_in, more_in, AreTraded}
-use Rattle.op_form.specs.Done.{Done}
+use Rattle.op_form.specs.Done.{Done, Move, OfAccount}
 use Rattle.op_offers.specs.Managing.{drawn}
-use Rattle.op_offers.specs.Operations.{moves_of}
+use Rattle.op_form.specs.AtomMoves.{moves_of}
 use Rattle.op_offers.specs.Selling.{Asked, source_gives_at, source_takes_at, trade_of, Sold, sold}
 use Rattle.op_offers.specs.SellingLaws.{IsAskedRightly}
 use Rattle.op_offers.proofs.Sold.{selling_keeps}
@@ -29,7 +29,8 @@ use Rattle.op_laws.specs.Moves.{issued}
 use Rattle.op_laws.specs.Underway.{IsUnderway, AreDrawn}
 use Rattle.op_laws.proofs.Issued.{plus_assoc}
 use Rattle.op_laws.proofs.Lawful.{DrawsLegal, lawful_drawn, sound_after}
-use Rattle.op_laws.proofs.TradeMoves.{moved_by, moves_tell, moved_more, moved_supply}
+use Rattle.op_laws.proofs.MoveSums.{moved_more}
+use Rattle.op_laws.proofs.TradeMoves.{moves_tell, more_by_moves, moved_supply}
 
 -- one id is drawn at most
 one_drawn : (id_pool next amount : ℕ) → id_pool ≤ next → next ≤ id_pool + 1
@@ -64,8 +65,10 @@ module _ (ctx : Ctx) (next : ℕ) (asked : Asked) (old m : EntryMap) (under : Is
       kept_at x (source_gives_at asked) asked.offer.selling (neg_ℤ (pos s.crossed.sheep))
       +ℤ kept_at x (source_takes_at asked) asked.offer.buying (pos s.crossed.wheat)
 
-  shifts : DrawsLegal ctx.id_pool after.id_pool (λ x. issued x (moves_of asked.offer.seller_id s.crossed.atoms)) old
-      s.entries
+  abbrev moves : List Move
+  moves = moves_of (OfAccount asked.offer.seller_id) s.crossed.atoms
+
+  shifts : DrawsLegal ctx.id_pool after.id_pool (λ x. issued x moves) old s.entries
   shifts v sum legal = subst (λ n. IsLegalOwing v after.id_pool nothing_owed n s.entries)
       (plus_assoc sum (kept_in v.asset s.crossed.atoms) (source_kept v.asset)
       ∙ ap (λ n. sum +ℤ n)
@@ -73,16 +76,16 @@ module _ (ctx : Ctx) (next : ℕ) (asked : Asked) (old m : EntryMap) (under : Is
       (selling_keeps v ctx.id_pool next ctx.base_reserve sum asked m s (ready.counted v sum legal) ready.low
       ready.right sale)
 
-  leaves : Leaves ctx.base_reserve (moved_by asked.offer.seller_id s.crossed.atoms) old s.entries
-  leaves = keeps_then ctx.base_reserve (moved_by asked.offer.seller_id s.crossed.atoms) old m s.entries ready.left
+  leaves : Leaves ctx.base_reserve (moved_more moves) old s.entries
+  leaves = keeps_then ctx.base_reserve (moved_more moves) old m s.entries ready.left
       (leaves_as ctx.base_reserve
       (both_more (more_in s.crossed.atoms)
       (both_more (more_at (source_gives_at asked) asked.offer.selling (neg_ℤ (pos s.crossed.sheep)))
       (more_at (source_takes_at asked) asked.offer.buying (pos s.crossed.wheat))))
-      (moved_by asked.offer.seller_id s.crossed.atoms) m s.entries
+      (moved_more moves) m s.entries
       (selling_left_so (view old) ctx.id_pool next ctx.base_reserve (total (held asset.Native) old) asked m its_legal
       ready.low ready.right s sale)
-      (moved_more (trade_of ctx.base_reserve asked m) asked.offer.seller_id s.crossed traded))
+      (more_by_moves (trade_of ctx.base_reserve asked m) asked.offer.seller_id s.crossed traded))
 
   sound : AreSponsorshipsSound after s.entries
   sound =
@@ -93,16 +96,16 @@ module _ (ctx : Ctx) (next : ℕ) (asked : Asked) (old m : EntryMap) (under : Is
     result = result;
     entries = s.entries;
     ctx = after;
-    moves = moves_of asked.offer.seller_id s.crossed.atoms;
+    moves = moves;
   })
   sale_is_lawful result =
       let done : Done = record {
         result = result;
         entries = s.entries;
         ctx = after;
-        moves = moves_of asked.offer.seller_id s.crossed.atoms;
+        moves = moves;
       } in
-      lawful_drawn ctx old under (moved_by asked.offer.seller_id s.crossed.atoms) done shifts leaves.each leaves.holds
+      lawful_drawn ctx old under (moved_more moves) done shifts leaves.each leaves.holds
       (moves_tell asked.offer.seller_id s.crossed.atoms)
       (record {
         seq = refl;

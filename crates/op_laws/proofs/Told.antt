@@ -215,7 +215,7 @@ end_tells x held q h placed n other = elim (is_eq (asset_cmp x held)) as (λ b. 
 
 -- ---- a move
 
-more_both : (d e : Increase) (x : Asset) (o : Option LedgerKey)
+pub more_both : (d e : Increase) (x : Asset) (o : Option LedgerKey)
     → more_at (both_more d e) x o ≡ (more_at d x o +ℤ more_at e x o)
 more_both d e x None = refl
 more_both d e x (Some k) = refl

@@ -1,10 +1,11 @@
--- What the moves of offers that are crossed tell of each holder, and what they issue.
-use Rattle.std.proofs.Common.{◌≡◌, refl, sym, ap, ◌∙◌, Bool, true, false, All, List, [], ◌∷◌, Option, Some, None, arith}
+-- What the moves of trades tell of each holder, and what they issue.
+use Rattle.std.proofs.Common.{◌≡◌, refl, sym, ap, ◌∙◌, Bool, true, false, All, List, [], ◌∷◌, ◌++◌, Option, Some, None, arith}
 use Rattle.std.proofs.lemmas.Int.{ints}
 use Rattle.std.proofs.lemmas.List.Elements.{All-head, All-tail}
 use Rattle.std.specs.Prelude.{ℤ, pos, neg_ℤ, ◌+ℤ◌, if◌then◌else◌}
 use Rattle.std.specs.Ordering.{is_eq}
 use Rattle.ledger_types.specs.declared.ids.AccountId.{AccountId}
+use Rattle.ledger_types.specs.declared.ids.Hash.{Hash}
 use Rattle.ledger_types.specs.declared.asset.Asset.{Asset}
 use Rattle.ledger_types.specs.declared.asset.Asset.TheVariants as asset
 use Rattle.ledger_types.specs.declared.asset.TrustLineAsset.TheVariants as line
@@ -15,46 +16,36 @@ use Rattle.ledger_types.specs.declared.key.LedgerKey.TheVariants as key
 use Rattle.ledger_types.specs.KeyOrder.{asset_cmp}
 use Rattle.sponsor_rules.specs.Payers.{is_same_account}
 use Rattle.legal_rules.specs.EntryKeys.{is_key}
-use Rattle.legal_rules.specs.Holdings.{Increase, under_key, both_more, more_at as more_where}
+use Rattle.legal_rules.specs.Holdings.{under_key, both_more, more_at as more_where}
 use Rattle.legal_rules.specs.Supply.{of_asset}
 use Rattle.legal_rules.specs.Trades.{holder}
-use Rattle.op_form.specs.Done.{OfAccount}
-use Rattle.op_form.specs.Assets.{is_issued_by}
-use Rattle.op_offers.specs.Operations.{moves_of}
+use Rattle.op_form.specs.AtomMoves.{moves_of, trade_moves}
+use Rattle.op_form.specs.Done.{Holder, OfAccount, OfPool, Move}
 use Rattle.trade_cross.specs.declared.trade.Trade.{Trade}
 use Rattle.trade_cross.specs.Crossing.{Crossing}
 use Rattle.trade_cross.specs.CrossingLaws.{kept_at, kept_in, more_in, sold_in, bought_in, IsOfTrade, AreTraded}
+use Rattle.trade_cross.specs.HopLaws.{IsOfHop}
 use Rattle.op_laws.specs.Moves.{is_issuer, place_of, issued}
-use Rattle.op_laws.proofs.Amounts.{unless_issuer}
-use Rattle.op_laws.proofs.Issued.{issued_behind}
-use Rattle.op_laws.proofs.Payment.{asset_move, paid_issued}
+use Rattle.op_payment.proofs.Shifts.{unless_issuer}
+use Rattle.op_laws.proofs.IssuedMoves.{same_issuer}
+use Rattle.op_laws.proofs.MoveSums.{Measure, summed, held_by, more_by, moved_more, sum_issued}
 use Rattle.op_laws.proofs.Told.{Tells, tells_nothing, tells_both, at_place, more_for, moved, move_tells, account_more}
-use Rattle.op_laws.proofs.Told.{account_place}
+use Rattle.op_laws.proofs.Told.{HasPlace, account_place, pool_place, pool_more}
 
 -- ---- a measure of amounts
 
--- what an account that has so much more of an asset adds to a sum
-abbrev Measure : Type 0
-Measure = Asset → AccountId → ℤ → ℤ
-
 -- An amount counts as its parts do.
-abbrev IsLinear : Measure → Type 0
-IsLinear by = (held : Asset) (id : AccountId) (a b : ℤ) → by held id (a +ℤ b) ≡ (by held id a +ℤ by held id b)
+abbrev pub IsLinear : Measure → Type 0
+IsLinear by = (held : Asset) (h : Holder) (a b : ℤ) → by held h (a +ℤ b) ≡ (by held h a +ℤ by held h b)
 
--- what each end of the moves of atoms adds
-abbrev ends : Measure → AccountId → List ClaimAtom → ℤ
-ends by source [] = pos 0
-ends by source (atom.OrderBook seller id sold n bought k ∷ atoms) =
-    ((by sold source n +ℤ by sold seller (neg_ℤ n)) +ℤ (by bought seller k +ℤ by bought source (neg_ℤ k)))
-    +ℤ ends by source atoms
-ends by source (other ∷ atoms) = ends by source atoms
-
--- what the sellers add
-abbrev sellers : Measure → List ClaimAtom → ℤ
-sellers by [] = pos 0
-sellers by (atom.OrderBook seller id sold n bought k ∷ atoms) =
-    (by sold seller (neg_ℤ n) +ℤ by bought seller k) +ℤ sellers by atoms
-sellers by (other ∷ atoms) = pos 0 +ℤ sellers by atoms
+-- what the sellers and the pools add
+abbrev pub others : Measure → List ClaimAtom → ℤ
+others by [] = pos 0
+others by (atom.OrderBook seller id sold n bought k ∷ atoms) =
+    (by sold (OfAccount seller) (neg_ℤ n) +ℤ by bought (OfAccount seller) k) +ℤ others by atoms
+others by (atom.LiquidityPool pool sold n bought k ∷ atoms) =
+    (by sold (OfPool pool) (neg_ℤ n) +ℤ by bought (OfPool pool) k) +ℤ others by atoms
+others by (other ∷ atoms) = pos 0 +ℤ others by atoms
 
 nothing_of : (n : ℤ) → n ≡ (n +ℤ n) → n ≡ pos 0
 nothing_of n is = omega (arith, ints)
@@ -66,41 +57,53 @@ neg_sum : (k n : ℤ) → neg_ℤ (k +ℤ n) ≡ (neg_ℤ k +ℤ neg_ℤ n)
 neg_sum k n = omega (arith, ints)
 
 sold_also : (a b c d r s u v w y : ℤ) → r ≡ (s +ℤ (u +ℤ v)) → w ≡ (d +ℤ u) → y ≡ (a +ℤ v)
-    → (((a +ℤ b) +ℤ (c +ℤ d)) +ℤ r) ≡ (((b +ℤ c) +ℤ s) +ℤ (w +ℤ y))
+    → ((a +ℤ b) +ℤ ((c +ℤ d) +ℤ r)) ≡ (((b +ℤ c) +ℤ s) +ℤ (w +ℤ y))
 sold_also a b c d r s u v w y rest sent got = omega (arith, ints)
 
-module _ (by : Measure) (linear : IsLinear by) (trade : Trade) (source : AccountId) where
-  none_by : (held : Asset) → by held source (pos 0) ≡ pos 0
-  none_by held = nothing_of (by held source (pos 0)) (linear held source (pos 0) (pos 0))
+pub of_hop : (trade : Trade) (one : ClaimAtom) → IsOfTrade trade one → IsOfHop trade one
+of_hop trade (atom.OrderBook seller id sold n bought k) is = is
+of_hop trade (atom.LiquidityPool pool sold n bought k) is = absurd is
+of_hop trade (atom.V0 seller id sold n bought k) is = absurd is
 
-  -- what the sellers add, and what the source adds, which sends all that was bought and gets all that was sold
-  ends_are : (atoms : List ClaimAtom) → All (IsOfTrade trade) atoms
-      → ends by source atoms ≡ (sellers by atoms
-      +ℤ (by trade.sheep source (neg_ℤ (bought_in atoms)) +ℤ by trade.wheat source (sold_in atoms)))
-  ends_are [] all = none_sold (by trade.sheep source (pos 0)) (by trade.wheat source (pos 0)) (none_by trade.sheep)
+module _ (by : Measure) (linear : IsLinear by) (trade : Trade) (taker : Holder) where
+  none_by : (held : Asset) → by held taker (pos 0) ≡ pos 0
+  none_by held = nothing_of (by held taker (pos 0)) (linear held taker (pos 0) (pos 0))
+
+  -- one trade more
+  traded_also : (h : Holder) (sold bought : Asset) (n k : ℤ) (atoms : List ClaimAtom) → sold ≡ trade.wheat
+      → bought ≡ trade.sheep
+      → summed by (moves_of taker atoms) ≡ (others by atoms
+      +ℤ (by trade.sheep taker (neg_ℤ (bought_in atoms)) +ℤ by trade.wheat taker (sold_in atoms)))
+      → ((by sold taker n +ℤ by sold h (neg_ℤ n)) +ℤ ((by bought h k +ℤ by bought taker (neg_ℤ k))
+      +ℤ summed by (moves_of taker atoms)))
+      ≡ (((by sold h (neg_ℤ n) +ℤ by bought h k) +ℤ others by atoms)
+      +ℤ (by trade.sheep taker (neg_ℤ (k +ℤ bought_in atoms)) +ℤ by trade.wheat taker (n +ℤ sold_in atoms)))
+  traded_also h sold bought n k atoms is_wheat is_sheep rest =
+      sold_also (by sold taker n) (by sold h (neg_ℤ n)) (by bought h k) (by bought taker (neg_ℤ k))
+      (summed by (moves_of taker atoms)) (others by atoms) (by trade.sheep taker (neg_ℤ (bought_in atoms)))
+      (by trade.wheat taker (sold_in atoms)) (by trade.sheep taker (neg_ℤ (k +ℤ bought_in atoms)))
+      (by trade.wheat taker (n +ℤ sold_in atoms)) rest
+      (ap (by trade.sheep taker) (neg_sum k (bought_in atoms))
+      ∙ linear trade.sheep taker (neg_ℤ k) (neg_ℤ (bought_in atoms))
+      ∙ ap (λ held. by held taker (neg_ℤ k) +ℤ by trade.sheep taker (neg_ℤ (bought_in atoms))) (sym is_sheep))
+      (linear trade.wheat taker n (sold_in atoms)
+      ∙ ap (λ held. by held taker n +ℤ by trade.wheat taker (sold_in atoms)) (sym is_wheat))
+
+  -- what the others add, and what the taker adds, which sends all that was bought and gets all that was sold
+  pub sum_of_atoms : (atoms : List ClaimAtom) → All (IsOfHop trade) atoms
+      → summed by (moves_of taker atoms) ≡ (others by atoms
+      +ℤ (by trade.sheep taker (neg_ℤ (bought_in atoms)) +ℤ by trade.wheat taker (sold_in atoms)))
+  sum_of_atoms [] all = none_sold (by trade.sheep taker (pos 0)) (by trade.wheat taker (pos 0)) (none_by trade.sheep)
       (none_by trade.wheat)
-  ends_are (atom.OrderBook seller id sold n bought k ∷ atoms) all =
-      let one = All-head (IsOfTrade trade) (atom.OrderBook seller id sold n bought k) atoms all in
-      let rest = ends_are atoms
-      (All-tail (IsOfTrade trade) (atom.OrderBook seller id sold n bought k) atoms all) in
-      sold_also (by sold source n) (by sold seller (neg_ℤ n)) (by bought seller k) (by bought source (neg_ℤ k))
-      (ends by source atoms) (sellers by atoms) (by trade.sheep source (neg_ℤ (bought_in atoms)))
-      (by trade.wheat source (sold_in atoms)) (by trade.sheep source (neg_ℤ (k +ℤ bought_in atoms)))
-      (by trade.wheat source (n +ℤ sold_in atoms)) rest
-      (ap (by trade.sheep source) (neg_sum k (bought_in atoms))
-      ∙ linear trade.sheep source (neg_ℤ k) (neg_ℤ (bought_in atoms))
-      ∙ ap (λ held. by held source (neg_ℤ k) +ℤ by trade.sheep source (neg_ℤ (bought_in atoms))) (sym one.2))
-      (linear trade.wheat source n (sold_in atoms)
-      ∙ ap (λ held. by held source n +ℤ by trade.wheat source (sold_in atoms)) (sym one.1))
-  ends_are (other ∷ atoms) all = absurd (All-head (IsOfTrade trade) other atoms all)
-
-  -- the same by what the trade comes to
-  ends_of : (done : Crossing) → AreTraded trade done → ends by source done.atoms ≡ (sellers by done.atoms
-      +ℤ (by trade.sheep source (neg_ℤ (pos done.sheep)) +ℤ by trade.wheat source (pos done.wheat)))
-  ends_of done traded =
-      ends_are done.atoms traded.each
-      ∙ (λ i. sellers by done.atoms
-      +ℤ (by trade.sheep source (neg_ℤ (traded.sheep i)) +ℤ by trade.wheat source (traded.wheat i)))
+  sum_of_atoms (atom.OrderBook seller id sold n bought k ∷ atoms) all =
+      let one = All-head (IsOfHop trade) (atom.OrderBook seller id sold n bought k) atoms all in
+      traded_also (OfAccount seller) sold bought n k atoms one.1 one.2 (sum_of_atoms atoms
+      (All-tail (IsOfHop trade) (atom.OrderBook seller id sold n bought k) atoms all))
+  sum_of_atoms (atom.LiquidityPool pool sold n bought k ∷ atoms) all =
+      let one = All-head (IsOfHop trade) (atom.LiquidityPool pool sold n bought k) atoms all in
+      traded_also (OfPool pool) sold bought n k atoms one.1 one.2 (sum_of_atoms atoms
+      (All-tail (IsOfHop trade) (atom.LiquidityPool pool sold n bought k) atoms all))
+  sum_of_atoms (other ∷ atoms) all = absurd (All-head (IsOfHop trade) other atoms all)
 
 -- ---- measures
 
@@ -114,18 +117,10 @@ sum_unless : (t : Bool) (a b c : ℤ) → c ≡ (a +ℤ b)
 sum_unless true a b c is = refl
 sum_unless false a b c is = is
 
--- what is held in all, where no issuer's part counts
-abbrev held_by : Asset → Measure
-held_by x held id n = unless_issuer x held id n
-
-held_linear : (x : Asset) → IsLinear (held_by x)
-held_linear x held id a b =
-    sum_unless (is_issued_by held id) (of_asset x held a) (of_asset x held b) (of_asset x held (a +ℤ b))
+pub held_linear : (x : Asset) → IsLinear (held_by x)
+held_linear x held h a b =
+    sum_unless (is_issuer held h) (of_asset x held a) (of_asset x held b) (of_asset x held (a +ℤ b))
     (sum_if (is_eq (asset_cmp x held)) a b)
-
--- what the entry under a key holds of an asset
-abbrev more_by : LedgerKey → Asset → Measure
-more_by k x held id n = more_for held (OfAccount id) n k x
 
 sum_at : (o : Option LedgerKey) (held : Asset) (a b : ℤ) (k : LedgerKey) (x : Asset)
     → at_place o (λ y. of_asset y held (a +ℤ b)) k x
@@ -135,13 +130,12 @@ sum_at (Some at) held a b k x =
     ap (λ n. if is_key k at then n else pos 0) (sum_if (is_eq (asset_cmp x held)) a b)
     ∙ sum_if (is_key k at) (of_asset x held a) (of_asset x held b)
 
-more_linear : (k : LedgerKey) (x : Asset) → IsLinear (more_by k x)
-more_linear k x held id a b =
-    sum_unless (is_issuer held (OfAccount id))
-    (at_place (place_of held (OfAccount id)) (λ y. of_asset y held a) k x)
-    (at_place (place_of held (OfAccount id)) (λ y. of_asset y held b) k x)
-    (at_place (place_of held (OfAccount id)) (λ y. of_asset y held (a +ℤ b)) k x)
-    (sum_at (place_of held (OfAccount id)) held a b k x)
+pub more_linear : (k : LedgerKey) (x : Asset) → IsLinear (more_by k x)
+more_linear k x held h a b =
+    sum_unless (is_issuer held h) (at_place (place_of held h) (λ y. of_asset y held a) k x)
+    (at_place (place_of held h) (λ y. of_asset y held b) k x)
+    (at_place (place_of held h) (λ y. of_asset y held (a +ℤ b)) k x)
+    (sum_at (place_of held h) held a b k x)
 
 -- ---- where accounts have assets
 
@@ -174,77 +168,97 @@ holder_more (asset.Alphanum12 code issuer) id n k x =
     more_unless (is_same_account issuer id) (asset.Alphanum12 code issuer)
     (key.TrustLine id (line.Alphanum12 code issuer)) n k x ∙ account_more (asset.Alphanum12 code issuer) refl id n k x
 
-sellers_kept : (x : Asset) (atoms : List ClaimAtom) → kept_in x atoms ≡ sellers (held_by x) atoms
-sellers_kept x [] = refl
-sellers_kept x (atom.OrderBook seller id sold n bought k ∷ atoms) =
-    λ i. (holder_kept x sold seller (neg_ℤ n) i +ℤ holder_kept x bought seller k i) +ℤ sellers_kept x atoms i
-sellers_kept x (other ∷ atoms) = ap (λ n. pos 0 +ℤ n) (sellers_kept x atoms)
+pub account_held : (x held : Asset) (id : AccountId) (n : ℤ)
+    → unless_issuer x held id n ≡ held_by x held (OfAccount id) n
+account_held x held id n = ap (λ b. if b then pos 0 else of_asset x held n) (same_issuer held id)
 
-sellers_more : (k : LedgerKey) (x : Asset) (atoms : List ClaimAtom) → more_in atoms k x ≡ sellers (more_by k x) atoms
-sellers_more k x [] = refl
-sellers_more k x (atom.OrderBook seller id sold n bought j ∷ atoms) =
-    λ i. (holder_more sold seller (neg_ℤ n) k x i +ℤ holder_more bought seller j k x i) +ℤ sellers_more k x atoms i
-sellers_more k x (other ∷ atoms) = ap (λ n. pos 0 +ℤ n) (sellers_more k x atoms)
+pool_held : (x held : Asset) (id : Hash) (n : ℤ) → of_asset x held n ≡ held_by x held (OfPool id) n
+pool_held x asset.Native id n = refl
+pool_held x (asset.Alphanum4 code issuer) id n = refl
+pool_held x (asset.Alphanum12 code issuer) id n = refl
 
--- ---- what is told
+pub others_kept : (x : Asset) (atoms : List ClaimAtom) → kept_in x atoms ≡ others (held_by x) atoms
+others_kept x [] = refl
+others_kept x (atom.OrderBook seller id sold n bought k ∷ atoms) =
+    λ i. ((holder_kept x sold seller (neg_ℤ n) ∙ account_held x sold seller (neg_ℤ n)) i
+    +ℤ (holder_kept x bought seller k ∙ account_held x bought seller k) i) +ℤ others_kept x atoms i
+others_kept x (atom.LiquidityPool pool sold n bought k ∷ atoms) =
+    λ i. (pool_held x sold pool (neg_ℤ n) i +ℤ pool_held x bought pool k i) +ℤ others_kept x atoms i
+others_kept x (other ∷ atoms) = ap (λ n. pos 0 +ℤ n) (others_kept x atoms)
 
--- what entries hold more by the moves of atoms
-abbrev pub moved_by : AccountId → List ClaimAtom → Increase
-moved_by source atoms k x = ends (more_by k x) source atoms
+pub others_more : (k : LedgerKey) (x : Asset) (atoms : List ClaimAtom) → more_in atoms k x ≡ others (more_by k x) atoms
+others_more k x [] = refl
+others_more k x (atom.OrderBook seller id sold n bought j ∷ atoms) =
+    λ i. (holder_more sold seller (neg_ℤ n) k x i +ℤ holder_more bought seller j k x i) +ℤ others_more k x atoms i
+others_more k x (atom.LiquidityPool pool sold n bought j ∷ atoms) =
+    λ i. (pool_more sold pool (neg_ℤ n) k x i +ℤ pool_more bought pool j k x i) +ℤ others_more k x atoms i
+others_more k x (other ∷ atoms) = ap (λ n. pos 0 +ℤ n) (others_more k x atoms)
+
+-- ---- what an account that takes is told
+
+trade_tells : (taker other : Holder) (sold bought : Asset) (n k : ℤ) (moves : List Move) → HasPlace sold taker
+    → HasPlace sold other → HasPlace bought taker → HasPlace bought other → Tells (moved_more moves) moves
+    → Tells (moved_more (trade_moves taker other sold n bought k ++ moves))
+    (trade_moves taker other sold n bought k ++ moves)
+trade_tells taker other sold bought n k moves here there back forth rest =
+    let gives : Move = record { from = other; to = taker; asset = sold; amount = n } in
+    let takes : Move = record { from = taker; to = other; asset = bought; amount = k } in
+    tells_both (moved sold other taker n) (both_more (moved bought taker other k) (moved_more moves)) (gives ∷ [])
+    (takes ∷ moves) (move_tells sold other taker n there here)
+    (tells_both (moved bought taker other k) (moved_more moves) (takes ∷ []) moves
+    (move_tells bought taker other k back forth) rest)
 
 -- The moves tell of each holder what its entry holds more.
-pub moves_tell : (source : AccountId) (atoms : List ClaimAtom) → Tells (moved_by source atoms) (moves_of source atoms)
+pub moves_tell : (source : AccountId) (atoms : List ClaimAtom)
+    → Tells (moved_more (moves_of (OfAccount source) atoms)) (moves_of (OfAccount source) atoms)
 moves_tell source [] = tells_nothing
 moves_tell source (atom.OrderBook seller id sold n bought k ∷ atoms) =
-    let gives = asset_move seller source sold n in
-    let takes = asset_move source seller bought k in
-    let got = moved sold (OfAccount seller) (OfAccount source) n in
-    let sent = moved bought (OfAccount source) (OfAccount seller) k in
-    tells_both (both_more got sent) (moved_by source atoms) (gives ∷ takes ∷ []) (moves_of source atoms)
-    (tells_both got sent (gives ∷ []) (takes ∷ [])
-    (move_tells sold (OfAccount seller) (OfAccount source) n (account_place sold seller) (account_place sold source))
-    (move_tells bought (OfAccount source) (OfAccount seller) k (account_place bought source)
-    (account_place bought seller)))
+    trade_tells (OfAccount source) (OfAccount seller) sold bought n k (moves_of (OfAccount source) atoms)
+    (account_place sold source) (account_place sold seller) (account_place bought source) (account_place bought seller)
     (moves_tell source atoms)
-moves_tell source (other ∷ atoms) = moves_tell source atoms
+moves_tell source (atom.LiquidityPool pool sold n bought k ∷ atoms) =
+    trade_tells (OfAccount source) (OfPool pool) sold bought n k (moves_of (OfAccount source) atoms)
+    (account_place sold source) (pool_place sold pool) (account_place bought source) (pool_place bought pool)
+    (moves_tell source atoms)
+moves_tell source (atom.V0 seller id sold n bought k ∷ atoms) = moves_tell source atoms
+
+all_of_hop : (trade : Trade) (atoms : List ClaimAtom) → All (IsOfTrade trade) atoms → All (IsOfHop trade) atoms
+all_of_hop trade atoms all = λ k d lt. of_hop trade _ (all k d lt)
+
+-- the same by what the trade comes to
+sum_of : (by : Measure) → IsLinear by → (trade : Trade) (source : AccountId) (done : Crossing) → AreTraded trade done
+    → summed by (moves_of (OfAccount source) done.atoms) ≡ (others by done.atoms
+    +ℤ (by trade.sheep (OfAccount source) (neg_ℤ (pos done.sheep))
+    +ℤ by trade.wheat (OfAccount source) (pos done.wheat)))
+sum_of by linear trade source done traded =
+    sum_of_atoms by linear trade (OfAccount source) done.atoms (all_of_hop trade done.atoms traded.each)
+    ∙ (λ i. others by done.atoms
+    +ℤ (by trade.sheep (OfAccount source) (neg_ℤ (traded.sheep i))
+    +ℤ by trade.wheat (OfAccount source) (traded.wheat i)))
 
 -- What sellers hold more, and what the source holds more, is what the moves say.
-pub moved_more : (trade : Trade) (source : AccountId) (done : Crossing) → AreTraded trade done
+pub more_by_moves : (trade : Trade) (source : AccountId) (done : Crossing) → AreTraded trade done
     → (k : LedgerKey) (x : Asset)
     → both_more (more_in done.atoms)
     (both_more (more_where (holder source trade.sheep) trade.sheep (neg_ℤ (pos done.sheep)))
     (more_where (holder source trade.wheat) trade.wheat (pos done.wheat))) k x
-    ≡ moved_by source done.atoms k x
-moved_more trade source done traded k x =
-    (λ i. sellers_more k x done.atoms i
+    ≡ moved_more (moves_of (OfAccount source) done.atoms) k x
+more_by_moves trade source done traded k x =
+    (λ i. others_more k x done.atoms i
     +ℤ (holder_more trade.sheep source (neg_ℤ (pos done.sheep)) k x i
     +ℤ holder_more trade.wheat source (pos done.wheat) k x i))
-    ∙ sym (ends_of (more_by k x) (more_linear k x) trade source done traded)
-
--- ---- what is issued
-
-moves_issue : (x : Asset) (source : AccountId) (atoms : List ClaimAtom)
-    → ends (held_by x) source atoms ≡ issued x (moves_of source atoms)
-unfolding issued
-moves_issue x source [] = refl
-moves_issue x source (atom.OrderBook seller id sold n bought k ∷ atoms) =
-    let gives = asset_move seller source sold n in
-    let takes = asset_move source seller bought k in
-    (λ i. (paid_issued x sold seller source n i +ℤ paid_issued x bought source seller k i)
-    +ℤ moves_issue x source atoms i)
-    ∙ ap (λ z. z +ℤ issued x (moves_of source atoms)) (sym (issued_behind x (gives ∷ []) (takes ∷ [])))
-    ∙ sym (issued_behind x (gives ∷ takes ∷ []) (moves_of source atoms))
-moves_issue x source (other ∷ atoms) = moves_issue x source atoms
+    ∙ sym (sum_of (more_by k x) (more_linear k x) trade source done traded)
 
 -- What is held more in all is what the moves issue.
 pub moved_supply : (trade : Trade) (source : AccountId) (done : Crossing) → AreTraded trade done → (x : Asset)
     → (kept_in x done.atoms
     +ℤ (kept_at x (holder source trade.sheep) trade.sheep (neg_ℤ (pos done.sheep))
     +ℤ kept_at x (holder source trade.wheat) trade.wheat (pos done.wheat)))
-    ≡ issued x (moves_of source done.atoms)
+    ≡ issued x (moves_of (OfAccount source) done.atoms)
 moved_supply trade source done traded x =
-    (λ i. sellers_kept x done.atoms i
-    +ℤ (holder_kept x trade.sheep source (neg_ℤ (pos done.sheep)) i
-    +ℤ holder_kept x trade.wheat source (pos done.wheat) i))
-    ∙ sym (ends_of (held_by x) (held_linear x) trade source done traded)
-    ∙ moves_issue x source done.atoms
+    (λ i. others_kept x done.atoms i
+    +ℤ ((holder_kept x trade.sheep source (neg_ℤ (pos done.sheep))
+    ∙ account_held x trade.sheep source (neg_ℤ (pos done.sheep))) i
+    +ℤ (holder_kept x trade.wheat source (pos done.wheat) ∙ account_held x trade.wheat source (pos done.wheat)) i))
+    ∙ sym (sum_of (held_by x) (held_linear x) trade source done traded)
+    ∙ sum_issued x (moves_of (OfAccount source) done.atoms)

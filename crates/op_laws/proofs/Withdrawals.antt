@@ -38,7 +38,8 @@ use Rattle.op_pool.proofs.Fitting.{not_less}
 use Rattle.op_laws.specs.Laws.{IsLawful, AreLawful}
 use Rattle.op_laws.specs.Moves.{issued}
 use Rattle.op_laws.specs.Underway.{IsUnderway}
-use Rattle.op_laws.proofs.Amounts.{IsMoved, unless_issuer, shifts_as}
+use Rattle.op_payment.proofs.Amounts.{IsMoved}
+use Rattle.op_payment.proofs.Shifts.{unless_issuer, shifts_as}
 use Rattle.op_laws.proofs.AsideMoves.{pool_issues_none, taken_back_issued}
 use Rattle.op_laws.proofs.Claims.{at_least_one}
 use Rattle.op_laws.proofs.Issued.{issued_behind}

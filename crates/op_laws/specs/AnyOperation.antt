@@ -1,12 +1,10 @@
 -- What an operation does, by its type: each type is defined in the crate of its kind (OperationFrame::makeHelper in
 -- stellar-core).
-use Rattle.std.specs.Prelude.{Err}
 use Rattle.op_types.specs.declared.operation.OperationBody.{OperationBody}
 use Rattle.op_types.specs.declared.operation.OperationBody.TheVariants as body
-use Rattle.op_types.specs.declared.operation_result.OperationResult.TheVariants.{NotSupported}
 use Rattle.entry_map.specs.EntryMap.{EntryMap}
 use Rattle.sponsor_rules.specs.declared.context.Ctx.{Ctx}
-use Rattle.op_form.specs.Done.{Done, done_of}
+use Rattle.op_form.specs.Done.{Done}
 use Rattle.op_account.specs.Operations.{account_operation}
 use Rattle.op_claim.specs.Operations.{claim_operation}
 use Rattle.op_flags.specs.Operations.{flags_operation}
@@ -17,7 +15,6 @@ use Rattle.op_pool.specs.Operations.{pool_operation}
 use Rattle.op_sponsor.specs.Operations.{sponsor_operation}
 use Rattle.op_trust.specs.Operations.{trust_operation}
 
--- Path payments are not supported yet.
 unfoldable pub any_operation : Ctx → OperationBody → EntryMap → Done
 any_operation ctx (body.CreateAccount op) m = account_operation ctx (body.CreateAccount op) m
 any_operation ctx (body.AccountMerge op) m = account_operation ctx (body.AccountMerge op) m
@@ -29,6 +26,8 @@ any_operation ctx (body.ManageBuyOffer op) m = offers_operation ctx (body.Manage
 any_operation ctx (body.SetOptions op) m = options_operation ctx (body.SetOptions op) m
 any_operation ctx (body.ManageData op) m = options_operation ctx (body.ManageData op) m
 any_operation ctx (body.Payment op) m = payment_operation ctx (body.Payment op) m
+any_operation ctx (body.PathPaymentStrictReceive op) m = payment_operation ctx (body.PathPaymentStrictReceive op) m
+any_operation ctx (body.PathPaymentStrictSend op) m = payment_operation ctx (body.PathPaymentStrictSend op) m
 any_operation ctx (body.ChangeTrust op) m = trust_operation ctx (body.ChangeTrust op) m
 any_operation ctx (body.AllowTrust op) m = flags_operation ctx (body.AllowTrust op) m
 any_operation ctx (body.SetTrustLineFlags op) m = flags_operation ctx (body.SetTrustLineFlags op) m
@@ -42,4 +41,3 @@ any_operation ctx body.EndSponsoringFutureReserves m = sponsor_operation ctx bod
 any_operation ctx (body.RevokeSponsorship op) m = sponsor_operation ctx (body.RevokeSponsorship op) m
 any_operation ctx (body.LiquidityPoolDeposit op) m = pool_operation ctx (body.LiquidityPoolDeposit op) m
 any_operation ctx (body.LiquidityPoolWithdraw op) m = pool_operation ctx (body.LiquidityPoolWithdraw op) m
-any_operation ctx other m = done_of ctx m (Err NotSupported)

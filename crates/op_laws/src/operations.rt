@@ -6,6 +6,8 @@ ghost use Rattle.op_account.specs.BumpSequence.{bump_sequence};
 ghost use Rattle.op_options.specs.SetOptions.{set_options};
 ghost use Rattle.op_options.specs.ManageData.{manage_data};
 ghost use Rattle.op_offers.specs.Operations.{attempt_of};
+ghost use Rattle.op_payment.specs.PathReceive.{path_payment_strict_receive};
+ghost use Rattle.op_payment.specs.PathSend.{path_payment_strict_send};
 ghost use Rattle.op_payment.specs.Payment.{payment};
 ghost use Rattle.op_sponsor.specs.BeginSponsoringFutureReserves.{begin_sponsoring};
 ghost use Rattle.op_sponsor.specs.RevokeSponsorship.{revoke_sponsorship};
@@ -54,6 +56,16 @@ pub fn manage_data_is_lawful()
 /// Each PAYMENT that succeeds is lawful.
 pub fn payment_is_lawful()
     ensures { AreLawful payment }
+{}
+
+/// Each PATH_PAYMENT_STRICT_RECEIVE that succeeds is lawful.
+pub fn path_payment_strict_receive_is_lawful()
+    ensures { AreLawful path_payment_strict_receive }
+{}
+
+/// Each PATH_PAYMENT_STRICT_SEND that succeeds is lawful.
+pub fn path_payment_strict_send_is_lawful()
+    ensures { AreLawful path_payment_strict_send }
 {}
 
 /// Each CHANGE_TRUST to a limit of 64 bits that succeeds is lawful.

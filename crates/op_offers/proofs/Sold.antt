@@ -44,12 +44,12 @@ use Rattle.trade_cross.specs.Holdings.{most_given, most_taken, account_gives, ac
 use Rattle.trade_cross.specs.Holdings.{line_takes, paying}
 use Rattle.trade_cross.specs.declared.crossed.CrossEnd.{CrossEnd}
 use Rattle.trade_cross.specs.declared.crossed.CrossEnd.TheVariants.{Converted, Partial, BadPrice, CrossSelf, TooMany}
-use Rattle.trade_cross.specs.Crossing.{Crossing, converted, left_of as left_of_trade}
+use Rattle.trade_cross.specs.Crossing.{most_crossings, Crossing, converted, left_of as left_of_trade}
 use Rattle.op_offers.specs.Managing.{drawn}
 use Rattle.op_offers.specs.declared.fault.OfferFault.{OfferFault}
 use Rattle.op_offers.specs.Selling.{Asked, capped, source_gives_at, source_takes_at, wanted_tests, trade_of}
 use Rattle.op_offers.specs.Selling.{settled, left_of, offer_left, map_after_keeping, Sold, kept, by_end}
-use Rattle.op_offers.specs.Selling.{after_tests, sold, most_crossings}
+use Rattle.op_offers.specs.Selling.{after_tests, sold}
 use Rattle.entry_slots.specs.Tests.{unless_fault, first_fault}
 use Rattle.trade_cross.specs.Accounts.{IsHeld, IsEased, Related, Passes}
 use Rattle.legal_rules.specs.OneMore.{IsOwedRightly, one_more}

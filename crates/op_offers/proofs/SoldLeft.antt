@@ -26,9 +26,9 @@ use Rattle.legal_rules.specs.Owing.{IsLegalOwing}
 use Rattle.trade_cross.specs.Holdings.{most_given, most_taken, paying}
 use Rattle.trade_cross.specs.declared.crossed.CrossEnd.{CrossEnd}
 use Rattle.trade_cross.specs.declared.crossed.CrossEnd.TheVariants.{Converted, Partial, BadPrice, CrossSelf, TooMany}
-use Rattle.trade_cross.specs.Crossing.{Crossing, converted, left_of as left_of_trade}
+use Rattle.trade_cross.specs.Crossing.{most_crossings, Crossing, converted, left_of as left_of_trade}
 use Rattle.op_offers.specs.Selling.{Asked, source_gives_at, source_takes_at, trade_of, settled, left_of}
-use Rattle.op_offers.specs.Selling.{offer_left, map_after_keeping, Sold, kept, sold, most_crossings}
+use Rattle.op_offers.specs.Selling.{offer_left, map_after_keeping, Sold, kept, sold}
 use Rattle.legal_rules.specs.Holdings.{Increase, none_more, both_more, more_at}
 use Rattle.legal_rules.specs.OneMore.{one_more}
 use Rattle.trade_cross.specs.CrossingLaws.{more_in, AreTraded}

@@ -1,8 +1,6 @@
 -- The operations of this crate, by their types: what they answer, leave and move.
-use Rattle.std.specs.Prelude.{ℕ, zero, suc, List, [], ◌∷◌, ◌++◌, Result, Ok, Err}
-use Rattle.ledger_types.specs.declared.ids.AccountId.{AccountId}
+use Rattle.std.specs.Prelude.{ℕ, zero, suc, List, [], Result, Ok, Err}
 use Rattle.ledger_types.specs.declared.claim_atom.ClaimAtom.{ClaimAtom}
-use Rattle.ledger_types.specs.declared.claim_atom.ClaimAtom.TheVariants as atom
 use Rattle.op_types.specs.declared.offer_results.ManageOfferEffect.{ManageOfferEffect}
 use Rattle.op_types.specs.declared.offer_results.ManageOfferEffect.TheVariants as effect
 use Rattle.op_types.specs.declared.offer_results.ManageOfferResult.{ManageOfferResult}
@@ -15,7 +13,8 @@ use Rattle.op_types.specs.declared.operation_result.OperationResultTr.{Operation
 use Rattle.op_types.specs.declared.operation_result.OperationResultTr.TheVariants as tr
 use Rattle.entry_map.specs.EntryMap.{EntryMap}
 use Rattle.sponsor_rules.specs.declared.context.Ctx.{Ctx}
-use Rattle.op_form.specs.Done.{Attempt, Done, done_of, Move, OfAccount}
+use Rattle.op_form.specs.AtomMoves.{moves_of}
+use Rattle.op_form.specs.Done.{Attempt, Done, done_of, OfAccount}
 use Rattle.op_form.specs.Faults.{fault_result}
 use Rattle.op_form.specs.Steps.{success}
 use Rattle.op_offers.specs.declared.answers.Kind.{Kind}
@@ -66,19 +65,6 @@ effect_of Changed asked (suc n) = effect.Updated (offer_left asked (suc n))
 abbrev pub success_answer : Answer → List ClaimAtom → ManageOfferEffect → OperationResult
 success_answer answer atoms what = Inner (answer (manage.Success (record { offers_claimed = atoms; offer = what })))
 
--- ---- moves
-
--- each offer that is crossed gives what it sold to the source, and gets from it what it bought
-abbrev pub atom_moves : AccountId → ClaimAtom → List Move
-atom_moves source (atom.OrderBook seller id sold amount_sold bought amount_bought) =
-    record { from = OfAccount seller; to = OfAccount source; asset = sold; amount = amount_sold }
-    ∷ record { from = OfAccount source; to = OfAccount seller; asset = bought; amount = amount_bought } ∷ []
-atom_moves source other = []
-
-abbrev pub moves_of : AccountId → List ClaimAtom → List Move
-moves_of source [] = []
-moves_of source (first ∷ atoms) = atom_moves source first ++ moves_of source atoms
-
 -- ---- the operations
 
 abbrev pub attempt_of_managed : Ctx → Answer → Result Managed OfferFault → Attempt
@@ -87,7 +73,7 @@ attempt_of_managed ctx answer (Ok (Removed m)) = success ctx (success_answer ans
 attempt_of_managed ctx answer (Ok (Traded kind asked done id_pool)) =
     success (record ctx { id_pool = id_pool })
     (success_answer answer done.crossed.atoms (effect_of kind asked done.amount)) done.entries
-    (moves_of ctx.op_source done.crossed.atoms)
+    (moves_of (OfAccount ctx.op_source) done.crossed.atoms)
 
 abbrev pub done_of_managed : Ctx → Answer → EntryMap → Result Managed OfferFault → Done
 done_of_managed ctx answer m managed = done_of ctx m (attempt_of_managed ctx answer managed)

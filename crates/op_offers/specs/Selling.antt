@@ -18,14 +18,10 @@ use Rattle.trade_cross.specs.declared.crossed.CrossEnd.{CrossEnd}
 use Rattle.trade_cross.specs.declared.crossed.CrossEnd.TheVariants.{Converted, CrossSelf, TooMany}
 use Rattle.trade_cross.specs.declared.trade.Trade.{Trade}
 use Rattle.trade_cross.specs.Holdings.{most_given, most_taken, has_at, is_short_of, paying}
-use Rattle.trade_cross.specs.Crossing.{Crossing, converted, offer_key}
+use Rattle.trade_cross.specs.Crossing.{Crossing, most_crossings, converted, offer_key}
 use Rattle.op_offers.specs.declared.fault.OfferFault.{OfferFault}
 use Rattle.op_offers.specs.declared.fault.OfferFault.TheVariants as fault
 use Rattle.op_offers.specs.Asked.{inverse}
-
--- how many offers an operation may cross (MAX_OFFERS_TO_CROSS in stellar-core)
-abbrev pub most_crossings : ℕ
-most_crossings = 1000
 
 -- the offer that is asked for, whose amount is still open
 pub record Asked : Type 0 where

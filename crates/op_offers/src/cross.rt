@@ -14,10 +14,7 @@ use entry_map::{Base, Entries};
 use offer_exchange::Rounding;
 use sponsor_rules::Ctx;
 use std::alloc::AllocError;
-use trade_cross::{Crossed, Trade, convert};
-
-/// How many offers an operation may cross (MAX_OFFERS_TO_CROSS in stellar-core).
-const MOST_CROSSINGS: u32 = 1000;
+use trade_cross::{Crossed, MOST_CROSSINGS, Trade, convert};
 
 /// The trade of an offer, of whose assets its source can give and take so much at most, each at least 0.
 fn trade_within(asked: &Asked, gives: i64, takes: i64) -> Trade

@@ -1,0 +1,7 @@
+pub mod Shifts
+pub mod LineChanges
+pub mod Paying
+pub mod Amounts
+pub mod HopsMade
+pub mod PathLegality
+pub mod PathEnds

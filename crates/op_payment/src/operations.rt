@@ -5,6 +5,8 @@ ghost use Rattle.op_form.specs.Done.{Does};
 ghost use Rattle.op_form.specs.Premises as premises;
 ghost use Rattle.op_payment.specs.Operations as spec;
 
+use crate::path_receive::path_payment_strict_receive;
+use crate::path_send::path_payment_strict_send;
 use crate::payment::payment;
 use entry_map::{Base, Entries};
 use op_types::{Operation, OperationBody, OperationResult};
@@ -19,12 +21,17 @@ pub fn apply<B: Base>(
     ctx: &mut Ctx,
     entries: &mut Entries<'_, B>,
 ) -> Result<OperationResult, AllocError>
-    requires { premises.BalancesAreInRange entries.old.current }
+    requires in_range { premises.BalancesAreInRange entries.old.current }
+    requires fit { spec.AreEntriesFit ctx.old op.now.body entries.old.current }
     ensures { IfOk result (λ r.
         Does r ctx.new entries.old entries.new (spec.payment_operation ctx.old op.now.body entries.old.current)) }
 {
     match &op.body {
         OperationBody::Payment(op) => payment(op, ctx, entries),
+        OperationBody::PathPaymentStrictReceive(op) => {
+            path_payment_strict_receive(op, ctx, entries)
+        }
+        OperationBody::PathPaymentStrictSend(op) => path_payment_strict_send(op, ctx, entries),
         _ => Ok(OperationResult::NotSupported),
     }
 }

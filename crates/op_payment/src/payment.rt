@@ -1,13 +1,12 @@
 //! PAYMENT.
 
 ghost use Rattle.std.specs.Prelude.{◌≡◌, ◌<ℤ◌, pos, IfOk};
-ghost use Rattle.entry_slots.specs.Tests.{first_fault};
 ghost use Rattle.op_form.specs.Done.{Makes};
 ghost use Rattle.op_form.specs.Premises.{BalancesAreInRange};
 ghost use Rattle.op_payment.specs.Payment as spec;
 
 use entry_map::{Base, Entries};
-use op_form::{CreditFault, DebitFault, credit, debit, is_issued_by, is_native, settle, stands};
+use op_form::{CreditFault, DebitFault, credit, debit, is_issued_by, is_native, stands};
 use op_types::{OperationResult, OperationResultTr, PaymentOp, PaymentResult};
 use sponsor_rules::Ctx;
 use std::alloc::AllocError;

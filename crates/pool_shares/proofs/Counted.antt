@@ -29,7 +29,7 @@ use Rattle.legal_rules.proofs.ChargesLeft.{put_beside}
 use Rattle.legal_rules.proofs.Holdings.{put_same}
 use Rattle.legal_rules.proofs.Leaving.{Leaves, leaves_itself, keeps_both, accounts_kept, keyed_put}
 use Rattle.legal_rules.proofs.LinesLeft.{line_kept}
-use Rattle.pool_shares.proofs.Sharing.{with_pool_is}
+use Rattle.trade_cross.proofs.PoolsLegal.{with_pool_is}
 
 -- ---- what doesn't stand isn't changed
 

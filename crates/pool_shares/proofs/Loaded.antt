@@ -2,7 +2,6 @@
 use Rattle.std.proofs.Common.{◌≡◌, refl, sym, ap, ◌∙◌, Option, Some, None}
 use Rattle.std.specs.FinMap.{get}
 use Rattle.ledger_types.specs.declared.ids.AccountId.{AccountId}
-use Rattle.ledger_types.specs.declared.ids.Hash.{Hash}
 use Rattle.ledger_types.specs.declared.asset.TrustLineAsset.{TrustLineAsset}
 use Rattle.ledger_types.specs.declared.entry.LedgerEntry.{LedgerEntry}
 use Rattle.ledger_types.specs.declared.entry.LedgerEntryBody.{LedgerEntryBody}
@@ -10,9 +9,8 @@ use Rattle.ledger_types.specs.declared.entry.LedgerEntryBody.TheVariants as body
 use Rattle.ledger_types.specs.declared.key.LedgerKey.TheVariants as key
 use Rattle.entry_map.specs.EntryMap.{EntryMap}
 use Rattle.entry_slots.specs.declared.lines.LineSlot.{LineSlot}
-use Rattle.entry_slots.specs.declared.pools.PoolSlot.{PoolSlot}
 use Rattle.entry_slots.specs.Lines.{line_in, line_of, line_at, line_slot_by, line_slot_of, line_slot_at, line_of_slot}
-use Rattle.entry_slots.specs.Pools.{pool_in, pool_of, pool_at, pool_slot_by, pool_slot_of, pool_slot_at, pool_of_slot}
+pub use Rattle.trade_cross.proofs.PoolsLegal.{pool_loaded}
 
 line_by : (e : LedgerEntry) (b : LedgerEntryBody) → line_in b ≡ line_of_slot (line_slot_by e b)
 line_by e (body.TrustLine t) = refl
@@ -26,16 +24,3 @@ pub line_loaded : (m : EntryMap) (id : AccountId) (held : TrustLineAsset) (slot 
     → Some slot ≡ line_slot_at m id held → line_at m id held ≡ Some slot.line
 unfolding line_at
 line_loaded m id held slot is = line_found (get m (key.TrustLine id held)) ∙ ap line_of_slot (sym is)
-
-pool_by : (e : LedgerEntry) (b : LedgerEntryBody) → pool_in b ≡ pool_of_slot (pool_slot_by e b)
-pool_by e (body.LiquidityPool p) = refl
-pool_by e other = refl
-
-pool_found : (o : Option LedgerEntry) → pool_of o ≡ pool_of_slot (pool_slot_of o)
-pool_found None = refl
-pool_found (Some e) = pool_by e e.body
-
-pub pool_loaded : (m : EntryMap) (pool : Hash) (slot : PoolSlot) → Some slot ≡ pool_slot_at m pool
-    → pool_at m pool ≡ Some slot.pool
-unfolding pool_at
-pool_loaded m pool slot is = pool_found (get m (key.LiquidityPool pool)) ∙ ap pool_of_slot (sym is)

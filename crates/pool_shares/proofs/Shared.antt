@@ -4,7 +4,6 @@ use Rattle.std.specs.FinMap.{get}
 use Rattle.std.specs.Prelude.{ℤ}
 use Rattle.ledger_types.specs.declared.ids.AccountId.{AccountId}
 use Rattle.ledger_types.specs.declared.ids.Hash.{Hash}
-use Rattle.ledger_types.specs.declared.asset.TrustLineAsset.{TrustLineAsset}
 use Rattle.ledger_types.specs.declared.asset.TrustLineAsset.TheVariants as line
 use Rattle.ledger_types.specs.declared.trust_line.TrustLineEntry.{TrustLineEntry}
 use Rattle.ledger_types.specs.declared.liquidity_pool.LiquidityPoolEntry.{LiquidityPoolEntry}
@@ -20,10 +19,11 @@ use Rattle.legal_rules.proofs.Changed.{with_pool_body, pool_entry}
 use Rattle.legal_rules.proofs.Liable.{line_entry, with_line_body, with_line_is}
 use Rattle.trade_cross.specs.Holdings.{line_paid, paying}
 use Rattle.trade_cross.specs.Places.{DoesFit}
+use Rattle.trade_cross.proofs.PoolsLegal.{with_pool_is}
 use Rattle.pool_shares.specs.Fits.{DoLinesFit, DoShareLinesFit}
 use Rattle.pool_shares.specs.Withdrawing.{share_key, with_change, map_with_shares}
 use Rattle.pool_shares.proofs.Beside.{paying_beside, paying_keyed, pool_beside, pool_keyed}
-use Rattle.pool_shares.proofs.Sharing.{pool_still, with_pool_is}
+use Rattle.pool_shares.proofs.Sharing.{pool_still}
 use Rattle.pool_shares.proofs.Uses.{IsPlain, fits_beside}
 
 module _ (m : EntryMap) (keyed : IsKeyed m) (id : AccountId) (pool : Hash) (a b shares : ℤ) where

@@ -1,8 +1,7 @@
 -- Shares of a pool that an account takes or gives back, with amounts of both assets: the state stays legal.
-use Rattle.std.proofs.Common.{◌≡◌, refl, sym, ap, subst, ◌∙◌, ℕ, ◌%◌, Bool, true, false, Some, arith}
+use Rattle.std.proofs.Common.{◌≡◌, refl, ap, subst, ◌∙◌, ℕ, ◌%◌, Bool, true, false, Some, arith}
 use Rattle.std.proofs.lemmas.Int.{ints}
 use Rattle.std.specs.Prelude.{ℤ, pos, ◌+ℤ◌, ◌-ℤ◌, ◌≤ℤ◌, if◌then◌else◌}
-use Rattle.std.specs.FinMap.{get}
 use Rattle.std.specs.Ordering.{is_eq}
 use Rattle.ledger_types.specs.declared.ids.AccountId.{AccountId}
 use Rattle.ledger_types.specs.declared.ids.Hash.{Hash}
@@ -11,32 +10,29 @@ use Rattle.ledger_types.specs.declared.asset.TrustLineAsset.{TrustLineAsset}
 use Rattle.ledger_types.specs.declared.asset.TrustLineAsset.TheVariants as line
 use Rattle.ledger_types.specs.declared.trust_line.TrustLineEntry.{TrustLineEntry}
 use Rattle.ledger_types.specs.declared.liquidity_pool.LiquidityPoolEntry.{LiquidityPoolEntry}
-use Rattle.ledger_types.specs.declared.entry.LedgerEntry.{LedgerEntry}
 use Rattle.ledger_types.specs.declared.entry.LedgerEntryBody.TheVariants as body
 use Rattle.ledger_types.specs.declared.key.LedgerKey.{LedgerKey}
 use Rattle.ledger_types.specs.declared.key.LedgerKey.TheVariants as key
 use Rattle.ledger_types.specs.KeyOrder.{asset_cmp}
-use Rattle.ledger_types.specs.Keys.{key_of_body}
-use Rattle.entry_map.specs.EntryMap.{EntryMap, put}
+use Rattle.entry_map.specs.EntryMap.{EntryMap}
 use Rattle.entry_slots.specs.LineExtensions.{line_liabilities}
 use Rattle.entry_slots.specs.Lines.{line_at}
-use Rattle.entry_slots.specs.Pools.{pool_of, pool_at, with_pool, with_pool_in, with_pool_of}
-use Rattle.entry_sums.specs.Sums.{part}
+use Rattle.entry_slots.specs.Pools.{pool_of, pool_at, with_pool}
 use Rattle.legal_rules.specs.Bounds.{IsFilledOrEmpty}
 use Rattle.legal_rules.specs.Books.{Kind, Shares, ShareLines, View}
 use Rattle.legal_rules.specs.ChangeLaws.{in_shares}
 use Rattle.legal_rules.specs.EntryKeys.{is_key}
-use Rattle.legal_rules.specs.Holdings.{IsKeyed, none_more, under_key, HoldsMore}
+use Rattle.legal_rules.specs.Holdings.{IsKeyed, none_more, under_key}
 use Rattle.legal_rules.specs.Owing.{nothing_owed, in_book, plus, IsEntryLegal, IsLegalOwing}
 use Rattle.legal_rules.specs.Ranges.{AreLineFlags, IsPoolInRange, IsTrustLineInRange}
-use Rattle.legal_rules.specs.Supply.{of_asset, of_line, held_in, held as held_of}
-use Rattle.legal_rules.proofs.ChargesLeft.{put_beside}
-use Rattle.legal_rules.proofs.Changed.{line_changed, pool_changed, pool_entry, with_pool_body, IsPoolEntry}
-use Rattle.legal_rules.proofs.Holdings.{put_holds}
-use Rattle.legal_rules.proofs.Leaving.{Leaves, leaves_as, accounts_kept, keeps_then, keyed_put}
+use Rattle.legal_rules.specs.Supply.{of_line}
+use Rattle.legal_rules.proofs.Changed.{line_changed, pool_changed}
+use Rattle.legal_rules.proofs.Leaving.{Leaves, leaves_as, keeps_then}
 use Rattle.legal_rules.proofs.LinesLeft.{IsLegalLine, line_left, line_legal}
 use Rattle.legal_rules.proofs.Steps.{legal_as}
 use Rattle.trade_cross.specs.Holdings.{line_paid, paying}
+pub use Rattle.trade_cross.proofs.PoolsLeft.{both_of}
+use Rattle.trade_cross.proofs.PoolsLeft.{pool_left as pool_rises}
 use Rattle.pool_shares.specs.Withdrawing.{share_key, with_change, map_with_shares}
 use Rattle.pool_shares.proofs.Beside.{paying_beside, paying_keyed}
 
@@ -124,10 +120,6 @@ pub record CanShare (t : TrustLineEntry) (p : LiquidityPoolEntry) (a b shares : 
   pub range : IsPoolInRange (with_change a b shares p)
   pub filled : IsFilledOrEmpty (body.LiquidityPool (with_change a b shares p))
 
--- both amounts of an asset more
-abbrev pub both_of : LiquidityPoolEntry → (a b : ℤ) → Asset → ℤ
-both_of p a b x = of_asset x p.params.asset_a a +ℤ of_asset x p.params.asset_b b
-
 module _ (m : EntryMap) (keyed : IsKeyed m) (id : AccountId) (pool : Hash) (shares : ℤ) where
   abbrev line_now : EntryMap
   line_now = paying (share_key id pool) shares m
@@ -161,53 +153,11 @@ module _ (v : View) (id_pool : ℕ) (sum : ℤ) (m : EntryMap) (id : AccountId) 
 
 -- ---- what is left
 
-pub with_pool_is : (m : EntryMap) (id : Hash) (f : LiquidityPoolEntry → LiquidityPoolEntry) (p : LiquidityPoolEntry)
-    (e : LedgerEntry) → IsPoolEntry m id p e → with_pool m id f ≡ put m (with_pool_body e (f p))
-unfolding with_pool
-with_pool_is m id f p e here = ap (with_pool_of m f) here.there ∙ ap (with_pool_in m e f) here.is
-
-more_of : (s t : Bool) (x y a b : ℤ)
-    → ((if s then x +ℤ a else pos 0) +ℤ (if t then y +ℤ b else pos 0))
-    ≡ (((if s then x else pos 0) +ℤ (if t then y else pos 0)) +ℤ ((if s then a else pos 0) +ℤ (if t then b else pos 0)))
-more_of true true x y a b = omega (arith, ints)
-more_of true false x y a b = omega (arith, ints)
-more_of false true x y a b = omega (arith, ints)
-more_of false false x y a b = refl
-
-module _ (base : ℕ) (m : EntryMap) (keyed : IsKeyed m) (pool : Hash) (p : LiquidityPoolEntry)
-    (stands : pool_at m pool ≡ Some p) (a b shares : ℤ) where
-  abbrev new : EntryMap
-  new = with_pool m pool (with_change a b shares)
-
-  abbrev at : LedgerKey
-  at = key.LiquidityPool pool
-
-  found : (e : LedgerEntry) × IsPoolEntry m pool p e
-  found = pool_entry m pool p stands
-
-  its_key : key.LiquidityPool p.pool_id ≡ at
-  its_key = sym (ap key_of_body found.1.is) ∙ keyed at found.0 found.1.there
-
-  had : (x : Asset) → part (held_of x) (get m (key.LiquidityPool p.pool_id)) ≡ held_in x (body.LiquidityPool p)
-  had x =
-      ap (λ q. part (held_of x) (get m q)) its_key ∙ ap (part (held_of x)) found.1.there ∙ ap (held_in x) found.1.is
-
-  has_more : (x : Asset) → held_in x (body.LiquidityPool (with_change a b shares p))
-      ≡ (part (held_of x) (get m (key.LiquidityPool p.pool_id)) +ℤ both_of p a b x)
-  has_more x =
-      more_of (is_eq (asset_cmp x p.params.asset_a)) (is_eq (asset_cmp x p.params.asset_b)) p.reserve_a p.reserve_b a b
-      ∙ ap (λ n. n +ℤ both_of p a b x) (sym (had x))
-
-  -- No account changes, and the pool holds so much more.
-  pub pool_left : Leaves base (under_key at (both_of p a b)) m new
-  pool_left =
-      let e = with_pool_body found.0 (with_change a b shares p) in
-      subst (Leaves base (under_key at (both_of p a b)) m)
-      (sym (with_pool_is m pool (with_change a b shares) p found.0 found.1))
-      (accounts_kept base (under_key at (both_of p a b)) m (put m e) (keyed_put m e keyed)
-      (put_beside m e (λ other same. absurd (cc)))
-      (subst (λ q. HoldsMore (under_key q (both_of p a b)) m (put m e)) its_key
-      (put_holds m e (both_of p a b) has_more)))
+pool_left : (base : ℕ) (m : EntryMap) → IsKeyed m → (pool : Hash) (p : LiquidityPoolEntry)
+    → pool_at m pool ≡ Some p → (a b shares : ℤ)
+    → Leaves base (under_key (key.LiquidityPool pool) (both_of p a b)) m (with_pool m pool (with_change a b shares))
+pool_left base m keyed pool p stands a b shares = pool_rises base m keyed pool (with_change a b shares) p stands a b
+    (record { keeps = record { id = refl; params = refl }; first = refl; second = refl })
 
 none_in_shares : (t : Bool) → (if t then pos 0 else pos 0) ≡ pos 0
 none_in_shares true = refl

@@ -18,7 +18,6 @@ use Rattle.ledger_types.specs.declared.entry.LedgerEntryBody.TheVariants as body
 use Rattle.ledger_types.specs.declared.key.LedgerKey.{LedgerKey}
 use Rattle.ledger_types.specs.declared.key.LedgerKey.TheVariants as key
 use Rattle.ledger_types.specs.KeyOrder.{asset_cmp}
-use Rattle.ledger_types.specs.Keys.{key_of_body}
 use Rattle.entry_map.specs.EntryMap.{EntryMap}
 use Rattle.entry_map.proofs.KeyMaps.{same_itself}
 use Rattle.entry_map.proofs.Pairs.{tied}
@@ -26,13 +25,11 @@ use Rattle.entry_slots.specs.LineExtensions.{use_count}
 use Rattle.entry_slots.specs.Lines.{line_in, line_of, line_at}
 use Rattle.entry_slots.specs.Pools.{pool_in, pool_of, pool_at}
 use Rattle.entry_sums.specs.Sums.{total}
-use Rattle.legal_rules.specs.Bounds.{IsFilledOrEmpty}
 use Rattle.legal_rules.specs.Books.{Kind, Shares, ShareLines, Uses, View, counted, stated, stated_at}
 use Rattle.legal_rules.specs.EntryKeys.{for_key}
 use Rattle.legal_rules.specs.Legal.{view}
-use Rattle.legal_rules.specs.Owing.{Owed, nothing_owed, IsLegalOwing}
+use Rattle.legal_rules.specs.Owing.{nothing_owed, IsLegalOwing}
 use Rattle.legal_rules.specs.PoolShares.{pool_named, needed_line, shares_in, share_lines, uses, uses_by, uses_of}
-use Rattle.legal_rules.specs.Ranges.{IsBodyInRange, IsPoolInRange}
 use Rattle.legal_rules.specs.Supply.{held}
 use Rattle.legal_rules.proofs.Changed.{pool_entry}
 use Rattle.legal_rules.proofs.Covered.{minimum_not_below}
@@ -43,32 +40,12 @@ use Rattle.legal_rules.proofs.Needed.{for_itself}
 use Rattle.legal_rules.proofs.Numbers.{natural_some}
 use Rattle.legal_rules.proofs.ShareLinesKept.{params_known}
 use Rattle.legal_rules.proofs.Standing.{counted_stated}
+pub use Rattle.trade_cross.proofs.PoolsLegal.{IsLegalPool, pool_legal}
 use Rattle.pool_shares.specs.Fits.{DoUsesFitAt, DoShareLinesFit}
 use Rattle.pool_shares.specs.Laws.{EntriesSound}
 use Rattle.pool_shares.specs.Premises.{ArePoolsSound}
 
 -- ---- a pool that stands
-
-pub record IsLegalPool (id : Hash) (p : LiquidityPoolEntry) : Type 0 where
-  pub range : IsPoolInRange p
-  pub filled : IsFilledOrEmpty (body.LiquidityPool p)
-  pub own : p.pool_id ≡ id
-
-pool_of_key : (id other : Hash) → key.LiquidityPool id ≡ key.LiquidityPool other → id ≡ other
-pool_of_key id other same = cc
-
-pub pool_legal : (v : View) (id_pool : ℕ) (owed : Owed) (sum : ℤ) (m : EntryMap) (id : Hash) (p : LiquidityPoolEntry)
-    → IsLegalOwing v id_pool owed sum m → pool_at m id ≡ Some p → IsLegalPool id p
-pool_legal v id_pool owed sum m id p legal stands =
-    let found = pool_entry m id p stands in
-    let is = found.1.is in
-    let entry = legal.entries (key.LiquidityPool id) found.0 found.1.there in
-    record {
-      range = subst (IsBodyInRange id_pool) is entry.range.body;
-      filled = subst IsFilledOrEmpty is entry.filled;
-      own = pool_of_key p.pool_id id
-          (sym (ap key_of_body is) ∙ legal.keyed (key.LiquidityPool id) found.0 found.1.there);
-    }
 
 -- the two assets of a pool are two
 pub assets_apart : (params : PoolParams) → asset_cmp params.asset_a params.asset_b ≡ Less

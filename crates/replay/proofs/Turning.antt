@@ -418,7 +418,6 @@ refuses_of header out (close.WrongSetHash have given) end other w = w
 refuses_of header out (close.StaleTime last given) end other w = w
 refuses_of header out (close.BadUpgrade index) end other w = w
 refuses_of header out (close.UpgradeOutOfProfile index) end other w = w
-refuses_of header out (close.NotBuilt index) end other w = w
 refuses_of header out (close.FeeSourceMissing index) end other w = w
 refuses_of header out (close.LedgerFull total) end other w = w
 
@@ -433,7 +432,6 @@ stops_of s bytes out (close.WrongSetHash have given) end h r = inr (inl ((close.
 stops_of s bytes out (close.StaleTime last given) end h r = inr (inl ((close.StaleTime last given), h, r))
 stops_of s bytes out (close.BadUpgrade index) end h r = inr (inl ((close.BadUpgrade index), h, r))
 stops_of s bytes out (close.UpgradeOutOfProfile index) end h r = inr (inl ((close.UpgradeOutOfProfile index), h, r))
-stops_of s bytes out (close.NotBuilt index) end h r = inr (inl ((close.NotBuilt index), h, r))
 stops_of s bytes out (close.FeeSourceMissing index) end h r = inr (inl ((close.FeeSourceMissing index), h, r))
 stops_of s bytes out (close.LedgerFull total) end h r = inr (inl ((close.LedgerFull total), h, r))
 

@@ -85,7 +85,7 @@ fn best_id(entries: &Entries<'_, MapBase>) -> Result<i64, AllocError> {
 }
 
 /// A base of no entries.
-fn no_entries(alloc: Global) -> Result<MapBase, AllocError> {
+pub(crate) fn no_entries(alloc: Global) -> Result<MapBase, AllocError> {
     MapBase::from_entries(Vec::new(alloc))
 }
 

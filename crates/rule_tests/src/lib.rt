@@ -1,4 +1,4 @@
-//! Tests of the crates of hashes, entries, rules and headers.
+//! Tests of the crates of hashes, entries, rules, tallies and headers.
 #![tactic(auto)]
 
 #[cfg(test)]
@@ -21,3 +21,5 @@ mod reserves;
 mod signatures;
 #[cfg(test)]
 mod table;
+#[cfg(test)]
+mod tallies;

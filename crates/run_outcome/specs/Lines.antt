@@ -79,7 +79,6 @@ fault_text (fault.WrongSetHash have given) = codes "WrongSetHash" ++ spaced (has
 fault_text (fault.StaleTime last given) = codes "StaleTime" ++ spaced (decimal last) ++ spaced (decimal given)
 fault_text (fault.BadUpgrade index) = codes "BadUpgrade" ++ spaced (decimal index)
 fault_text (fault.UpgradeOutOfProfile index) = codes "UpgradeOutOfProfile" ++ spaced (decimal index)
-fault_text (fault.NotBuilt index) = codes "NotBuilt" ++ spaced (decimal index)
 fault_text (fault.FeeSourceMissing index) = codes "FeeSourceMissing" ++ spaced (decimal index)
 fault_text (fault.LedgerFull bytes) = codes "LedgerFull" ++ spaced (decimal bytes)
 fault_text fault.NoMemory = []

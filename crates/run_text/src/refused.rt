@@ -126,12 +126,6 @@ fn push_fault(alloc: Global, text: &mut Vec<u8>, fault: CloseFault) -> Result<()
         CloseFault::UpgradeOutOfProfile { index } => {
             push_numbered(alloc, text, b"UpgradeOutOfProfile", u128::from(index))
         }
-        CloseFault::NotBuilt { index } => push_numbered(
-            alloc,
-            text,
-            b"NotBuilt",
-            u128::from(index),
-        ),
         CloseFault::FeeSourceMissing { index } => {
             push_numbered(alloc, text, b"FeeSourceMissing", u128::from(index))
         }

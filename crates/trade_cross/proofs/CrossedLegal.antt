@@ -26,7 +26,6 @@ use Rattle.trade_cross.specs.CrossingLaws.{CrossingKeeps, kept_by, kept_in, more
 use Rattle.trade_cross.specs.CrossingLaws.{AreTraded, IsOfTrade, bought_in, sold_in}
 use Rattle.std.proofs.lemmas.List.Elements.{All-nil, All-cons}
 use Rattle.std.proofs.Common.{◌≢◌, ◌&&◌}
-use Rattle.std.specs.Prelude.{◌≤ℤ◌}
 use Rattle.std.specs.Ordering.{is_eq}
 use Rattle.std.specs.Cmp.{Equal-is}
 use Rattle.ledger_types.specs.declared.asset.Asset.{Asset}
@@ -35,6 +34,7 @@ use Rattle.ledger_types.proofs.KeyOrdering.{assets_exact}
 use Rattle.trade_cross.proofs.Passing.{passes_itself, passes_on}
 use Rattle.legal_rules.specs.Holdings.{IsKeyed}
 use Rattle.legal_rules.proofs.Leaving.{Leaves, leaves_itself, leaves_both}
+use Rattle.legal_rules.proofs.Lows.{natural_low}
 use Rattle.trade_cross.proofs.StepLeft.{step_left, step_passes}
 use Rattle.trade_cross.proofs.Book.{IsInBook, best_stands}
 use Rattle.trade_cross.proofs.StepLegal.{step_legal, step_sheep, step_wheat}
@@ -77,15 +77,12 @@ module _ (trade : Trade) (left : Left) (m : EntryMap) (keyed : IsKeyed m) (o : O
 
 -- ---- the recursion
 
-same_asset : (a b : Asset) → is_eq (asset_cmp a b) ≡ true → a ≡ b
+pub same_asset : (a b : Asset) → is_eq (asset_cmp a b) ≡ true → a ≡ b
 same_asset a b is = assets_exact a b ((Equal-is (asset_cmp a b)).0 is)
 
-both_true : (a b : Bool) → (a && b) ≡ true → (a ≡ true) × (b ≡ true)
+pub both_true : (a b : Bool) → (a && b) ≡ true → (a ≡ true) × (b ≡ true)
 both_true true b is = (refl, is)
 both_true false b is = absurd (cc)
-
-natural_low : (n : ℕ) → pos 0 ≤ℤ pos n
-natural_low n = omega (arith, ints)
 
 summed : (a b : ℕ) (rest : ℤ) → rest ≡ pos b → (pos a +ℤ rest) ≡ pos (a + b)
 summed a b rest is = omega (arith, ints)

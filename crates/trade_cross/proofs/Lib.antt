@@ -22,3 +22,9 @@ pub mod Progressed
 pub mod Bonds
 pub mod Cancelled
 pub mod CancelledLeft
+pub mod PoolsLegal
+pub mod PoolsLeft
+pub mod PoolSwaps
+pub mod Hopped
+pub mod HopsKeep
+pub mod Chosen

@@ -27,6 +27,10 @@ use Rattle.trade_cross.specs.declared.turn.Turn.{Turn}
 use Rattle.trade_cross.specs.declared.turn.Turn.TheVariants.{Ends, Meets}
 use Rattle.trade_cross.specs.Holdings.{most_given, most_taken, paying}
 
+-- how many offers an operation may cross (MAX_OFFERS_TO_CROSS in stellar-core)
+abbrev pub most_crossings : ℕ
+most_crossings = 1000
+
 -- what is left of a taker's two bounds
 pub record Left : Type 0 where
   pub sheep_send : ℕ

@@ -5,6 +5,7 @@ use Rattle.ledger_types.specs.declared.asset.Asset.{Asset}
 use Rattle.ledger_types.specs.declared.claim_atom.ClaimAtom.{ClaimAtom}
 use Rattle.ledger_types.specs.declared.claim_atom.ClaimAtom.TheVariants as atom
 use Rattle.ledger_types.specs.declared.key.LedgerKey.{LedgerKey}
+use Rattle.ledger_types.specs.declared.key.LedgerKey.TheVariants as key
 use Rattle.entry_map.specs.EntryMap.{EntryMap}
 use Rattle.entry_slots.specs.Accounts.{account_at, HasAccount}
 use Rattle.legal_rules.specs.Books.{View}
@@ -24,10 +25,12 @@ abbrev pub kept_at : Asset → Option LedgerKey → Asset → ℤ → ℤ
 kept_at x None held n = pos 0
 kept_at x (Some k) held n = of_asset x held n
 
--- what the seller of an atom has more
+-- what the seller of an atom, or its pool, has more
 abbrev pub kept_by : Asset → ClaimAtom → ℤ
 kept_by x (atom.OrderBook seller id sold amount_sold bought amount_bought) =
     kept_at x (holder seller sold) sold (neg_ℤ amount_sold) +ℤ kept_at x (holder seller bought) bought amount_bought
+kept_by x (atom.LiquidityPool pool sold amount_sold bought amount_bought) =
+    of_asset x sold (neg_ℤ amount_sold) +ℤ of_asset x bought amount_bought
 kept_by x other = pos 0
 
 abbrev pub kept_in : Asset → List ClaimAtom → ℤ
@@ -39,6 +42,9 @@ abbrev pub more_by : ClaimAtom → Increase
 more_by (atom.OrderBook seller id sold amount_sold bought amount_bought) =
     both_more (more_at (holder seller sold) sold (neg_ℤ amount_sold))
     (more_at (holder seller bought) bought amount_bought)
+more_by (atom.LiquidityPool pool sold amount_sold bought amount_bought) =
+    both_more (more_at (Some (key.LiquidityPool pool)) sold (neg_ℤ amount_sold))
+    (more_at (Some (key.LiquidityPool pool)) bought amount_bought)
 more_by other = none_more
 
 abbrev pub more_in : List ClaimAtom → Increase
@@ -49,11 +55,13 @@ more_in (first ∷ atoms) = both_more (more_by first) (more_in atoms)
 abbrev pub sold_in : List ClaimAtom → ℤ
 sold_in [] = pos 0
 sold_in (atom.OrderBook seller id sold amount_sold bought amount_bought ∷ atoms) = amount_sold +ℤ sold_in atoms
+sold_in (atom.LiquidityPool pool sold amount_sold bought amount_bought ∷ atoms) = amount_sold +ℤ sold_in atoms
 sold_in (other ∷ atoms) = sold_in atoms
 
 abbrev pub bought_in : List ClaimAtom → ℤ
 bought_in [] = pos 0
 bought_in (atom.OrderBook seller id sold amount_sold bought amount_bought ∷ atoms) = amount_bought +ℤ bought_in atoms
+bought_in (atom.LiquidityPool pool sold amount_sold bought amount_bought ∷ atoms) = amount_bought +ℤ bought_in atoms
 bought_in (other ∷ atoms) = bought_in atoms
 
 -- a seller that isn't the taker sold wheat for sheep

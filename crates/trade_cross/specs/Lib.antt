@@ -10,3 +10,6 @@ pub mod Crossable
 pub mod Progressing
 pub mod Amounts
 pub mod Cancelling
+pub mod Hop
+pub mod HopCalls
+pub mod HopLaws

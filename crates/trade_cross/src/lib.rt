@@ -1,4 +1,4 @@
-//! A taker crosses the book of a pair: it sends sheep and receives wheat, offer by offer (convertWithOffers in
+//! A taker crosses the book of a pair, offer by offer, or trades with its pool (convertWithOffersAndPools in
 //! stellar-core; CAP-0003).
 #![tactic(auto)]
 
@@ -8,10 +8,12 @@ mod carry;
 mod conversion;
 mod crossed;
 mod holding;
+mod hops;
 mod keys;
 pub mod laws;
 mod place;
 mod plan;
+mod pool_swap;
 mod progress;
 mod short;
 mod side;
@@ -23,6 +25,7 @@ pub use amounts::{acquire, most_given, most_taken, pay, release, take};
 pub use cancel::cancel_offer;
 pub use conversion::convert;
 pub use crossed::{CrossEnd, Crossed};
+pub use hops::{hop, is_served};
 pub use place::{Place, place_of};
 pub use short::is_short;
-pub use trade::Trade;
+pub use trade::{MOST_CROSSINGS, Trade};

@@ -3,6 +3,9 @@
 use ledger_types::{AccountId, Asset, Price};
 use offer_exchange::Rounding;
 
+/// How many offers an operation may cross (MAX_OFFERS_TO_CROSS in stellar-core).
+pub const MOST_CROSSINGS: u32 = 1000;
+
 /// A trade with the book of offers that sell `wheat` for `sheep`.
 #[derive(Clone, Copy)]
 pub struct Trade {

@@ -19,7 +19,7 @@ use Rattle.op_laws.specs.Steps.{TransactionLaws, LegalSettles}
 use Rattle.op_laws.specs.Underway.{IsSettled, LeavesSettled, AreDrawn}
 use Rattle.op_laws.proofs.Lawful.{none_drawn}
 use Rattle.op_laws.proofs.Issued.{lumens_not_issued}
-use Rattle.tx_apply.specs.Built.{operations_of}
+use Rattle.tx_apply.specs.Operations.{operations_of}
 use Rattle.tx_apply.specs.Laws.{operation_total, AreFit, AreAllFit, AreLawful, CanClose, TransactionsConserve}
 use Rattle.tx_apply.specs.Laws.{Turn, turns, turns_of, IsTurnConserved, TurnsConserve}
 use Rattle.tx_apply.specs.Laws.{IsConserved, SetsConserve}

@@ -26,7 +26,7 @@ use Rattle.xdr_tx.specs.Transactions.{decorated_signature, memo, time_bounds}
 use Rattle.xdr_tx.specs.Transactions.{behind_source, transaction, transaction_v0, transaction_v1_envelope}
 use Rattle.xdr_tx.specs.Transactions.{transaction_v0_envelope, fee_bump_transaction, fee_bump_envelope}
 use Rattle.xdr_tx.specs.Transactions.{transaction_envelope, transaction_set}
-use Rattle.tx_apply.specs.Built.{operations_of}
+use Rattle.tx_apply.specs.Operations.{operations_of}
 use Rattle.tx_apply.specs.Laws.{operation_total}
 
 -- ---- lists

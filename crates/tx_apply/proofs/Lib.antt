@@ -9,7 +9,6 @@ pub mod Applying
 pub mod Conserving
 pub mod Missing
 pub mod Fitting
-pub mod Unbuilt
 pub mod Within
 pub mod FewOperations
 pub mod Drawing

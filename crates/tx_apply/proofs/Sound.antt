@@ -19,7 +19,7 @@ use Rattle.op_laws.specs.Steps.{TransactionLaws}
 use Rattle.op_laws.specs.Underway.{IsSettled, IsUnderway}
 use Rattle.op_form.specs.declared.levels.ThresholdLevel.TheVariants.{Low}
 use Rattle.value_hashes.specs.Hashes.{signed_hash_of, transaction_hash_of}
-use Rattle.tx_apply.specs.Built.{operations_of}
+use Rattle.tx_apply.specs.Operations.{operations_of}
 use Rattle.tx_apply.specs.Checks.{source_account, judged, is_poor}
 use Rattle.tx_apply.specs.FeeBump as bump
 use Rattle.tx_apply.specs.Laws.{AreFit}

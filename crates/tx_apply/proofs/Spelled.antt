@@ -10,7 +10,7 @@ use Rattle.op_types.specs.declared.transaction.TransactionEnvelope.{TransactionE
 use Rattle.op_types.specs.declared.transaction.TransactionEnvelope.TheVariants as envelope
 use Rattle.xdr_tx.specs.Transactions.{behind_source, transaction, transaction_v1_envelope, fee_bump_transaction}
 use Rattle.xdr_tx.specs.Transactions.{fee_bump_envelope, transaction_v0, transaction_v0_envelope, transaction_envelope}
-use Rattle.tx_apply.specs.Built.{operations_of}
+use Rattle.tx_apply.specs.Operations.{operations_of}
 
 -- at most 100 operations
 few_operations : (tx : Transaction) → transaction.within tx → length tx.operations ≤ 100

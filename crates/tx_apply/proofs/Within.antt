@@ -14,7 +14,7 @@ use Rattle.op_types.specs.declared.transaction.TransactionEnvelope.TheVariants a
 use Rattle.xdr_tx.specs.Operations.{create_claimable_balance_op, operation, operation_body}
 use Rattle.xdr_tx.specs.Transactions.{behind_source, transaction, transaction_v0, transaction_v0_envelope}
 use Rattle.xdr_tx.specs.Transactions.{transaction_v1_envelope, transaction_envelope}
-use Rattle.tx_apply.specs.Built.{operations_of}
+use Rattle.tx_apply.specs.Operations.{operations_of}
 use Rattle.tx_apply.proofs.Spelled.{inner_within}
 
 claimants_few : (op : CreateClaimableBalanceOp) → create_claimable_balance_op.within op → length op.claimants ≤ 10

@@ -16,7 +16,7 @@ use Rattle.op_laws.specs.Laws.{IsFit, IsLawful}
 use Rattle.op_form.specs.Done.{Holder, FeePool, Move}
 use Rattle.op_laws.specs.Moves.{gained, holding, is_issuer, issued}
 use Rattle.op_laws.specs.Underway.{IsSettled, LeavesSettled, AreDrawn}
-use Rattle.tx_apply.specs.Built.{operations_of}
+use Rattle.tx_apply.specs.Operations.{operations_of}
 use Rattle.tx_apply.specs.Fees.{fee_of, fee_move, map_after_fee}
 use Rattle.tx_apply.specs.Running.{Step}
 use Rattle.tx_apply.specs.Set.{Setting, envelope_applied, envelopes_in_order, set_done, fee_pool_after}

@@ -7,7 +7,7 @@ pub mod InnerResult
 pub mod FeeBump
 pub mod Fees
 pub mod Contexts
-pub mod Built
+pub mod Operations
 pub mod Places
 pub mod Set
 pub mod Laws

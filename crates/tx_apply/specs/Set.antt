@@ -33,7 +33,6 @@ use Rattle.sponsor_rules.specs.declared.context.Ctx.{Ctx}
 use Rattle.tx_apply.specs.Places.{envelopes_at}
 use Rattle.tx_apply.specs.Contexts.{ctx_of}
 use Rattle.tx_apply.specs.Fees.{FeesTaken, fees_taken, sum_of}
-use Rattle.tx_apply.specs.Built.{unbuilt_place}
 
 -- ---- what a set closes over
 
@@ -159,15 +158,10 @@ pub record IsApplied (setting : Setting) (set : TransactionSet) (old new : Undo)
   pub fee_pool : done.fee_pool ≡ fee_pool_after setting set old.current
   pub id_pool : done.id_pool ≡ (set_done setting set old.current).id_pool
 
--- every operation of the set can be applied, and every fee source has an account
-pub record IsApplicable (set : TransactionSet) (m : EntryMap) : Type 0 where
-  pub built : unbuilt_place set.txs ≡ None
-  pub payable : missing_place m set ≡ None
-
 -- Want of memory is the one free answer. A set that is refused leaves the entries.
 abbrev pub IsAnswer : Setting → TransactionSet → (old new : Undo) → Result SetDone SetFault → Type 0
-IsAnswer setting set old new (Ok done) = IsApplicable set old.current × IsApplied setting set old new done
-IsAnswer setting set old new (Err (fault.NotBuilt index)) = (unbuilt_place set.txs ≡ Some index) × (new ≡ old)
+IsAnswer setting set old new (Ok done) =
+    (missing_place old.current set ≡ None) × IsApplied setting set old new done
 IsAnswer setting set old new (Err (fault.FeeSourceMissing index)) =
-    (unbuilt_place set.txs ≡ None) × (missing_place old.current set ≡ Some index) × (new ≡ old)
+    (missing_place old.current set ≡ Some index) × (new ≡ old)
 IsAnswer setting set old new (Err fault.NoMemory) = Unit {0}

@@ -42,7 +42,9 @@ pub(crate) fn apply_operation<B: Base>(
         OperationBody::SetOptions(_) | OperationBody::ManageData(_) => {
             op_options::apply(operation, ctx, entries)
         }
-        OperationBody::Payment(_) => op_payment::apply(operation, ctx, entries),
+        OperationBody::Payment(_)
+        | OperationBody::PathPaymentStrictReceive(_)
+        | OperationBody::PathPaymentStrictSend(_) => op_payment::apply(operation, ctx, entries),
         OperationBody::ChangeTrust(_) => op_trust::apply(operation, ctx, entries),
         OperationBody::ManageSellOffer(_)
         | OperationBody::CreatePassiveSellOffer(_)
@@ -60,6 +62,5 @@ pub(crate) fn apply_operation<B: Base>(
         OperationBody::BeginSponsoringFutureReserves(_)
         | OperationBody::EndSponsoringFutureReserves
         | OperationBody::RevokeSponsorship(_) => op_sponsor::apply(operation, ctx, entries),
-        _ => Ok(OperationResult::NotSupported),
     }
 }

@@ -7,7 +7,7 @@ ghost use Rattle.xdr_tx.specs.Transactions as xdr;
 ghost use Rattle.op_form.specs.Sequences.{last_seq};
 ghost use Rattle.op_laws.specs.Underway.{IsSettled};
 ghost use Rattle.op_laws.specs.Steps.{TransactionLaws};
-ghost use Rattle.tx_apply.specs.Built.{operations_of};
+ghost use Rattle.tx_apply.specs.Operations.{operations_of};
 ghost use Rattle.tx_apply.specs.Laws.{AreFit, CanDraw};
 ghost use Rattle.tx_apply.specs.Set as spec;
 

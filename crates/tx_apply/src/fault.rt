@@ -10,9 +10,6 @@ use thiserror::Error;
 /// be dropped.
 #[derive(Clone, Copy, PartialEq, Eq, Debug, Error)]
 pub enum SetFault {
-    /// The transaction at this place of the set's list has an operation that can't be applied yet.
-    #[error("operation not built in transaction {index}")]
-    NotBuilt { index: u32 },
     /// The transaction at this place of the set's list is the first in the order of application whose fee source has no
     /// account.
     #[error("no fee source for transaction {index}")]

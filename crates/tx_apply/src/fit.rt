@@ -6,7 +6,7 @@ ghost use Rattle.xdr_tx.specs.Transactions.{transaction_envelope};
 ghost use Rattle.op_laws.specs.Laws.{IsFit, AreClaimantsFew};
 ghost use Rattle.tx_apply.specs.Laws.{AreFit, AreAllFit};
 
-use crate::built::operations_of;
+use crate::operations::operations_of;
 use op_types::{CreateClaimableBalanceOp, Operation, OperationBody, TransactionEnvelope};
 
 /// There are at most 10 claimants in an operation that has a spelling. It does nothing.

@@ -3,7 +3,6 @@
 #![tactic(auto)]
 
 mod any_operation;
-mod built;
 mod checks;
 mod contexts;
 mod envelope;
@@ -13,6 +12,7 @@ mod fees;
 mod fit;
 mod inner_result;
 mod laws;
+mod operations;
 mod preauths;
 mod running;
 mod set;

@@ -15,7 +15,6 @@ ghost use Rattle.tx_apply.specs.Laws as laws;
 ghost use Rattle.tx_apply.specs.Places.{envelopes_at};
 ghost use Rattle.tx_apply.specs.Set as spec;
 
-use crate::built::unbuilt_place;
 use crate::envelope::apply_one;
 use crate::fault::SetFault;
 use crate::fees::take_fees;
@@ -99,7 +98,7 @@ fn apply_all<B: Base>(
     Ok(id_pool)
 }
 
-/// Takes the fees of a set, and applies its transactions, all of which can be applied.
+/// Takes the fees of a set, and applies its transactions.
 fn apply_in_order<B: Base>(
     entries: &mut Entries<'_, B>,
     header: &LedgerHeader,
@@ -172,11 +171,6 @@ pub fn apply_set_in_order<B: Base>(
     legal_settles();
     transaction_laws();
     let envelopes = set.txs.as_slice();
-    if let Some(index) = unbuilt_place(envelopes) {
-        return Err(SetFault::NotBuilt {
-            index: index as u32,
-        });
-    }
     all_numbers_fit(envelopes);
     if let Some(index) = missing_among(entries, envelopes, order)? {
         return Err(SetFault::FeeSourceMissing { index });

@@ -2,7 +2,7 @@ use Rattle.std.proofs.Common.{rules, sym, subst, All}
 use Rattle.op_types.specs.declared.transaction.TransactionEnvelope.{TransactionEnvelope}
 use Rattle.xdr_tx.specs.Operations.{operation}
 use Rattle.xdr_tx.specs.Transactions.{transaction_envelope}
-use Rattle.tx_apply.specs.Built.{operations_of}
+use Rattle.tx_apply.specs.Operations.{operations_of}
 use Rattle.tx_apply.specs.Laws.{AreFit}
 use Rattle.tx_apply.proofs.Fitting.{holds_more, holds_all}
 use Rattle.tx_apply.proofs.Within.{operations_within}

@@ -1,21 +1,12 @@
-use Rattle.std.proofs.Common.{ℕ, ◌*◌, List, All, length, sym, ap, subst, ◌∙◌, rules}
+use Rattle.std.proofs.Common.{ℕ, ◌*◌, List, All, length, sym, subst, rules}
 use Rattle.xdr_tx.specs.Transactions.{transaction_envelope}
-use Rattle.fee_rules.proofs.Spelled.{envelopes_few, envelopes_within}
+use Rattle.fee_rules.proofs.Spelled.{envelopes_within}
 use Rattle.tx_apply.specs.Laws.{CanDraw}
 use Rattle.tx_apply.specs.Set.{setting_of}
 use Rattle.tx_apply.proofs.Drawing.{ids_of_set}
-use Rattle.tx_apply.proofs.Unbuilt.{unbuilt_within}
 use Rattle.tx_apply.proofs.Conserving.{set_conserved, set_lawful}
 use Rattle.fee_rules.proofs.Ordered.{places_stand}
 use Rattle.tx_apply.proofs.set.apply_set_in_order.Goals as goal
-
-pub overflow_cast-result : goal.overflow_cast-result
-overflow_cast-result g c =
-    let within = unbuilt_within c.as_slice-envelopes.result.now c.in-Some.index
-    (sym c.unbuilt_place.ensures ∙ c.in-Some.is) in
-    let few = envelopes_few c.args.set.now c.requires.within in
-    let same = ap length c.as_slice-envelopes.ensures in
-    search (rules, within, few, same)
 
 pub all_numbers_fit-requires : goal.all_numbers_fit-requires
 all_numbers_fit-requires g c =

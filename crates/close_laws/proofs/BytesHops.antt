@@ -1,0 +1,137 @@
+-- A hop of a path leaves the bytes of entries, by the book and by the pool, and what is told of it can be written.
+use Rattle.std.proofs.Common.{◌≡◌, sym, subst, ℕ, ◌+◌, ◌≤◌, Bool, true, false, [], All, length}
+use Rattle.std.proofs.Common.{Some, inl, inr, arith}
+use Rattle.std.proofs.lemmas.Int.{ints}
+use Rattle.std.proofs.lemmas.List.Elements.{All-nil, All-cons}
+use Rattle.std.specs.Prelude.{ℤ, pos, neg_ℤ, ◌+ℤ◌, ◌≤ℤ◌, unsigned_abs, if◌then◌else◌}
+use Rattle.ledger_types.specs.declared.liquidity_pool.LiquidityPoolEntry.{LiquidityPoolEntry}
+use Rattle.ledger_types.specs.declared.key.LedgerKey.TheVariants as key
+use Rattle.xdr_core.specs.Leaves.{i64}
+use Rattle.xdr_entries.specs.Basic as basic
+use Rattle.xdr_results.specs.Answers.{claim_atom}
+use Rattle.entry_map.specs.EntryMap.{EntryMap}
+use Rattle.entry_slots.specs.Pools.{pool_at}
+use Rattle.reserve_rules.specs.Reserve.{greatest_i64}
+use Rattle.sponsor_rules.specs.declared.context.Ctx.{Ctx}
+use Rattle.offer_exchange.specs.Exchange.{Amounts}
+use Rattle.pool_math.specs.Pools.{greatest}
+use Rattle.legal_rules.proofs.Changed.{pool_entry}
+use Rattle.trade_cross.specs.declared.trade.Trade.{Trade}
+use Rattle.trade_cross.specs.Crossable.{IsCrossable}
+use Rattle.trade_cross.specs.Crossing.{most_crossings, Crossing, converted, left_of}
+use Rattle.trade_cross.specs.Hop.{is_sheep_first, pool_of_pair, with_reserves, with_swap, pool_atom, swapped, hop}
+use Rattle.trade_cross.proofs.PoolsLegal.{pool_legal}
+use Rattle.trade_cross.proofs.PoolSwaps.{DoesSwap, IsSwapping, IsEither, swaps, hop_is_either}
+use Rattle.close_laws.proofs.Bytes.{ArePoolBytes, AreBodyBytes, AreBytes}
+use Rattle.close_laws.proofs.BytesCrossing.{IsTold, crossed_bytes}
+use Rattle.close_laws.proofs.BytesPools.{with_pool_bytes}
+
+-- the most atoms that a hop has: so many offers, or one pool
+abbrev pub most_atoms : ℕ
+most_atoms = 1001
+
+-- what a hop leaves and tells
+pub record AreHopBytes (done : Crossing) : Type 0 where
+  pub entries : AreBytes done.entries
+  pub told : All IsTold done.atoms
+  pub few : length done.atoms ≤ most_atoms
+
+-- the assets of a trade can be told
+pub record AreNamed (trade : Trade) : Type 0 where
+  pub sheep : basic.asset.within trade.sheep
+  pub wheat : basic.asset.within trade.wheat
+
+-- ---- numbers
+
+rises_few : (x : ℤ) (n : ℕ) → (unsigned_abs x + n) ≤ greatest → (x +ℤ pos n) ≤ℤ greatest_i64
+rises_few x n le = omega (arith, ints)
+
+falls_few : (x : ℤ) (n : ℕ) → x ≤ℤ greatest_i64 → (x +ℤ neg_ℤ (pos n)) ≤ℤ greatest_i64
+falls_few x n le = omega (arith, ints)
+
+one_atom : 1 ≤ most_atoms
+one_atom = omega arith
+
+few_crossed : (n k : ℕ) → n ≤ k → k ≤ most_crossings → n ≤ most_atoms
+few_crossed n k le most = omega arith
+
+-- ---- by the pool
+
+module _ (trade : Trade) (m : EntryMap) (a : Amounts) (its : IsSwapping trade m a) (each : AreBytes m) where
+  abbrev p : LiquidityPoolEntry
+  p = its.pool
+
+  its_bytes : ArePoolBytes p
+  its_bytes =
+      let found = pool_entry m (pool_of_pair trade) p its.stands in
+      subst AreBodyBytes found.1.is (each (key.LiquidityPool (pool_of_pair trade)) found.0 found.1.there).body
+
+  reserves_bytes : (up down : ℤ) → (p.reserve_a +ℤ up) ≤ℤ greatest_i64 → (p.reserve_b +ℤ down) ≤ℤ greatest_i64
+      → ArePoolBytes (with_reserves up down p)
+  reserves_bytes up down first second = record {
+    id = its_bytes.id;
+    params = its_bytes.params;
+    reserve_a = first;
+    reserve_b = second;
+    shares = its_bytes.shares;
+    lines = its_bytes.lines;
+  }
+
+  -- both reserves stay within 64 bits with a sign
+  by_order : (t : Bool)
+      → DoesSwap (unsigned_abs (if t then p.reserve_a else p.reserve_b))
+      (unsigned_abs (if t then p.reserve_b else p.reserve_a)) a
+      → ArePoolBytes (if t then with_reserves (pos a.sheep) (neg_ℤ (pos a.wheat)) p
+      else with_reserves (neg_ℤ (pos a.wheat)) (pos a.sheep) p)
+  by_order true does =
+      reserves_bytes (pos a.sheep) (neg_ℤ (pos a.wheat)) (rises_few p.reserve_a a.sheep does.fits)
+      (falls_few p.reserve_b a.wheat its_bytes.reserve_b)
+  by_order false does =
+      reserves_bytes (neg_ℤ (pos a.wheat)) (pos a.sheep) (falls_few p.reserve_a a.wheat its_bytes.reserve_a)
+      (rises_few p.reserve_b a.sheep does.fits)
+
+  swapped_pool : ArePoolBytes (with_swap trade a p)
+  swapped_pool = by_order (is_sheep_first trade) (swaps trade.rounding _ _ (left_of trade) a its.swap).0
+
+  same : (q : LiquidityPoolEntry) → pool_at m (pool_of_pair trade) ≡ Some q → p ≡ q
+  same q at = let stands = its.stands in cc
+
+  pool_left : AreBytes (swapped trade a m).entries
+  pool_left =
+      with_pool_bytes m (pool_of_pair trade) (with_swap trade a)
+      (λ q at bytes. subst (λ x. ArePoolBytes (with_swap trade a x)) (same q at) swapped_pool) each
+
+  pool_told : basic.hash.within (pool_of_pair trade) → AreNamed trade → IsTold (pool_atom trade a)
+  unfolding claim_atom i64
+  pool_told id named = record { within = (id, ((named.wheat, tt), (named.sheep, tt))) }
+
+  pub swapped_bytes : IsCrossable m → AreNamed trade → AreHopBytes (swapped trade a m)
+  swapped_bytes k named =
+      let own = (pool_legal k.view k.id_pool k.owed k.sum m (pool_of_pair trade) p k.legal its.stands).own in
+      let id = subst (λ x. basic.hash.within x) own its_bytes.id.within in
+      record {
+        entries = pool_left;
+        told = All-cons IsTold (pool_atom trade a) [] (pool_told id named) (All-nil IsTold);
+        few = one_atom;
+      }
+
+-- ---- by the one or the other
+
+module _ (ctx : Ctx) (trade : Trade) (m : EntryMap) (k : IsCrossable m) (each : AreBytes m) (named : AreNamed trade)
+    (few : trade.crossings ≤ most_crossings) where
+  book_bytes : AreHopBytes (converted ctx.base_reserve trade m)
+  book_bytes =
+      let h = crossed_bytes k.view k.id_pool ctx.base_reserve k.owed k.right trade trade.crossings k.sum (left_of trade)
+      m k.legal each in
+      record {
+        entries = h.entries;
+        told = h.told;
+        few = few_crossed (length (converted ctx.base_reserve trade m).atoms) trade.crossings h.few few;
+      }
+
+  by_either : (done : Crossing) → IsEither trade m (converted ctx.base_reserve trade m) done → AreHopBytes done
+  by_either done (inl is) = subst AreHopBytes (sym is) book_bytes
+  by_either done (inr its) = subst AreHopBytes (sym its.2) (swapped_bytes trade m its.0 its.1 each k named)
+
+  pub hop_bytes : AreHopBytes (hop ctx trade m)
+  hop_bytes = by_either (hop ctx trade m) (hop_is_either ctx trade m)

@@ -1,0 +1,112 @@
+-- What payments along paths answer keeps the bounds on lengths.
+use Rattle.std.proofs.Common.{ℕ, ◌≤◌, List, All, length, arith}
+use Rattle.std.specs.Prelude.{ℤ}
+use Rattle.ledger_types.specs.declared.ids.AccountId.{AccountId}
+use Rattle.ledger_types.specs.declared.asset.Asset.{Asset}
+use Rattle.ledger_types.specs.declared.claim_atom.ClaimAtom.{ClaimAtom}
+use Rattle.op_types.specs.declared.payment_results.PathPaymentStrictReceiveResult.{PathPaymentStrictReceiveResult}
+use Rattle.op_types.specs.declared.payment_results.PathPaymentStrictReceiveResult.TheVariants as received_code
+use Rattle.op_types.specs.declared.payment_results.PathPaymentStrictSendResult.{PathPaymentStrictSendResult}
+use Rattle.op_types.specs.declared.payment_results.PathPaymentStrictSendResult.TheVariants as sent_code
+use Rattle.xdr_core.specs.Leaves.{i64}
+use Rattle.xdr_core.specs.Combinators.{list}
+use Rattle.xdr_results.specs.Answers.{simple_payment_result, path_payment_success, path_payment_strict_receive_result}
+use Rattle.xdr_results.specs.Answers.{path_payment_strict_send_result}
+use Rattle.xdr_results.specs.Results.{operation_result_tr, operation_result}
+use Rattle.op_form.specs.declared.amounts.CreditFault.{CreditFault}
+use Rattle.op_form.specs.declared.amounts.CreditFault.TheVariants as credit
+use Rattle.op_form.specs.declared.amounts.DebitFault.{DebitFault}
+use Rattle.op_form.specs.declared.amounts.DebitFault.TheVariants as debit
+use Rattle.op_payment.specs.declared.path_fault.PathFault.{PathFault}
+use Rattle.op_payment.specs.declared.path_fault.PathFault.TheVariants as fault
+use Rattle.op_payment.specs.PathPayment.{arrived}
+use Rattle.op_payment.specs.PathReceive as receiving
+use Rattle.op_payment.specs.PathSend as sending
+use Rattle.close_laws.proofs.AnswerSteps.{IsAnswer, exceeded}
+use Rattle.close_laws.proofs.Bytes.{IsId}
+use Rattle.close_laws.proofs.BytesCrossing.{IsTold, all_told}
+use Rattle.close_laws.proofs.BytesPaths.{IsNamed, most_in_paths}
+
+-- ---- what arrived
+
+listed : (n : ℕ) → n ≤ most_in_paths → n ≤ 4294967295
+listed n le = omega arith
+
+pub arrived_within : (atoms : List ClaimAtom) (destination : AccountId) (last : Asset) (amount : ℤ)
+    → length atoms ≤ most_in_paths → All IsTold atoms → IsId destination → IsNamed last
+    → path_payment_success.within (arrived atoms destination last amount)
+unfolding path_payment_success simple_payment_result list i64
+arrived_within atoms destination last amount few told id named =
+    ((listed (length atoms) few, all_told atoms told), (id.within, (named, tt)))
+
+-- ---- PATH_PAYMENT_STRICT_RECEIVE
+
+-- codes behind which nothing stands
+abbrev pub IsBare : PathPaymentStrictReceiveResult → Type 0
+IsBare (received_code.Success done) = ⊥
+IsBare (received_code.NoIssuer held) = ⊥
+IsBare other = Unit {0}
+
+pub received_bare : (code : PathPaymentStrictReceiveResult) → IsBare code → IsAnswer (receiving.answer code)
+unfolding operation_result operation_result_tr path_payment_strict_receive_result
+received_bare (received_code.Success done) bare = absurd bare
+received_bare (received_code.NoIssuer held) bare = absurd bare
+received_bare other bare = record { within = tt }
+
+pub received_credit : (found : CreditFault) → IsAnswer (receiving.credit_result found)
+received_credit credit.NoLine = received_bare received_code.NoTrust tt
+received_credit credit.NotAuthorized = received_bare received_code.NotAuthorized tt
+received_credit credit.Full = received_bare received_code.LineFull tt
+
+pub received_debit : (found : DebitFault) → IsAnswer (receiving.debit_result found)
+received_debit debit.NoLine = received_bare received_code.SrcNoTrust tt
+received_debit debit.NotAuthorized = received_bare received_code.SrcNotAuthorized tt
+received_debit debit.Short = received_bare received_code.Underfunded tt
+
+pub received_path : (found : PathFault) → IsAnswer (receiving.path_result found)
+received_path fault.CrossSelf = received_bare received_code.OfferCrossSelf tt
+received_path fault.TooMany = exceeded
+received_path fault.TooFew = received_bare received_code.TooFewOffers tt
+
+pub received_arrived : (atoms : List ClaimAtom) (destination : AccountId) (last : Asset) (amount : ℤ)
+    → length atoms ≤ most_in_paths → All IsTold atoms → IsId destination → IsNamed last
+    → IsAnswer (receiving.answer (received_code.Success (arrived atoms destination last amount)))
+unfolding operation_result operation_result_tr path_payment_strict_receive_result
+received_arrived atoms destination last amount few told id named =
+    record { within = arrived_within atoms destination last amount few told id named }
+
+-- ---- PATH_PAYMENT_STRICT_SEND
+
+-- codes behind which nothing stands
+abbrev pub IsBareSent : PathPaymentStrictSendResult → Type 0
+IsBareSent (sent_code.Success done) = ⊥
+IsBareSent (sent_code.NoIssuer held) = ⊥
+IsBareSent other = Unit {0}
+
+pub sent_bare : (code : PathPaymentStrictSendResult) → IsBareSent code → IsAnswer (sending.answer code)
+unfolding operation_result operation_result_tr path_payment_strict_send_result
+sent_bare (sent_code.Success done) bare = absurd bare
+sent_bare (sent_code.NoIssuer held) bare = absurd bare
+sent_bare other bare = record { within = tt }
+
+pub sent_credit : (found : CreditFault) → IsAnswer (sending.credit_result found)
+sent_credit credit.NoLine = sent_bare sent_code.NoTrust tt
+sent_credit credit.NotAuthorized = sent_bare sent_code.NotAuthorized tt
+sent_credit credit.Full = sent_bare sent_code.LineFull tt
+
+pub sent_debit : (found : DebitFault) → IsAnswer (sending.debit_result found)
+sent_debit debit.NoLine = sent_bare sent_code.SrcNoTrust tt
+sent_debit debit.NotAuthorized = sent_bare sent_code.SrcNotAuthorized tt
+sent_debit debit.Short = sent_bare sent_code.Underfunded tt
+
+pub sent_path : (found : PathFault) → IsAnswer (sending.path_result found)
+sent_path fault.CrossSelf = sent_bare sent_code.OfferCrossSelf tt
+sent_path fault.TooMany = exceeded
+sent_path fault.TooFew = sent_bare sent_code.TooFewOffers tt
+
+pub sent_arrived : (atoms : List ClaimAtom) (destination : AccountId) (last : Asset) (amount : ℤ)
+    → length atoms ≤ most_in_paths → All IsTold atoms → IsId destination → IsNamed last
+    → IsAnswer (sending.answer (sent_code.Success (arrived atoms destination last amount)))
+unfolding operation_result operation_result_tr path_payment_strict_send_result
+sent_arrived atoms destination last amount few told id named =
+    record { within = arrived_within atoms destination last amount few told id named }

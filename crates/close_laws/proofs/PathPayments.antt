@@ -1,0 +1,222 @@
+-- Payments along paths leave the bytes of entries, and what they answer keeps the bounds on lengths.
+use Rattle.std.proofs.Common.{◌≡◌, ℕ, ◌≤◌, ◌||◌, not, List, length, None, Result, Ok, Err, arith}
+use Rattle.std.specs.Prelude.{ℤ, pos, ◌≤ℤ◌, int_le}
+use Rattle.std.specs.List.{AllByRecursion}
+use Rattle.ledger_types.specs.Ids.{account_of}
+use Rattle.ledger_types.specs.declared.ids.AccountId.{AccountId}
+use Rattle.ledger_types.specs.declared.ids.MuxedAccount.{MuxedAccount}
+use Rattle.ledger_types.specs.declared.asset.Asset.{Asset}
+use Rattle.op_types.specs.declared.payment_ops.PathPaymentStrictReceiveOp.{PathPaymentStrictReceiveOp}
+use Rattle.op_types.specs.declared.payment_ops.PathPaymentStrictSendOp.{PathPaymentStrictSendOp}
+use Rattle.op_types.specs.declared.payment_results.PathPaymentStrictReceiveResult.TheVariants as received_code
+use Rattle.op_types.specs.declared.payment_results.PathPaymentStrictSendResult.TheVariants as sent_code
+use Rattle.op_types.specs.declared.operation.OperationBody.TheVariants as body
+use Rattle.xdr_core.specs.Combinators.{list}
+use Rattle.xdr_entries.specs.Basic as basic
+use Rattle.xdr_tx.specs.Operations.{operation_body, path_payment_strict_receive_op, path_payment_strict_send_op}
+use Rattle.entry_map.specs.EntryMap.{EntryMap}
+use Rattle.entry_slots.specs.Tests.{first_fault}
+use Rattle.sponsor_rules.specs.declared.context.Ctx.{Ctx}
+use Rattle.legal_rules.specs.Legal.{view}
+use Rattle.legal_rules.specs.Owing.{nothing_owed, AreEntriesLegal}
+use Rattle.legal_rules.proofs.MayOwe.{nothing_right}
+use Rattle.legal_rules.proofs.Passed.{neither}
+use Rattle.trade_cross.specs.Crossable.{IsCrossable}
+use Rattle.op_form.specs.Amounts.{map_after_credit, map_after_debit}
+use Rattle.op_form.specs.Done.{Attempt}
+use Rattle.op_payment.specs.declared.path_fault.PathFault.{PathFault}
+use Rattle.op_payment.specs.PathPayment.{is_path_valid}
+use Rattle.op_payment.specs.PathReceive as receiving
+use Rattle.op_payment.specs.PathSend as sending
+use Rattle.op_payment.specs.Paths.{Carried, set_out, received, sent}
+use Rattle.op_payment.proofs.Amounts.{amount_given, amount_taken}
+use Rattle.close_rules.specs.State.{IsSpelled}
+use Rattle.close_laws.proofs.Bytes.{IsId, muxed_id}
+use Rattle.close_laws.proofs.BytesAmounts.{given_bytes, taken_bytes}
+use Rattle.close_laws.proofs.BytesDeposits.{some_taken}
+use Rattle.close_laws.proofs.BytesPaths.{IsNamed, AreWayBytes, WayIf, set_out_bytes, most_behind, most_before}
+use Rattle.close_laws.proofs.BytesPaths.{received_bytes, sent_bytes, most_in_paths, behind_path, before_path}
+use Rattle.close_laws.proofs.BytesSteps.{AreWorkBytes}
+use Rattle.close_laws.proofs.PassedTests.{all_pass}
+use Rattle.close_laws.proofs.PathAnswers.{received_bare, received_credit, received_debit, received_path}
+use Rattle.close_laws.proofs.PathAnswers.{received_arrived, sent_bare, sent_credit, sent_debit, sent_path, sent_arrived}
+use Rattle.close_laws.proofs.TradeSteps.{IsTraded, refused, traded_behind, traded_after}
+
+-- ---- what is asked for
+
+-- what a payment along a path names can be told
+record IsPathNamed (first : Asset) (path : List Asset) (last : Asset) (destination : MuxedAccount) : Type 0 where
+  from : IsNamed first
+  between : AllByRecursion basic.asset.within path
+  few : length path ≤ 5
+  to : IsNamed last
+  id : IsId (account_of destination)
+
+received_named : (op : PathPaymentStrictReceiveOp) → IsSpelled operation_body (body.PathPaymentStrictReceive op)
+    → IsPathNamed op.send_asset op.path op.dest_asset op.destination
+unfolding operation_body path_payment_strict_receive_op list
+received_named op spelled =
+    let rest = spelled.within.1.1 in
+    record {
+      from = spelled.within.0;
+      between = rest.1.1.1.1;
+      few = rest.1.1.1.0;
+      to = rest.1.0;
+      id = muxed_id op.destination (record { within = rest.0; sized = spelled.sized.1.1.0 });
+    }
+
+sent_named : (op : PathPaymentStrictSendOp) → IsSpelled operation_body (body.PathPaymentStrictSend op)
+    → IsPathNamed op.send_asset op.path op.dest_asset op.destination
+unfolding operation_body path_payment_strict_send_op list
+sent_named op spelled =
+    let rest = spelled.within.1.1 in
+    record {
+      from = spelled.within.0;
+      between = rest.1.1.1.1;
+      few = rest.1.1.1.0;
+      to = rest.1.0;
+      id = muxed_id op.destination (record { within = rest.0; sized = spelled.sized.1.1.0 });
+    }
+
+-- the amounts that tests bound from below
+received_low : (op : PathPaymentStrictReceiveOp) → first_fault (receiving.asked_tests op) ≡ None
+    → pos 0 ≤ℤ op.dest_amount
+received_low op none =
+    let tests = (all_pass (receiving.asked_tests op) none).0 in
+    let amounts = neither (int_le op.send_max (pos 0) || int_le op.dest_amount (pos 0))
+    (not (is_path_valid op.send_asset op.path op.dest_asset)) tests in
+    some_taken op.dest_amount (neither (int_le op.send_max (pos 0)) (int_le op.dest_amount (pos 0)) amounts.0).1
+
+sent_low : (op : PathPaymentStrictSendOp) → first_fault (sending.asked_tests op) ≡ None → pos 0 ≤ℤ op.send_amount
+sent_low op none =
+    let tests = (all_pass (sending.asked_tests op) none).0 in
+    let amounts = neither (int_le op.send_amount (pos 0) || int_le op.dest_min (pos 0))
+    (not (is_path_valid op.send_asset op.path op.dest_asset)) tests in
+    some_taken op.send_amount (neither (int_le op.send_amount (pos 0)) (int_le op.dest_min (pos 0)) amounts.0).0
+
+at_most : (n most all : ℕ) → n ≤ most → most ≤ all → n ≤ all
+at_most n most all le more = omega arith
+
+-- ---- where paths go
+
+module _ (ctx : Ctx) (m new : EntryMap) (legal : AreEntriesLegal ctx.id_pool m) (id : AccountId) (held : Asset) (n : ℤ)
+    (low : pos 0 ≤ℤ n) where
+  taken_crossable : map_after_credit id held n m ≡ Ok new → IsCrossable new
+  taken_crossable is = record {
+    view = view m;
+    id_pool = ctx.id_pool;
+    owed = nothing_owed;
+    sum = _;
+    legal = (amount_taken ctx ctx.id_pool m legal id n low new held is).shifts (view m) _ legal;
+    right = nothing_right;
+  }
+
+  given_crossable : map_after_debit ctx id held n m ≡ Ok new → IsCrossable new
+  given_crossable is = record {
+    view = view m;
+    id_pool = ctx.id_pool;
+    owed = nothing_owed;
+    sum = _;
+    legal = (amount_given ctx ctx.id_pool m legal id n low new held is).shifts (view m) _ legal;
+    right = nothing_right;
+  }
+
+-- ---- PATH_PAYMENT_STRICT_RECEIVE
+
+received_then : (most : ℕ) (way : Result Carried PathFault) (next : Carried → Attempt) → WayIf most way
+    → ((carried : Carried) → AreWayBytes most carried → IsTraded (next carried))
+    → IsTraded (receiving.after_path way next)
+received_then most (Err found) next way holds = refused (receiving.path_result found) (received_path found)
+received_then most (Ok carried) next way holds = holds carried way
+
+module _ (ctx : Ctx) (op : PathPaymentStrictReceiveOp) (m : EntryMap) (legal : AreEntriesLegal ctx.id_pool m)
+    (named : IsPathNamed op.send_asset op.path op.dest_asset op.destination) (work : AreWorkBytes ctx m) where
+  abbrev most_received : ℕ
+  most_received = most_behind 0 op.path
+
+  then_given : (carried : Carried) → AreWayBytes most_received carried → IsTraded (receiving.given ctx op carried)
+  then_given carried way =
+      traded_behind (receiving.cost_tests op carried.amount) _ (received_bare received_code.OverSendmax tt, tt)
+      (λ enough. traded_after
+      (map_after_debit ctx ctx.op_source op.send_asset (pos carried.amount) carried.entries) receiving.debit_result
+      (receiving.done ctx op carried)
+      (given_bytes ctx ctx.op_source op.send_asset (pos carried.amount) carried.entries way.entries) received_debit
+      (λ given is each. record {
+        leaves = record { gives = record { entries = each; sponsors = work.sponsors } };
+        answers = record {
+          ends = received_arrived carried.atoms (account_of op.destination) op.dest_asset op.dest_amount
+              (at_most (length carried.atoms) most_received most_in_paths way.few (behind_path op.path named.few))
+              way.told named.id named.to;
+        };
+      }))
+
+  then_received : pos 0 ≤ℤ op.dest_amount → IsTraded (receiving.taken_and_given ctx op m)
+  then_received low =
+      traded_after (map_after_credit (account_of op.destination) op.dest_asset op.dest_amount m)
+      receiving.credit_result _
+      (taken_bytes (account_of op.destination) op.dest_asset op.dest_amount m work.entries) received_credit
+      (λ taken is each. received_then most_received
+      (received ctx op.send_asset op.path op.dest_asset (set_out op.dest_amount taken)) (receiving.given ctx op)
+      (received_bytes ctx op.send_asset op.path op.dest_asset 0 (set_out op.dest_amount taken) named.from named.between
+      named.to (set_out_bytes op.dest_amount taken each
+      (taken_crossable ctx m taken legal (account_of op.destination) op.dest_asset op.dest_amount low is)))
+      then_given)
+
+pub path_received : (ctx : Ctx) (op : PathPaymentStrictReceiveOp) (m : EntryMap) → AreEntriesLegal ctx.id_pool m
+    → IsSpelled operation_body (body.PathPaymentStrictReceive op) → AreWorkBytes ctx m
+    → IsTraded (receiving.path_payment_strict_receive ctx op m)
+path_received ctx op m legal spelled work =
+    traded_behind (receiving.asked_tests op) _ (received_bare received_code.Malformed tt, tt)
+    (λ none. traded_behind (receiving.destination_tests op m) (receiving.taken_and_given ctx op m)
+    (received_bare received_code.NoDestination tt, tt)
+    (λ there. then_received ctx op m legal (received_named op spelled) work (received_low op none)))
+
+-- ---- PATH_PAYMENT_STRICT_SEND
+
+sent_then : (most : ℕ) (way : Result Carried PathFault) (next : Carried → Attempt) → WayIf most way
+    → ((carried : Carried) → AreWayBytes most carried → IsTraded (next carried))
+    → IsTraded (sending.after_path way next)
+sent_then most (Err found) next way holds = refused (sending.path_result found) (sent_path found)
+sent_then most (Ok carried) next way holds = holds carried way
+
+module _ (ctx : Ctx) (op : PathPaymentStrictSendOp) (m : EntryMap) (legal : AreEntriesLegal ctx.id_pool m)
+    (named : IsPathNamed op.send_asset op.path op.dest_asset op.destination) (work : AreWorkBytes ctx m) where
+  abbrev most_sent : ℕ
+  most_sent = most_before 0 op.path
+
+  then_taken : (carried : Carried) → AreWayBytes most_sent carried → IsTraded (sending.taken ctx op carried)
+  then_taken carried way =
+      traded_behind (sending.least_tests op carried.amount) _ (sent_bare sent_code.UnderDestmin tt, tt)
+      (λ enough. traded_after
+      (map_after_credit (account_of op.destination) op.dest_asset (pos carried.amount) carried.entries)
+      sending.credit_result (sending.done ctx op carried)
+      (taken_bytes (account_of op.destination) op.dest_asset (pos carried.amount) carried.entries way.entries)
+      sent_credit
+      (λ taken is each. record {
+        leaves = record { gives = record { entries = each; sponsors = work.sponsors } };
+        answers = record {
+          ends = sent_arrived carried.atoms (account_of op.destination) op.dest_asset (pos carried.amount)
+              (at_most (length carried.atoms) most_sent most_in_paths way.few (before_path op.path named.few))
+              way.told named.id named.to;
+        };
+      }))
+
+  then_sent : pos 0 ≤ℤ op.send_amount → IsTraded (sending.given_and_taken ctx op m)
+  then_sent low =
+      traded_after (map_after_debit ctx ctx.op_source op.send_asset op.send_amount m) sending.debit_result _
+      (given_bytes ctx ctx.op_source op.send_asset op.send_amount m work.entries) sent_debit
+      (λ given is each. sent_then most_sent
+      (sent ctx op.send_asset op.path op.dest_asset (set_out op.send_amount given)) (sending.taken ctx op)
+      (sent_bytes ctx op.send_asset op.path op.dest_asset 0 (set_out op.send_amount given) named.from named.between
+      named.to (set_out_bytes op.send_amount given each
+      (given_crossable ctx m given legal ctx.op_source op.send_asset op.send_amount low is)))
+      then_taken)
+
+pub path_sent : (ctx : Ctx) (op : PathPaymentStrictSendOp) (m : EntryMap) → AreEntriesLegal ctx.id_pool m
+    → IsSpelled operation_body (body.PathPaymentStrictSend op) → AreWorkBytes ctx m
+    → IsTraded (sending.path_payment_strict_send ctx op m)
+path_sent ctx op m legal spelled work =
+    traded_behind (sending.asked_tests op) _ (sent_bare sent_code.Malformed tt, tt)
+    (λ none. traded_behind (sending.destination_tests op m) (sending.given_and_taken ctx op m)
+    (sent_bare sent_code.NoDestination tt, tt)
+    (λ there. then_sent ctx op m legal (sent_named op spelled) work (sent_low op none)))

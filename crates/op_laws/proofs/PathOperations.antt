@@ -1,0 +1,183 @@
+-- Payments along paths are lawful.
+use Rattle.std.proofs.Common.{◌≡◌, refl, sym, ap, subst, ◌∙◌, ℕ, ◌≤◌, ◌||◌, List, [], ◌∷◌, ◌++◌, Ok, Err}
+use Rattle.std.proofs.Common.{Result, arith}
+use Rattle.std.proofs.lemmas.Int.{ints}
+use Rattle.std.specs.Prelude.{ℤ, pos, neg_ℤ, ◌≤ℤ◌, int_le, unsigned_abs}
+use Rattle.ledger_types.specs.declared.ids.AccountId.{AccountId}
+use Rattle.ledger_types.specs.declared.claim_atom.ClaimAtom.{ClaimAtom}
+use Rattle.ledger_types.specs.Ids.{account_of}
+use Rattle.entry_map.specs.EntryMap.{EntryMap}
+use Rattle.op_types.specs.declared.payment_ops.PathPaymentStrictReceiveOp.{PathPaymentStrictReceiveOp}
+use Rattle.op_types.specs.declared.payment_ops.PathPaymentStrictSendOp.{PathPaymentStrictSendOp}
+use Rattle.sponsor_rules.specs.declared.context.Ctx.{Ctx}
+use Rattle.legal_rules.specs.Holdings.{none_more}
+use Rattle.legal_rules.proofs.Passed.{first_passed, neither}
+use Rattle.op_form.specs.Amounts.{map_after_credit, map_after_debit}
+use Rattle.op_form.specs.Done.{Done, Attempt}
+use Rattle.op_payment.specs.declared.path_fault.PathFault.{PathFault}
+use Rattle.op_types.specs.declared.payment_results.PathPaymentStrictReceiveResult.TheVariants as path
+use Rattle.op_types.specs.declared.payment_results.PathPaymentStrictSendResult.TheVariants as path_sent
+use Rattle.op_payment.specs.PathPayment.{arrived, path_moves}
+use Rattle.op_payment.specs.Paths.{Carried, set_out, received, sent}
+use Rattle.op_payment.specs.PathReceive as receive
+use Rattle.op_payment.specs.PathReceive.{path_payment_strict_receive}
+use Rattle.op_payment.specs.PathSend as send
+use Rattle.op_payment.specs.PathSend.{path_payment_strict_send}
+use Rattle.op_payment.proofs.Shifts.{unless_issuer}
+use Rattle.op_flags.proofs.Went.{went_on, went_after_step}
+use Rattle.op_laws.specs.Laws.{IsLawful, AreLawful}
+use Rattle.op_laws.specs.Underway.{IsUnderway}
+use Rattle.op_laws.proofs.Amounts.{amount_taken, amount_given}
+use Rattle.op_laws.proofs.Carrying.{IsCarried}
+use Rattle.op_laws.proofs.Hopping.{path_back, path_on}
+use Rattle.op_laws.proofs.Lawful.{shifted_after}
+use Rattle.op_laws.proofs.Payment.{above}
+use Rattle.op_laws.proofs.PathPayments.{received_lawful, sent_lawful}
+
+went_along_back : (step : Result Carried PathFault) (next : Carried → Attempt) (done : Done)
+    → receive.after_path step next ≡ Ok done → (carried : Carried) × (step ≡ Ok carried) × (next carried ≡ Ok done)
+went_along_back (Err fault) next done is = absurd (cc)
+went_along_back (Ok carried) next done is = (carried, refl, is)
+
+went_along_on : (step : Result Carried PathFault) (next : Carried → Attempt) (done : Done)
+    → send.after_path step next ≡ Ok done → (carried : Carried) × (step ≡ Ok carried) × (next carried ≡ Ok done)
+went_along_on (Err fault) next done is = absurd (cc)
+went_along_on (Ok carried) next done is = (carried, refl, is)
+
+-- an amount as a whole number
+whole : (n : ℤ) → pos 0 ≤ℤ n → pos (unsigned_abs n) ≡ n
+whole (pos n) low = refl
+whole n low = absurd (omega (arith, ints))
+
+low : (n : ℕ) → pos 0 ≤ℤ pos n
+low n = omega (arith, ints)
+
+nothing_behind : (l : List ClaimAtom) → l ++ [] ≡ l
+nothing_behind [] = refl
+nothing_behind (first ∷ l) = ap (λ (k : List ClaimAtom). first ∷ k) (nothing_behind l)
+
+module _ (ctx : Ctx) (op : PathPaymentStrictReceiveOp) (m : EntryMap) (done : Done) (under : IsUnderway ctx m)
+    (amount : pos 0 ≤ℤ op.dest_amount) where
+  abbrev got_by : AccountId
+  got_by = account_of op.destination
+
+  abbrev needed : ℕ
+  needed = unsigned_abs op.dest_amount
+
+  -- what the operation leaves and moves, where so much arrives
+  abbrev received_of : Carried → EntryMap → ℤ → Done
+  received_of carried new n = record {
+    result = receive.answer (path.Success (arrived carried.atoms got_by op.dest_asset op.dest_amount));
+    entries = new;
+    ctx = ctx;
+    moves = path_moves ctx got_by op.send_asset (pos carried.amount) carried.atoms op.dest_asset n;
+  }
+
+  -- all steps were made
+  received_done : (taken : EntryMap) → map_after_credit got_by op.dest_asset op.dest_amount m ≡ Ok taken
+      → (carried : Carried)
+      → received ctx op.send_asset op.path op.dest_asset (set_out op.dest_amount taken) ≡ Ok carried
+      → (new : EntryMap)
+      → map_after_debit ctx ctx.op_source op.send_asset (pos carried.amount) carried.entries ≡ Ok new
+      → receive.done ctx op carried new ≡ Ok done → IsLawful ctx m done
+  received_done taken took carried along new gave is =
+      let all = whole op.dest_amount amount in
+      let one = amount_taken ctx ctx.id_pool m under.settled.legal got_by (pos needed) (low needed) taken op.dest_asset
+      (subst (λ n. map_after_credit got_by op.dest_asset n m ≡ Ok taken) (sym all) took) in
+      let legal = shifted_after ctx m under none_more (λ x. unless_issuer x op.dest_asset got_by (pos needed)) taken
+      one.shifts in
+      let back = path_back ctx ctx.id_pool op.send_asset op.path op.dest_asset (set_out op.dest_amount taken) carried
+      legal along in
+      let two = amount_given ctx ctx.id_pool carried.entries back.went.legal ctx.op_source (pos carried.amount)
+      (low carried.amount) new op.send_asset gave in
+      let atoms : back.atoms ≡ carried.atoms = sym (back.listed ∙ nothing_behind back.atoms) in
+      let went = subst (λ (l : List ClaimAtom).
+      IsCarried ctx.id_pool ctx.base_reserve op.send_asset carried.amount op.dest_asset needed taken carried.entries l)
+      atoms back.went.carried in
+      let lawful = received_lawful ctx got_by op.send_asset carried.amount carried.atoms op.dest_asset needed m taken
+      carried.entries new under (received_of carried new op.dest_amount).result one went two in
+      let same : received_of carried new op.dest_amount ≡ done = cc in
+      subst (IsLawful ctx m) same (subst (λ n. IsLawful ctx m (received_of carried new n)) all lawful)
+
+  received_steps : receive.taken_and_given ctx op m ≡ Ok done → IsLawful ctx m done
+  received_steps is =
+      let taken = went_after_step (map_after_credit got_by op.dest_asset op.dest_amount m) receive.credit_result _ done
+      is in
+      let along = went_along_back
+      (received ctx op.send_asset op.path op.dest_asset (set_out op.dest_amount taken.0)) (receive.given ctx op) done
+      taken.2 in
+      let cost = went_on (receive.cost_tests op along.0.amount) _ done along.2 in
+      let gave = went_after_step
+      (map_after_debit ctx ctx.op_source op.send_asset (pos along.0.amount) along.0.entries) receive.debit_result _ done
+      cost.1 in
+      received_done taken.0 taken.1 along.0 along.1 gave.0 gave.1 gave.2
+
+pub path_receive_is_lawful : AreLawful path_payment_strict_receive
+path_receive_is_lawful ctx op m done under stands is =
+    let asked = went_on (receive.asked_tests op) _ done is in
+    let test = first_passed _ _ [] asked.0 in
+    let amounts = neither (int_le op.send_max (pos 0) || int_le op.dest_amount (pos 0)) _ test.0 in
+    let amount = above op.dest_amount (neither (int_le op.send_max (pos 0)) (int_le op.dest_amount (pos 0)) amounts.0).1 in
+    received_steps ctx op m done under amount (went_on (receive.destination_tests op m) _ done asked.1).1
+
+module _ (ctx : Ctx) (op : PathPaymentStrictSendOp) (m : EntryMap) (done : Done) (under : IsUnderway ctx m)
+    (amount : pos 0 ≤ℤ op.send_amount) where
+  abbrev sent_to : AccountId
+  sent_to = account_of op.destination
+
+  abbrev all_sent : ℕ
+  all_sent = unsigned_abs op.send_amount
+
+  -- what the operation leaves and moves, where so much sets out
+  abbrev sent_of : Carried → EntryMap → ℤ → Done
+  sent_of carried new n = record {
+    result = send.answer (path_sent.Success (arrived carried.atoms sent_to op.dest_asset (pos carried.amount)));
+    entries = new;
+    ctx = ctx;
+    moves = path_moves ctx sent_to op.send_asset n carried.atoms op.dest_asset (pos carried.amount);
+  }
+
+  -- all steps were made
+  sent_done : (given : EntryMap) → map_after_debit ctx ctx.op_source op.send_asset op.send_amount m ≡ Ok given
+      → (carried : Carried)
+      → sent ctx op.send_asset op.path op.dest_asset (set_out op.send_amount given) ≡ Ok carried
+      → (new : EntryMap)
+      → map_after_credit sent_to op.dest_asset (pos carried.amount) carried.entries ≡ Ok new
+      → send.done ctx op carried new ≡ Ok done → IsLawful ctx m done
+  sent_done given gave carried along new took is =
+      let all = whole op.send_amount amount in
+      let one = amount_given ctx ctx.id_pool m under.settled.legal ctx.op_source (pos all_sent) (low all_sent) given
+      op.send_asset
+      (subst (λ n. map_after_debit ctx ctx.op_source op.send_asset n m ≡ Ok given) (sym all) gave) in
+      let legal = shifted_after ctx m under none_more
+      (λ x. unless_issuer x op.send_asset ctx.op_source (neg_ℤ (pos all_sent))) given one.shifts in
+      let on = path_on ctx ctx.id_pool op.send_asset op.path op.dest_asset (set_out op.send_amount given) carried legal
+      along in
+      let two = amount_taken ctx ctx.id_pool carried.entries on.went.legal sent_to (pos carried.amount)
+      (low carried.amount) new op.dest_asset took in
+      let went = subst (λ (l : List ClaimAtom).
+      IsCarried ctx.id_pool ctx.base_reserve op.send_asset all_sent op.dest_asset carried.amount given carried.entries l)
+      (sym on.listed) on.went.carried in
+      let lawful = sent_lawful ctx sent_to op.send_asset all_sent carried.atoms op.dest_asset carried.amount m given
+      carried.entries new under (sent_of carried new op.send_amount).result one went two in
+      let same : sent_of carried new op.send_amount ≡ done = cc in
+      subst (IsLawful ctx m) same (subst (λ n. IsLawful ctx m (sent_of carried new n)) all lawful)
+
+  sent_steps : send.given_and_taken ctx op m ≡ Ok done → IsLawful ctx m done
+  sent_steps is =
+      let given = went_after_step (map_after_debit ctx ctx.op_source op.send_asset op.send_amount m) send.debit_result _
+      done is in
+      let along = went_along_on (sent ctx op.send_asset op.path op.dest_asset (set_out op.send_amount given.0))
+      (send.taken ctx op) done given.2 in
+      let least = went_on (send.least_tests op along.0.amount) _ done along.2 in
+      let took = went_after_step (map_after_credit sent_to op.dest_asset (pos along.0.amount) along.0.entries)
+      send.credit_result _ done least.1 in
+      sent_done given.0 given.1 along.0 along.1 took.0 took.1 took.2
+
+pub path_send_is_lawful : AreLawful path_payment_strict_send
+path_send_is_lawful ctx op m done under stands is =
+    let asked = went_on (send.asked_tests op) _ done is in
+    let test = first_passed _ _ [] asked.0 in
+    let amounts = neither (int_le op.send_amount (pos 0) || int_le op.dest_min (pos 0)) _ test.0 in
+    let amount = above op.send_amount (neither (int_le op.send_amount (pos 0)) (int_le op.dest_min (pos 0)) amounts.0).0 in
+    sent_steps ctx op m done under amount (went_on (send.destination_tests op m) _ done asked.1).1

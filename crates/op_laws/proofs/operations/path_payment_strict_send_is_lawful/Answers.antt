@@ -1,0 +1,5 @@
+use Rattle.op_laws.proofs.PathOperations.{path_send_is_lawful}
+use Rattle.op_laws.proofs.operations.path_payment_strict_send_is_lawful.Goals as goal
+
+pub returns : goal.returns
+returns c = path_send_is_lawful

@@ -1,0 +1,88 @@
+-- PATH_PAYMENT_STRICT_SEND (PathPaymentStrictSendOpFrame in stellar-core; CAP-0024).
+use Rattle.std.specs.Prelude.{ℕ, pos, not, ◌||◌, int_le, int_lt, ◌∷◌, [], Result, Ok, Err}
+use Rattle.ledger_types.specs.Ids.{account_of}
+use Rattle.op_types.specs.declared.operation_result.OperationResult.{OperationResult}
+use Rattle.op_types.specs.declared.operation_result.OperationResult.TheVariants.{Inner, ExceededWorkLimit}
+use Rattle.op_types.specs.declared.operation_result.OperationResultTr.TheVariants as tr
+use Rattle.op_types.specs.declared.payment_ops.PathPaymentStrictSendOp.{PathPaymentStrictSendOp}
+use Rattle.op_types.specs.declared.payment_results.PathPaymentStrictSendResult.{PathPaymentStrictSendResult}
+use Rattle.op_types.specs.declared.payment_results.PathPaymentStrictSendResult.TheVariants as path
+use Rattle.entry_map.specs.EntryMap.{EntryMap}
+use Rattle.entry_slots.specs.Tests.{Tests}
+use Rattle.sponsor_rules.specs.declared.context.Ctx.{Ctx}
+use Rattle.op_form.specs.declared.amounts.CreditFault.{CreditFault}
+use Rattle.op_form.specs.declared.amounts.CreditFault.TheVariants as credit
+use Rattle.op_form.specs.declared.amounts.DebitFault.{DebitFault}
+use Rattle.op_form.specs.declared.amounts.DebitFault.TheVariants as debit
+use Rattle.op_form.specs.Amounts.{map_after_credit, map_after_debit}
+use Rattle.op_form.specs.Done.{Attempt}
+use Rattle.op_form.specs.Steps.{unless_refused, after_step, success}
+use Rattle.op_payment.specs.declared.path_fault.PathFault.{PathFault}
+use Rattle.op_payment.specs.declared.path_fault.PathFault.TheVariants as fault
+use Rattle.op_payment.specs.PathPayment.{is_path_valid, is_nobody, arrived, path_moves}
+use Rattle.op_payment.specs.Paths.{Carried, set_out, sent}
+
+abbrev pub answer : PathPaymentStrictSendResult → OperationResult
+answer code = Inner (tr.PathPaymentStrictSend code)
+
+-- ---- tests
+
+abbrev pub asked_tests : PathPaymentStrictSendOp → Tests OperationResult
+asked_tests op = (
+  int_le op.send_amount (pos 0) || int_le op.dest_min (pos 0) || not (is_path_valid op.send_asset op.path op.dest_asset),
+  answer path.Malformed,
+) ∷ []
+
+abbrev pub destination_tests : PathPaymentStrictSendOp → EntryMap → Tests OperationResult
+destination_tests op m =
+    (is_nobody (account_of op.destination) op.send_asset op.path op.dest_asset m, answer path.NoDestination) ∷ []
+
+abbrev pub least_tests : PathPaymentStrictSendOp → (amount : ℕ) → Tests OperationResult
+least_tests op amount = (int_lt (pos amount) op.dest_min, answer path.UnderDestmin) ∷ []
+
+-- ---- faults
+
+abbrev pub credit_result : CreditFault → OperationResult
+credit_result credit.NoLine = answer path.NoTrust
+credit_result credit.NotAuthorized = answer path.NotAuthorized
+credit_result credit.Full = answer path.LineFull
+
+abbrev pub debit_result : DebitFault → OperationResult
+debit_result debit.NoLine = answer path.SrcNoTrust
+debit_result debit.NotAuthorized = answer path.SrcNotAuthorized
+debit_result debit.Short = answer path.Underfunded
+
+abbrev pub path_result : PathFault → OperationResult
+path_result fault.CrossSelf = answer path.OfferCrossSelf
+path_result fault.TooMany = ExceededWorkLimit
+path_result fault.TooFew = answer path.TooFewOffers
+
+-- ---- the operation
+
+abbrev pub after_path : Result Carried PathFault → (Carried → Attempt) → Attempt
+after_path (Err fault) next = Err (path_result fault)
+after_path (Ok carried) next = next carried
+
+abbrev pub done : Ctx → PathPaymentStrictSendOp → Carried → EntryMap → Attempt
+done ctx op carried m =
+    success ctx
+    (answer (path.Success (arrived carried.atoms (account_of op.destination) op.dest_asset (pos carried.amount)))) m
+    (path_moves ctx (account_of op.destination) op.send_asset op.send_amount carried.atoms op.dest_asset
+    (pos carried.amount))
+
+-- the destination takes what came of it
+abbrev pub taken : Ctx → PathPaymentStrictSendOp → Carried → Attempt
+taken ctx op carried =
+    unless_refused (least_tests op carried.amount)
+    (after_step (map_after_credit (account_of op.destination) op.dest_asset (pos carried.amount) carried.entries)
+    credit_result (done ctx op carried))
+
+-- The source gives the amount first. It is sent along the path, from its beginning to its end.
+abbrev pub given_and_taken : Ctx → PathPaymentStrictSendOp → EntryMap → Attempt
+given_and_taken ctx op m =
+    after_step (map_after_debit ctx ctx.op_source op.send_asset op.send_amount m) debit_result
+    (λ given. after_path (sent ctx op.send_asset op.path op.dest_asset (set_out op.send_amount given)) (taken ctx op))
+
+abbrev pub path_payment_strict_send : Ctx → PathPaymentStrictSendOp → EntryMap → Attempt
+path_payment_strict_send ctx op m =
+    unless_refused (asked_tests op) (unless_refused (destination_tests op m) (given_and_taken ctx op m))

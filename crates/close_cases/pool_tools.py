@@ -1,5 +1,5 @@
 """Images of pools, operations on them, and what is left of them: what the cases of `share_line_cases.py`, `pool_cases.py`,
-`revocation_cases.py` and `pool_image_cases.py` are made with.
+`revocation_cases.py`, `pool_image_cases.py` and `path_cases.py` are made with.
 """
 
 import ledger_model as model

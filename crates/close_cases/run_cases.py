@@ -16,6 +16,7 @@ from ledger_model import DEAD, GREATEST, HEADER, INIT, LIVE, NO_HASH, catchup, i
 import set_cases as sets  # ledger_model puts its folder first
 from asset_cases import PARTS as ASSET_PARTS
 from offer_cases import PARTS as OFFER_PARTS
+from path_bound_cases import PARTS as PATH_BOUND_PARTS
 from path_cases import PARTS as PATH_PARTS
 from pool_cases import PARTS as POOL_PARTS
 from pool_image_cases import PARTS as POOL_IMAGE_PARTS
@@ -424,7 +425,7 @@ def compare(folder):
 PARTS = [
     ("", [forms, header_rules, file_rules, entry_rules, rules_at_once, bad_records, terms, upgrades, set_faults, faults_at_once, closes]),
     ("assets ", ASSET_PARTS), ("trades ", OFFER_PARTS), ("pools ", POOL_IMAGE_PARTS + SHARE_LINE_PARTS + POOL_PARTS + REVOCATION_PARTS),
-    ("paths ", PATH_PARTS),
+    ("paths ", PATH_PARTS + PATH_BOUND_PARTS),
 ]
 
 

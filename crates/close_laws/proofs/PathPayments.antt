@@ -18,10 +18,10 @@ use Rattle.entry_map.specs.EntryMap.{EntryMap}
 use Rattle.entry_slots.specs.Tests.{first_fault}
 use Rattle.sponsor_rules.specs.declared.context.Ctx.{Ctx}
 use Rattle.legal_rules.specs.Legal.{view}
-use Rattle.legal_rules.specs.Owing.{nothing_owed, AreEntriesLegal}
-use Rattle.legal_rules.proofs.MayOwe.{nothing_right}
+use Rattle.legal_rules.specs.Owing.{AreEntriesLegal}
 use Rattle.legal_rules.proofs.Passed.{neither}
 use Rattle.trade_cross.specs.Crossable.{IsCrossable}
+use Rattle.trade_cross.proofs.Crossables.{crossable_of}
 use Rattle.op_form.specs.Amounts.{map_after_credit, map_after_debit}
 use Rattle.op_form.specs.Done.{Attempt}
 use Rattle.op_payment.specs.declared.path_fault.PathFault.{PathFault}
@@ -102,24 +102,12 @@ at_most n most all le more = omega arith
 module _ (ctx : Ctx) (m new : EntryMap) (legal : AreEntriesLegal ctx.id_pool m) (id : AccountId) (held : Asset) (n : ℤ)
     (low : pos 0 ≤ℤ n) where
   taken_crossable : map_after_credit id held n m ≡ Ok new → IsCrossable new
-  taken_crossable is = record {
-    view = view m;
-    id_pool = ctx.id_pool;
-    owed = nothing_owed;
-    sum = _;
-    legal = (amount_taken ctx ctx.id_pool m legal id n low new held is).shifts (view m) _ legal;
-    right = nothing_right;
-  }
+  taken_crossable is = crossable_of (view m) ctx.id_pool _ new
+      ((amount_taken ctx ctx.id_pool m legal id n low new held is).shifts (view m) _ legal)
 
   given_crossable : map_after_debit ctx id held n m ≡ Ok new → IsCrossable new
-  given_crossable is = record {
-    view = view m;
-    id_pool = ctx.id_pool;
-    owed = nothing_owed;
-    sum = _;
-    legal = (amount_given ctx ctx.id_pool m legal id n low new held is).shifts (view m) _ legal;
-    right = nothing_right;
-  }
+  given_crossable is = crossable_of (view m) ctx.id_pool _ new
+      ((amount_given ctx ctx.id_pool m legal id n low new held is).shifts (view m) _ legal)
 
 -- ---- PATH_PAYMENT_STRICT_RECEIVE
 

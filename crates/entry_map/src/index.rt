@@ -3,9 +3,9 @@
 ghost use Rattle.std.specs.Prelude.{◌≡◌, ◌&&◌, not, ◌||◌, None, List, [], ◌∷◌, IfOk, MatchOption, option_map, map};
 ghost use Rattle.std.specs.Option.{option_copied};
 ghost use Rattle.std.specs.List.{IsDistinct};
-ghost use Rattle.std.specs.Ordering.{is_eq, eq_by_cmp};
+ghost use Rattle.std.specs.Ordering.{eq_by_cmp};
 ghost use Rattle.std.specs.FinMap.{empty, insert, remove, get, from_entries};
-ghost use Rattle.ledger_types.specs.KeyOrder.{asset_cmp, key_cmp};
+ghost use Rattle.ledger_types.specs.KeyOrder.{key_cmp};
 ghost use Rattle.ledger_types.specs.Keys.{key_of};
 ghost use Rattle.ledger_types.specs.declared.key.LedgerKey.TheVariants.{Offer};
 ghost use Rattle.ledger_types.specs.declared.offer.OfferEntry.{OfferEntry as AnOffer};
@@ -22,7 +22,6 @@ use crate::place::{Place, place_of, start_of};
 use ledger_types::{AccountId, Asset, LedgerEntry, LedgerEntryBody, LedgerKey, OfferEntry, Price};
 use shared_tree::{Kept, Tree};
 use std::alloc::{AllocError, Global};
-use std::cmp::Ordering;
 use std::marker::Model;
 
 /// The places of offers, in the order of their books. What changes is made anew, and the rest is shared. Contracts see
@@ -83,16 +82,6 @@ pub fn is_of_offer(key: &LedgerKey) -> bool
     ensures { result ≡ is_of_offer key.now }
 {
     matches!(key, LedgerKey::Offer { .. })
-}
-
-/// Whether two assets are the same.
-fn is_same(a: &Asset, b: &Asset) -> bool
-    ensures { result ≡ is_eq (asset_cmp a.now b.now) }
-{
-    match a.cmp(b) {
-        Ordering::Equal => true,
-        _ => false,
-    }
 }
 
 impl OfferIndex {
@@ -251,7 +240,7 @@ impl OfferIndex {
         ensures { MatchOption result (IsLastOfPair self.now start.now) (IsNextOfPair self.now start.now) }
     {
         let next = self.first_above(start)?;
-        if is_same(&next.selling, &start.selling) && is_same(&next.buying, &start.buying) {
+        if next.selling.is_same(&start.selling) && next.buying.is_same(&start.buying) {
             Some(next)
         } else {
             None

@@ -1,5 +1,6 @@
 -- That the flags which the operations give to a line can be a line's.
-use Rattle.std.proofs.Common.{◌≡◌, refl, ℕ, ◌≤◌, false, not, ◌&&◌, ◌||◌, ◌∷◌, [], nat_eq, nat_lt, bit_and, Some, None, arith}
+use Rattle.std.proofs.Common.{◌≡◌, refl, ℕ, ◌≤◌, false, not, ◌&&◌, ◌||◌, ◌∷◌, [], nat_eq, nat_lt, bit_and, Some}
+use Rattle.std.proofs.Common.{None, arith}
 use Rattle.ledger_types.specs.declared.account.AccountEntry.{AccountEntry}
 use Rattle.ledger_types.specs.declared.asset.Asset.{Asset}
 use Rattle.ledger_types.specs.declared.ids.AccountId.{AccountId}
@@ -13,10 +14,8 @@ use Rattle.op_types.specs.declared.trust_results.SetTrustLineFlagsResult.TheVari
 use Rattle.entry_map.specs.EntryMap.{EntryMap}
 use Rattle.entry_slots.specs.Tests.{Tests, first_fault}
 use Rattle.legal_rules.specs.Legal.{view}
-use Rattle.legal_rules.specs.Owing.{nothing_owed, AreEntriesLegal}
-use Rattle.legal_rules.proofs.MayOwe.{nothing_right}
+use Rattle.legal_rules.specs.Owing.{AreEntriesLegal}
 use Rattle.legal_rules.proofs.Passed.{first_passed, neither}
-use Rattle.trade_cross.specs.Crossable.{IsCrossable}
 use Rattle.op_form.specs.Assets.{is_native, line_of_asset}
 use Rattle.op_form.specs.Flags.{has_any, is_auth_revocable}
 use Rattle.op_flags.specs.AllowTrust as allowing
@@ -34,17 +33,6 @@ allowed_issued (code.Alphanum12 bytes) id = refl
 
 two_below : (a : ℕ) → a ≤ 2 → a ≤ 7
 two_below a few = omega arith
-
--- a book of offers can be crossed, and offers removed, where entries are legal
-pub crossable_of : (id_pool : ℕ) (m : EntryMap) → AreEntriesLegal id_pool m → IsCrossable m
-crossable_of id_pool m legal = record {
-  view = view m;
-  id_pool = id_pool;
-  owed = nothing_owed;
-  sum = _;
-  legal = legal;
-  right = nothing_right;
-}
 
 module _ (id_pool : ℕ) (m : EntryMap) (legal : AreEntriesLegal id_pool m) (trustor : AccountId) (t : TrustLineEntry)
   where

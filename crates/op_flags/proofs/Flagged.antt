@@ -130,7 +130,8 @@ module _ (v : View) (id_pool : ℕ) (sum : ℤ) (trustor : AccountId) (held : As
           subst AreNone same
           (still_unbound t f (has_any t.flags 3) (has_any f 3) refl refl is old_flags.0 low old.bound none)
 
-      left_legal : (revoked : Bool) → IsLegalOwing v id_pool nothing_owed sum (map_after_revoking trustor held revoked m)
+      left_legal : (revoked : Bool)
+          → IsLegalOwing v id_pool nothing_owed sum (map_after_revoking trustor held revoked m)
       left_legal true = revoked_legal v id_pool sum m legal trustor held
       left_legal false = legal
 

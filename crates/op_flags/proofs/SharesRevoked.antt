@@ -65,7 +65,8 @@ use Rattle.op_form.specs.Done.{OfAccount, OfBalance}
 use Rattle.op_form.specs.Flags.{is_clawback_line, flagged_ext}
 use Rattle.op_form.specs.Assets.{line_of_asset}
 use Rattle.op_form.specs.Steps.{after}
-use Rattle.op_flags.specs.RevokedShares.{sponsor_at, Revoked, Given, revoked_id, sole_claimant, revoked_balance, move_to, alone}
+use Rattle.op_flags.specs.RevokedShares.{sponsor_at, Revoked, Given, revoked_id, sole_claimant, revoked_balance}
+use Rattle.op_flags.specs.RevokedShares.{move_to, alone}
 use Rattle.op_flags.specs.RevokedShares.{balance_put, balance_added, left_by, left, payer_of_share, given_of}
 use Rattle.op_flags.specs.RevokedShares.{and_then, both_left, map_without_shares, share_revoked_by, share_revoked_of}
 use Rattle.op_flags.specs.RevokedShares.{share_revoked}
@@ -194,8 +195,8 @@ module _ (id_pool : ℕ) (m : EntryMap) (legal : AreEntriesLegal id_pool m) (id 
 
 -- ---- what an amount becomes
 
--- what a step is that leaves an amount to an account: nothing, where there is none of it or the account issues the asset;
--- else a balance
+-- what a step is that leaves an amount to an account: nothing, where there is none of it or the account issues the
+-- asset; else a balance
 pub record IsPut (ctx : Ctx) (given : Given) (m : EntryMap) (r : Revoked) : Type 0 where
   pub some : 1 ≤ given.amount
   pub other : is_issued_by given.asset given.trustor ≡ false

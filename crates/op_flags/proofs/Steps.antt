@@ -25,7 +25,8 @@ left_alone : (first : Revoked) (next : Result Revoked OperationResult) → entri
 left_alone first (Ok second) = refl
 left_alone first (Err result) = refl
 
-pub left_then : (first : Result Revoked OperationResult) (next : EntryMap → Result Revoked OperationResult) (now : EntryMap)
+pub left_then : (first : Result Revoked OperationResult) (next : EntryMap → Result Revoked OperationResult)
+    (now : EntryMap)
     → entries_left first ≡ Ok now
     → entries_left (after first (λ r. and_then r (next r.entries))) ≡ entries_left (next now)
 left_then (Ok r) next now is =

@@ -21,8 +21,8 @@ use op_types::OperationResult;
 use sponsor_rules::{AddFault, Ctx, add_entry};
 use std::alloc::AllocError;
 
-/// What a pool's shares gave: the account whose they were, the pool, one of its assets, how much of it (at least 0), and who
-/// pays the balance's reserve, who paid the line's.
+/// What a pool's shares gave: the account whose they were, the pool, one of its assets, how much of it (at least 0),
+/// and who pays the balance's reserve, who paid the line's.
 #[derive(Clone, Copy)]
 pub struct Given {
     pub trustor: AccountId,
@@ -157,8 +157,8 @@ fn add_balance<B: Base>(
     put_balance(entries, ctx, by, given, entry)
 }
 
-/// Leaves what was given to the account, or answers why that can't be. Of nothing, and of what the account issues itself,
-/// nothing is left.
+/// Leaves what was given to the account, or answers why that can't be. Of nothing, and of what the account issues
+/// itself, nothing is left.
 pub fn leave<B: Base>(
     entries: &mut Entries<'_, B>,
     ctx: &Ctx,

@@ -31,8 +31,9 @@ fn is_revoked(line: &TrustLineEntry, flags: u32) -> bool
     line.flags & AUTHORIZING != 0 && flags & AUTHORIZING == 0
 }
 
-/// Gives a line its new flags. Where an authorisation is taken back, the account's offers in the asset are removed first, and
-/// its shares of pools that have it are given back afterwards; where what these give can't be left, nothing has changed.
+/// Gives a line its new flags. Where an authorisation is taken back, the account's offers in the asset are removed
+/// first, and its shares of pools that have it are given back afterwards; where what these give can't be left, nothing
+/// has changed.
 pub fn flag_line<B: Base>(
     entries: &mut Entries<'_, B>,
     ctx: &Ctx,

@@ -14,7 +14,6 @@ ghost use Rattle.op_flags.specs.RevokedShares as spec;
 
 use crate::left_balance::{Given, leave};
 use crate::revoker::Revoker;
-use crate::revoking::is_same;
 use entry_map::{Base, Entries};
 use entry_slots::{LineSlot, PoolSlot, load_line, load_pool, sponsor_in};
 use ledger_types::{AccountId, Asset, Hash, TrustLineAsset};
@@ -66,7 +65,8 @@ fn give_back<B: Base>(
     Ok(part)
 }
 
-/// Leaves what shares gave of a pool's first asset, and then what they gave of the second, or answers why that can't be.
+/// Leaves what shares gave of a pool's first asset, and then what they gave of the second, or answers why that can't
+/// be.
 fn leave_both<B: Base>(
     entries: &mut Entries<'_, B>,
     ctx: &Ctx,
@@ -122,7 +122,8 @@ fn revoke_loaded<B: Base>(
     leave_both(entries, ctx, by, &a, &b)
 }
 
-/// Removes an account's line of a pool's shares, if it stands, and leaves what the shares gave, or answers why that can't be.
+/// Removes an account's line of a pool's shares, if it stands, and leaves what the shares gave, or answers why that
+/// can't be.
 fn revoke_share<B: Base>(
     entries: &mut Entries<'_, B>,
     ctx: &Ctx,
@@ -180,7 +181,7 @@ fn has_asset<B: Base>(
         None => Ok(false),
         Some(slot) => {
             let params = slot.pool.params;
-            Ok(is_same(&params.asset_a, asset) || is_same(&params.asset_b, asset))
+            Ok(params.asset_a.is_same(asset) || params.asset_b.is_same(asset))
         }
     }
 }
@@ -207,8 +208,8 @@ fn push_with_asset<B: Base>(
     }
 }
 
-/// Removes an account's lines of shares of pools that have an asset, in rising order of their pools' ids, and leaves what the
-/// shares gave; or answers why that can't be.
+/// Removes an account's lines of shares of pools that have an asset, in rising order of their pools' ids, and leaves
+/// what the shares gave; or answers why that can't be.
 #[tactic(auto, unfolding(crate::specs::RevokedShares::shares_revoked))]
 pub fn revoke_shares<B: Base>(
     entries: &mut Entries<'_, B>,

@@ -2,8 +2,6 @@
 
 ghost use Rattle.std.specs.Prelude.{◌≡◌, Some, OnOk};
 ghost use Rattle.std.specs.List.{filter};
-ghost use Rattle.std.specs.Ordering.{is_eq};
-ghost use Rattle.ledger_types.specs.KeyOrder.{asset_cmp};
 ghost use Rattle.entry_map.specs.Undo.{with_current};
 ghost use Rattle.entry_slots.specs.Offers.{offer_at};
 ghost use Rattle.trade_cross.specs.Crossable.{IsCrossable};
@@ -15,24 +13,13 @@ use ledger_types::{AccountId, Asset, OfferEntry};
 use offer_book::of_account;
 use sponsor_rules::Ctx;
 use std::alloc::AllocError;
-use std::cmp::Ordering;
 use trade_cross::cancel_offer;
-
-/// Whether two assets are the same.
-pub fn is_same(a: &Asset, b: &Asset) -> bool
-    ensures { result ≡ is_eq (asset_cmp a.now b.now) }
-{
-    match a.cmp(b) {
-        Ordering::Equal => true,
-        _ => false,
-    }
-}
 
 /// Whether an offer sells or buys an asset.
 fn trades_in(offer: &OfferEntry, asset: &Asset) -> bool
     ensures { result ≡ spec.trades_in asset.now offer.now }
 {
-    is_same(&offer.selling, asset) || is_same(&offer.buying, asset)
+    offer.selling.is_same(asset) || offer.buying.is_same(asset)
 }
 
 /// Removes an offer that stands, if it sells or buys the asset.

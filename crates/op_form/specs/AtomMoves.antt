@@ -1,5 +1,5 @@
--- What the atoms of a trade move: what was sold goes from its seller, or from its pool, to the taker, and what was bought
--- goes back (CAP-0003, CAP-0038).
+-- What the atoms of a trade move: what was sold goes from its seller, or from its pool, to the taker, and what was
+-- bought goes back (CAP-0003, CAP-0038).
 use Rattle.std.specs.Prelude.{ℤ, List, [], ◌∷◌, ◌++◌}
 use Rattle.ledger_types.specs.declared.asset.Asset.{Asset}
 use Rattle.ledger_types.specs.declared.claim_atom.ClaimAtom.{ClaimAtom}

@@ -323,7 +323,8 @@ module _ (ctx : Ctx) (op : CreateClaimableBalanceOp) (m : EntryMap) (done : Done
       let still_free = balance_beside ctx src n m now (creating.new_id ctx) op.asset first.1 ∙ free in
       subst (IsLawful ctx m) same (lawful_with ctx m under all result new moves
       (shifts_as ctx.id_pool (λ x. unless_issuer x op.asset src (neg_ℤ n) +ℤ of_asset x op.asset n)
-      (λ x. issued x moves) m new (λ x. put_aside_issued x op.asset src to n (balance_issues_none op.asset (creating.new_id ctx)))
+      (λ x. issued x moves) m new
+      (λ x. put_aside_issued x op.asset src to n (balance_issues_none op.asset (creating.new_id ctx)))
       (shifts_both ctx.id_pool shift (λ x. of_asset x op.asset n) m now new one.shifts
       (λ v sum legal. balance_added_so v ctx.id_pool nothing_owed sum ctx src balance entry now new legal refl (record {
         free = still_free;

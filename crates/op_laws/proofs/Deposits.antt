@@ -303,4 +303,5 @@ liquidity_pool_deposit_is_lawful ctx op m done under source is =
     let some = neither none_a none_b least.0 in
     put_in_lawful ctx op m done under source
     (number_some op.max_amount_a (at_least_one op.max_amount_a some.0))
-    (number_some op.max_amount_b (at_least_one op.max_amount_b some.1)) line_found.0 pool_found.0 line_found.1 pool_found.1 pool_found.2
+    (number_some op.max_amount_b (at_least_one op.max_amount_b some.1)) line_found.0 pool_found.0 line_found.1
+    pool_found.1 pool_found.2

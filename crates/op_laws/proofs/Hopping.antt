@@ -91,7 +91,8 @@ went_as : (ctx : Ctx) (id_pool : ℕ) (trade : Trade) (m : EntryMap) → IsHopTr
     → (done : Crossing) → hop ctx trade m ≡ done
     → IsWent ctx id_pool trade.sheep done.sheep trade.wheat done.wheat m done.entries done.atoms
 went_as ctx id_pool trade m asks legal done is =
-    subst (λ (d : Crossing). IsWent ctx id_pool trade.sheep d.sheep trade.wheat d.wheat m d.entries d.atoms) is (record {
+    subst (λ (d : Crossing). IsWent ctx id_pool trade.sheep d.sheep trade.wheat d.wheat m d.entries d.atoms) is
+    (record {
       carried = hop_carried ctx id_pool trade m asks legal;
       legal = hop_legal ctx id_pool trade m asks legal;
     })
@@ -204,7 +205,8 @@ module _ (ctx : Ctx) (id_pool : ℕ) where
   atoms_assoc (first ∷ a) b c = ap (λ (l : List ClaimAtom). first ∷ l) (atoms_assoc a b c)
 
   pub path_back : (first : Asset) (path : List Asset) (last : Asset) (carried new : Carried)
-      → AreEntriesLegal id_pool carried.entries → received ctx first path last carried ≡ Ok new → IsBack first last carried new
+      → AreEntriesLegal id_pool carried.entries → received ctx first path last carried ≡ Ok new
+      → IsBack first last carried new
   path_back first [] last carried new legal is = hop_back first last carried new legal is
   path_back first (next ∷ path) last carried new legal is =
       let its = went_then (received ctx next path last carried) (received_hop ctx first next) new is in
@@ -223,7 +225,8 @@ module _ (ctx : Ctx) (id_pool : ℕ) where
       }
 
   pub path_on : (first : Asset) (path : List Asset) (last : Asset) (carried new : Carried)
-      → AreEntriesLegal id_pool carried.entries → sent ctx first path last carried ≡ Ok new → IsOn first last carried new
+      → AreEntriesLegal id_pool carried.entries → sent ctx first path last carried ≡ Ok new
+      → IsOn first last carried new
   path_on first [] last carried new legal is = hop_on first last carried new legal is
   path_on first (next ∷ path) last carried new legal is =
       let its = went_then (sent_hop ctx first next carried) (sent ctx next path last) new is in

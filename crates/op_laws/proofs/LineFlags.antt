@@ -77,7 +77,8 @@ module _ (ctx : Ctx) (m : EntryMap) (under : IsUnderway ctx m) (trustor : Accoun
   flags_part f known revoked is =
       let now = flags.map_after_revoking trustor held revoked m in
       let new = flags.map_after_flagging trustor held f revoked m in
-      let legal = λ (x : Asset). flagged_legal (view_of x m) ctx.id_pool (total (held_of x) m) trustor held issued_asset m
+      let legal = λ (x : Asset). flagged_legal (view_of x m) ctx.id_pool (total (held_of x) m) trustor held issued_asset
+      m
       (owing_of x ctx.id_pool m under.settled.legal) t there f known revoked is in
       let gone = offers_gone revoked in
       still_part ctx.id_pool ctx.base_reserve m new (entries_legal (view_of asset.Native m) ctx.id_pool lumens new
@@ -97,7 +98,8 @@ module _ (ctx : Ctx) (m : EntryMap) (under : IsUnderway ctx m) (trustor : Accoun
   left_part f low known false is r gave =
       let flagged = flags.map_after_flagging trustor held f false m in
       let same : record { entries = flagged; moves = [] } ≡ r = cc in
-      subst (λ (x : Revoked). IsPart ctx.id_pool ctx.base_reserve m x.entries x.moves) same (flags_part f known false is)
+      subst (λ (x : Revoked). IsPart ctx.id_pool ctx.base_reserve m x.entries x.moves) same
+      (flags_part f known false is)
 
   pub flagged_lawful : (f : ℕ) (low succeeded : OperationResult) (done : Done) → (f ≤ 7) × (f % 4 ≢ 3)
       → flags.flagged ctx trustor held f low succeeded t m ≡ Ok done → IsLawful ctx m done
@@ -162,4 +164,5 @@ set_trust_line_flags_is_lawful ctx op m done under stands is =
     let passed = went_on (setting.flag_tests source.0 line.0 f) _ done source.2 in
     flagged_lawful ctx m under op.trustor held issued_asset line.0 line.1 f (setting.answer set.LowReserve)
     (setting.answer set.Success) done
-    (set_fit ctx.id_pool m under.settled.legal op.trustor line.0 op source.0 issued_asset line.1 both.1 passed.0) passed.1
+    (set_fit ctx.id_pool m under.settled.legal op.trustor line.0 op source.0 issued_asset line.1 both.1 passed.0)
+    passed.1

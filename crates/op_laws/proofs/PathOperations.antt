@@ -117,7 +117,8 @@ path_receive_is_lawful ctx op m done under stands is =
     let asked = went_on (receive.asked_tests op) _ done is in
     let test = first_passed _ _ [] asked.0 in
     let amounts = neither (int_le op.send_max (pos 0) || int_le op.dest_amount (pos 0)) _ test.0 in
-    let amount = above op.dest_amount (neither (int_le op.send_max (pos 0)) (int_le op.dest_amount (pos 0)) amounts.0).1 in
+    let amount = above op.dest_amount
+    (neither (int_le op.send_max (pos 0)) (int_le op.dest_amount (pos 0)) amounts.0).1 in
     received_steps ctx op m done under amount (went_on (receive.destination_tests op m) _ done asked.1).1
 
 module _ (ctx : Ctx) (op : PathPaymentStrictSendOp) (m : EntryMap) (done : Done) (under : IsUnderway ctx m)
@@ -156,7 +157,8 @@ module _ (ctx : Ctx) (op : PathPaymentStrictSendOp) (m : EntryMap) (done : Done)
       let two = amount_taken ctx ctx.id_pool carried.entries on.went.legal sent_to (pos carried.amount)
       (low carried.amount) new op.dest_asset took in
       let went = subst (λ (l : List ClaimAtom).
-      IsCarried ctx.id_pool ctx.base_reserve op.send_asset all_sent op.dest_asset carried.amount given carried.entries l)
+      IsCarried ctx.id_pool ctx.base_reserve op.send_asset all_sent op.dest_asset carried.amount given carried.entries
+      l)
       (sym on.listed) on.went.carried in
       let lawful = sent_lawful ctx sent_to op.send_asset all_sent carried.atoms op.dest_asset carried.amount m given
       carried.entries new under (sent_of carried new op.send_amount).result one went two in
@@ -179,5 +181,6 @@ path_send_is_lawful ctx op m done under stands is =
     let asked = went_on (send.asked_tests op) _ done is in
     let test = first_passed _ _ [] asked.0 in
     let amounts = neither (int_le op.send_amount (pos 0) || int_le op.dest_min (pos 0)) _ test.0 in
-    let amount = above op.send_amount (neither (int_le op.send_amount (pos 0)) (int_le op.dest_min (pos 0)) amounts.0).0 in
+    let amount = above op.send_amount
+    (neither (int_le op.send_amount (pos 0)) (int_le op.dest_min (pos 0)) amounts.0).0 in
     sent_steps ctx op m done under amount (went_on (send.destination_tests op m) _ done asked.1).1

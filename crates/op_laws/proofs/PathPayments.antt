@@ -25,7 +25,8 @@ use Rattle.op_laws.specs.Moves.{gained, issued}
 use Rattle.op_laws.specs.Underway.{IsUnderway}
 use Rattle.op_laws.proofs.Carrying.{IsCarried, way_by, gained_on_way, held_on_way, more_on_way, of_neg, turned}
 use Rattle.op_laws.proofs.Lawful.{lawful_with}
-use Rattle.op_laws.proofs.MoveSums.{summed, summed_behind, held_by, more_by, moved_more, sum_issued, IsKept, AreEndsKept}
+use Rattle.op_laws.proofs.MoveSums.{summed, summed_behind, held_by, more_by, moved_more, sum_issued}
+use Rattle.op_laws.proofs.MoveSums.{IsKept, AreEndsKept}
 use Rattle.op_laws.proofs.MoveSums.{moves_tell_others, tells_all}
 use Rattle.op_laws.proofs.Told.{more_for, account_place, pool_place}
 use Rattle.op_laws.proofs.TradeMoves.{account_held}
@@ -64,7 +65,8 @@ module _ (ctx : Ctx) (destination : AccountId) (first : Asset) (a : ℕ) (atoms 
     moves = path_moves ctx destination first (pos a) atoms last (pos b)
 
     ends_kept : All AreEndsKept moves
-    ends_kept = All-cons AreEndsKept given_move (moves_of Transit atoms ++ taken_move ∷ []) (tt, account_place first source)
+    ends_kept = All-cons AreEndsKept given_move (moves_of Transit atoms ++ taken_move ∷ [])
+        (tt, account_place first source)
         (All-append AreEndsKept (moves_of Transit atoms) (taken_move ∷ []) (atoms_kept atoms)
         (All-cons AreEndsKept taken_move [] (account_place last destination, tt) (All-nil AreEndsKept)))
 
@@ -85,9 +87,11 @@ module _ (ctx : Ctx) (destination : AccountId) (first : Asset) (a : ℕ) (atoms 
     all_held : (f l s k d : ℤ) → ((f +ℤ s) +ℤ ((k +ℤ (l -ℤ f)) +ℤ ((d +ℤ neg_ℤ l) +ℤ pos 0))) ≡ ((d +ℤ k) +ℤ s)
     all_held f l s k d = omega (arith, ints)
 
-    shift_is : ((x : Asset) → summed (held_by x) (moves_of Transit atoms) ≡ (kept_in x atoms +ℤ turned x first a last b))
+    shift_is : ((x : Asset) → summed (held_by x) (moves_of Transit atoms)
+        ≡ (kept_in x atoms +ℤ turned x first a last b))
         → (x : Asset)
-        → ((unless_issuer x last destination (pos b) +ℤ kept_in x atoms) +ℤ unless_issuer x first source (neg_ℤ (pos a)))
+        → ((unless_issuer x last destination (pos b) +ℤ kept_in x atoms)
+        +ℤ unless_issuer x first source (neg_ℤ (pos a)))
         ≡ issued x moves
     shift_is kept x =
         (λ i. (account_held x last destination (pos b) i +ℤ kept_in x atoms)
@@ -150,7 +154,8 @@ module _ (ctx : Ctx) (destination : AccountId) (first : Asset) (a : ℕ) (atoms 
         let u = λ (x : Asset). unless_issuer x last destination (pos b) in
         let w = λ (x : Asset). unless_issuer x first source (neg_ℤ (pos a)) in
         path_lawful old new under result carried.way
-        (shifts_as ctx.id_pool (λ x. (u x +ℤ kept_in x atoms) +ℤ w x) (λ x. issued x moves) old new (shift_is carried.kept)
+        (shifts_as ctx.id_pool (λ x. (u x +ℤ kept_in x atoms) +ℤ w x) (λ x. issued x moves) old new
+        (shift_is carried.kept)
         (shifts_both ctx.id_pool (λ x. u x +ℤ kept_in x atoms) w old went new
         (shifts_both ctx.id_pool u (λ x. kept_in x atoms) old taken went one.shifts carried.shifts) two.shifts))
         (leaves_as ctx.base_reserve (both_more (both_more d (more_in atoms)) s) (moved_more moves) old new

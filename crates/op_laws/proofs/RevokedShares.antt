@@ -36,7 +36,8 @@ use Rattle.trade_cross.specs.Holdings.{line_paid}
 use Rattle.op_form.specs.Assets.{is_issued_by}
 use Rattle.op_form.specs.Done.{Holder, Move, OfAccount, OfBalance, OfPool}
 use Rattle.op_flags.specs.RevokedShares.{Revoked, Given, revoked_id, move_to, left, payer_of_share, given_of}
-use Rattle.op_flags.specs.RevokedShares.{map_without_shares, and_then, share_revoked_by, share_revoked_of, share_revoked, all_revoked}
+use Rattle.op_flags.specs.RevokedShares.{map_without_shares, and_then, share_revoked_by, share_revoked_of}
+use Rattle.op_flags.specs.RevokedShares.{share_revoked, all_revoked}
 use Rattle.op_flags.specs.RevokedShares.{pools_revoked, shares_revoked}
 use Rattle.op_flags.proofs.Shares.{can_give_all}
 use Rattle.op_flags.proofs.SharesRevoked.{payer_there, first_valid, second_valid, withdrawn_legal, line_empty}
@@ -68,7 +69,8 @@ none_of_it : (b : Bool) (n : ℕ) → n ≡ 0 → (if b then neg_ℤ (pos n) els
 none_of_it true n none = omega (arith, ints)
 none_of_it false n none = refl
 
-none_given : (s b : Bool) (n : ℕ) → n ≡ 0 → (pos 0 +ℤ (if s then (if b then neg_ℤ (pos n) else pos 0) else pos 0)) ≡ pos 0
+none_given : (s b : Bool) (n : ℕ) → n ≡ 0
+    → (pos 0 +ℤ (if s then (if b then neg_ℤ (pos n) else pos 0) else pos 0)) ≡ pos 0
 none_given true true n none = omega (arith, ints)
 none_given true false n none = refl
 none_given false b n none = refl

@@ -176,7 +176,8 @@ module _ (ctx : Ctx) (op : LiquidityPoolWithdrawOp) (m : EntryMap) (done : Done)
       let room = neither full_a full_b second.0 in
       let both = both_taken ctx.id_pool ctx.base_reserve m under.settled.legal ctx.op_source op.pool_id t p has stands
       (neg_ℤ (pos part_out.a)) (neg_ℤ (pos part_out.b)) (neg_ℤ op.amount)
-      (can_withdraw ctx.op_source op.pool_id t p op.amount its was (low_of op.amount some) enough of_all) part_out.a part_out.b (takes_first room.0)
+      (can_withdraw ctx.op_source op.pool_id t p op.amount its was (low_of op.amount some) enough of_all) part_out.a
+      part_out.b (takes_first room.0)
       (takes_second room.1) in
       let also = tested.1 in
       let made : Done = record {

@@ -1,13 +1,10 @@
 //! What an operation on offers asks for.
 
 ghost use Rattle.std.specs.Prelude.{◌≡◌};
-ghost use Rattle.std.specs.Ordering.{is_eq};
-ghost use Rattle.ledger_types.specs.KeyOrder.{asset_cmp};
 ghost use Rattle.op_offers.specs.Asked as spec;
 
 use ledger_types::{Asset, Price};
 use op_types::{CreatePassiveSellOfferOp, ManageBuyOfferOp, ManageSellOfferOp};
-use std::cmp::Ordering;
 use valid_values::is_valid_asset;
 
 /// What an operation on offers asks for, whatever its type (ManageOfferOpFrameBase in stellar-core).
@@ -87,23 +84,13 @@ pub fn ask_to_buy(op: &ManageBuyOfferOp) -> Ask
     }
 }
 
-/// Whether two assets are the same.
-fn is_same(a: &Asset, b: &Asset) -> bool
-    ensures { result ≡ is_eq (asset_cmp a.now b.now) }
-{
-    match a.cmp(b) {
-        Ordering::Equal => true,
-        _ => false,
-    }
-}
-
 /// Whether the assets are no pair that can be traded.
 fn is_no_pair(ask: &Ask) -> bool
     ensures { result ≡ spec.is_no_pair ask.now }
 {
     !is_valid_asset(&ask.selling)
         || !is_valid_asset(&ask.buying)
-        || is_same(&ask.selling, &ask.buying)
+        || ask.selling.is_same(&ask.buying)
 }
 
 /// Whether a number is out of its range.

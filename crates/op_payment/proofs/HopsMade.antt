@@ -21,7 +21,8 @@ use Rattle.trade_cross.proofs.HopsKeep.{hop_keeps}
 use Rattle.op_payment.specs.declared.carried.Carried.{Carried as CarriedOfCall}
 use Rattle.op_payment.specs.declared.path_fault.PathFault.{PathFault}
 use Rattle.op_payment.specs.declared.path_fault.PathFault.TheVariants as fault
-use Rattle.op_payment.specs.PathCalls.{carried_of, needed_before_of, carried_on_of, DoCrossingsFit, IsReceiving, IsSending}
+use Rattle.op_payment.specs.PathCalls.{carried_of, needed_before_of, carried_on_of, DoCrossingsFit}
+use Rattle.op_payment.specs.PathCalls.{IsReceiving, IsSending}
 use Rattle.op_payment.specs.PathCalls.{IsHopped, IsCarriedSo}
 use Rattle.op_payment.specs.Paths.{Carried, by_end, hopped, after_hop, receiving, sending, needed_before, carried_on}
 use Rattle.op_payment.specs.Paths.{is_same_asset, received_hop, sent_hop}
@@ -126,7 +127,8 @@ module _ (ctx : Ctx) (sheep wheat : Asset) (carried : CarriedOfCall) (trade : Tr
     pub receiving_fits : (r : Result Crossed PathFault) (answer : Crossed) → r ≡ Ok answer → IsCrossable old.current
         → IsHopped r old new (hopped ctx trade old.current) → DoCrossingsFit carried answer
     receiving_fits r answer ok k its =
-        crossings_fit ctx (receiving ctx sheep wheat so_far) answer old new k (receiving_asks ctx sheep wheat so_far other)
+        crossings_fit ctx (receiving ctx sheep wheat so_far) answer old new k
+        (receiving_asks ctx sheep wheat so_far other)
         (subst (λ x. IsHopped x old new back) ok (received_by r its))
 
     pub received_on : (r : Result Crossed PathFault) (answer : Crossed) → r ≡ Ok answer
@@ -137,7 +139,8 @@ module _ (ctx : Ctx) (sheep wheat : Asset) (carried : CarriedOfCall) (trade : Tr
         let s = served answer old new back (subst (λ x. IsHopped x old new back) ok (received_by r its)) in
         let of = s.crossing in
         let at = current_is old new s.done.entries s.entries in
-        let same : needed_before so_far s.done ≡ carried_of (needed_before_of carried answer) new.current = λ i. record {
+        let same : needed_before so_far s.done ≡ carried_of (needed_before_of carried answer) new.current =
+        λ i. record {
           amount = unsigned_abs (sym of.sheep i);
           crossings = carried.crossings - crossings_in (sym of.atoms i);
           atoms = sym of.atoms i ++ carried.atoms;

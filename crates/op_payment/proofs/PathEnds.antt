@@ -45,7 +45,8 @@ tried_on ctx old now new attempt kept (Ok result) its =
 tried_on ctx old now new attempt kept (Err result) its =
     (its.0, its.1 ∙ ap (λ (u : Undo). with_current u new.current) kept)
 
-tried_behind : {E : Type 0} (ctx : Ctx) (old now new : Undo) (first whole : Attempt) → now ≡ with_current old now.current
+tried_behind : {E : Type 0} (ctx : Ctx) (old now new : Undo) (first whole : Attempt)
+    → now ≡ with_current old now.current
     → whole ≡ first → (r : Result (Result OperationResult OperationResult) E)
     → IfOk r (λ x. IsTried x ctx now new first)
     → IfOk r (λ x. IsTried x ctx old new whole)
@@ -112,8 +113,10 @@ module _ (ctx : Ctx) (op : PathPaymentStrictReceiveOp) where
   taken_and_given_so old taken now new fault none id id_is credit r carried ok path given its =
       let step : IsStep None old taken
       (map_after_credit (account_of op.destination) op.dest_asset op.dest_amount old.current) =
-      subst (λ o. IsStep o old taken (map_after_credit (account_of op.destination) op.dest_asset op.dest_amount old.current))
-      none (subst (λ x. IsStep fault old taken (map_after_credit x op.dest_asset op.dest_amount old.current)) id_is credit)
+      subst (λ o. IsStep o old taken
+      (map_after_credit (account_of op.destination) op.dest_asset op.dest_amount old.current))
+      none
+      (subst (λ x. IsStep fault old taken (map_after_credit x op.dest_asset op.dest_amount old.current)) id_is credit)
       in
       let way = subst (λ x. IsCarriedSo x taken now
       (received ctx op.send_asset op.path op.dest_asset (set_out op.dest_amount taken.current))) ok path in
@@ -129,15 +132,18 @@ module _ (ctx : Ctx) (op : PathPaymentStrictSendOp) where
       → int_lt carried.amount op.dest_min ≡ false → (fault : Option CreditFault) → fault ≡ None → (id : AccountId)
       → id ≡ account_of op.destination
       → IsStep fault old new (map_after_credit id op.dest_asset carried.amount old.current)
-      → IsTried (Ok (sending.answer (sent_code.Success (arrived carried.atoms id op.dest_asset carried.amount)))) ctx old
+      → IsTried (Ok (sending.answer (sent_code.Success (arrived carried.atoms id op.dest_asset carried.amount)))) ctx
+      old
       new (sending.taken ctx op (carried_of carried old.current))
   taken_so carried old new low enough fault none id id_is its =
       let from = carried_of carried old.current in
       let n = number_is carried.amount low in
       let step : IsStep None old new
       (map_after_credit (account_of op.destination) op.dest_asset carried.amount old.current) =
-      subst (λ o. IsStep o old new (map_after_credit (account_of op.destination) op.dest_asset carried.amount old.current))
-      none (subst (λ x. IsStep fault old new (map_after_credit x op.dest_asset carried.amount old.current)) id_is its) in (
+      subst (λ o. IsStep o old new
+      (map_after_credit (account_of op.destination) op.dest_asset carried.amount old.current))
+      none
+      (subst (λ x. IsStep fault old new (map_after_credit x op.dest_asset carried.amount old.current)) id_is its) in (
         record {
           result = sending.answer (sent_code.Success
               (arrived carried.atoms (account_of op.destination) op.dest_asset (pos from.amount)));
@@ -147,7 +153,8 @@ module _ (ctx : Ctx) (op : PathPaymentStrictSendOp) where
               (pos from.amount);
         },
         (λ i. unless_refused ((int_lt (n i) op.dest_min, sending.answer sent_code.UnderDestmin) ∷ [])
-            (after_step (map_after_credit (account_of op.destination) op.dest_asset (n i) old.current) sending.credit_result
+            (after_step (map_after_credit (account_of op.destination) op.dest_asset (n i) old.current)
+            sending.credit_result
             (sending.done ctx op from)))
             ∙ (λ i. unless_refused ((enough i, sending.answer sent_code.UnderDestmin) ∷ [])
             (after_step (step.0 i) sending.credit_result (sending.done ctx op from))),

@@ -59,7 +59,8 @@ IsEnd None done end = end ≡ Ok done
 IsEnd (Some fault) done end = end ≡ Err fault
 
 abbrev pub IsEndFault : Option PathFault → Trade → Crossed → Type 0
-IsEndFault fault trade answer = (done : Crossing) → IsCrossing answer done → IsEnd fault done (by_end trade done done.end)
+IsEndFault fault trade answer =
+    (done : Crossing) → IsCrossing answer done → IsEnd fault done (by_end trade done done.end)
 
 -- what the hop of a call came to
 abbrev pub IsHopped : Result Crossed PathFault → Undo → Undo → Result Crossing PathFault → Type 0

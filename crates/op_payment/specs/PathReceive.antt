@@ -29,7 +29,8 @@ answer code = Inner (tr.PathPaymentStrictReceive code)
 
 abbrev pub asked_tests : PathPaymentStrictReceiveOp → Tests OperationResult
 asked_tests op = (
-  int_le op.send_max (pos 0) || int_le op.dest_amount (pos 0) || not (is_path_valid op.send_asset op.path op.dest_asset),
+  int_le op.send_max (pos 0) || int_le op.dest_amount (pos 0)
+      || not (is_path_valid op.send_asset op.path op.dest_asset),
   answer path.Malformed,
 ) ∷ []
 
@@ -81,7 +82,8 @@ given ctx op carried =
 abbrev pub taken_and_given : Ctx → PathPaymentStrictReceiveOp → EntryMap → Attempt
 taken_and_given ctx op m =
     after_step (map_after_credit (account_of op.destination) op.dest_asset op.dest_amount m) credit_result
-    (λ taken. after_path (received ctx op.send_asset op.path op.dest_asset (set_out op.dest_amount taken)) (given ctx op))
+    (λ taken.
+    after_path (received ctx op.send_asset op.path op.dest_asset (set_out op.dest_amount taken)) (given ctx op))
 
 abbrev pub path_payment_strict_receive : Ctx → PathPaymentStrictReceiveOp → EntryMap → Attempt
 path_payment_strict_receive ctx op m =

@@ -29,7 +29,8 @@ answer code = Inner (tr.PathPaymentStrictSend code)
 
 abbrev pub asked_tests : PathPaymentStrictSendOp → Tests OperationResult
 asked_tests op = (
-  int_le op.send_amount (pos 0) || int_le op.dest_min (pos 0) || not (is_path_valid op.send_asset op.path op.dest_asset),
+  int_le op.send_amount (pos 0) || int_le op.dest_min (pos 0)
+      || not (is_path_valid op.send_asset op.path op.dest_asset),
   answer path.Malformed,
 ) ∷ []
 

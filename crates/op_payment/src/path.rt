@@ -13,18 +13,7 @@ use ledger_types::Asset;
 use offer_exchange::Rounding;
 use sponsor_rules::Ctx;
 use std::alloc::AllocError;
-use std::cmp::Ordering;
 use trade_cross::{CrossEnd, Crossed, Trade, hop, is_served};
-
-/// Whether two assets are the same.
-pub fn is_same_asset(a: &Asset, b: &Asset) -> bool
-    ensures { result ≡ spec.is_same_asset a.now b.now }
-{
-    match a.cmp(b) {
-        Ordering::Equal => true,
-        _ => false,
-    }
-}
 
 /// So much wheat is received, for whatever it costs.
 fn receiving(ctx: &Ctx, sheep: &Asset, wheat: &Asset, carried: &Carried) -> Trade
@@ -109,7 +98,7 @@ fn receive_hop<B: Base>(
     ensures { IfOk result (λ r. calls.IsCarriedSo r entries.old entries.new (
         spec.received_hop ctx.now sheep.now wheat.now (calls.carried_of carried entries.old.current))) }
 {
-    if is_same_asset(sheep, wheat) {
+    if sheep.is_same(wheat) {
         return Ok(Ok(carried));
     }
     let trade = receiving(ctx, sheep, wheat, &carried);
@@ -132,7 +121,7 @@ fn send_hop<B: Base>(
     ensures { IfOk result (λ r. calls.IsCarriedSo r entries.old entries.new (
         spec.sent_hop ctx.now sheep.now wheat.now (calls.carried_of carried entries.old.current))) }
 {
-    if is_same_asset(sheep, wheat) {
+    if sheep.is_same(wheat) {
         return Ok(Ok(carried));
     }
     let trade = sending(ctx, sheep, wheat, &carried);

@@ -3,7 +3,6 @@
 ghost use Rattle.std.specs.Prelude.{◌≡◌, IfOk};
 ghost use Rattle.op_payment.specs.PathPayment as spec;
 
-use crate::path::is_same_asset;
 use entry_map::{Base, Entries};
 use item_list::ItemList;
 use ledger_types::{AccountId, Asset, ClaimAtom};
@@ -29,8 +28,8 @@ pub fn is_path_valid(first: &Asset, path: &[Asset], last: &Asset) -> bool
     is_valid_asset(first) && is_valid_asset(last) && are_valid(path)
 }
 
-/// Whether there is no account of the destination where one is needed: what is paid to its issuer, without a trade, needs
-/// none.
+/// Whether there is no account of the destination where one is needed: what is paid to its issuer, without a trade,
+/// needs none.
 pub fn is_nobody<B: Base>(
     entries: &Entries<'_, B>,
     destination: &AccountId,
@@ -41,7 +40,7 @@ pub fn is_nobody<B: Base>(
     ensures { IfOk result (λ is.
         is ≡ spec.is_nobody destination.now first.now path.now last.now entries.now.current) }
 {
-    if is_issued_by(last, destination) && is_same_asset(first, last) && path.is_empty() {
+    if is_issued_by(last, destination) && first.is_same(last) && path.is_empty() {
         return Ok(false);
     }
     Ok(!stands(entries, destination)?)

@@ -19,8 +19,8 @@ use op_types::{
 use sponsor_rules::Ctx;
 use std::alloc::AllocError;
 
-/// PATH_PAYMENT_STRICT_RECEIVE: the destination gets an amount of an asset, and the source gives what that costs along a
-/// path of assets.
+/// PATH_PAYMENT_STRICT_RECEIVE: the destination gets an amount of an asset, and the source gives what that costs along
+/// a path of assets.
 pub fn path_payment_strict_receive<B: Base>(
     op: &PathPaymentStrictReceiveOp,
     ctx: &Ctx,

@@ -179,7 +179,8 @@ charged_beside : (k : ℕ) (sponsor : Option AccountId) (m : EntryMap) → IsKey
     → ((x : AccountId) → q ≢ key.Account x) → get (map_after_charging k sponsor m) q ≡ get m q
 charged_beside k None m keyed q plain = refl
 charged_beside k (Some sponsor) m keyed q plain =
-    account_beside m keyed sponsor (with_more Sponsoring k) (λ a. (with_count_means Sponsoring _ a).id) q (plain sponsor)
+    account_beside m keyed sponsor (with_more Sponsoring k) (λ a. (with_count_means Sponsoring _ a).id) q
+    (plain sponsor)
 
 charged_keyed : (k : ℕ) (sponsor : Option AccountId) (m : EntryMap) → IsKeyed m
     → IsKeyed (map_after_charging k sponsor m)

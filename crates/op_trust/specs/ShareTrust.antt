@@ -124,7 +124,8 @@ share_added ctx params limit m =
 abbrev pub share_changed : Ctx → PoolParams → ℤ → EntryMap → Option TrustLineEntry → Attempt
 share_changed ctx params limit m (Some share) =
     unless_refused (limit_tests limit share)
-    (if int_eq limit (pos 0) then share_removed ctx params share m else share_limited ctx (pool_named_by params) limit m)
+    (if int_eq limit (pos 0) then share_removed ctx params share m
+    else share_limited ctx (pool_named_by params) limit m)
 share_changed ctx params limit m None =
     let needs_a = needed_line ctx.op_source params.asset_a in
     let needs_b = needed_line ctx.op_source params.asset_b in

@@ -1,7 +1,7 @@
 //! CHANGE_TRUST for shares of a pool.
 
 ghost use Rattle.std.specs.Prelude.{◌≡◌, ◌+◌, ◌<◌, pos, neg_ℤ, Some, None, false, IfOk};
-ghost use Rattle.std.specs.Ordering.{is_eq, is_lt};
+ghost use Rattle.std.specs.Ordering.{is_lt};
 ghost use Rattle.entry_map.specs.EntryMap.{EntryMap as AMap};
 ghost use Rattle.ledger_types.specs.KeyOrder.{asset_cmp};
 ghost use Rattle.ledger_types.specs.declared.asset.TrustLineAsset.TheVariants as asset;
@@ -42,8 +42,8 @@ const POOL_FEE: i32 = 30;
 /// AUTHORIZED_FLAG and AUTHORIZED_TO_MAINTAIN_LIABILITIES_FLAG of a trust line.
 const AUTHORIZING: u32 = 3;
 
-/// CHANGE_TRUST for shares of a pool: makes the source's line of them, gives it another limit, or removes it. A pool comes
-/// with its first line, and goes with its last one.
+/// CHANGE_TRUST for shares of a pool: makes the source's line of them, gives it another limit, or removes it. A pool
+/// comes with its first line, and goes with its last one.
 pub fn change_share_trust<B: Base>(
     params: &PoolParams,
     limit: i64,
@@ -74,7 +74,8 @@ pub fn change_share_trust<B: Base>(
     }
 }
 
-/// Whether a pool that is asked for can't be one: its assets aren't valid or not in their order, or its fee is another one.
+/// Whether a pool that is asked for can't be one: its assets aren't valid or not in their order, or its fee is another
+/// one.
 fn is_pool_bad(params: &PoolParams) -> bool
     ensures { result ≡ spec.is_pool_bad params.now }
 {
@@ -94,21 +95,11 @@ fn is_below(a: &Asset, b: &Asset) -> bool
     }
 }
 
-/// Whether two assets are the same.
-fn is_same(a: &Asset, b: &Asset) -> bool
-    ensures { result ≡ is_eq (asset_cmp a.now b.now) }
-{
-    match a.cmp(b) {
-        Ordering::Equal => true,
-        _ => false,
-    }
-}
-
 /// Whether pools have the same assets and the same fee.
 fn are_same_params(a: &PoolParams, b: &PoolParams) -> bool
     ensures { result ≡ spec.are_same_params a.now b.now }
 {
-    is_same(&a.asset_a, &b.asset_a) && is_same(&a.asset_b, &b.asset_b) && a.fee == b.fee
+    a.asset_a.is_same(&b.asset_a) && a.asset_b.is_same(&b.asset_b) && a.fee == b.fee
 }
 
 /// Whether another pool has the id.
@@ -196,14 +187,15 @@ fn limit_share<B: Base>(
     Ok(answer(ChangeTrustResult::Success))
 }
 
-/// Why the line that an account needs for an asset doesn't do, if it needs one: it isn't there, or isn't authorised, not even
-/// to maintain liabilities.
+/// Why the line that an account needs for an asset doesn't do, if it needs one: it isn't there, or isn't authorised,
+/// not even to maintain liabilities.
 fn needed_fault<B: Base>(
     entries: &Entries<'_, B>,
     id: &AccountId,
     asset: &Asset,
 ) -> Result<Option<ChangeTrustResult>, AllocError>
-    ensures { IfOk result (λ fault. spec.IsNeededFault (spec.needed_tests_at entries.now.current (needed_line id.now asset.now)) fault) }
+    ensures { IfOk result (λ fault. spec.IsNeededFault (
+        spec.needed_tests_at entries.now.current (needed_line id.now asset.now)) fault) }
 {
     let Place::Line(held) = place_of(id, asset) else {
         return Ok(None);

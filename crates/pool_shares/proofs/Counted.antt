@@ -67,7 +67,8 @@ no_pool_changed m pool change none = no_pool_of m change (get m (key.LiquidityPo
 
 module _ (base : ℕ) (n : ℤ) where
   module _ (m : EntryMap) (keyed : IsKeyed m) (id : AccountId) (a : TrustLineAsset) where
-    line_by : (o : Option TrustLineEntry) → line_at m id a ≡ o → Leaves base none_more m (with_line m id a (with_uses n))
+    line_by : (o : Option TrustLineEntry) → line_at m id a ≡ o
+        → Leaves base none_more m (with_line m id a (with_uses n))
     line_by None none = subst (Leaves base none_more m) (sym (no_line_changed m id a (with_uses n) none))
         (leaves_itself base m keyed)
     line_by (Some t) there = line_kept m id a (with_uses n) t there refl refl base keyed refl

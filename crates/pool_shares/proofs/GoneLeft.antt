@@ -51,7 +51,8 @@ use Rattle.pool_shares.proofs.Counted.{counts_left}
 abbrev of_shares : AccountId → Hash → TrustLineEntry → TrustLineEntry
 of_shares id pool t = record t { account_id = id; asset = line.PoolShare pool }
 
-module _ (v : View) (id_pool : ℕ) (sum : ℤ) (base : ℕ) (m : EntryMap) (legal : IsLegalOwing v id_pool nothing_owed sum m)
+module _ (v : View) (id_pool : ℕ) (sum : ℤ) (base : ℕ) (m : EntryMap)
+    (legal : IsLegalOwing v id_pool nothing_owed sum m)
     (id : AccountId) (pool : Hash) where
   abbrev its_key : LedgerKey
   its_key = key.TrustLine id (line.PoolShare pool)

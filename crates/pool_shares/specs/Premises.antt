@@ -1,5 +1,5 @@
--- What pools and lines of their shares ask of a map, so that no count and no amount of them leaves its width. Each legal
--- state meets it.
+-- What pools and lines of their shares ask of a map, so that no count and no amount of them leaves its width. Each
+-- legal state meets it.
 use Rattle.std.specs.Prelude.{◌≡◌, ◌≢◌, ℕ, pos, neg_ℤ, ◌≤ℤ◌, Some, None}
 use Rattle.ledger_types.specs.declared.ids.AccountId.{AccountId}
 use Rattle.ledger_types.specs.declared.ids.Hash.{Hash}

@@ -1,8 +1,8 @@
 -- A sum over all entries, by what stands behind one key after another.
-use Rattle.std.proofs.Common.{◌≡◌, ◌≢◌, refl, sym, ap, ◌∙◌, ℕ, zero, suc, cond, T, arith}
+use Rattle.std.proofs.Common.{◌≡◌, ◌≢◌, refl, sym, ap, ◌∙◌, subst, ℕ, zero, suc, cond, T, arith}
 use Rattle.std.proofs.Common.{List, [], ◌∷◌, length, Option, Some, None}
 use Rattle.std.proofs.lemmas.Int.{ints}
-use Rattle.std.specs.Prelude.{◌+◌, ◌*◌, ◌<◌, ℤ, pos, negsuc, neg_ℤ, ◌+ℤ◌, ◌≤ℤ◌, replicate, FitsSigned}
+use Rattle.std.specs.Prelude.{IfSome, ◌+◌, ◌*◌, ◌<◌, ℤ, pos, negsuc, neg_ℤ, ◌+ℤ◌, ◌≤ℤ◌, replicate, FitsSigned}
 use Rattle.std.specs.Int.{w128}
 use Rattle.std.specs.declared.cmp.Ordering.TheVariants.{Less, Equal, Greater}
 use Rattle.std.specs.Ordering.{is_eq, ordering_then}
@@ -14,14 +14,20 @@ use Rattle.shared_tree.proofs.Changed.{below_less, below_tied}
 use Rattle.ledger_types.specs.declared.entry.LedgerEntry.{LedgerEntry}
 use Rattle.ledger_types.specs.declared.key.LedgerKey.{LedgerKey}
 use Rattle.ledger_types.specs.declared.key.LedgerKey.TheVariants as key
-use Rattle.ledger_types.specs.Keys.{key_of}
+use Rattle.ledger_types.specs.declared.entry.LedgerEntryBody.{LedgerEntryBody}
+use Rattle.ledger_types.specs.declared.entry.LedgerEntryBody.TheVariants as body
+use Rattle.ledger_types.specs.Keys.{key_of, key_of_body}
 use Rattle.ledger_types.specs.KeyOrder.{bytes_cmp, key_cmp}
 use Rattle.ledger_types.proofs.KeyOrdering.{keys_total}
-use Rattle.entry_map.specs.EntryMap.{EntryMap, IsLeastAbove, IsNextAfter}
+use Rattle.xdr_core.specs.Leaves.{fixed}
+use Rattle.xdr_entries.specs.Basic.{account_id}
+use Rattle.xdr_entries.specs.Entries.{account_head, account_entry, ledger_entry_body, ledger_entry}
+use Rattle.entry_map.specs.EntryMap.{EntryMap, IsKeyed, IsLeastAbove, IsNextAfter}
 use Rattle.entry_sums.specs.Sums.{Weight, sum_over, total, part}
+use Rattle.entry_changes.specs.Spellable.{IsEntrySpellable, AreSpellable}
 use Rattle.offer_book.specs.Sold.{above}
 use Rattle.offer_book.proofs.Above.{Pairs, found_first, skipped, taken, nothing_left, next_left}
-use Rattle.tally.specs.Walk.{first_key, HasWholeId, AreIdsWhole, sum_behind}
+use Rattle.tally.specs.Walk.{first_key, sum_behind}
 
 -- ---- no key is ahead of the first
 
@@ -36,6 +42,24 @@ zeros_first zero (x ∷ xs) same = λ e. absurd (cc)
 zeros_first (suc n) [] same = absurd (cc)
 zeros_first (suc n) (zero ∷ xs) same = zeros_first n xs (omega (arith, same))
 zeros_first (suc n) (suc x ∷ xs) same = λ e. absurd (let lt = zero_less n x xs in cc)
+
+-- the id in an account's key has 32 bytes
+abbrev HasWholeId : LedgerKey → Type 0
+HasWholeId (key.Account id) = length id.0 ≡ 32
+HasWholeId other = Unit {0}
+
+body_whole : (b : LedgerEntryBody) → ledger_entry_body.within b → HasWholeId (key_of_body b)
+unfolding ledger_entry_body account_entry account_head account_id fixed
+body_whole (body.Account account) within = within.0.0.1
+body_whole (body.TrustLine line) within = tt
+body_whole (body.Offer offer) within = tt
+body_whole (body.Data entry) within = tt
+body_whole (body.ClaimableBalance balance) within = tt
+body_whole (body.LiquidityPool pool) within = tt
+
+entry_whole : (e : LedgerEntry) → IsEntrySpellable e → HasWholeId (key_of e)
+unfolding ledger_entry
+entry_whole e spellable = body_whole e.body spellable.within.1.0
 
 pub none_ahead : (k : LedgerKey) → HasWholeId k → key_cmp first_key k ≢ Greater
 none_ahead (key.Account id) whole = zeros_first 32 id.0 whole
@@ -81,12 +105,15 @@ sum_from f k (x ∷ xs) h ahead = elim (key_cmp k x.0) as (λ r. key_cmp k x.0 �
       | Greater ↦ λ past. absurd (ahead x.0 x.1 (found_first x xs) past)
     ] refl
 
-pub sum_from_first : (f : Weight) (m : EntryMap) → AreIdsWhole m
+pub sum_from_first : (f : Weight) (m : EntryMap) → IsKeyed m → AreSpellable m
     → total f m ≡ (part f (get m first_key) +ℤ sum_behind f m first_key)
 unfolding total
-sum_from_first f m whole =
+sum_from_first f m keyed spellable =
     sum_from f first_key (entries m) (entries_sorted m)
-    (λ q e there. none_ahead q (whole q e (get-entries m q ∙ there)))
+    (λ q e there.
+    let stands : get m q ≡ Some e = get-entries m q ∙ there in
+    let at : key_of e ≡ q = subst (λ o. IfSome o (λ e. key_of e ≡ q)) stands (keyed q) in
+    none_ahead q (subst HasWholeId at (entry_whole e (spellable q e stands))))
     ∙ ap (λ o. part f o +ℤ sum_behind f m first_key) (sym (get-entries m first_key))
 
 -- ---- one key after another
@@ -99,9 +126,9 @@ pub none_behind : (f : Weight) (m : EntryMap) (k : LedgerKey) → IsNextAfter m 
 none_behind f m k none = ap (sum_over f) (nothing_left m k none)
 
 -- what was looked up at the first key, and what stands behind it, is all
-pub first_part : (f : Weight) (m : EntryMap) → AreIdsWhole m → (k : LedgerKey) (o : Option LedgerEntry)
-    → k ≡ first_key → o ≡ get m k → total f m ≡ (part f o +ℤ sum_behind f m k)
-first_part f m whole k o is found = sum_from_first f m whole
+pub first_part : (f : Weight) (m : EntryMap) → IsKeyed m → AreSpellable m → (k : LedgerKey)
+    (o : Option LedgerEntry) → k ≡ first_key → o ≡ get m k → total f m ≡ (part f o +ℤ sum_behind f m k)
+first_part f m keyed spellable k o is found = sum_from_first f m keyed spellable
     ∙ ap (λ q. part f (get m q) +ℤ sum_behind f m q) (sym is)
     ∙ ap (λ p. part f p +ℤ sum_behind f m k) (sym found)
 

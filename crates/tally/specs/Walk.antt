@@ -1,27 +1,18 @@
 -- How the entries of a ledger are gone through, from the first one on.
-use Rattle.std.specs.Prelude.{◌≡◌, ℤ, ◌+ℤ◌, replicate, length}
+use Rattle.std.specs.Prelude.{ℤ, ◌+ℤ◌, replicate}
 use Rattle.std.specs.FinMap.{entries}
 use Rattle.ledger_types.specs.declared.asset.Asset.{Asset}
 use Rattle.ledger_types.specs.declared.liquidity_pool.LiquidityPoolEntry.{LiquidityPoolEntry}
 use Rattle.ledger_types.specs.declared.key.LedgerKey.{LedgerKey}
 use Rattle.ledger_types.specs.declared.key.LedgerKey.TheVariants as key
 use Rattle.entry_map.specs.EntryMap.{EntryMap}
-use Rattle.entry_sums.specs.Sums.{Weight, sum_over, EachEntry}
+use Rattle.entry_sums.specs.Sums.{Weight, sum_over}
 use Rattle.legal_rules.specs.Supply.{of_asset}
 use Rattle.offer_book.specs.Sold.{above}
 
 -- the key of the account whose id is 32 zero bytes
 abbrev pub first_key : LedgerKey
 first_key = key.Account (record { 0 = replicate 32 0 })
-
--- the id in an account's key has 32 bytes (PublicKey)
-abbrev pub HasWholeId : LedgerKey → Type 0
-HasWholeId (key.Account id) = length id.0 ≡ 32
-HasWholeId other = Unit {0}
-
--- The ids of accounts have 32 bytes, as those of each account that can be read or written: no key is ahead of the first.
-abbrev pub AreIdsWhole : EntryMap → Type 0
-AreIdsWhole m = EachEntry (λ k e. HasWholeId k) m
 
 -- what both reserves of a pool are in an asset
 abbrev pub held_in_pool : Asset → LiquidityPoolEntry → ℤ

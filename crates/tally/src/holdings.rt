@@ -1,30 +1,17 @@
 //! What one entry holds of an asset. Amounts are in units of 10^-7 (stroops), of 64 bits with a sign.
 
 ghost use Rattle.std.specs.Prelude.{◌≡◌, pos, negsuc, ◌≤ℤ◌};
-ghost use Rattle.std.specs.Ordering.{is_eq};
-ghost use Rattle.ledger_types.specs.KeyOrder.{asset_cmp};
 ghost use Rattle.entry_sums.specs.Sums.{part};
 ghost use Rattle.legal_rules.specs.Supply as supply;
 ghost use Rattle.tally.specs.Walk as spec;
 
 use ledger_types::{Asset, LedgerEntry, LedgerEntryBody, LiquidityPoolEntry, TrustLineAsset};
-use std::cmp::Ordering;
-
-/// Whether two assets are the same.
-fn is_same(a: &Asset, b: &Asset) -> bool
-    ensures { result ≡ is_eq (asset_cmp a.now b.now) }
-{
-    match a.cmp(b) {
-        Ordering::Equal => true,
-        _ => false,
-    }
-}
 
 /// An amount of an asset where that is the one asked for, else 0.
 fn of_asset(asked: &Asset, asset: &Asset, amount: i64) -> i64
     ensures { supply.of_asset asked.now asset.now amount ≡ result }
 {
-    if is_same(asked, asset) { amount } else { 0 }
+    if asked.is_same(asset) { amount } else { 0 }
 }
 
 /// The balance of a line where it is in the asset asked for, else 0. Shares of a pool are no asset: what they stand for

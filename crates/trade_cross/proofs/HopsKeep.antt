@@ -27,11 +27,12 @@ use Rattle.trade_cross.specs.Crossing.{converted, atom_of, left_of}
 use Rattle.trade_cross.specs.CrossingLaws.{IsOfTrade}
 use Rattle.trade_cross.specs.Hop.{is_sheep_first, pool_of_pair, sheep_in, wheat_in, pool_atom, swapped}
 use Rattle.trade_cross.specs.Hop.{hop}
-use Rattle.trade_cross.specs.HopLaws.{crossings_in, IsBoundedOnce, IsHopTrade, DoReservesFit, IsOfHop, IsHopped}
+use Rattle.trade_cross.specs.HopLaws.{crossings_in, IsBoundedOnce, IsHopTrade, DoPoolReservesFit, IsOfHop, IsHopped}
 use Rattle.trade_cross.specs.HopLaws.{HopKeeps}
 use Rattle.trade_cross.proofs.CrossedLegal.{crossing_keeps}
 use Rattle.trade_cross.proofs.Hopped.{swap_made}
 use Rattle.trade_cross.proofs.PoolsLegal.{pool_legal}
+use Rattle.trade_cross.proofs.Served.{crossed_served}
 use Rattle.trade_cross.proofs.PoolSwaps.{DoesSwap, IsMet, IsSwapping, IsEither, swaps, hop_is_either}
 
 -- ---- how many offers are crossed
@@ -141,6 +142,7 @@ module _ (v : View) (id_pool : ℕ) (owed : Owed) (sum : ℤ) (ctx : Ctx) (trade
           crossings = few.crossings;
           few = one_up (length book.atoms) trade.crossings few.length;
         };
+        end = crossed_served base trade trade.crossings left m;
       }
 
   module _ (a : Amounts) (its : IsSwapping trade m a) where
@@ -159,7 +161,7 @@ module _ (v : View) (id_pool : ℕ) (owed : Owed) (sum : ℤ) (ctx : Ctx) (trade
     wheat_within Normal once met fits = at_most a.wheat left.wheat_receive met
     wheat_within StrictReceive once met fits = at_most a.wheat left.wheat_receive met
 
-    fits_by : DoReservesFit trade m → (t : Bool)
+    fits_by : DoPoolReservesFit trade m → (t : Bool)
         → a.wheat < unsigned_abs (if t then its.pool.reserve_b else its.pool.reserve_a) → a.wheat ≤ greatest
     fits_by fit true less = below_all a.wheat its.pool.reserve_b less
         (pool_legal v id_pool owed sum m (pool_of_pair trade) its.pool legal its.stands).range.reserve_b
@@ -187,6 +189,7 @@ module _ (v : View) (id_pool : ℕ) (owed : Owed) (sum : ℤ) (ctx : Ctx) (trade
             crossings = up_to trade.crossings;
             few = one_atom trade.crossings;
           };
+          end = λ served. refl;
         }
 
   by_either : (done : Crossing) → IsEither trade m book done → IsHopped v id_pool base owed sum trade m done

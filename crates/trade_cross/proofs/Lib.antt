@@ -26,5 +26,7 @@ pub mod PoolsLegal
 pub mod PoolsLeft
 pub mod PoolSwaps
 pub mod Hopped
+pub mod Crossables
+pub mod Served
 pub mod HopsKeep
 pub mod Chosen

@@ -1,5 +1,5 @@
--- That hops keep a state legal, and what they move.
-use Rattle.std.specs.Prelude.{◌≡◌, ◌≢◌, ℕ, ◌≤◌, suc, All, ℤ, pos, ◌+ℤ◌, ◌≤ℤ◌, length, List, [], ◌∷◌, Some}
+-- That hops keep a state legal, what they move, and how they end.
+use Rattle.std.specs.Prelude.{◌≡◌, ◌≢◌, ℕ, ◌≤◌, suc, All, ℤ, pos, ◌+ℤ◌, ◌≤ℤ◌, length, List, [], ◌∷◌, Some, true}
 use Rattle.ledger_types.specs.declared.ids.AccountId.{AccountId}
 use Rattle.ledger_types.specs.declared.claim_atom.ClaimAtom.{ClaimAtom}
 use Rattle.ledger_types.specs.declared.claim_atom.ClaimAtom.TheVariants as atom
@@ -15,10 +15,11 @@ use Rattle.legal_rules.specs.Books.{View}
 use Rattle.legal_rules.specs.Holdings.{HoldsMore, IsAfter}
 use Rattle.legal_rules.specs.OneMore.{IsOwedRightly}
 use Rattle.legal_rules.specs.Owing.{Owed, IsLegalOwing}
+use Rattle.trade_cross.specs.declared.crossed.CrossEnd.TheVariants.{Converted}
 use Rattle.trade_cross.specs.declared.trade.Trade.{Trade}
 use Rattle.trade_cross.specs.Crossing.{Crossing, left_of}
 use Rattle.trade_cross.specs.CrossingLaws.{kept_in, more_in, sold_in, bought_in, IsOfTrade}
-use Rattle.trade_cross.specs.Hop.{hop, pool_of_pair}
+use Rattle.trade_cross.specs.Hop.{hop, pool_of_pair, is_served}
 use Rattle.trade_cross.specs.Progressing.{AreTradeBounds}
 
 -- how many of the atoms are offers that were crossed; a pool's is none
@@ -39,7 +40,7 @@ pub record IsHopTrade (trade : Trade) : Type 0 where
   pub once : IsBoundedOnce trade.rounding trade
 
 -- the reserves of the pair's pool are of 64 bits with a sign; legality alone says nothing of how great they are
-pub record DoReservesFit (trade : Trade) (m : EntryMap) : Type 0 where
+pub record DoPoolReservesFit (trade : Trade) (m : EntryMap) : Type 0 where
   pub a : (p : LiquidityPoolEntry) → pool_at m (pool_of_pair trade) ≡ Some p → p.reserve_a ≤ℤ pos unlimited
   pub b : (p : LiquidityPoolEntry) → pool_at m (pool_of_pair trade) ≡ Some p → p.reserve_b ≤ℤ pos unlimited
 
@@ -65,13 +66,15 @@ pub record IsHopped (v : View) (id_pool base : ℕ) (owed : Owed) (sum : ℤ) (t
   pub legal : IsLegalOwing v id_pool owed (sum +ℤ kept_in v.asset done.atoms) done.entries
   -- within the taker's bounds, of which one is the greatest number of 64 bits with a sign
   pub sheep : done.sheep ≤ (left_of trade).sheep_send
-  pub wheat : DoReservesFit trade m → done.wheat ≤ (left_of trade).wheat_receive
+  pub wheat : DoPoolReservesFit trade m → done.wheat ≤ (left_of trade).wheat_receive
   -- what sellers and pools hold more and less
   pub holds : HoldsMore (more_in done.atoms) m done.entries
   -- each account has no less available than before, unless that is at least nothing, and who stood stands
   pub accounts : (id : AccountId) → IsAfter base (account_at m id) (account_at done.entries id)
   pub stand : (id : AccountId) → HasAccount m id → HasAccount done.entries id
   pub atoms : AreHopped trade done
+  -- it was served: no other end came before
+  pub end : is_served trade done ≡ true → done.end ≡ Converted
 
 -- for all that books may owe
 abbrev pub HopKeeps : Type 0

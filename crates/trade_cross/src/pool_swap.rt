@@ -1,8 +1,6 @@
 //! What the pool of a pair would move, and the pool that serves.
 
-ghost use Rattle.std.specs.Ordering.{is_eq};
 ghost use Rattle.std.specs.Prelude.{◌≡◌, pos, neg_ℤ, ◌+ℤ◌, ◌≤ℤ◌, unsigned_abs, false, Some, IfOk, OnOk};
-ghost use Rattle.ledger_types.specs.KeyOrder.{asset_cmp};
 ghost use Rattle.entry_map.specs.Undo.{with_current};
 ghost use Rattle.entry_slots.specs.Pools.{pool_slot_at, with_pool};
 ghost use Rattle.reserve_rules.specs.Reserve.{greatest_i64};
@@ -49,16 +47,6 @@ fn is_sheep_first(trade: &Trade) -> bool
     }
 }
 
-/// Whether two assets are the same.
-fn is_same(a: &Asset, b: &Asset) -> bool
-    ensures { result ≡ is_eq (asset_cmp a.now b.now) }
-{
-    match a.cmp(b) {
-        Ordering::Equal => true,
-        _ => false,
-    }
-}
-
 /// The id of the pair's pool.
 fn pool_of_pair(alloc: Global, trade: &Trade) -> Result<Hash, AllocError>
     ensures { IfOk result (λ id. id ≡ spec.pool_of_pair trade.now) }
@@ -76,9 +64,9 @@ fn has_pair(trade: &Trade, pool: &LiquidityPoolEntry) -> bool
 {
     let (a, b) = (&pool.params.asset_a, &pool.params.asset_b);
     if is_sheep_first(trade) {
-        is_same(a, &trade.sheep) && is_same(b, &trade.wheat)
+        a.is_same(&trade.sheep) && b.is_same(&trade.wheat)
     } else {
-        is_same(a, &trade.wheat) && is_same(b, &trade.sheep)
+        a.is_same(&trade.wheat) && b.is_same(&trade.sheep)
     }
 }
 

@@ -5,7 +5,7 @@ use Rattle.legal_rules.proofs.Legality.{entries_legal}
 use Rattle.trade_cross.specs.Crossable.{IsCrossable}
 use Rattle.op_flags.specs.LineFlags.{map_after_flagging}
 use Rattle.op_flags.proofs.Flagged.{flagged_legal}
-use Rattle.op_flags.proofs.FlagTests.{crossable_of}
+use Rattle.trade_cross.proofs.Crossables.{crossable_of}
 use Rattle.op_flags.proofs.line_flags.revoke.Goals as goal
 
 pub revoke_offers-requires : goal.revoke_offers-requires
@@ -13,7 +13,7 @@ revoke_offers-requires g c =
     let m = c.args.entries.now.current in
     let now : c.child.new.self.current ≡ m = search rules in
     record {
-      crossable = subst IsCrossable (sym now) (crossable_of c.args.ctx.now.id_pool m c.requires.legal);
+      crossable = subst IsCrossable (sym now) (crossable_of _ c.args.ctx.now.id_pool _ m c.requires.legal);
     }
 
 pub revoke_shares-requires-clause-legal : goal.revoke_shares-requires-clause-legal

@@ -4,7 +4,8 @@ use Rattle.op_flags.proofs.revoked_shares.revoke_all.Goals as goal
 
 pub loop-pool_id-init : goal.loop-pool_id-init
 loop-pool_id-init g c =
-    started c.args.ctx.now (low_answer c.args.by) c.args.trustor.now c.args.pools.now c.args.entries.now c.requires.legal
+    started c.args.ctx.now (low_answer c.args.by) c.args.trustor.now c.args.pools.now c.args.entries.now
+    c.requires.legal
 
 pub revoke_share-requires-clause-legal : goal.revoke_share-requires-clause-legal
 revoke_share-requires-clause-legal g c = c.loop-pool_id.invariant.legal

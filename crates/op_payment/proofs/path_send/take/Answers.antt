@@ -21,7 +21,8 @@ returns g c =
     let amount : to_z w64 (of_z w64 carried.amount) ≡ carried.amount = search rules in
     let enough : int_lt carried.amount op.dest_min ≡ false =
     (λ i. int_lt (sym amount i) (sym least i)) ∙ c.if-carried-op.false in
-    let credit = subst (λ n. IsStep c.in_ok-fault.field-0 old new (map_after_credit id op.dest_asset n old.current)) amount
+    let credit = subst (λ n. IsStep c.in_ok-fault.field-0 old new (map_after_credit id op.dest_asset n old.current))
+    amount
     c.in_ok-fault.ensures.taken in
     let came = c.arrived.ensures ∙ ap (arrived carried.atoms id op.dest_asset) amount in
     subst (λ x. IsTried (Ok x) ctx old new (taken ctx op (carried_of carried old.current)))

@@ -12,7 +12,7 @@ use Rattle.tally.proofs.Walking.{sum_fits, goes_on, still_low, still_high}
 use Rattle.tally.proofs.walk.supply.Goals as goal
 
 pub returns-in_default : goal.returns-in_default
-returns-in_default g c whole =
+returns-in_default g c keyed spellable =
     let m = c.args.entries.now.current in
     let f = held c.args.asset.now in
     let none : sum_behind f m c.loop.last ≡ pos 0 =
@@ -21,7 +21,7 @@ returns-in_default g c whole =
     let start : to_z w128 (of_z w128 c.held_if-sum.result) ≡ part f c.in_ok-get.field-0 =
     to_z-of_z w128 c.held_if-sum.result fits ∙ c.held_if-sum.ensures.value in
     at_the_end _ _ _ _ _ _ c.loop.invariant.0 none start
-    (first_part f m whole c.first_key-last.result c.in_ok-get.field-0 c.first_key-last.ensures
+    (first_part f m keyed spellable c.first_key-last.result c.in_ok-get.field-0 c.first_key-last.ensures
     c.in_ok-get.ensures.found)
 
 pub loop-preserved : goal.loop-preserved

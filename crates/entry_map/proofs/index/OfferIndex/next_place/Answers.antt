@@ -1,5 +1,4 @@
-use Rattle.std.proofs.Common.{sym, ◌∙◌}
-use Rattle.entry_map.proofs.Pairs.{other_pair, same_asset}
+use Rattle.entry_map.proofs.Pairs.{other_pair}
 use Rattle.entry_map.proofs.index.OfferIndex.next_place.Goals as goal
 use Rattle.entry_map.proofs.index.OfferIndex.next_place.Goals.{else-is_same-via-then-is_same+else-is_same-2}
 use Rattle.entry_map.proofs.index.OfferIndex.next_place.Goals.{else-is_same-via-else-is_same}
@@ -7,9 +6,8 @@ use Rattle.entry_map.proofs.index.OfferIndex.next_place.Goals.{else-is_same-via-
 pub returns-then-is_same-2 : goal.returns-then-is_same-2
 returns-then-is_same-2 c = record {
   least = c.in_ok-next.ensures;
-  selling = same_asset c.in_ok-next.next.selling c.args.start.now.selling (sym c.is_same.ensures ∙ c.if-is_same.true);
-  buying = same_asset c.in_ok-next.next.buying c.args.start.now.buying
-      (sym c.is_same-then-is_same.ensures ∙ c.if-is_same-2.true);
+  selling = c.is_same.ensures.same.0 c.if-is_same.true;
+  buying = c.is_same-then-is_same.ensures.same.0 c.if-is_same-2.true;
 }
 
 pub returns-else-is_same : goal.returns-else-is_same
@@ -17,6 +15,6 @@ returns-else-is_same c =
     other_pair c.args.self.now c.args.start.now c.in_ok-next.next c.in_ok-next.ensures (λ selling buying.
     elim c.else-is_same.branch [
       | else-is_same-via-then-is_same+else-is_same-2 w ↦
-          absurd (cc (w.if-is_same-2.false, w.is_same-then-is_same.ensures, buying))
-      | else-is_same-via-else-is_same w ↦ absurd (cc (w.if-is_same.false, c.is_same.ensures, selling))
+          absurd (cc (w.if-is_same-2.false, w.is_same-then-is_same.ensures.tied, buying))
+      | else-is_same-via-else-is_same w ↦ absurd (cc (w.if-is_same.false, c.is_same.ensures.tied, selling))
     ])

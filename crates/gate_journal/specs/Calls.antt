@@ -36,7 +36,7 @@ abbrev pub IsClearFault : (before now : ℕ) → StoreFault → Type 0
 IsClearFault before now fault.DiskFault = Rose before now
 IsClearFault before now other = ⊥
 
--- why `append` fails: exactly where an earlier one did, or the count of faults rose
+-- why `append` fails: an earlier call did, or the count of faults rose
 abbrev pub IsAppendFault : (failed : Bool) → (before now : ℕ) → StoreFault → Type 0
 IsAppendFault failed before now fault.DiskFault = Rose before now × (failed ≡ false)
 IsAppendFault failed before now fault.Failed = failed ≡ true

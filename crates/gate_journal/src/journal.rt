@@ -7,6 +7,7 @@ ghost use Rattle.std.specs.Prelude.{
   ◌-◌,
   ◌^◌,
   ◌⊎◌,
+  All,
   [],
   ◌∷◌,
   ◌++◌,
@@ -24,7 +25,7 @@ ghost use Rattle.std.specs.Prelude.{
 };
 ghost use Rattle.outside.specs.Streams.{HasCause, Rose};
 ghost use Rattle.outside.specs.Disk.{Image, Runs, Same, Stays, InFile, IsSafe};
-ghost use Rattle.gate_journal.specs.Records.{Appended, HasRecords};
+ghost use Rattle.gate_journal.specs.Records.{max_record, blocks, Appended, HasRecords};
 ghost use Rattle.gate_journal.specs.Calls.{Stands, IsSettled, HasEither, Anything, IsClearFault, IsAppendFault};
 ghost use Rattle.gate_journal.specs.Calls.{IsMountFault, Mounts};
 ghost use Rattle.gate_journal.specs.declared.fault.StoreFault.TheVariants as fault;
@@ -111,7 +112,7 @@ impl Journal {
     }
 
     /// Opens the journal of a file, and gives its records. It begins with a sync and writes nothing, so a last gate
-    /// that is neither open nor closed stays until the next `append`. `BadStore` tells where a gate is missing, or the
+    /// that is neither 0 nor 1 stays until the next `append`. `BadStore` tells where a gate is missing, or the
     /// gate of a record that is cut short or longer than 16777216 bytes.
     pub fn mount<V: Volume>(
         alloc: Global,
@@ -121,6 +122,8 @@ impl Journal {
         requires { file < 4 }
         ensures mounts { V.tells → Mounts file (V.disk vol.old) (V.disk vol.new) result }
         ensures journal { IfOk result (λ m. (m.0.file ≡ file) × (m.0.failed ≡ false)) }
+        ensures short { IfOk result (λ m. All (λ bytes. length bytes ≤ max_record) m.1) }
+        ensures place { IfOk result (λ m. (m.0.end ≡ length (blocks m.1)) × (length (blocks m.1) < 2 ^ 64)) }
         ensures safe { OnOk result (IsSafe (V.disk vol.new)) }
         ensures runs { Runs Same (V.disk vol.old) (V.disk vol.new) }
         ensures later { V.faults vol.old ≤ V.faults vol.new }

@@ -11,3 +11,4 @@ mod reading;
 pub use append_buf::AppendBuf;
 pub use fault::StoreFault;
 pub use journal::Journal;
+pub use reading::{read_bytes, read_exact};

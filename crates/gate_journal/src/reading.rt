@@ -1,9 +1,10 @@
 //! Reading what a volume keeps.
 
-ghost use Rattle.std.specs.Prelude.{◌≡◌, ◌≤◌, ◌<◌, ◌+◌, ◌^◌, OnOk, IfOk, IfErr, IfSome, length, take, drop};
+ghost use Rattle.std.specs.Prelude.{◌≡◌, ◌≤◌, ◌<◌, ◌+◌, ◌^◌, OnOk, IfOk, IfErr, IfSome, All, length, take, drop};
 ghost use Rattle.byteorder.specs.Endian.{big_number, big_bytes};
 ghost use Rattle.outside.specs.Streams.{HasCause};
 ghost use Rattle.outside.specs.Disk.{Stays};
+ghost use Rattle.gate_journal.specs.Records.{max_record, blocks};
 ghost use Rattle.gate_journal.specs.Reading.{TellsNothing, TellsGate, TellsLength, TellsRecord, TellsRecords, IsOpen};
 ghost use Rattle.gate_journal.specs.Reading.{HasReadCause};
 
@@ -19,13 +20,8 @@ pub(crate) const OPEN: u8 = 1;
 /// The most bytes of a record.
 const MAX_RECORD: u32 = 16_777_216;
 
-// Fills `buf` with what stands in a file from `at` on.
-pub(crate) fn read_exact<V: Volume>(
-    vol: &mut V,
-    file: u8,
-    at: u64,
-    buf: &mut [u8],
-) -> Result<(), Failed>
+/// Fills `buf` with what stands in a file from `at` on.
+pub fn read_exact<V: Volume>(vol: &mut V, file: u8, at: u64, buf: &mut [u8]) -> Result<(), Failed>
     requires file { file < 4 }
     requires fits { at + length buf.old < 2 ^ 64 }
     requires within { V.tells → at + length buf.old ≤ length ((V.disk vol.old).reads file) }
@@ -44,8 +40,8 @@ pub(crate) fn read_exact<V: Volume>(
     Ok(())
 }
 
-// So many bytes of a file from `at` on.
-fn read_bytes<V: Volume>(
+/// So many bytes of a file from `at` on. It fails with `DiskFault` or `NoMemory`.
+pub fn read_bytes<V: Volume>(
     alloc: Global,
     vol: &mut V,
     file: u8,
@@ -137,6 +133,7 @@ fn next_record<V: Volume>(
     requires size { V.tells → size ≡ length ((V.disk vol.old).reads file) }
     ensures told { V.tells → TellsRecord file at (drop at ((V.disk vol.old).reads file)) result }
     ensures within { IfOk result (λ found. (at < size) × IfSome found (λ bytes. at + 5 + length bytes ≤ size)) }
+    ensures short { IfOk result (λ found. IfSome found (λ bytes. length bytes ≤ max_record)) }
     ensures stays { Stays (V.disk vol.old) (V.disk vol.new) }
     ensures cause { HasReadCause (V.faults vol.old) (V.faults vol.new) result }
 {
@@ -166,6 +163,8 @@ pub(crate) fn read_records<V: Volume>(
     requires size { V.tells → size ≡ length ((V.disk vol.old).reads file) }
     ensures told { V.tells → TellsRecords file ((V.disk vol.old).reads file) result }
     ensures within { IfOk result (λ found. found.1 < size) }
+    ensures short { IfOk result (λ found. All (λ bytes. length bytes ≤ max_record) found.0) }
+    ensures place { IfOk result (λ found. found.1 ≡ length (blocks found.0)) }
     ensures stays { Stays (V.disk vol.old) (V.disk vol.new) }
     ensures cause { HasReadCause (V.faults vol.old) (V.faults vol.new) result }
 {

@@ -18,22 +18,28 @@
 //!
 //! Both print how many bytes the merge has, or both files together.
 //!
-//!     speed book COUNT              makes a map of so many offers, a thousand of them changed, and goes through their
-//! book
+//!     speed book COUNT              makes a map of so many offers, a thousand of them changed, and walks their book
 //!     speed book-base COUNT         makes the map alone
-//!     speed head COUNT              makes a map whose so many best offers are erased, and asks for its best 10,000
-//! times
+//!     speed head COUNT              makes a map whose so many best offers are erased; asks 10,000 times for its best
 //!     speed head-base COUNT         makes the map alone
 //!     speed index COUNT PAIRS       makes an index of so many offers, and 100 times the one behind a batch of 100
 //!     speed index-base COUNT PAIRS  makes the index alone
 //!
 //! These print how many offers were answered, and the sum of their numbers.
+//!
+//!     speed store-make BYTES 0      makes a store of an image of so many bytes, in the directory `ledger-store`
+//!     speed store-append COUNT SIZE appends so many records to it, each of so many bytes
+//!     speed store-roll BYTES 0      goes on to an image of so many bytes
+//!     speed store-open BYTES 0      makes the image and opens the store alone
+//!
+//! These print how many stores were made, how many records were appended, or how many there were.
 #![tactic(auto)]
 
 mod books;
 mod buckets;
 mod codecs;
 mod entries;
+mod stores;
 
 use books::{Seen, pass_book, pass_head, pass_index};
 use buckets::pass_buckets;
@@ -41,6 +47,7 @@ use codecs::{Done, pass_entries, pass_set};
 use entries::{Tally, pass_offers};
 use std::rt::Files;
 use std::{env, fs, io};
+use stores::pass_store;
 
 /// Runs a command on a text, where there is such a command.
 fn run<R: AllocGlobal>(rt: &R, command: &str, text: &[u8]) -> Option<Done> {
@@ -134,6 +141,22 @@ fn report_seen<R: Print>(rt: &R, command: &str, seen: Option<Seen>) -> io::Resul
     println!(rt; "{command}: {offers} offers, ids {ids}")
 }
 
+/// Runs a command on the store in the working directory, and prints what it answers.
+fn report_store<R: Files + Print + AllocGlobal>(
+    rt: &R,
+    command: &str,
+    count: &str,
+    size: &str,
+) -> io::Result<()> {
+    let (Ok(count), Ok(size)) = (count.parse(), size.parse()) else {
+        return println!(rt; "{command}: nothing was done");
+    };
+    match pass_store(rt.alloc(), rt, command, count, size) {
+        Some(done) => println!(rt; "{command}: {done}"),
+        None => println!(rt; "{command}: nothing was done"),
+    }
+}
+
 /// Runs a command on two words, where there is such a command.
 fn report_two<R: Files + Print + AllocGlobal>(
     rt: &R,
@@ -145,6 +168,9 @@ fn report_two<R: Files + Print + AllocGlobal>(
         b"merge" | b"buckets" => report_buckets(rt, command, older, newer),
         b"index" | b"index-base" => {
             report_seen(rt, command, run_index(rt, command, older, newer))
+        }
+        b"store-make" | b"store-append" | b"store-roll" | b"store-open" => {
+            report_store(rt, command, older, newer)
         }
         _ => println!(rt; "{command}: nothing was done"),
     }

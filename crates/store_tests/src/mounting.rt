@@ -66,11 +66,7 @@ fn ends_at_a_gate_that_is_not_open(rt: HostRuntime) {
 /// What is told of a file of so many bytes that begins with these.
 fn told_long(alloc: Global, front: &[u8], size: usize) -> Result<usize, StoreFault> {
     let mut vol = MemVolume::new(alloc);
-    match vec![in alloc; 0; size] {
-        Ok(file) => keep(&mut vol, &file),
-        Err(_) => return Err(StoreFault::NoMemory),
-    }
-    keep(&mut vol, front);
+    keep_long(alloc, &mut vol, front, size);
     count(alloc, &mut vol)
 }
 

@@ -25,6 +25,14 @@ pub(crate) fn keep(vol: &mut MemVolume, bytes: &[u8]) {
     let _ = vol.sync();
 }
 
+/// Makes file 2 one of so many bytes that begins with these, where memory for it is there.
+pub(crate) fn keep_long(alloc: Global, vol: &mut MemVolume, front: &[u8], size: usize) {
+    if let Ok(file) = vec![in alloc; 0; size] {
+        keep(vol, &file);
+        keep(vol, front);
+    }
+}
+
 /// Whether a crash that fills what is pending with a byte leaves this of a file.
 pub(crate) fn leaves(vol: &MemVolume, file: u8, fill: u8, wanted: &[u8]) -> bool
     requires { file < 4 }
@@ -66,12 +74,16 @@ pub(crate) fn append(
 
 /// Whether these are the records.
 pub(crate) fn are(records: &Records, wanted: &[&[u8]]) -> bool {
-    records.len() == wanted.len()
-        && records
-            .as_slice()
-            .iter()
-            .zip(wanted)
-            .all(|(record, bytes)| record.as_slice() == *bytes)
+    records.len() == wanted.len() && begin(records, wanted)
+}
+
+/// Whether records are the first of these, as many as there are of both.
+pub(crate) fn begin(records: &Records, wanted: &[&[u8]]) -> bool {
+    records
+        .as_slice()
+        .iter()
+        .zip(wanted)
+        .all(|(record, bytes)| record.as_slice() == *bytes)
 }
 
 /// How many records are told of file 2, or the fault.

@@ -1,10 +1,18 @@
-use Rattle.std.proofs.Common.{List, ℕ, length, drop, sym, ◌∙◌, ap, subst, arith, ◌+◌, Ok, Some}
+use Rattle.std.proofs.lemmas.List.Elements.{All-nil, All-push}
+use Rattle.std.specs.Prelude.{◌≤◌, All}
+use Rattle.std.proofs.Common.{length-append, List, ℕ, length, drop, sym, ◌∙◌, ap, subst, arith, ◌+◌, Ok, Some}
 use Rattle.outside.specs.Disk.{Image}
-use Rattle.gate_journal.specs.Records.{IsShut}
+use Rattle.gate_journal.specs.Records.{max_record, block, blocks, IsShut}
 use Rattle.gate_journal.specs.Reading.{TellsBroken, TellsRecord}
 use Rattle.gate_journal.proofs.Staying.{stays_none, stays_more}
-use Rattle.gate_journal.proofs.Records.{ReadTo, read_none, read_one, read_all, read_broken, fault_since}
+use Rattle.gate_journal.proofs.Records.{blocks_push, ReadTo, read_none, read_one, read_all, read_broken, fault_since}
 use Rattle.gate_journal.proofs.reading.read_records.Goals as goal
+
+abbrev IsShort : List ℕ → Type 0
+IsShort bytes = length bytes ≤ max_record
+
+abbrev AreShort : List (List ℕ) → Type 0
+AreShort records = All IsShort records
 
 pub loop-fault-init : goal.loop-fault-init
 loop-fault-init g c = record {
@@ -14,6 +22,8 @@ loop-fault-init g c = record {
   stays = stays_none (g.V.Volume.disk c.args.vol.now);
   later = omega arith;
   within = omega arith;
+  short = subst AreShort (sym c.new-records.ensures) (All-nil IsShort);
+  place = ap (λ records. length (blocks records)) (sym c.new-records.ensures);
 }
 
 pub next_record-requires-clause-size : goal.next_record-requires-clause-size
@@ -93,4 +103,15 @@ loop-fault-preserved g c =
           c.loop-fault.invariant.stays c.next_record.ensures.stays;
       later = omega (arith, c.loop-fault.invariant.later, c.in-Ok-Some.ensures.cause);
       within = omega (arith, within.1, c.len.ensures);
+      short = subst AreShort (sym c.in-Ok.ensures.ok)
+          (All-push IsShort c.loop-fault.records c.in-Ok-Some.record c.loop-fault.invariant.short
+          (rw c.in-Ok-Some.field-0-is at c.in-Ok-Some.ensures.short));
+      place = omega (
+        arith,
+        c.loop-fault.invariant.place,
+        c.len.ensures,
+        ap length (blocks_push c.loop-fault.records c.in-Ok-Some.record),
+        length-append (blocks c.loop-fault.records) (block c.in-Ok-Some.record),
+      )
+          ∙ ap (λ records. length (blocks records)) (sym c.in-Ok.ensures.ok);
     }

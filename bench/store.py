@@ -1,0 +1,85 @@
+#!/usr/bin/env python3
+"""Measures a store in a directory: appends a second, and going on to the next epoch.
+
+    bench/store.py [PROGRAM]
+
+PROGRAM is the built program, crates/speed/out/speed of this repository where none is given. The store is made in a folder of TMPDIR: what
+is measured is the file system that it stands on.
+
+`PROGRAM store-append COUNT SIZE` appends COUNT records of SIZE bytes. Beside it the same writes and syncs are made by this script, with
+nothing else: that is the part of the system. `PROGRAM store-roll BYTES 0` opens a store and goes on to an image of BYTES bytes, and
+`PROGRAM store-open BYTES 0` does all but that; the difference is compared with `dd conv=fsync`, which writes and syncs as many bytes. All
+times are those on the clock, the best of several runs.
+
+Exit status: 0 where all is well, 1 where a roll takes more than 1.5 times as long as `dd`, or more memory than the spelling of its image
+beyond what opening takes; 2 where a run fails or prints another line. Python 3.9 or later and its standard library.
+"""
+
+import os
+import subprocess
+import sys
+import tempfile
+import time
+
+from measuring import built, run, stop
+
+RECORDS, SIZE = 500, 20_000
+IMAGE = 100_000_000
+RUNS = 5
+
+
+def clocked(words, folder, line):
+    """The least seconds on the clock that a command takes in a folder."""
+    best = float("inf")
+    for _ in range(RUNS):
+        begun = time.perf_counter()
+        ran = subprocess.run(words, cwd=folder, stdout=subprocess.PIPE, check=False)
+        best = min(best, time.perf_counter() - begun)
+        if ran.returncode or (line is not None and ran.stdout.decode() != line):
+            stop(f"{' '.join(words)} printed {ran.stdout!r}")
+    return best
+
+
+def system_part(folder):
+    """The seconds of the writes and syncs of as many appends, by this script."""
+    head, piece = open(f"{folder}/image0", "wb"), b"\x07" * (SIZE + 5)
+    with head, open(f"{folder}/journal0", "wb", buffering=0) as journal:
+        begun = time.perf_counter()
+        for number in range(RECORDS):
+            at = number * (SIZE + 5)
+            for place, text in ((at + 1, piece), (at, b"\x01")):
+                os.pwrite(journal.fileno(), text, place)
+                os.fsync(head.fileno())
+                os.fsync(journal.fileno())
+        return time.perf_counter() - begun
+
+
+def main():
+    program = sys.argv[1] if len(sys.argv) > 1 else built("speed")
+    well = True
+    with tempfile.TemporaryDirectory() as folder:
+        clocked([program, "store-make", "1000", "0"], folder, None)
+        appends = clocked([program, "store-append", str(RECORDS), str(SIZE)], folder, f"store-append: {RECORDS}\n")
+        system = min(system_part(folder) for _ in range(RUNS))
+        print(f"{RECORDS} records of {SIZE} bytes: {RECORDS / appends:.0f} appends a second; the same writes and syncs alone"
+              f" take {100 * system / appends:.0f} % of the time")
+    with tempfile.TemporaryDirectory() as folder:
+        subprocess.run([program, "store-make", str(IMAGE), "0"], cwd=folder, stdout=subprocess.PIPE, check=True)
+        opened = clocked([program, "store-open", str(IMAGE), "0"], folder, "store-open: 0\n")
+        rolled = clocked([program, "store-roll", str(IMAGE), "0"], folder, "store-roll: 0\n") - opened
+        copied = clocked(["dd", "if=/dev/zero", f"of={folder}/copy", "bs=1M", f"count={IMAGE // 1_000_000}", "conv=fsync",
+                          "status=none"], folder, None)
+        print(f"a roll of an image of {IMAGE} bytes: {rolled:.3f} seconds, {rolled / copied:.2f} times dd (at most 1.5)")
+        well = well and rolled <= 1.5 * copied
+        os.chdir(folder)
+        _, opening, _ = run([program, "store-open", str(IMAGE), "0"], 1, folder)
+        _, rolling, _ = run([program, "store-roll", str(IMAGE), "0"], 1, folder)
+        more = (rolling - opening) * 1024 / IMAGE
+        print(f"memory of a roll beyond that of opening: {more:.2f} times the image (at most 1.1)")
+        well = well and more <= 1.1
+        os.chdir("/")
+    sys.exit(0 if well else 1)
+
+
+if __name__ == "__main__":
+    main()

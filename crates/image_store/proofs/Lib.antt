@@ -1,0 +1,12 @@
+pub mod Heads
+pub mod Whole
+pub mod Chosen
+pub mod EachFile
+pub mod OneOpening
+pub mod EachOpening
+pub mod Pieces
+pub mod Keeping
+pub mod Turned
+pub mod Rolled
+pub mod Created
+pub mod Unmounted

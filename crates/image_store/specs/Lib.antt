@@ -1,0 +1,7 @@
+pub mod ImageFiles
+pub mod Opening
+pub mod State
+pub mod Calls
+pub mod Turning
+pub mod Reading
+pub mod Laws

@@ -1,0 +1,11 @@
+-- What a store has in memory.
+use Rattle.std.specs.Prelude.{ℕ, Bool}
+use Rattle.ledger_types.specs.declared.ids.Hash.{Hash}
+
+pub record StoreState : Type 0 where
+  pub epoch : ℕ
+  -- the place of the gate behind its records
+  pub end : ℕ
+  pub network : Hash
+  -- whether a call on the volume has failed
+  pub failed : Bool

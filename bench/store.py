@@ -8,8 +8,8 @@ is measured is the file system that it stands on.
 
 `PROGRAM store-append COUNT SIZE` appends COUNT records of SIZE bytes. Beside it the same writes and syncs are made by this script, with
 nothing else: that is the part of the system. `PROGRAM store-roll BYTES 0` opens a store and goes on to an image of BYTES bytes, and
-`PROGRAM store-open BYTES 0` does all but that; the difference is compared with `dd conv=fsync`, which writes and syncs as many bytes. All
-times are those on the clock, the best of several runs.
+`PROGRAM store-open BYTES 0` does all but that; the difference is compared with `dd conv=fsync` from the image's file. Both write over a
+file of that length. All times are those on the clock, the best of several runs.
 
 Exit status: 0 where all is well, 1 where a roll takes more than 1.5 times as long as `dd`, or more memory than the spelling of its image
 beyond what opening takes; 2 where a run fails or prints another line. Python 3.9 or later and its standard library.
@@ -65,10 +65,13 @@ def main():
               f" take {100 * system / appends:.0f} % of the time")
     with tempfile.TemporaryDirectory() as folder:
         subprocess.run([program, "store-make", str(IMAGE), "0"], cwd=folder, stdout=subprocess.PIPE, check=True)
+        roll = [program, "store-roll", str(IMAGE), "0"]
+        copy = ["dd", "if=ledger-store/image0", "of=copy", "bs=1M", "conv=fsync", "status=none"]
+        for words in (roll, roll, copy):
+            subprocess.run(words, cwd=folder, stdout=subprocess.PIPE, check=True)
         opened = clocked([program, "store-open", str(IMAGE), "0"], folder, "store-open: 0\n")
-        rolled = clocked([program, "store-roll", str(IMAGE), "0"], folder, "store-roll: 0\n") - opened
-        copied = clocked(["dd", "if=/dev/zero", f"of={folder}/copy", "bs=1M", f"count={IMAGE // 1_000_000}", "conv=fsync",
-                          "status=none"], folder, None)
+        rolled = clocked(roll, folder, "store-roll: 0\n") - opened
+        copied = clocked(copy, folder, None)
         print(f"a roll of an image of {IMAGE} bytes: {rolled:.3f} seconds, {rolled / copied:.2f} times dd (at most 1.5)")
         well = well and rolled <= 1.5 * copied
         os.chdir(folder)

@@ -57,3 +57,5 @@ pub mod Taken
 pub mod NextClosing
 pub mod OneClose
 pub mod OneImage
+pub mod ShortHeaders
+pub mod StateImages

@@ -1,5 +1,5 @@
 -- Values that have a spelling of at most so many bytes, by those that they are made of.
-use Rattle.std.proofs.Common.{◌≡◌, ℕ, suc, ◌+◌, ◌*◌, ◌<◌, ◌≤◌, refl, List, [], ◌∷◌}
+use Rattle.std.proofs.Common.{◌≡◌, ℕ, suc, ◌+◌, ◌*◌, ◌<◌, ◌≤◌, refl, subst, List, [], ◌∷◌}
 use Rattle.std.proofs.Common.{◌++◌, length, replicate, All, Option, Some, None, ℤ, pos, Bool, arith, length-append}
 use Rattle.std.proofs.Math.Nat.{mul-le-mul_right}
 use Rattle.std.proofs.lemmas.List.{length-replicate}
@@ -9,9 +9,9 @@ use Rattle.std.specs.Int.{w32, w64, cast_unsigned}
 use Rattle.std.specs.List.{flat_map, AllByRecursion}
 use Rattle.byteorder.specs.Endian.{big_bytes}
 use Rattle.byteorder.specs.Numbers.{length-bytes_high_first}
-use Rattle.xdr_core.specs.Leaves.{u32, i32, i64, flag, flag_code, count, fixed, var, padded, padding_len}
+use Rattle.xdr_core.specs.Leaves.{u32, u64, i32, i64, flag, flag_code, count, fixed, var, padded, padding_len}
 use Rattle.xdr_core.specs.Combinators.{◌⨾◌, Fields, struct_of, whole, closed, marked, constant, option, list}
-use Rattle.xdr_core.specs.Combinators.{extension}
+use Rattle.xdr_core.specs.Combinators.{extension, times}
 use Rattle.xdr_core.specs.Xdr.{Xdr, tag, optional, list_of, extension_of}
 use Rattle.close_rules.specs.State.{IsSpelled}
 
@@ -28,6 +28,10 @@ bytes_len n v = omega (arith, length-bytes_high_first n v)
 pub short_u32 : (n : ℕ) → n < 4294967296 → IsShort u32 4 n
 unfolding u32
 short_u32 n lt = record { within = tt; sized = omega arith; short = bytes_len 4 n }
+
+pub short_u64 : (n : ℕ) → n < 18446744073709551616 → IsShort u64 8 n
+unfolding u64
+short_u64 n lt = record { within = tt; sized = omega arith; short = bytes_len 8 n }
 
 pub short_i64 : (n : ℤ) → FitsSigned w64 n → IsShort i64 8 n
 unfolding i64
@@ -205,3 +209,12 @@ short_list max f n vs few each = record {
   where
     times_most : (k max n : ℕ) → k ≤ max → length (flat_map f.spell vs) ≤ k * n → length (flat_map f.spell vs) ≤ max * n
     times_most k max n few le = omega (arith, le, mul-le-mul_right n few)
+
+pub short_times : {A : Type 0} (m : ℕ) (f : Xdr A) (n : ℕ) (vs : List A) → length vs ≡ m → All (IsShort f n) vs
+    → IsShort (times m f) (m * n) vs
+unfolding times
+short_times m f n vs is each = record {
+  within = (is, all_within f n vs each);
+  sized = all_sized f n vs each;
+  short = subst (λ (k : ℕ). length (flat_map f.spell vs) ≤ k * n) is (all_len f n vs each);
+}

@@ -8,7 +8,7 @@ use Rattle.close_rules.specs.State.{IsSpelled}
 
 -- ---- lists
 
-all_spelled : {V : Type 0} (f : Xdr V) (vs : List V) → AllByRecursion f.within vs → AllByRecursion f.sized vs
+pub all_spelled : {V : Type 0} (f : Xdr V) (vs : List V) → AllByRecursion f.within vs → AllByRecursion f.sized vs
     → All (IsSpelled f) vs
 all_spelled f [] within sized = All-nil (IsSpelled f)
 all_spelled f (v ∷ vs) within sized =

@@ -1,12 +1,24 @@
--- That a start image is judged to be one thing.
-use Rattle.std.specs.Prelude.{◌≡◌, Result}
+-- That a start image is judged to be one thing, and that the image of a state is judged to be that state.
+use Rattle.std.specs.Prelude.{◌≡◌, Result, Ok}
 use Rattle.ledger_types.specs.declared.ids.Hash.{Hash}
 use Rattle.xdr_header.specs.declared.image.StartImage.{StartImage}
+use Rattle.xdr_header.specs.Image.{start_image}
+use Rattle.xdr_header.specs.Header.{ledger_header}
 use Rattle.close_rules.specs.declared.image_fault.ImageFault.{ImageFault}
-use Rattle.close_rules.specs.State.{ClosingState}
-use Rattle.close_rules.specs.Images.{IsJudged}
+use Rattle.close_rules.specs.State.{ClosingState, IsClosingState}
+use Rattle.close_rules.specs.Images.{IsJudged, AreFilesOf}
 
 -- an image stands for one state, or there is one reason why it stands for none
 abbrev pub ImagesAreOne : Type 0
 ImagesAreOne = (network : Hash) (image : StartImage) (a b : Result ClosingState ImageFault)
     → IsJudged network image a → IsJudged network image b → a ≡ b
+
+-- the image of a state: the spelling of its header, and the files of its levels
+pub record IsImageOf (s : ClosingState) (image : StartImage) : Type 0 where
+  pub header : image.header ≡ ledger_header.spell s.header
+  pub files : AreFilesOf s.levels image.files
+
+-- the image of a ledger's state can be written, and stands for that state
+abbrev pub ImagesStandForStates : Type 0
+ImagesStandForStates = (s : ClosingState) (image : StartImage) → IsClosingState s → IsImageOf s image
+    → start_image.within image × IsJudged s.network image (Ok s)

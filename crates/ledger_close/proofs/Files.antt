@@ -10,7 +10,8 @@ use Rattle.bucket_core.specs.File.{file_of, HasFile}
 use Rattle.bucket_core.specs.Faults.{first_fault, JudgedBy}
 use Rattle.bucket_core.specs.declared.fault.BucketFault.{BucketFault}
 use Rattle.bucket_core.specs.declared.fault.BucketFault.TheVariants as bucket
-use Rattle.bucket_levels.specs.Pairs.{Pair}
+use Rattle.bucket_levels.specs.Spills.{level_count}
+use Rattle.bucket_levels.specs.Pairs.{Pair, pair_at, empty_pair}
 use Rattle.bucket_levels.specs.Levels.{pair_of}
 use Rattle.bucket_levels.specs.declared.pair.LevelPair.{LevelPair}
 use Rattle.close_rules.specs.declared.image_fault.ImageFault.{ImageFault}
@@ -123,6 +124,42 @@ all_read files levels n count end read = record {
   have = read.have;
   are = sym (take_all (2 * n) files (omega arith)) ∙ read.are;
 }
+
+-- ---- files put one by one
+
+-- the files of so many levels were put behind one another
+pub record AreWritten (levels : List Pair) (files : List (List ℕ)) (n : ℕ) : Type 0 where
+  pub have : All HasBoth (take n levels)
+  pub are : files ≡ flat_map files_in (take n levels)
+
+pub none_written : (levels : List Pair) (files : List (List ℕ)) → files ≡ [] → AreWritten levels files 0
+none_written levels files none = record { have = All-nil HasBoth; are = none }
+
+pub one_more_written : (levels : List Pair) (pair : Pair) (old half new : List (List ℕ)) (n : ℕ)
+    → AreWritten levels old n → n < length levels → pair ≡ pair_at levels n → HasBoth pair
+    → half ≡ old ++ file_of pair.curr ∷ [] → new ≡ half ++ file_of pair.snap ∷ [] → AreWritten levels new (n + 1)
+one_more_written levels pair old half new n written below at both curr snap =
+    let grown : take (n + 1) levels ≡ take n levels ++ pair ∷ [] =
+    take_more levels n empty_pair below ∙ ap (λ (p : Pair). take n levels ++ p ∷ []) (sym at) in
+    record {
+      have = subst (All HasBoth) (sym grown) (All-push HasBoth (take n levels) pair written.have both);
+      are = snap
+          ∙ ap (λ (f : List (List ℕ)). f ++ file_of pair.snap ∷ []) curr
+          ∙ append_assoc old (file_of pair.curr ∷ []) (file_of pair.snap ∷ [])
+          ∙ ap (λ (f : List (List ℕ)). f ++ files_in pair) written.are
+          ∙ flat_map_more files_in [] (take n levels) pair
+          ∙ ap (flat_map files_in) (sym grown);
+    }
+
+pub all_written : (levels : List Pair) (files : List (List ℕ)) (n : ℕ) → length levels ≡ level_count → n ≡ 11
+    → AreWritten levels files n → AreFilesOf levels files
+all_written levels files n count end written =
+    let all : take n levels ≡ levels = take_all n levels (omega (arith, count, end)) in
+    record {
+      count = count;
+      have = subst (All HasBoth) all written.have;
+      are = written.are ∙ ap (flat_map files_in) all;
+    }
 
 -- ---- files taken one by one
 

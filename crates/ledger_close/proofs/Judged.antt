@@ -1,7 +1,6 @@
 -- What parts of an image's judging say of the whole.
 use Rattle.std.proofs.Common.{◌≡◌, ◌≢◌, ℕ, ◌≤◌, inl, inr, List, [], ◌∷◌, map, Option, Some, None}
 use Rattle.std.proofs.Common.{pos, Ok, Err, refl, sym, ap, ◌∙◌, subst, arith, All, ◌*◌, length}
-use Rattle.std.specs.List.{flat_map}
 use Rattle.bucket_core.specs.File.{file_of}
 use Rattle.std.specs.List.{AllByRecursion}
 use Rattle.std.specs.FinMap.{get, entries, get-entries}
@@ -42,6 +41,7 @@ use Rattle.close_rules.specs.State.{IsClosingState, IsSpelled, max_file_total}
 use Rattle.close_rules.specs.EntryRules.{IsFirstBroken, entry_rules}
 use Rattle.close_rules.specs.Images.{header_in, read_whole, if_whole, AreFilesOf, HasHeader}
 use Rattle.close_rules.specs.Images.{HasLevels, HasEntries, state_of}
+use Rattle.close_laws.proofs.StateImages.{number_of_levels}
 use Rattle.ledger_close.specs.States.{IsKept}
 use Rattle.ledger_close.specs.Answers.{JudgesImage}
 use Rattle.ledger_close.specs.ImageFiles.{IsFileFault}
@@ -72,18 +72,12 @@ too_long law files levels answer is are long =
     (λ others fit. long (subst (λ (l : List Pair). file_total l ≤ max_file_total)
     (levels_are_one law files others levels fit.are are) fit.fit))
 
--- levels have two files each
-pair_files : (levels : List Pair)
-    → length (flat_map (λ (pair : Pair). file_of pair.curr ∷ file_of pair.snap ∷ []) levels) ≡ 2 * length levels
-pair_files [] = refl
-pair_files (pair ∷ levels) = omega (arith, pair_files levels)
-
 -- files of another number are those of no levels
 pub no_levels : (files : List (List ℕ)) (answer : ImageFault) → answer ≡ fault.BadImage rule.Bucket
     → (length files ≡ 22 → ⊥) → IsFileFault answer ((levels : List Pair) → DoFilesFit files levels → ⊥)
 no_levels files answer is other =
     subst (λ (a : ImageFault). IsFileFault a ((levels : List Pair) → DoFilesFit files levels → ⊥)) (sym is)
-    (λ levels fit. other (ap length fit.are.are ∙ pair_files levels ∙ ap (λ (n : ℕ). 2 * n) fit.are.count))
+    (λ levels fit. other (ap length fit.are.are ∙ number_of_levels levels ∙ ap (λ (n : ℕ). 2 * n) fit.are.count))
 
 -- the first four rules are kept
 pub has_levels : (image : StartImage) (h : LedgerHeader) (levels : List Pair) → HasHeader image h

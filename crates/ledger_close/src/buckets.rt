@@ -1,16 +1,18 @@
-//! The files of an image.
+//! The files of an image, as buckets and from buckets.
 
 ghost use Rattle.std.specs.Prelude.{◌≡◌, ◌≤◌, ◌⊎◌, ◌↔◌, [], ◌∷◌, ◌++◌, List, length, map, IfOk, IfErr, OnOk, IsTrue};
 ghost use Rattle.bucket_levels.specs.Pairs.{Pair};
 ghost use Rattle.bucket_levels.specs.Levels.{pair_of};
 ghost use Rattle.bucket_levels.specs.Size.{file_total};
+ghost use Rattle.bucket_levels.specs.Spills.{level_count};
+ghost use Rattle.bucket_core.specs.File.{file_of, HasFile};
 ghost use Rattle.close_rules.specs.State.{max_file_total};
 ghost use Rattle.close_rules.specs.Images.{AreFilesOf};
 ghost use Rattle.ledger_close.specs.ImageFiles as spec;
 
 use bucket_core::laws::no_fault_in_a_file;
 use bucket_core::{Bucket, BucketFault};
-use bucket_levels::LevelPair;
+use bucket_levels::{LevelPair, Levels};
 use close_rules::{ImageFault, ImageRule};
 use item_list::ItemList;
 use std::alloc::{AllocError, Global};
@@ -107,4 +109,35 @@ pub(crate) fn do_files_fit(pairs: &[LevelPair]) -> bool
     ensures { IsTrue result ↔ (file_total (map pair_of pairs.now) ≤ max_file_total) }
 {
     bucket_levels::file_total(pairs) <= MAX_FILE_TOTAL
+}
+
+/// Puts a copy of a bucket's file behind others.
+fn push_file(
+    alloc: Global,
+    files: &mut Vec<ItemList<u8>>,
+    bucket: &Bucket,
+) -> Result<(), AllocError>
+    ensures pushed { OnOk result (files.new.items ≡ files.old.items ++ file_of bucket.now ∷ []) }
+    ensures file { HasFile bucket.now }
+{
+    bucket.cursor();
+    files.push(ItemList::from_slice(alloc, bucket.bytes())?)?;
+    Ok(())
+}
+
+/// Copies of the files of levels, curr and snap of each from the first one on.
+pub(crate) fn copy_files(
+    alloc: Global,
+    levels: &Levels,
+) -> Result<ItemList<ItemList<u8>>, AllocError>
+    requires { length levels.now.pairs ≡ level_count }
+    ensures { IfOk result (λ files. AreFilesOf levels.now.pairs files) }
+{
+    let mut files = Vec::with_capacity(alloc, 22)?;
+    for level in 0..11u32 {
+        let pair = levels.pair(level);
+        push_file(alloc, &mut files, &pair.curr)?;
+        push_file(alloc, &mut files, &pair.snap)?;
+    }
+    Ok(ItemList::from_vec(files))
 }

@@ -1,28 +1,32 @@
-//! The ledger of a start image.
+//! The ledger of a start image, and the image of a ledger.
 
-ghost use Rattle.std.specs.Prelude.{◌≡◌, ◌↔◌, length, map, IfOk, IfErr, IsTrue, List};
+ghost use Rattle.std.specs.Prelude.{◌≡◌, ◌↔◌, length, map, IfOk, IfErr, IsTrue, List, Ok};
+ghost use Rattle.xdr_header.specs.Header.{ledger_header};
+ghost use Rattle.xdr_header.specs.Image.{start_image};
 ghost use Rattle.bucket_levels.specs.Spills.{level_count};
 ghost use Rattle.bucket_levels.specs.Levels.{pair_of};
 ghost use Rattle.bucket_levels.specs.Pairs.{Pair};
+ghost use Rattle.close_rules.specs.Images.{IsJudged};
 ghost use Rattle.ledger_close.specs.Answers as answer;
 ghost use Rattle.ledger_close.specs.ImageFiles.{IsFileFault};
 ghost use Rattle.ledger_close.specs.Judging as judging;
 
-use crate::buckets::{do_files_fit, read_pairs};
+use crate::buckets::{copy_files, do_files_fit, read_pairs};
 use crate::ledger::Ledger;
 use bucket_core::laws::a_file_is_of_one_bucket;
 use bucket_levels::{LevelPair, Levels};
+use close_laws::images::images_stand_for_states;
 use close_rules::{ImageFault, ImageRule};
 use entry_table::EntryTable;
 use image_rules::{are_fields_in_range, first_broken};
 use item_list::ItemList;
 use ledger_types::{Hash, LedgerHeader};
 use level_entries::level_entries;
-use std::alloc::Global;
+use std::alloc::{AllocError, Global};
 use value_hashes::ledger_hash;
-use xdr_core::{Cursor, ReadFault};
+use xdr_core::{Builder, Cursor, ReadFault};
 use xdr_header::laws::reading_and_spelling_agree;
-use xdr_header::{StartImage, read_ledger_header};
+use xdr_header::{StartImage, read_ledger_header, write_ledger_header};
 
 /// The fault of an image that breaks a rule.
 const fn broken(rule: ImageRule) -> ImageFault
@@ -122,6 +126,16 @@ fn judge_entries(
     }
 }
 
+/// The spelling of a header.
+fn header_bytes(alloc: Global, header: &LedgerHeader) -> Result<ItemList<u8>, AllocError>
+    requires { ledger_header.within header.now }
+    ensures { IfOk result (λ bytes. bytes ≡ ledger_header.spell header.now) }
+{
+    let mut builder = Builder::new(alloc);
+    write_ledger_header(header, &mut builder)?;
+    Ok(ItemList::from_vec(builder.finish()))
+}
+
 impl Ledger {
     /// The ledger behind a start image, on the network with this id; or the first rule that the image breaks.
     pub fn from_image(image: StartImage, network: Hash) -> Result<Ledger, ImageFault>
@@ -154,5 +168,17 @@ impl Ledger {
             entries,
             levels,
         })
+    }
+
+    /// The image of the ledger: the one of which `from_image` makes it again, on its network. It copies the header and
+    /// the files.
+    pub fn image(&self, alloc: Global) -> Result<StartImage, AllocError>
+        ensures within { IfOk result (λ image. start_image.within image) }
+        ensures judged { IfOk result (λ image. IsJudged self.now.network image (Ok self.now)) }
+    {
+        images_stand_for_states();
+        let header = header_bytes(alloc, &self.header)?;
+        let files = copy_files(alloc, &self.levels)?;
+        Ok(StartImage { header, files })
     }
 }

@@ -1,0 +1,111 @@
+-- A header that can be written is short.
+use Rattle.std.proofs.Common.{ℕ, ◌+◌, ◌*◌, ◌<◌, Option, Some, None, ℤ, pos, arith}
+use Rattle.ledger_types.specs.declared.ids.Hash.{Hash}
+use Rattle.ledger_types.specs.declared.header.LedgerCloseValueSignature.{LedgerCloseValueSignature}
+use Rattle.ledger_types.specs.declared.header.StellarValue.{StellarValue}
+use Rattle.ledger_types.specs.declared.header.LedgerHeaderExtensionV1.{LedgerHeaderExtensionV1}
+use Rattle.ledger_types.specs.declared.header.LedgerHeader.{LedgerHeader}
+use Rattle.xdr_core.specs.Leaves.{u32, u64, i64, var}
+use Rattle.xdr_core.specs.Combinators.{◌⨾◌, Fields, struct_of, whole, closed, times, extension, constant}
+use Rattle.xdr_core.specs.Xdr.{Xdr, tag, list_of, extension_of}
+use Rattle.xdr_entries.specs.Basic.{hash, account_id}
+use Rattle.xdr_header.specs.Header.{ledger_close_value_signature, value_signature_fields, stellar_value, value_fields}
+use Rattle.xdr_header.specs.Header.{ledger_header_extension_v1, header_v1_fields, limits, limits_fields, counts}
+use Rattle.xdr_header.specs.Header.{counts_fields, ledger_header, header_fields}
+use Rattle.close_rules.specs.State.{IsSpelled}
+use Rattle.close_laws.proofs.Short as short
+use Rattle.close_laws.proofs.Short.{IsShort}
+use Rattle.close_laws.proofs.ShortIds.{id_short, hash_short}
+use Rattle.close_laws.proofs.Spelled.{all_spelled, each_spelled, few_spelled}
+
+-- whatever is spelled is short
+abbrev AreShort : {V : Type 0} → Xdr V → ℕ → Type 0
+AreShort {V} f most = (v : V) → IsSpelled f v → IsShort f most v
+
+-- ---- formats of which others are made
+
+both : {A B : Type 0} {f : Xdr A} {g : Xdr B} {m n : ℕ} → AreShort f m → AreShort g n → AreShort (f ⨾ g) (m + n)
+both first then (a, b) spelled =
+    short.short_both (first a (record { within = spelled.within.0; sized = spelled.sized.0 }))
+    (then b (record { within = spelled.within.1; sized = spelled.sized.1 }))
+
+struct : {A V : Type 0} (fields : Fields A V) {f : Xdr A} {n : ℕ} → AreShort f n → AreShort (struct_of fields f) n
+struct fields each v spelled =
+    short.short_struct fields (each (fields.from v) (record { within = spelled.within; sized = spelled.sized }))
+
+extended : {A : Type 0} (mark : ℤ) (f : Xdr A) (n : ℕ) → AreShort f n → AreShort (extension_of mark f) (4 + n)
+unfolding extension
+extended mark f n each None spelled = short.no_extension mark f n
+extended mark f n each (Some a) spelled =
+    short.some_extension mark f n a (each a (record { within = spelled.within; sized = spelled.sized }))
+
+listed : {A : Type 0} (max : ℕ) (f : Xdr A) (n : ℕ) → AreShort f n → AreShort (list_of max f) (4 + max * n)
+listed max f n each vs spelled =
+    short.short_list max f n vs (few_spelled max f vs spelled)
+    (λ k d within. each _ (each_spelled max f vs spelled k d within))
+
+repeated : {A : Type 0} (count : ℕ) (f : Xdr A) (n : ℕ) → AreShort f n → AreShort (times count f) (count * n)
+unfolding times
+repeated count f n each vs spelled =
+    short.short_times count f n vs spelled.within.0
+    (λ k d within. each _ (all_spelled f vs spelled.within.1 spelled.sized k d within))
+
+-- ---- leaves
+
+u32_short : AreShort u32 4
+unfolding u32
+u32_short n spelled = short.short_u32 n (fits spelled.sized)
+  where
+    fits : u32.sized n → n < 4294967296
+    fits sized = omega arith
+
+u64_short : AreShort u64 8
+unfolding u64
+u64_short n spelled = short.short_u64 n (fits spelled.sized)
+  where
+    fits : u64.sized n → n < 18446744073709551616
+    fits sized = omega arith
+
+i64_short : AreShort i64 8
+unfolding i64
+i64_short n spelled = short.short_i64 n spelled.sized
+
+-- ---- headers
+
+signature_short : AreShort ledger_close_value_signature 110
+unfolding ledger_close_value_signature
+signature_short = struct value_signature_fields (both id_short (short.short_var 64))
+
+value_short : AreShort stellar_value 971
+unfolding stellar_value
+value_short =
+    struct value_fields (both hash_short (both u64_short (both (listed 6 (var 128) 135 (short.short_var 128))
+    (extended (pos 1) ledger_close_value_signature 110 signature_short))))
+
+extension_short : AreShort ledger_header_extension_v1 8
+unfolding ledger_header_extension_v1 constant
+extension_short =
+    struct header_v1_fields (λ flags spelled. short.short_closed (pos 0) (u32_short flags
+    (record { within = spelled.within.0; sized = spelled.sized.0 })))
+
+limits_short : AreShort limits 164
+unfolding limits
+limits_short =
+    struct limits_fields (both u32_short (both u32_short (both u32_short (both (repeated 4 hash 35 hash_short)
+    (extended (pos 1) ledger_header_extension_v1 8 extension_short)))))
+
+counts_short : AreShort counts 196
+unfolding counts
+counts_short =
+    struct counts_fields (both u32_short (both i64_short (both i64_short (both u32_short (both u64_short
+    limits_short)))))
+
+pub header_short : (h : LedgerHeader) → IsSpelled ledger_header h → IsShort ledger_header 1276 h
+unfolding ledger_header
+header_short =
+    struct header_fields (both u32_short (both hash_short (both whole_value (both hash_short (both hash_short
+    counts_short)))))
+  where
+    whole_value : AreShort (whole stellar_value) 971
+    whole_value v spelled =
+        short.short_whole (value_short v (record { within = spelled.within; sized = spelled.sized }))

@@ -1,0 +1,145 @@
+-- The image of a ledger's state can be written, and stands for that state.
+use Rattle.std.proofs.Common.{◌≡◌, ℕ, zero, suc, ◌+◌, ◌-◌, ◌*◌, ◌≤◌, List, [], ◌∷◌, ◌++◌, length, Some, None, Ok}
+use Rattle.std.proofs.Common.{refl, sym, ap, ◌∙◌, subst, arith, append-nil}
+use Rattle.std.specs.List.{flat_map}
+use Rattle.std.proofs.lemmas.List.Sums.{sum_by-cons}
+use Rattle.ledger_types.specs.declared.header.LedgerHeader.{LedgerHeader}
+use Rattle.xdr_core.specs.Leaves.{mark}
+use Rattle.xdr_core.specs.Place.{start_of}
+use Rattle.xdr_core.specs.Combinators.{constant}
+use Rattle.xdr_header.specs.declared.image.StartImage.{StartImage}
+use Rattle.xdr_header.specs.Image.{start_image, file, files}
+use Rattle.xdr_header.specs.Header.{ledger_header}
+use Rattle.xdr_header.proofs.HeaderLaws.{ledger_header_laws}
+use Rattle.entry_map.specs.EntryMap.{EntryMap}
+use Rattle.legal_rules.specs.Headers.{IsHeaderInRange}
+use Rattle.legal_rules.specs.Legal.{IsLegal}
+use Rattle.bucket_core.specs.File.{file_of}
+use Rattle.bucket_levels.specs.Pairs.{Pair}
+use Rattle.bucket_levels.specs.Size.{file_total, pair_size}
+use Rattle.close_rules.specs.State.{ClosingState, IsClosingState, IsSpelled, max_file_total}
+use Rattle.close_rules.specs.EntryRules.{IsFirstBroken, entry_rules}
+use Rattle.close_rules.specs.Images.{header_in, read_whole, AreFieldsInRange, HasHeader, HasEntries, AreFilesOf}
+use Rattle.close_laws.specs.Images.{IsImageOf, ImagesStandForStates}
+use Rattle.close_laws.proofs.Short.{longer}
+use Rattle.close_laws.proofs.ShortHeaders.{header_short}
+
+-- ---- the header
+
+header_again : (h : LedgerHeader) → IsSpelled ledger_header h → header_in (ledger_header.spell h) ≡ Some h
+unfolding header_in
+header_again h spelled =
+    ap (λ (bytes : List ℕ). read_whole (ledger_header.read (start_of bytes))) (sym (append-nil (ledger_header.spell h)))
+    ∙ ap read_whole (ledger_header_laws.lawful.again 0 h [] spelled.within spelled.sized)
+
+fields_in_range : (h : LedgerHeader) → IsHeaderInRange h → AreFieldsInRange h
+fields_in_range h range = record {
+  seq_low = range.seq_low;
+  seq_high = range.seq_high;
+  base_fee = range.base_fee;
+  base_reserve = range.base_reserve;
+  total_coins = range.total_coins;
+  fee_pool = range.fee_pool;
+  id_pool = range.id_pool;
+  flags = range.flags;
+}
+
+has_header : (s : ClosingState) (image : StartImage) → IsClosingState s → IsImageOf s image → HasHeader image s.header
+has_header s image state is = record {
+  reads = ap header_in is.header ∙ header_again s.header state.header;
+  version = state.legal.header.version;
+  fields = fields_in_range s.header state.legal.header;
+}
+
+-- ---- the files
+
+-- how many bytes files have together
+abbrev bytes_of : List (List ℕ) → ℕ
+bytes_of [] = 0
+bytes_of (first ∷ others) = length first + bytes_of others
+
+bytes_of_levels : (levels : List Pair)
+    → bytes_of (flat_map (λ (pair : Pair). file_of pair.curr ∷ file_of pair.snap ∷ []) levels) ≡ file_total levels
+unfolding file_total
+bytes_of_levels [] = refl
+bytes_of_levels (pair ∷ levels) =
+    let more : file_total (pair ∷ levels) ≡ pair_size pair + file_total levels = sum_by-cons pair_size pair levels in
+    omega (arith, more, bytes_of_levels levels)
+
+-- levels have two files each
+pub number_of_levels : (levels : List Pair)
+    → length (flat_map (λ (pair : Pair). file_of pair.curr ∷ file_of pair.snap ∷ []) levels) ≡ 2 * length levels
+number_of_levels [] = refl
+number_of_levels (pair ∷ levels) = omega (arith, number_of_levels levels)
+
+files_within : (n left : ℕ) (each : List (List ℕ)) → length each ≡ n → bytes_of each ≤ left → (files n left).within each
+unfolding files file
+files_within zero left [] is le = refl
+files_within zero left (first ∷ others) is le = absurd (cc is)
+files_within (suc n) left [] is le = absurd (cc is)
+files_within (suc n) left (first ∷ others) is le =
+    (omega (arith, le), files_within n (left - length first) others (omega (arith, is)) (omega (arith, le)))
+
+are_within : (s : ClosingState) (image : StartImage) → IsClosingState s → AreFilesOf s.levels image.files
+    → (files 22 max_file_total).within image.files
+are_within s image state are =
+    files_within 22 max_file_total image.files
+    (ap length are.are ∙ number_of_levels s.levels ∙ ap (λ (n : ℕ). 2 * n) are.count)
+    (subst (λ (n : ℕ). n ≤ max_file_total) (sym (ap bytes_of are.are ∙ bytes_of_levels s.levels)) state.files)
+
+-- ---- the image
+
+is_within : (s : ClosingState) (image : StartImage) → IsClosingState s → IsImageOf s image → start_image.within image
+unfolding start_image mark constant
+is_within s image state is = (
+  tt,
+  (
+    subst (λ (bytes : List ℕ). length bytes ≤ 16777216) (sym is.header)
+        (longer 1276 16777216 (omega arith) (header_short s.header state.header).short),
+    are_within s image state is.files,
+  ),
+)
+
+none_broken : (h : LedgerHeader) (m : EntryMap) → IsLegal h m → IsFirstBroken h m entry_rules None
+none_broken h m legal = (
+  record { entries = legal.entries; authorized = legal.authorized },
+  (
+    record { standing = legal.standing; offers = legal.offers },
+    (
+      record { selling = legal.selling; buying = legal.buying },
+      (
+        record { booked = legal.subentries; few = legal.few },
+        (
+          record { sponsoring = legal.sponsoring; sponsored = legal.sponsored; fits = legal.fits },
+          (
+            record {
+              shares = legal.shares;
+              share_lines = legal.share_lines;
+              uses = legal.uses;
+              filled = legal.filled;
+            },
+            (legal.lumens, refl),
+          ),
+        ),
+      ),
+    ),
+  ),
+)
+
+has_entries : (s : ClosingState) (image : StartImage) → IsClosingState s → IsImageOf s image
+    → HasEntries image s.header s.levels s.entries
+has_entries s image state is = record {
+  files = record {
+    header = has_header s image state is;
+    files = record { files = is.files; fit = state.files };
+  };
+  marks = state.marked;
+  hash = state.hash;
+  standing = state.standing;
+}
+
+pub images_stand_for_states : ImagesStandForStates
+images_stand_for_states s image state is = (
+  is_within s image state is,
+  (s.header, s.levels, s.entries, has_entries s image state is, none_broken s.header s.entries state.legal, refl),
+)

@@ -1,5 +1,7 @@
 //! Records that are appended to stores, and stores that go on to the next epoch.
 
+ghost use Rattle.store_tests.specs.Stores.{IsStoreReady};
+
 use crate::acts::{Act, Case, done, fails_on, go_on, keeps};
 use crate::layout::*;
 use crate::stores::Picture;
@@ -100,18 +102,26 @@ fn goes_on_to_the_bytes_of_the_next_epoch(rt: HostRuntime) {
     }
 }
 
-/// The epochs of a store before and after it rolls and then appends, where it leaves the record in the next journal.
+/// The epochs of a store before and after it rolls, and then appends.
+fn cross(alloc: Global, store: &mut Store, vol: &mut MemVolume) -> (u64, u64)
+    requires { IsStoreReady store.old vol.old }
+{
+    let before = store.epoch();
+    let _ = go_on(alloc, store, vol, Act::Roll);
+    let _ = go_on(alloc, store, vol, Act::Append);
+    (before, store.epoch())
+}
+
+/// Those of a store that is mounted, where that leaves the record in the next journal.
 fn epochs(alloc: Global, epoch: u64) -> Option<(u64, u64)> {
     let mut vol = MemVolume::new(alloc);
     put_files(&mut vol, &one(alloc, epoch));
-    let Ok(mut mounted) = Store::mount(alloc, &mut vol) else {
-        return None;
+    let crossed = match Store::mount(alloc, &mut vol) {
+        Ok(mut mounted) => cross(alloc, &mut mounted.store, &mut vol),
+        Err(_) => return None,
     };
-    let before = mounted.store.epoch();
-    let _ = go_on(alloc, &mut mounted.store, &mut vol, Act::Roll);
-    let _ = go_on(alloc, &mut mounted.store, &mut vol, Act::Append);
     if leaves_files(&vol, &rolled(alloc, epoch, APPENDED)) {
-        Some((before, mounted.store.epoch()))
+        Some(crossed)
     } else {
         None
     }

@@ -26,8 +26,8 @@ const FIRST_FILES: [&[u8]; 22] = [
 
 /// The files of the second image.
 const SECOND_FILES: [&[u8]; 22] = [
-    b"", b"", b"", b"", b"apple", b"", b"", b"", b"", b"", b"", b"", b"", b"", b"", b"", b"", b"",
-    b"", b"", b"", b"",
+    b"", b"", b"", b"", b"q", b"", b"", b"", b"", b"", b"", b"", b"", b"", b"", b"", b"", b"", b"",
+    b"", b"", b"",
 ];
 
 /// The records that stand behind an image, as many as there are.

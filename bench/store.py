@@ -9,7 +9,7 @@ is measured is the file system that it stands on.
 `PROGRAM store-append COUNT SIZE` appends COUNT records of SIZE bytes. Beside it the same writes and syncs are made by this script, with
 nothing else: that is the part of the system. `PROGRAM store-roll BYTES 0` opens a store and goes on to an image of BYTES bytes, and
 `PROGRAM store-open BYTES 0` does all but that; the difference is compared with `dd conv=fsync` from the image's file. Both write over a
-file of that length. All times are those on the clock, the best of several runs.
+file of that length. All times are those on the clock, the best of several runs in turn.
 
 Exit status: 0 where all is well, 1 where a roll takes more than 1.5 times as long as `dd`, or more memory than the spelling of its image
 beyond what opening takes; 2 where a run fails or prints another line. Python 3.9 or later and its standard library.
@@ -25,19 +25,23 @@ from measuring import built, run, stop
 
 RECORDS, SIZE = 500, 20_000
 IMAGE = 100_000_000
-RUNS = 5
+RUNS = 10
 
 
 def clocked(words, folder, line):
-    """The least seconds on the clock that a command takes in a folder."""
-    best = float("inf")
-    for _ in range(RUNS):
-        begun = time.perf_counter()
-        ran = subprocess.run(words, cwd=folder, stdout=subprocess.PIPE, check=False)
-        best = min(best, time.perf_counter() - begun)
-        if ran.returncode or (line is not None and ran.stdout.decode() != line):
-            stop(f"{' '.join(words)} printed {ran.stdout!r}")
-    return best
+    """The seconds on the clock that a command takes in a folder."""
+    begun = time.perf_counter()
+    ran = subprocess.run(words, cwd=folder, stdout=subprocess.PIPE, check=False)
+    took = time.perf_counter() - begun
+    if ran.returncode or (line is not None and ran.stdout.decode() != line):
+        stop(f"{' '.join(words)} printed {ran.stdout!r}")
+    return took
+
+
+def best(*calls):
+    """The least seconds of each of some calls, which are made in turn, so that what else the machine does meets all of them."""
+    rounds = [[call() for call in calls] for _ in range(RUNS)]
+    return [min(times) for times in zip(*rounds)]
 
 
 def system_part(folder):
@@ -59,8 +63,8 @@ def main():
     well = True
     with tempfile.TemporaryDirectory() as folder:
         clocked([program, "store-make", "1000", "0"], folder, None)
-        appends = clocked([program, "store-append", str(RECORDS), str(SIZE)], folder, f"store-append: {RECORDS}\n")
-        system = min(system_part(folder) for _ in range(RUNS))
+        append = [program, "store-append", str(RECORDS), str(SIZE)]
+        appends, system = best(lambda: clocked(append, folder, f"store-append: {RECORDS}\n"), lambda: system_part(folder))
         print(f"{RECORDS} records of {SIZE} bytes: {RECORDS / appends:.0f} appends a second; the same writes and syncs alone"
               f" take {100 * system / appends:.0f} % of the time")
     with tempfile.TemporaryDirectory() as folder:
@@ -69,15 +73,19 @@ def main():
         copy = ["dd", "if=ledger-store/image0", "of=copy", "bs=1M", "conv=fsync", "status=none"]
         for words in (roll, roll, copy):
             subprocess.run(words, cwd=folder, stdout=subprocess.PIPE, check=True)
-        opened = clocked([program, "store-open", str(IMAGE), "0"], folder, "store-open: 0\n")
-        rolled = clocked(roll, folder, "store-roll: 0\n") - opened
-        copied = clocked(copy, folder, None)
+        opening = [program, "store-open", str(IMAGE), "0"]
+        opened, rolled, copied = best(
+            lambda: clocked(opening, folder, "store-open: 0\n"),
+            lambda: clocked(roll, folder, "store-roll: 0\n"),
+            lambda: clocked(copy, folder, None),
+        )
+        rolled -= opened
         print(f"a roll of an image of {IMAGE} bytes: {rolled:.3f} seconds, {rolled / copied:.2f} times dd (at most 1.5)")
         well = well and rolled <= 1.5 * copied
         os.chdir(folder)
-        _, opening, _ = run([program, "store-open", str(IMAGE), "0"], 1, folder)
-        _, rolling, _ = run([program, "store-roll", str(IMAGE), "0"], 1, folder)
-        more = (rolling - opening) * 1024 / IMAGE
+        _, before, _ = run(opening, 1, folder)
+        _, rolling, _ = run(roll, 1, folder)
+        more = (rolling - before) * 1024 / IMAGE
         print(f"memory of a roll beyond that of opening: {more:.2f} times the image (at most 1.1)")
         well = well and more <= 1.1
         os.chdir("/")

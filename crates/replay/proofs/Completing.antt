@@ -46,9 +46,13 @@ failing : (passphrase : List ℕ) (input out err : Seen) (end : Status) → DidC
 failing passphrase input out err status.ReadFault did short = inl (refl, (did.read_fault refl).0)
 failing passphrase input out err status.WriteFault did short = inr (inl (refl, did.write_fault refl))
 failing passphrase input out err status.NoMemory did short = inr (inr refl)
+failing passphrase input out err status.DiskFault did short = absurd did.is_end
 failing passphrase input out err status.Done did short = absurd short
 failing passphrase input out err status.Usage did short = absurd short
 failing passphrase input out err status.Refused did short = absurd short
+failing passphrase input out err (status.BadStore file place) did short = absurd short
+failing passphrase input out err status.Missing did short = absurd short
+failing passphrase input out err status.AlreadyThere did short = absurd short
 failing passphrase input out err (status.BadInput at) did short = absurd short
 failing passphrase input out err (status.BadImage rule) did short = absurd short
 

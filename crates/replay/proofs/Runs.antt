@@ -28,7 +28,8 @@ use Rattle.replay.proofs.Marking.{read_mark, framed_is_read, framed_above}
 abbrev answer : Result PreparedClose CloseFault → Result PreparedClose CloseFault
 answer r = r
 
-same_close : (s : ClosingState) (bytes : List ℕ) (a b : PreparedClose) → IsClose s bytes (Ok a) → IsClose s bytes (Ok b)
+pub same_close : (s : ClosingState) (bytes : List ℕ) (a b : PreparedClose) → IsClose s bytes (Ok a)
+    → IsClose s bytes (Ok b)
     → a ≡ b
 same_close s bytes a b h i = let e : answer (Ok a) ≡ Ok b = closes_are_one s bytes (Ok a) (Ok b) h i in cc
 
@@ -37,7 +38,7 @@ same_refusal : (s : ClosingState) (bytes : List ℕ) (a b : CloseFault) → IsCl
     → a ≡ b
 same_refusal s bytes a b h i = let e : answer (Err a) ≡ Err b = closes_are_one s bytes (Err a) (Err b) h i in cc
 
-not_both : (s : ClosingState) (bytes : List ℕ) (a : PreparedClose) (b : CloseFault) → IsClose s bytes (Ok a)
+pub not_both : (s : ClosingState) (bytes : List ℕ) (a : PreparedClose) (b : CloseFault) → IsClose s bytes (Ok a)
     → IsClose s bytes (Err b) → ⊥
 not_both s bytes a b h i = let e : answer (Ok a) ≡ Err b = closes_are_one s bytes (Ok a) (Err b) h i in absurd cc
 
@@ -49,7 +50,7 @@ read_of r = r
 ok_of : (a b : List ℕ × Place) → read_of (Ok a) ≡ Ok b → a ≡ b
 ok_of a b h = cc
 
-framed_apart : (v w x y : List ℕ) → length v ≤ max_record_len → length w ≤ max_record_len
+pub framed_apart : (v w x y : List ℕ) → length v ≤ max_record_len → length w ≤ max_record_len
     → framed v ++ x ≡ framed w ++ y → (v ≡ w) × (x ≡ y)
 framed_apart v w x y short_v short_w e =
     let first = framed_is_read 0 v x short_v in
@@ -62,7 +63,7 @@ framed_apart v w x y short_v short_w e =
 
 -- ---- the end of a run
 
-nothing_framed : (bytes rest : List ℕ) → [] ≡ framed bytes ++ rest → ⊥
+pub nothing_framed : (bytes rest : List ℕ) → [] ≡ framed bytes ++ rest → ⊥
 nothing_framed bytes rest e =
     let sizes : length (framed bytes ++ rest) ≡ 0 = sym (ap length e) in
     absurd (omega (arith, sizes, length-append (framed bytes) rest, framed_above bytes))

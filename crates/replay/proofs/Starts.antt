@@ -26,12 +26,12 @@ use Rattle.close_rules.specs.State.{ClosingState}
 use Rattle.close_rules.specs.Images.{IsJudged}
 use Rattle.run_outcome.specs.declared.status.Status.{Status}
 use Rattle.run_outcome.specs.declared.status.Status.TheVariants as status
-use Rattle.run_outcome.specs.Statuses.{IsCutShort}
+use Rattle.run_outcome.specs.Statuses.{IsCutShort, IsRecordsEnd, IsCatchUpEnd}
 use Rattle.run_outcome.specs.Outcome.{silent, IsRun, IsStarted, IsOutcomeOf, IsOutcome, AreLinesOf}
 use Rattle.run_outcome.specs.Outcome.{IsRunFront, IsOutputFrontOf, IsOutputFront}
 use Rattle.run_outcome.specs.Run.{Answered, AnsweredTo}
 use Rattle.replay.specs.Following.{AnsweredFrom, Followed}
-use Rattle.replay.specs.Starting.{Cut, CaughtUp, IsUnstarted, IsJudgedSo, StartsAt}
+use Rattle.replay.specs.Starting.{Cut, CaughtUp, IsFaulty, GaveNoImage, IsUncut, IsUnstarted, IsJudgedSo, StartsAt}
 use Rattle.replay.proofs.Turning.{over, told_front, none_left, short_or_not, cut_answered, rose_before}
 
 abbrev read_image : List ℕ → Reading XdrFault StartImage
@@ -71,6 +71,7 @@ image_cut input new at image q grown fits measured low e later =
       front = front;
       begins = λ rest. start_image_laws.lawful.again 0 image rest s.within s.sized
           ∙ ap (λ (n : ℕ). Ok (image, record { at = n; rest = rest })) (zero-add (length front));
+      within = s.within;
       len = len;
       low = omega (arith, low);
       gave = subst (λ (t : List ℕ). Consumes input.before input.now t) given grown.gave;
@@ -105,27 +106,7 @@ unread_memory passphrase input out h = record {
   ended = λ e. absurd cc;
   read_fault = λ e. absurd cc;
   write_fault = λ e. absurd cc;
-  no_usage = λ e. cc;
-}
-
-pub unread_failed : (passphrase : List ℕ) (input : Seen) (new : List ℕ) → Grown input.before input.now [] new
-    → IsShort image_end new → Failed input → IsUnstarted passphrase input status.ReadFault
-unread_failed passphrase input new grown short failed out h = record {
-  answered = unwritten passphrase input out status.ReadFault tt h;
-  ended = λ e. absurd cc;
-  read_fault = λ e. (
-    failed,
-    record {
-      given = grown.given;
-      gave = grown.gave;
-      lines = [];
-      received = h;
-      all = subst (λ (r : Reading XdrFault StartImage). AreLinesOf (network_id_of passphrase) r [])
-          (sym (ap read_image (sym grown.grown) ∙ end_err (read_image new) short.0 short.1)) refl;
-    },
-  );
-  write_fault = λ e. absurd cc;
-  no_usage = λ e. cc;
+  is_end = tt;
 }
 
 -- an outcome that has no text
@@ -149,23 +130,79 @@ fault_stays new others now wrong fits e at_end told = elim (short_or_not wrong.k
   | inr other ↦ (faults_placed start_image_laws).stays (start_of new) wrong others fits e other
 ]
 
-pub unread_bad : (passphrase : List ℕ) (input : Seen) (new : List ℕ) (wrong : XdrFault)
-    → Grown input.before input.now [] new → IsBytes new → image_end new ≡ Err wrong
-    → (wrong.kind ≡ Short → IsAtEnd input.now) → IsUnstarted passphrase input (status.BadInput wrong.at)
-unread_bad passphrase input new wrong grown fits measured at_end out h =
-    let end : Status = status.BadInput wrong.at in
+pub uncut_bad : (input : Seen) (new : List ℕ) (wrong : XdrFault) → Grown input.before input.now [] new → IsBytes new
+    → image_end new ≡ Err wrong → (wrong.kind ≡ Short → IsAtEnd input.now) → IsUncut input (status.BadInput wrong.at)
+uncut_bad input new wrong grown fits measured at_end =
     let e = end_err (read_image new) wrong measured in
+    told_front input.before input.now grown.given (λ bytes. IsFaulty wrong.at bytes) grown.gave
+    (λ others told. subst (λ (t : List ℕ). IsFaulty wrong.at (t ++ others)) grown.grown
+    (wrong, fault_stays new others input.now wrong fits e at_end told, refl))
+
+pub uncut_failed : (input : Seen) (new : List ℕ) → Grown input.before input.now [] new → IsShort image_end new
+    → Failed input → IsUncut input status.ReadFault
+uncut_failed input new grown short failed = (
+  failed,
+  record {
+    given = grown.given;
+    gave = grown.gave;
+    wrong = short.0;
+    reads = ap read_image (sym grown.grown) ∙ end_err (read_image new) short.0 short.1;
+  },
+)
+
+-- ---- the end of a run whose image wasn't cut
+
+faulty_outcome : (passphrase : List ℕ) (at : ℕ) (before : Option (List ℕ)) → IfSome before (IsFaulty at)
+    → IfSome before (λ bytes. IsOutcome passphrase bytes (silent (status.BadInput at)))
+faulty_outcome passphrase at None h = tt
+faulty_outcome passphrase at (Some bytes) h =
+    subst (λ (r : Reading XdrFault StartImage). IsOutcomeOf (network_id_of passphrase) r (silent (status.BadInput at)))
+    (sym h.1) (ap (λ (n : ℕ). silent (status.BadInput n)) h.2)
+
+unread_bad : (passphrase : List ℕ) (input : Seen) (at : ℕ) → IfSome input.before (IsFaulty at)
+    → IsUnstarted passphrase input (status.BadInput at)
+unread_bad passphrase input at faulty out h = record {
+  answered = silent_end passphrase input out (status.BadInput at) h (faulty_outcome passphrase at input.before faulty);
+  ended = λ e. absurd cc;
+  read_fault = λ e. absurd cc;
+  write_fault = λ e. absurd cc;
+  is_end = tt;
+}
+
+unread_failed : (passphrase : List ℕ) (input : Seen) → Failed input → GaveNoImage input
+    → IsUnstarted passphrase input status.ReadFault
+unread_failed passphrase input failed none out h = record {
+  answered = unwritten passphrase input out status.ReadFault tt h;
+  ended = λ e. absurd cc;
+  read_fault = λ e. (
+    failed,
     record {
-      answered = silent_end passphrase input out end h (told_front input.before input.now grown.given
-          (λ bytes. IsOutcome passphrase bytes (silent end)) grown.gave
-          (λ others told. subst (λ (t : List ℕ). IsOutcome passphrase (t ++ others) (silent end)) grown.grown
-          (subst (λ (r : Reading XdrFault StartImage). IsOutcomeOf (network_id_of passphrase) r (silent end))
-          (sym (fault_stays new others input.now wrong fits e at_end told)) refl)));
-      ended = λ e. absurd cc;
-      read_fault = λ e. absurd cc;
-      write_fault = λ e. absurd cc;
-      no_usage = λ e. cc;
-    }
+      given = none.given;
+      gave = none.gave;
+      lines = [];
+      received = h;
+      all = subst (λ (r : Reading XdrFault StartImage). AreLinesOf (network_id_of passphrase) r [])
+          (sym none.reads) refl;
+    },
+  );
+  write_fault = λ e. absurd cc;
+  is_end = tt;
+}
+
+pub uncut_unstarted : (passphrase : List ℕ) (input : Seen) (end : Status) → IsUncut input end
+    → IsUnstarted passphrase input end
+uncut_unstarted passphrase input (status.BadInput at) h = unread_bad passphrase input at h
+uncut_unstarted passphrase input status.ReadFault h = unread_failed passphrase input h.0 h.1
+uncut_unstarted passphrase input status.NoMemory h = unread_memory passphrase input
+uncut_unstarted passphrase input status.Done h = absurd h
+uncut_unstarted passphrase input status.Usage h = absurd h
+uncut_unstarted passphrase input status.Refused h = absurd h
+uncut_unstarted passphrase input status.WriteFault h = absurd h
+uncut_unstarted passphrase input status.DiskFault h = absurd h
+uncut_unstarted passphrase input (status.BadStore file place) h = absurd h
+uncut_unstarted passphrase input (status.BadImage rule) h = absurd h
+uncut_unstarted passphrase input status.Missing h = absurd h
+uncut_unstarted passphrase input status.AlreadyThere h = absurd h
 
 -- ---- judging
 
@@ -196,7 +233,7 @@ unjudged passphrase image at ahead input (status.BadImage rule) c is out h = rec
   ended = λ e. absurd cc;
   read_fault = λ e. absurd cc;
   write_fault = λ e. absurd cc;
-  no_usage = λ e. cc;
+  is_end = tt;
 }
 unjudged passphrase image at ahead input status.NoMemory c is out h = unread_memory passphrase input out h
 unjudged passphrase image at ahead input status.Done c is out h = absurd cc
@@ -205,6 +242,10 @@ unjudged passphrase image at ahead input status.Refused c is out h = absurd cc
 unjudged passphrase image at ahead input status.ReadFault c is out h = absurd cc
 unjudged passphrase image at ahead input status.WriteFault c is out h = absurd cc
 unjudged passphrase image at ahead input (status.BadInput wrong) c is out h = absurd cc
+unjudged passphrase image at ahead input status.DiskFault c is out h = absurd cc
+unjudged passphrase image at ahead input (status.BadStore file place) c is out h = absurd cc
+unjudged passphrase image at ahead input status.Missing c is out h = absurd cc
+unjudged passphrase image at ahead input status.AlreadyThere c is out h = absurd cc
 
 -- ---- a whole run
 
@@ -229,12 +270,27 @@ answered_by passphrase s at ahead input start (Some x) (Some y) out end gave h =
     whole p (inl (o, run, e, received)) = inl (o, (Ok s, start.judged, run), e, received)
     whole p (inr (short, front, f, received)) = inr (short, front, inr (s, start.judged, f), received)
 
+-- a run without a volume ends like `catchup`
+caught_end : (end : Status) → IsRecordsEnd end → (end ≡ status.DiskFault → ⊥) → IsCatchUpEnd end
+caught_end status.Done is never = tt
+caught_end status.Usage is never = absurd is
+caught_end status.Refused is never = tt
+caught_end status.ReadFault is never = tt
+caught_end status.WriteFault is never = tt
+caught_end status.DiskFault is never = absurd (never refl)
+caught_end (status.BadStore file place) is never = absurd is
+caught_end status.NoMemory is never = tt
+caught_end (status.BadInput at) is never = tt
+caught_end (status.BadImage rule) is never = absurd is
+caught_end status.Missing is never = absurd is
+caught_end status.AlreadyThere is never = absurd is
+
 pub caught_up : (passphrase : List ℕ) (s : ClosingState) (at : ℕ) (ahead : List ℕ) (input out : Seen)
     (now : Option (List ℕ))
-    (faults : ℕ) (end : Status) → StartsAt passphrase s at ahead input
-    → Followed s at ahead (over input.now now input.faults_now faults) out end
+    (faults : ℕ) (F : Type 0) (end : Status) → StartsAt passphrase s at ahead input → (F → ⊥)
+    → Followed s at ahead (over input.now now input.faults_now faults) out F end
     → CaughtUp passphrase (over input.before now input.faults_before faults) out end
-caught_up passphrase s at ahead input out now faults end start f = record {
+caught_up passphrase s at ahead input out now faults F end start never f = record {
   answered = answered_by passphrase s at ahead input start input.before input.now out end start.cut.gave f.answered;
   ended = f.ended;
   read_fault = λ e. let h = f.read_fault e in (
@@ -249,5 +305,5 @@ caught_up passphrase s at ahead input out now faults end start f = record {
     },
   );
   write_fault = f.write_fault;
-  no_usage = f.no_usage;
+  is_end = caught_end end f.is_end (λ e. never (f.disk_fault e));
 }

@@ -18,7 +18,7 @@ use Rattle.run_outcome.specs.Command.{passphrase_of}
 use Rattle.run_outcome.specs.Outcome.{Outcome, IsStarted, IsOutcomeOf, IsOutputFrontOf}
 use Rattle.run_outcome.specs.Run.{IsTold, AnsweredTo, DidCatchUp, RanAs, Ran}
 use Rattle.replay.specs.Starting.{CaughtUp}
-use Rattle.replay.specs.Telling.{IsToldOrRefused}
+use Rattle.replay.specs.Telling.{IsToldOrRefused, IsToldSo}
 use Rattle.replay.proofs.Fronts.{whole_front}
 
 -- the text of an outcome is a front of itself
@@ -58,7 +58,7 @@ told_whole passphrase input out err end run h = record {
   ended = run.ended;
   read_fault = run.read_fault;
   write_fault = λ e. inl (run.write_fault e);
-  no_usage = run.no_usage;
+  is_end = run.is_end;
   told = inl h;
 }
 
@@ -69,7 +69,7 @@ told_failed passphrase input out err end run failed = record {
   ended = λ e. absurd cc;
   read_fault = λ e. absurd cc;
   write_fault = λ e. inr failed;
-  no_usage = λ e. cc;
+  is_end = tt;
   told = inr (refl, failed);
 }
 
@@ -80,7 +80,7 @@ told_no_memory passphrase input out err end run h = record {
   ended = λ e. absurd cc;
   read_fault = λ e. absurd cc;
   write_fault = λ e. absurd cc;
-  no_usage = λ e. cc;
+  is_end = tt;
   told = inl h;
 }
 
@@ -94,6 +94,23 @@ did_catch_up passphrase input out err end after run (inr (inl (e, h))) =
     subst (DidCatchUp passphrase input out err) (sym e) (told_no_memory passphrase input out err end run h)
 did_catch_up passphrase input out err end after run (inr (inr (e, failed))) =
     subst (DidCatchUp passphrase input out err) (sym e) (told_failed passphrase input out err end run failed)
+
+-- ---- lines without numbers take no memory
+
+pub told_or_refused : (end : Status) (err : Seen) (after : Status) → IsToldSo end err after
+    → IsToldOrRefused end err after
+told_or_refused (status.BadStore file place) err after told = told
+told_or_refused (status.BadInput at) err after told = told
+told_or_refused (status.BadImage rule) err after told = told
+told_or_refused status.Done err after told = inl told
+told_or_refused status.Usage err after told = inl told
+told_or_refused status.Refused err after told = inl told
+told_or_refused status.ReadFault err after told = inl told
+told_or_refused status.WriteFault err after told = inl told
+told_or_refused status.DiskFault err after told = inl told
+told_or_refused status.NoMemory err after told = inl told
+told_or_refused status.Missing err after told = inl told
+told_or_refused status.AlreadyThere err after told = inl told
 
 -- ---- the words
 

@@ -27,20 +27,22 @@ use Rattle.close_rules.specs.State.{ClosingState}
 use Rattle.close_rules.specs.Close.{PreparedClose, IsClose}
 use Rattle.run_outcome.specs.declared.status.Status.{Status}
 use Rattle.run_outcome.specs.declared.status.Status.TheVariants as status
-use Rattle.run_outcome.specs.Statuses.{IsCutShort}
+use Rattle.run_outcome.specs.Statuses.{IsCutShort, IsRecordsEnd}
 use Rattle.run_outcome.specs.Lines.{end_line, refused_line}
 use Rattle.run_outcome.specs.Outcome.{Outcome, silent, behind, framed, max_record_len, lines_of, IsStopped, IsEnd}
 use Rattle.run_outcome.specs.Outcome.{IsRun}
 use Rattle.run_outcome.specs.Outcome.{frames, AreClosed, IsRunFront}
 use Rattle.run_outcome.specs.Run.{Answered}
-use Rattle.replay.specs.Following.{WroteOn, Refuses, Closes, Passes, EndsAt, Turned}
+use Rattle.replay.specs.Following.{Refuses, Closes, Passes, EndsAt, Turned, IsCut, Told}
 use Rattle.replay.specs.Following.{Wrote, Stops, AnsweredFrom, Followed, FollowedFrom, Standing, Goes, WholeLines}
 use Rattle.xdr_core.proofs.FormatLaws.{faults_placed, mark_laws}
 use Rattle.replay.proofs.Marking.{read_mark, framed_is_read, framed_above, framed_len, fault_behind, empty_is_short}
 use Rattle.replay.proofs.Marking.{front_of}
 use Rattle.ledger_types.specs.declared.header.LedgerHeader.{LedgerHeader}
+use Rattle.op_form.specs.Sequences.{last_seq}
 use Rattle.replay.proofs.Fronts.{front_more}
-use Rattle.replay.proofs.Runs.{next_seq, prepended, ended_run, no_records, one_more, empty_front, later_front}
+use Rattle.replay.proofs.Runs.{next_seq}
+use Rattle.replay.proofs.Runs.{prepended, ended_run, no_records, one_more, empty_front, later_front}
 
 -- ---- streams, one use behind another
 
@@ -134,11 +136,12 @@ gone_lines old new input out g now out_now faults out_faults w = record {
 }
 
 pub gone : (old new : Standing) (input out : Seen) → Goes old new input out → (now out_now : Option (List ℕ))
-    (faults out_faults : ℕ) (end : Status)
-    → FollowedFrom new (over input.now now input.faults_now faults) (over out.now out_now out.faults_now out_faults) end
+    (faults out_faults : ℕ) (disk_later disk_failed : Type 0) (end : Status) → (disk_later → disk_failed)
+    → FollowedFrom new (over input.now now input.faults_now faults) (over out.now out_now out.faults_now out_faults)
+    disk_later end
     → FollowedFrom old (over input.before now input.faults_before faults)
-    (over out.before out_now out.faults_before out_faults) end
-gone old new input out g now out_now faults out_faults end f = record {
+    (over out.before out_now out.faults_before out_faults) disk_failed end
+gone old new input out g now out_now faults out_faults disk_later disk_failed end up f = record {
   answered = gone_answered old new input out g input.before input.now out_now out_faults end g.gave f.answered;
   ended = f.ended;
   read_fault = λ e. let h = f.read_fault e in (
@@ -146,15 +149,17 @@ gone old new input out g now out_now faults out_faults end f = record {
     gone_lines old new input out g now out_now faults out_faults h.1,
   );
   write_fault = λ e. rose_before out.faults_before out.faults_now out_faults g.out_later (f.write_fault e);
-  no_usage = f.no_usage;
+  disk_fault = λ e. up (f.disk_fault e);
+  is_end = f.is_end;
 }
 
 -- ---- ends
 
 pub record IsLast (end : Status) : Type 0 where
   pub no_read : end ≢ status.ReadFault
+  pub no_disk : end ≢ status.DiskFault
   pub no_write : end ≢ status.WriteFault
-  pub no_usage : end ≢ status.Usage
+  pub is_end : IsRecordsEnd end
 
 if_some : (o : Option (List ℕ)) (P Q : List ℕ → Type 0) → ((x : List ℕ) → P x → Q x) → IfSome o P → IfSome o Q
 if_some None P Q f h = tt
@@ -175,29 +180,32 @@ unfollowed s at ahead before out end h short =
     (λ bytes. IsRunFront s (record { at = at; rest = ahead ++ bytes })) before out end h short
     (λ bytes. empty_front s (record { at = at; rest = ahead ++ bytes }))
 
-pub nothing_followed : (s : ClosingState) (at : ℕ) (ahead : List ℕ) (input out : Seen) → Received out []
-    → Followed s at ahead input out status.NoMemory
-nothing_followed s at ahead input out h = record {
+pub nothing_followed : (s : ClosingState) (at : ℕ) (ahead : List ℕ) (input out : Seen) (F : Type 0) → Received out []
+    → Followed s at ahead input out F status.NoMemory
+nothing_followed s at ahead input out F h = record {
   answered = unfollowed s at ahead input.before out status.NoMemory h tt;
   ended = λ e. absurd cc;
   read_fault = λ e. absurd cc;
   write_fault = λ e. absurd cc;
-  no_usage = λ e. cc;
+  disk_fault = λ e. absurd cc;
+  is_end = tt;
 }
 
-pub stopped : (s : ClosingState) (at : ℕ) (ahead : List ℕ) (input out : Seen) (end : Status) (last : Outcome)
+pub stopped : (s : ClosingState) (at : ℕ) (ahead : List ℕ) (input out : Seen) (F : Type 0) (end : Status) (last :
+    Outcome)
     → IfSome input.before (λ bytes. IsEnd s at (ahead ++ bytes) last) → Wrote out last.text last.status end
-    → (last.status ≡ status.Done → IsAtEnd input.now) → IsLast last.status → Followed s at ahead input out end
-stopped s at ahead input out end last ends (inl (e, received)) done is_last = record {
+    → (last.status ≡ status.Done → IsAtEnd input.now) → IsLast last.status → Followed s at ahead input out F end
+stopped s at ahead input out F end last ends (inl (e, received)) done is_last = record {
   answered = if_some input.before (λ bytes. IsEnd s at (ahead ++ bytes) last)
       (λ bytes. AnsweredFrom s at (ahead ++ bytes) out end)
       (λ bytes h. inl (last, ended_run s at (ahead ++ bytes) last h, e, received)) ends;
   ended = λ d. done (sym e ∙ d);
   read_fault = λ r. absurd (is_last.no_read (sym e ∙ r));
   write_fault = λ r. absurd (is_last.no_write (sym e ∙ r));
-  no_usage = λ r. is_last.no_usage (sym e ∙ r);
+  disk_fault = λ r. absurd (is_last.no_disk (sym e ∙ r));
+  is_end = subst IsRecordsEnd (sym e) is_last.is_end;
 }
-stopped s at ahead input out end last ends (inr (inl (e, failed, front))) done is_last = record {
+stopped s at ahead input out F end last ends (inr (inl (e, failed, front))) done is_last = record {
   answered = if_some input.before (λ bytes. IsEnd s at (ahead ++ bytes) last)
       (λ bytes. AnsweredFrom s at (ahead ++ bytes) out end)
       (λ bytes h. inr (
@@ -209,10 +217,11 @@ stopped s at ahead input out end last ends (inr (inl (e, failed, front))) done i
   ended = λ d. absurd cc;
   read_fault = λ r. absurd cc;
   write_fault = λ r. failed;
-  no_usage = λ r. cc;
+  disk_fault = λ r. absurd cc;
+  is_end = subst IsRecordsEnd (sym e) tt;
 }
-stopped s at ahead input out end last ends (inr (inr (e, none))) done is_last =
-    subst (Followed s at ahead input out) (sym e) (nothing_followed s at ahead input out none)
+stopped s at ahead input out F end last ends (inr (inr (e, none))) done is_last =
+    subst (Followed s at ahead input out F) (sym e) (nothing_followed s at ahead input out F none)
 
 -- a read failed, and no whole record is ahead
 abbrev ended : Result ℕ XdrFault → Result ℕ XdrFault
@@ -226,10 +235,10 @@ no_record text bytes more wrong e fits cut =
     sym e ∙ ap (λ (x : Reading XdrFault (List ℕ)). end_by x) r in
     absurd cc
 
-pub read_failed : (s : ClosingState) (at : ℕ) (ahead new : List ℕ) (input out : Seen)
+pub read_failed : (s : ClosingState) (at : ℕ) (ahead new : List ℕ) (input out : Seen) (F : Type 0)
     → Grown input.before input.now ahead new → IsShort record_end new → Failed input → Received out []
-    → Followed s at ahead input out status.ReadFault
-read_failed s at ahead new input out grown short failed h = record {
+    → Followed s at ahead input out F status.ReadFault
+read_failed s at ahead new input out F grown short failed h = record {
   answered = unfollowed s at ahead input.before out status.ReadFault h tt;
   ended = λ e. absurd cc;
   read_fault = λ e. (
@@ -246,7 +255,8 @@ read_failed s at ahead new input out grown short failed h = record {
     },
   );
   write_fault = λ e. absurd cc;
-  no_usage = λ e. cc;
+  disk_fault = λ e. absurd cc;
+  is_end = tt;
 }
 
 -- what a source told begins with what it gave
@@ -302,39 +312,40 @@ bad_end s at (byte ∷ rest) wrong some e =
 text_of : (ahead new given others : List ℕ) → new ≡ ahead ++ given → ahead ++ (given ++ others) ≡ new ++ others
 text_of ahead new given others e = sym (append_assoc ahead given others) ∙ ap (λ (t : List ℕ). t ++ others) (sym e)
 
-pub bad_mark : (s : ClosingState) (at : ℕ) (ahead new : List ℕ) (input out : Seen) (wrong : XdrFault)
+pub bad_mark : (s : ClosingState) (at : ℕ) (ahead new : List ℕ) (input out : Seen) (F : Type 0) (wrong : XdrFault)
     → Grown input.before input.now ahead new → IsBytes new → record_end new ≡ Err wrong
     → (wrong.kind ≡ kind.Short → IsAtEnd input.now) → 0 < length new → Received out []
-    → Followed s at ahead input out (status.BadInput (at + wrong.at))
-bad_mark s at ahead new input out wrong grown fits measured at_end some h =
+    → Followed s at ahead input out F (status.BadInput (at + wrong.at))
+bad_mark s at ahead new input out F wrong grown fits measured at_end some h =
     let last : Outcome = silent (status.BadInput (at + wrong.at)) in
     let e = end_err (read_mark (start_of new)) wrong measured in
-    stopped s at ahead input out (status.BadInput (at + wrong.at)) last
+    stopped s at ahead input out F (status.BadInput (at + wrong.at)) last
     (told_front input.before input.now grown.given (λ bytes. IsEnd s at (ahead ++ bytes) last) grown.gave
     (λ others told. subst (λ (t : List ℕ). IsEnd s at t last) (sym (text_of ahead new grown.given others grown.grown))
     (bad_end s at (new ++ others) wrong (omega (arith, some, length-append new others))
     (mark_stays new others input.now wrong fits e at_end told))))
     (inl (refl, h)) (λ d. absurd cc)
-    (record { no_read = λ d. cc; no_write = λ d. cc; no_usage = λ d. cc })
+    (record { no_read = λ d. cc; no_disk = λ d. cc; no_write = λ d. cc; is_end = tt })
 
 no_bytes : (new : List ℕ) → length new ≡ 0 → new ≡ []
 no_bytes [] e = refl
 no_bytes (byte ∷ rest) e = absurd (omega arith)
 
-pub all_done : (s : ClosingState) (at : ℕ) (ahead new : List ℕ) (input out : Seen) (end : Status) (wrong : XdrFault)
+pub all_done : (s : ClosingState) (at : ℕ) (ahead new : List ℕ) (input out : Seen) (F : Type 0) (end : Status)
+    (wrong : XdrFault)
     → Grown input.before input.now ahead new → record_end new ≡ Err wrong
     → (wrong.kind ≡ kind.Short → IsAtEnd input.now) → length new ≡ 0
-    → Wrote out (end_line s.header) status.Done end → Followed s at ahead input out end
-all_done s at ahead new input out end wrong grown measured at_end none wrote =
+    → Wrote out (end_line s.header) status.Done end → Followed s at ahead input out F end
+all_done s at ahead new input out F end wrong grown measured at_end none wrote =
     let last : Outcome = record { status = status.Done; text = end_line s.header } in
     let empty : new ≡ [] = no_bytes new none in
     let at_its_end = at_end (empty_is_short wrong (ap record_end (sym empty) ∙ measured)) in
-    stopped s at ahead input out end last
+    stopped s at ahead input out F end last
     (told_front input.before input.now grown.given (λ bytes. IsEnd s at (ahead ++ bytes) last) grown.gave
     (λ others told. subst (λ (t : List ℕ). IsEnd s at t last)
     (sym (text_of ahead new grown.given others grown.grown ∙ ap (λ (t : List ℕ). t ++ others) empty
     ∙ none_left input.now others at_its_end told)) refl))
-    wrote (λ d. at_its_end) (record { no_read = λ d. cc; no_write = λ d. cc; no_usage = λ d. cc })
+    wrote (λ d. at_its_end) (record { no_read = λ d. cc; no_disk = λ d. cc; no_write = λ d. cc; is_end = tt })
 
 -- ---- what a record comes to
 
@@ -362,50 +373,84 @@ refused_end s at bytes rest wrong fits closes =
         subst (λ (r : Reading XdrFault (List ℕ)). IsStopped s r
         (record { status = status.Refused; text = refused_line s.header wrong })) (sym e) (wrong, closes, refl)
 
-pub record_stops : (s : ClosingState) (at : ℕ) (ahead new rest bytes : List ℕ) (input out : Seen) (end : Status)
+cut_short : (out : Seen) (F : Type 0) (end : Status) → IsCut out F end → IsCutShort end
+cut_short out F status.WriteFault h = tt
+cut_short out F status.DiskFault h = tt
+cut_short out F status.NoMemory h = tt
+cut_short out F status.ReadFault h = tt
+cut_short out F status.Done h = absurd h
+cut_short out F status.Usage h = absurd h
+cut_short out F status.Refused h = absurd h
+cut_short out F (status.BadStore file place) h = absurd h
+cut_short out F (status.BadInput at) h = absurd h
+cut_short out F (status.BadImage rule) h = absurd h
+cut_short out F status.Missing h = absurd h
+cut_short out F status.AlreadyThere h = absurd h
+
+not_done : (out : Seen) (F : Type 0) (end : Status) → IsCut out F end → end ≡ status.Done → ⊥
+not_done out F end h e = subst (λ (x : Status). IsCut out F x) e h
+
+not_read : (out : Seen) (F : Type 0) (end : Status) → IsCut out F end → end ≡ status.ReadFault → ⊥
+not_read out F end h e = subst (λ (x : Status). IsCut out F x) e h
+
+cut_end : (out : Seen) (F : Type 0) (end : Status) → IsCut out F end → IsRecordsEnd end
+cut_end out F status.WriteFault h = tt
+cut_end out F status.DiskFault h = tt
+cut_end out F status.NoMemory h = tt
+cut_end out F status.ReadFault h = tt
+cut_end out F status.Done h = tt
+cut_end out F status.Usage h = absurd h
+cut_end out F status.Refused h = tt
+cut_end out F (status.BadStore file place) h = absurd h
+cut_end out F (status.BadInput at) h = tt
+cut_end out F (status.BadImage rule) h = absurd h
+cut_end out F status.Missing h = absurd h
+cut_end out F status.AlreadyThere h = absurd h
+
+pub record_stops : (s : ClosingState) (at : ℕ) (ahead new rest bytes : List ℕ) (input out : Seen) (F : Type 0)
+    (end : Status)
     → Grown input.before input.now ahead new → new ≡ framed bytes ++ rest → length bytes ≤ max_record_len
-    → Stops s bytes out end → Followed s at ahead input out end
-record_stops s at ahead new rest bytes input out end grown cut fits (inl (c, closes, e, failed, front)) =
-    subst (Followed s at ahead input out) (sym e) (record {
-      answered = told_front input.before input.now grown.given
-          (λ given. AnsweredFrom s at (ahead ++ given) out status.WriteFault) grown.gave
-          (λ others told. subst (λ (t : List ℕ). AnsweredFrom s at t out status.WriteFault)
-          (sym (front_text ahead new grown.given (framed bytes) rest others grown.grown cut))
-          (inr (
-            tt,
-            take front.0 (lines_of c),
-            inl (
-              lines_of c ++ [],
-              one_more s bytes c at at (rest ++ others) [] fits closes
-                  (no_records c.state (record { at = at; rest = rest ++ others })),
-              front_more (take front.0 (lines_of c)) (lines_of c) [] (front.0, front.1, refl),
-            ),
-            front.2,
-          )));
-      ended = λ d. absurd cc;
-      read_fault = λ d. absurd cc;
-      write_fault = λ d. failed;
-      no_usage = λ d. cc;
-    })
-record_stops s at ahead new rest bytes input out end grown cut fits (inr (inl (wrong, closes, wrote))) =
+    → Stops s bytes out F end → Followed s at ahead input out F end
+record_stops s at ahead new rest bytes input out F end grown cut fits (inl (c, closes, why, front)) = record {
+  answered = told_front input.before input.now grown.given (λ given. AnsweredFrom s at (ahead ++ given) out end)
+      grown.gave
+      (λ others told. subst (λ (t : List ℕ). AnsweredFrom s at t out end)
+      (sym (front_text ahead new grown.given (framed bytes) rest others grown.grown cut))
+      (inr (
+        cut_short out F end why,
+        take front.0 (lines_of c),
+        inl (
+          lines_of c ++ [],
+          one_more s bytes c at at (rest ++ others) [] fits closes
+              (no_records c.state (record { at = at; rest = rest ++ others })),
+          front_more (take front.0 (lines_of c)) (lines_of c) [] (front.0, front.1, refl),
+        ),
+        front.2,
+      )));
+  ended = λ d. absurd (not_done out F end why d);
+  read_fault = λ d. absurd (not_read out F end why d);
+  write_fault = λ d. subst (λ (e : Status). IsCut out F e) d why;
+  disk_fault = λ d. subst (λ (e : Status). IsCut out F e) d why;
+  is_end = cut_end out F end why;
+}
+record_stops s at ahead new rest bytes input out F end grown cut fits (inr (inl (wrong, closes, wrote))) =
     let last : Outcome = record { status = status.Refused; text = refused_line s.header wrong } in
-    stopped s at ahead input out end last
+    stopped s at ahead input out F end last
     (told_front input.before input.now grown.given (λ given. IsEnd s at (ahead ++ given) last) grown.gave
     (λ others told. subst (λ (t : List ℕ). IsEnd s at t last)
     (sym (front_text ahead new grown.given (framed bytes) rest others grown.grown cut))
     (refused_end s at bytes (rest ++ others) wrong fits closes)))
-    wrote (λ d. absurd cc) (record { no_read = λ d. cc; no_write = λ d. cc; no_usage = λ d. cc })
-record_stops s at ahead new rest bytes input out end grown cut fits (inr (inr (e, h))) =
-    subst (Followed s at ahead input out) (sym e) (nothing_followed s at ahead input out h)
+    wrote (λ d. absurd cc) (record { no_read = λ d. cc; no_disk = λ d. cc; no_write = λ d. cc; is_end = tt })
+record_stops s at ahead new rest bytes input out F end grown cut fits (inr (inr (e, h))) =
+    subst (Followed s at ahead input out F) (sym e) (nothing_followed s at ahead input out F h)
 
 -- ---- the answers of the parts
 
-pub closes_of : (s : ClosingState) (bytes : List ℕ) (c : PreparedClose) (next : ClosingState) (out : Seen)
-    (r : Option Status)
-    → IsClose s bytes (Ok c) → next ≡ c.state → WroteOn out (lines_of c) r → Closes s bytes next out r
-closes_of s bytes c next out None closes same w = (c, closes, same, w)
-closes_of s bytes c next out (Some end) closes same (inl (e, failed, front)) = inl (c, closes, e, failed, front)
-closes_of s bytes c next out (Some end) closes same (inr (e, h)) = inr (inr (e, h))
+pub closes_of : (s : ClosingState) (bytes : List ℕ) (c : PreparedClose) (next : ClosingState) (out : Seen) (F : Type 0)
+    (r : Option Status) → IsClose s bytes (Ok c) → next ≡ c.state → Told (lines_of c) out F r
+    → Closes s bytes next out F r
+closes_of s bytes c next out F None closes same w = (c, closes, same, w)
+closes_of s bytes c next out F (Some end) closes same w = inl (c, closes, w.0, w.1)
 
 pub refuses_of : (header : LedgerHeader) (out : Seen) (wrong : CloseFault) (end : Status) → (wrong ≡ close.NoMemory → ⊥)
     → Wrote out (refused_line header wrong) status.Refused end → Refuses header out wrong end
@@ -421,29 +466,52 @@ refuses_of header out (close.UpgradeOutOfProfile index) end other w = w
 refuses_of header out (close.FeeSourceMissing index) end other w = w
 refuses_of header out (close.LedgerFull total) end other w = w
 
-pub stops_of : (s : ClosingState) (bytes : List ℕ) (out : Seen) (wrong : CloseFault) (end : Status)
-    → FaultIs wrong (λ f. IsClose s bytes (Err f)) → Refuses s.header out wrong end → Stops s bytes out end
-stops_of s bytes out close.NoMemory end h r = inr (inr r)
-stops_of s bytes out close.SeqEnd end h r = inr (inl (close.SeqEnd, h, r))
-stops_of s bytes out (close.BadXdr at kind) end h r = inr (inl ((close.BadXdr at kind), h, r))
-stops_of s bytes out (close.WrongSeq want given) end h r = inr (inl ((close.WrongSeq want given), h, r))
-stops_of s bytes out (close.WrongPrevious have given) end h r = inr (inl ((close.WrongPrevious have given), h, r))
-stops_of s bytes out (close.WrongSetHash have given) end h r = inr (inl ((close.WrongSetHash have given), h, r))
-stops_of s bytes out (close.StaleTime last given) end h r = inr (inl ((close.StaleTime last given), h, r))
-stops_of s bytes out (close.BadUpgrade index) end h r = inr (inl ((close.BadUpgrade index), h, r))
-stops_of s bytes out (close.UpgradeOutOfProfile index) end h r = inr (inl ((close.UpgradeOutOfProfile index), h, r))
-stops_of s bytes out (close.FeeSourceMissing index) end h r = inr (inl ((close.FeeSourceMissing index), h, r))
-stops_of s bytes out (close.LedgerFull total) end h r = inr (inl ((close.LedgerFull total), h, r))
+pub stops_of : (s : ClosingState) (bytes : List ℕ) (out : Seen) (F : Type 0) (wrong : CloseFault) (end : Status)
+    → FaultIs wrong (λ f. IsClose s bytes (Err f)) → Refuses s.header out wrong end → Stops s bytes out F end
+stops_of s bytes out F close.NoMemory end h r = inr (inr r)
+stops_of s bytes out F close.SeqEnd end h r = inr (inl (close.SeqEnd, h, r))
+stops_of s bytes out F (close.BadXdr at kind) end h r = inr (inl ((close.BadXdr at kind), h, r))
+stops_of s bytes out F (close.WrongSeq want given) end h r = inr (inl ((close.WrongSeq want given), h, r))
+stops_of s bytes out F (close.WrongPrevious have given) end h r = inr (inl ((close.WrongPrevious have given), h, r))
+stops_of s bytes out F (close.WrongSetHash have given) end h r = inr (inl ((close.WrongSetHash have given), h, r))
+stops_of s bytes out F (close.StaleTime last given) end h r = inr (inl ((close.StaleTime last given), h, r))
+stops_of s bytes out F (close.BadUpgrade index) end h r = inr (inl ((close.BadUpgrade index), h, r))
+stops_of s bytes out F (close.UpgradeOutOfProfile index) end h r = inr (inl ((close.UpgradeOutOfProfile index), h, r))
+stops_of s bytes out F (close.FeeSourceMissing index) end h r = inr (inl ((close.FeeSourceMissing index), h, r))
+stops_of s bytes out F (close.LedgerFull total) end h r = inr (inl ((close.LedgerFull total), h, r))
+
+-- a fault of a device that came later came before the end too
+cut_wider : (out : Seen) (F G : Type 0) (end : Status) → (F → G) → IsCut out F end → IsCut out G end
+cut_wider out F G status.WriteFault wider cut = cut
+cut_wider out F G status.DiskFault wider cut = wider cut
+cut_wider out F G status.NoMemory wider cut = cut
+cut_wider out F G status.Done wider cut = absurd cut
+cut_wider out F G status.Usage wider cut = absurd cut
+cut_wider out F G status.Refused wider cut = absurd cut
+cut_wider out F G status.ReadFault wider cut = absurd cut
+cut_wider out F G (status.BadStore file place) wider cut = absurd cut
+cut_wider out F G (status.BadInput at) wider cut = absurd cut
+cut_wider out F G (status.BadImage rule) wider cut = absurd cut
+cut_wider out F G status.Missing wider cut = absurd cut
+cut_wider out F G status.AlreadyThere wider cut = absurd cut
+
+-- a record closed the ledger, and its lines were told
+pub closed_told : (s : ClosingState) (bytes : List ℕ) (closed : PreparedClose) (next : ClosingState) (out : Seen)
+    (F G : Type 0) (r : Option Status) → IsClose s bytes (Ok closed) → next ≡ closed.state → (F → G)
+    → Told (lines_of closed) out F r → Closes s bytes next out G r
+closed_told s bytes closed next out F G None closes same wider told = (closed, closes, same, told)
+closed_told s bytes closed next out F G (Some end) closes same wider told =
+    inl (closed, closes, cut_wider out F G end wider told.0, told.1)
 
 -- a record was ahead
 pub turned_at : (s : ClosingState) (at : ℕ) (ahead mid : List ℕ) (end : ℕ) (next : ClosingState) (new : List ℕ)
-    (input out : Seen) (r : Option Status) → IsBytes mid → Grown input.before input.now ahead mid
-    → record_end mid ≡ Ok end → Passes s mid end next out r → (IsNone r → new ≡ drop end mid)
+    (input out : Seen) (F : Type 0) (r : Option Status) → IsBytes mid → Grown input.before input.now ahead mid
+    → record_end mid ≡ Ok end → Passes s mid end next out F r → (IsNone r → new ≡ drop end mid)
     → input.faults_before ≤ input.faults_now → out.faults_before ≤ out.faults_now
-    → s.header.ledger_seq ≤ 2147483647
+    → s.header.ledger_seq ≤ last_seq
     → Turned (record { state = s; at = at; ahead = ahead }) (record { state = next; at = at + end; ahead = new })
-    input out r
-turned_at s at ahead mid end next new input out None fits grown measured p rest input_later out_later low =
+    input out F r
+turned_at s at ahead mid end next new input out F None fits grown measured p rest input_later out_later low =
     let f = front_of mid end fits measured in
     let cut : ahead ++ grown.given ≡ framed p.bytes ++ new =
     sym grown.grown ∙ f.whole ∙ ap (λ (t : List ℕ). t ++ drop end mid) (f.framed_is ∙ sym p.framed_is)
@@ -464,9 +532,9 @@ turned_at s at ahead mid end next new input out None fits grown measured p rest 
       out_later = out_later;
       low = low;
     }
-turned_at s at ahead mid end next new input out (Some last) fits grown measured p rest input_later out_later low =
+turned_at s at ahead mid end next new input out F (Some last) fits grown measured p rest input_later out_later low =
     let f = front_of mid end fits measured in
-    record_stops s at ahead mid (drop end mid) p.bytes input out last grown
+    record_stops s at ahead mid (drop end mid) p.bytes input out F last grown
     (f.whole ∙ ap (λ (t : List ℕ). t ++ drop end mid) (f.framed_is ∙ sym p.framed_is)) p.short p.closes
 
 none_or_some : (text : List ℕ) → (length text ≡ 0) ⊎ (0 < length text)
@@ -474,20 +542,21 @@ none_or_some [] = inl refl
 none_or_some (byte ∷ rest) = inr (omega arith)
 
 -- no record was ahead
-pub turned_off : (s : ClosingState) (at : ℕ) (ahead mid : List ℕ) (input out : Seen) (why : PieceFault) (end : Status)
+pub turned_off : (s : ClosingState) (at : ℕ) (ahead mid : List ℕ) (input out : Seen) (F : Type 0) (why :
+    PieceFault) (end : Status)
     → IsBytes mid
     → IsPiece record_end input.before input.now input.faults_before input.faults_now ahead mid (Err why)
-    → EndsAt s at mid out why end → Followed s at ahead input out end
-turned_off s at ahead mid input out (piece.Xdr wrong) end fits h e = elim (none_or_some mid) [
-  | inl none ↦ all_done s at ahead mid input out end wrong h.0 h.1 h.2 none (e.0 none)
+    → EndsAt s at mid out why end → Followed s at ahead input out F end
+turned_off s at ahead mid input out F (piece.Xdr wrong) end fits h e = elim (none_or_some mid) [
+  | inl none ↦ all_done s at ahead mid input out F end wrong h.0 h.1 h.2 none (e.0 none)
   | inr some ↦ let bad = e.1 some in
-      subst (Followed s at ahead input out) (sym bad.0)
-      (bad_mark s at ahead mid input out wrong h.0 fits h.1 h.2 some bad.1)
+      subst (Followed s at ahead input out F) (sym bad.0)
+      (bad_mark s at ahead mid input out F wrong h.0 fits h.1 h.2 some bad.1)
 ]
-turned_off s at ahead mid input out piece.Failed end fits h e =
-    subst (Followed s at ahead input out) (sym e.0) (read_failed s at ahead mid input out h.0 h.1 h.2 e.1)
-turned_off s at ahead mid input out piece.NoMemory end fits h e =
-    subst (Followed s at ahead input out) (sym e.0) (nothing_followed s at ahead input out e.1)
+turned_off s at ahead mid input out F piece.Failed end fits h e =
+    subst (Followed s at ahead input out F) (sym e.0) (read_failed s at ahead mid input out F h.0 h.1 h.2 e.1)
+turned_off s at ahead mid input out F piece.NoMemory end fits h e =
+    subst (Followed s at ahead input out F) (sym e.0) (nothing_followed s at ahead input out F e.1)
 
 -- ---- numbers of ledgers
 

@@ -13,6 +13,7 @@ use Rattle.close_rules.specs.State.{ClosingState}
 use Rattle.close_rules.specs.Close.{PreparedClose, IsClose}
 use Rattle.run_outcome.specs.declared.status.Status.{Status}
 use Rattle.run_outcome.specs.declared.status.Status.TheVariants as status
+use Rattle.run_outcome.specs.Statuses.{IsRecordsEnd}
 use Rattle.run_outcome.specs.Lines.{end_line, refused_line}
 use Rattle.run_outcome.specs.Outcome.{framed, max_record_len, lines_of, IsRun, AreWhole, IsRunFront}
 use Rattle.run_outcome.specs.Run.{Answered}
@@ -48,12 +49,15 @@ pub record WholeLines (s : ClosingState) (at : ℕ) (ahead : List ℕ) (input ou
   pub all : AreWhole s (record { at = at; rest = ahead ++ given }) lines
 
 -- the records from a place on, of which these bytes are ahead and the others still in the source
-pub record Followed (s : ClosingState) (at : ℕ) (ahead : List ℕ) (input out : Seen) (end : Status) : Type 0 where
+pub record Followed (s : ClosingState) (at : ℕ) (ahead : List ℕ) (input out : Seen) (disk_failed : Type 0) (end :
+    Status)
+    : Type 0 where
   pub answered : IfSome input.before (λ bytes. AnsweredFrom s at (ahead ++ bytes) out end)
   pub ended : end ≡ status.Done → IsAtEnd input.now
   pub read_fault : end ≡ status.ReadFault → Failed input × WholeLines s at ahead input out
   pub write_fault : end ≡ status.WriteFault → Failed out
-  pub no_usage : end ≢ status.Usage
+  pub disk_fault : end ≡ status.DiskFault → disk_failed
+  pub is_end : IsRecordsEnd end
 
 -- ---- one record
 
@@ -64,8 +68,8 @@ pub record Standing : Type 0 where
   pub at : ℕ
   pub ahead : List ℕ
 
-abbrev pub FollowedFrom : Standing → Seen → Seen → Status → Type 0
-FollowedFrom p input out end = Followed p.state p.at p.ahead input out end
+abbrev pub FollowedFrom : Standing → Seen → Seen → (disk_failed : Type 0) → Status → Type 0
+FollowedFrom p input out disk_failed end = Followed p.state p.at p.ahead input out disk_failed end
 
 -- the next record closed the ledger, and its lines were written
 pub record Goes (old new : Standing) (input out : Seen) : Type 0 where
@@ -84,16 +88,28 @@ pub record Goes (old new : Standing) (input out : Seen) : Type 0 where
   pub low : old.state.header.ledger_seq ≤ last_seq
 
 -- the run goes on, or this is its end
-abbrev pub Turned : (old new : Standing) (input out : Seen) → Option Status → Type 0
-Turned old new input out None = Goes old new input out
-Turned old new input out (Some end) = FollowedFrom old input out end
+abbrev pub Turned : (old new : Standing) (input out : Seen) (disk_failed : Type 0) → Option Status → Type 0
+Turned old new input out disk_failed None = Goes old new input out
+Turned old new input out disk_failed (Some end) = FollowedFrom old input out disk_failed end
 
 -- ---- the parts of a turn
 
--- where a record ends the run: its lines weren't taken whole, or it is refused, or memory was
-abbrev pub Stops : (s : ClosingState) (bytes : List ℕ) (out : Seen) (end : Status) → Type 0
-Stops s bytes out end =
-    ((closed : PreparedClose) × IsClose s bytes (Ok closed) × (end ≡ status.WriteFault) × Failed out
+-- ends at which a record that closes the ledger stops the run
+abbrev pub IsCut : (out : Seen) (disk_failed : Type 0) (end : Status) → Type 0
+IsCut out disk_failed status.WriteFault = Failed out
+IsCut out disk_failed status.DiskFault = disk_failed
+IsCut out disk_failed status.NoMemory = Unit {0}
+IsCut out disk_failed other = ⊥
+
+-- lines were written, or that or what comes behind them was cut
+abbrev pub Told : (text : List ℕ) (out : Seen) (disk_failed : Type 0) → Option Status → Type 0
+Told text out disk_failed None = Received out text
+Told text out disk_failed (Some end) = IsCut out disk_failed end × ReceivedPrefix out text
+
+-- where a record ends the run: its lines weren't taken whole, or what comes behind them failed; or it is refused
+abbrev pub Stops : (s : ClosingState) (bytes : List ℕ) (out : Seen) (disk_failed : Type 0) (end : Status) → Type 0
+Stops s bytes out disk_failed end =
+    ((closed : PreparedClose) × IsClose s bytes (Ok closed) × IsCut out disk_failed end
     × ReceivedPrefix out (lines_of closed))
     ⊎ ((wrong : CloseFault) × IsClose s bytes (Err wrong)
     × Wrote out (refused_line s.header wrong) status.Refused end)
@@ -105,18 +121,19 @@ Refuses header out close.NoMemory end = (end ≡ status.NoMemory) × Received ou
 Refuses header out wrong end = Wrote out (refused_line header wrong) status.Refused end
 
 -- what a record came to
-abbrev pub Closes : (s : ClosingState) (bytes : List ℕ) (next : ClosingState) (out : Seen) → Option Status → Type 0
-Closes s bytes next out None =
+abbrev pub Closes : (s : ClosingState) (bytes : List ℕ) (next : ClosingState) (out : Seen) (disk_failed : Type 0)
+    → Option Status → Type 0
+Closes s bytes next out disk_failed None =
     (closed : PreparedClose) × IsClose s bytes (Ok closed) × (next ≡ closed.state) × Received out (lines_of closed)
-Closes s bytes next out (Some end) = Stops s bytes out end
+Closes s bytes next out disk_failed (Some end) = Stops s bytes out disk_failed end
 
 -- what the record at the front of what is ahead came to
 pub record Passes (s : ClosingState) (ahead : List ℕ) (end : ℕ) (next : ClosingState) (out : Seen)
-    (result : Option Status) : Type 0 where
+    (disk_failed : Type 0) (result : Option Status) : Type 0 where
   pub bytes : List ℕ
   pub framed_is : framed bytes ≡ take end ahead
   pub short : length bytes ≤ max_record_len
-  pub closes : Closes s bytes next out result
+  pub closes : Closes s bytes next out disk_failed result
 
 -- where no record is ahead
 abbrev pub EndsAt : (s : ClosingState) (at : ℕ) (ahead : List ℕ) (out : Seen) → PieceFault → Status → Type 0

@@ -1,5 +1,10 @@
 pub mod Following
+pub mod Keeping
+pub mod Stored
 pub mod Starting
 pub mod Telling
+pub mod ClosingAgain
+pub mod StoredRuns
 pub mod Outcomes
 pub mod Completeness
+pub mod Initing

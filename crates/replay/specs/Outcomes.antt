@@ -1,15 +1,24 @@
 -- That an input has one outcome, and that an output that is cut short is a front of its text.
-use Rattle.std.specs.Prelude.{◌≡◌, ℕ, List}
+use Rattle.std.specs.Prelude.{◌≡◌, ℕ, ◌+◌, ◌≤◌, List, ◌++◌, length, All}
 use Rattle.run_streams.specs.Seen.{Seen, ReceivedPrefix}
 use Rattle.xdr_core.specs.Place.{Place}
 use Rattle.close_rules.specs.State.{ClosingState}
 use Rattle.run_outcome.specs.declared.status.Status.{Status}
-use Rattle.run_outcome.specs.Outcome.{Outcome, IsRun, IsOutcome, IsFront, IsOutputFront}
+use Rattle.run_outcome.specs.Outcome.{Outcome, behind, max_record_len, frames, AreClosed, IsRun, IsOutcome}
+use Rattle.run_outcome.specs.Outcome.{IsFront, IsOutputFront}
 use Rattle.run_outcome.specs.Run.{AnsweredTo}
 
 -- what the records behind a state come to is one thing
 abbrev pub RunsAreOne : Type 0
 RunsAreOne = (s : ClosingState) (p : Place) (a b : Outcome) → IsRun s p a → IsRun s p b → a ≡ b
+
+-- What records come to that all close ledgers, and others behind them: the lines of the first, and what the others come
+-- to from the state behind those. So a run that stopped between two records goes on where it stopped.
+abbrev pub RunsGoOn : Type 0
+RunsGoOn = (s now : ClosingState) (records : List (List ℕ)) (lines : List ℕ) (at : ℕ) (rest : List ℕ) (o : Outcome)
+    → All (λ bytes. length bytes ≤ max_record_len) records → AreClosed s records lines now
+    → IsRun now (record { at = at + length (frames records); rest = rest }) o
+    → IsRun s (record { at = at; rest = frames records ++ rest }) (behind lines o)
 
 abbrev pub OutcomesAreOne : Type 0
 OutcomesAreOne =

@@ -1,8 +1,9 @@
 -- What the start image at the front of an input comes to.
-use Rattle.std.specs.Prelude.{◌≡◌, ◌≢◌, ℕ, ◌≤◌, ◌^◌, List, [], ◌++◌, length, IfSome, Result, Ok, Err}
+use Rattle.std.specs.Prelude.{◌≡◌, ℕ, ◌≤◌, ◌^◌, List, [], ◌++◌, length, IfSome, Result, Ok, Err}
 use Rattle.std.specs.Io.KnownBytes.{IsAtEnd}
 use Rattle.run_streams.specs.Seen.{Seen, Failed, Gave, Received}
 use Rattle.ledger_types.specs.declared.ids.Hash.{Hash}
+use Rattle.xdr_core.specs.declared.fault.XdrFault.{XdrFault}
 use Rattle.xdr_core.specs.Place.{start_of}
 use Rattle.xdr_header.specs.declared.image.StartImage.{StartImage}
 use Rattle.xdr_header.specs.Image.{start_image}
@@ -12,6 +13,7 @@ use Rattle.close_rules.specs.Images.{IsJudged}
 use Rattle.close_rules.specs.declared.image_fault.ImageFault.TheVariants as image_fault
 use Rattle.run_outcome.specs.declared.status.Status.{Status}
 use Rattle.run_outcome.specs.declared.status.Status.TheVariants as status
+use Rattle.run_outcome.specs.Statuses.{IsCatchUpEnd}
 use Rattle.run_outcome.specs.Run.{AnsweredTo, Told}
 
 -- a passphrase's run of `catchup`, over these streams, with this end; all but the line on standard error
@@ -20,7 +22,7 @@ pub record CaughtUp (passphrase : List ℕ) (input out : Seen) (end : Status) : 
   pub ended : end ≡ status.Done → IsAtEnd input.now
   pub read_fault : end ≡ status.ReadFault → Failed input × Told passphrase input out
   pub write_fault : end ≡ status.WriteFault → Failed out
-  pub no_usage : end ≢ status.Usage
+  pub is_end : IsCatchUpEnd end
 
 -- whatever begins with these bytes has this image at its front
 abbrev pub Begins : List ℕ → StartImage → Type 0
@@ -31,10 +33,33 @@ Begins front image = (rest : List ℕ)
 pub record Cut (image : StartImage) (at : ℕ) (ahead : List ℕ) (input : Seen) : Type 0 where
   pub front : List ℕ
   pub begins : Begins front image
+  pub within : start_image.within image
   pub len : at ≡ length front
   pub low : at ≤ 2 ^ 64
   pub gave : Gave input (front ++ ahead)
   pub later : input.faults_before ≤ input.faults_now
+
+-- no image is at the front of these bytes, for this fault
+abbrev pub HasNoImage : List ℕ → XdrFault → Type 0
+HasNoImage bytes wrong = start_image.read (start_of bytes) ≡ Err wrong
+
+-- the fault is at this place
+abbrev pub IsFaulty : (at : ℕ) → List ℕ → Type 0
+IsFaulty at bytes = (wrong : XdrFault) × HasNoImage bytes wrong × (at ≡ wrong.at)
+
+-- what a source gave is no image yet
+pub record GaveNoImage (input : Seen) : Type 0 where
+  pub given : List ℕ
+  pub gave : Gave input given
+  pub wrong : XdrFault
+  pub reads : HasNoImage given wrong
+
+-- why no image was cut from the front of an input
+abbrev pub IsUncut : Seen → (end : Status) → Type 0
+IsUncut input (status.BadInput at) = IfSome input.before (IsFaulty at)
+IsUncut input status.ReadFault = Failed input × GaveNoImage input
+IsUncut input status.NoMemory = Unit {0}
+IsUncut input other = ⊥
 
 -- no record was looked at: this is the end of a run that wrote nothing
 abbrev pub IsUnstarted : (passphrase : List ℕ) (input : Seen) (end : Status) → Type 0

@@ -8,3 +8,10 @@ use Rattle.run_outcome.specs.Run.{IsTold}
 -- the line of an end was told, or memory was refused for it, which is the end then
 abbrev pub IsToldOrRefused : (before : Status) → (err : Seen) → (end : Status) → Type 0
 IsToldOrRefused before err end = IsTold before err end ⊎ IsTold status.NoMemory err end
+
+-- the same, where the lines with numbers alone take memory
+abbrev pub IsToldSo : (before : Status) → (err : Seen) → (end : Status) → Type 0
+IsToldSo (status.BadStore file place) err end = IsToldOrRefused (status.BadStore file place) err end
+IsToldSo (status.BadInput at) err end = IsToldOrRefused (status.BadInput at) err end
+IsToldSo (status.BadImage rule) err end = IsToldOrRefused (status.BadImage rule) err end
+IsToldSo before err end = IsTold before err end

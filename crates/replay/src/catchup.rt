@@ -4,8 +4,9 @@ ghost use Rattle.run_streams.specs.Seen.{seen};
 ghost use Rattle.replay.specs.Starting.{CaughtUp};
 
 use crate::closes::follow;
+use crate::nowhere::Nowhere;
 use crate::start::{Started, start};
-use outside::{Sink, Source, Steps};
+use outside::{MemVolume, Sink, Source, Steps};
 use run_outcome::Status;
 use std::alloc::Global;
 use std::sync::ledger::Ledger as Count;
@@ -27,6 +28,8 @@ pub(crate) fn catch_up<I: Source, O: Sink, L: Count>(
             follow(
                 alloc,
                 &mut ledger,
+                &mut Nowhere,
+                &mut MemVolume::new(alloc),
                 at as u128,
                 input,
                 &mut ahead,

@@ -1,18 +1,19 @@
-//! The records behind a start image, one after another.
+//! The records of a run, one after another.
 
 ghost use Rattle.std.specs.Prelude.{◌≡◌, ◌≤◌, ◌+◌, ◌*◌, ◌^◌, ℕ, List, Ok, length, take, drop, IsNone};
 ghost use Rattle.xdr_core.specs.Format.{IsBytes};
 ghost use Rattle.run_streams.specs.Seen.{seen};
 ghost use Rattle.record_stream.specs.Measured.{record_end};
-ghost use Rattle.record_stream.specs.Piece.{IsPiece};
 ghost use Rattle.close_rules.specs.Close.{IsClose};
 ghost use Rattle.run_outcome.specs.Outcome.{framed, lines_of};
-ghost use Rattle.replay.specs.Following.{Turned, WroteOn, Refuses, Closes, Passes, EndsAt, Followed};
+ghost use Rattle.replay.specs.Following.{Told, Turned, Refuses, Closes, Passes, EndsAt, Followed};
+ghost use Rattle.replay.specs.Keeping.{DiskFailed, Ready, KeptTelling, KeptClose, KeptPass, KeptTurn, KeptOn};
 
 use crate::ends::{write_end, write_refusal};
+use crate::keeper::{KeepFault, Keeper};
 use close_rules::LAST_SEQ;
 use ledger_close::{CloseFault, Ledger, Prepared};
-use outside::{Sink, Source, Steps, write_all};
+use outside::{Sink, Source, Steps, Volume, write_all};
 use record_stream::{PieceFault, RecordLength, read_piece, without_front};
 use run_outcome::Status;
 use run_text::closed_text;
@@ -34,28 +35,79 @@ fn front_record(ahead: &[u8], end: usize) -> &[u8]
     front.split_at(MARK_LEN).1
 }
 
-/// The ledger takes a close, and its lines are written.
-fn take_close<O: Sink>(
+/// The lines of a close are written, and then what is due behind them is done.
+fn tell_close<K: Keeper, V: Volume, O: Sink>(
+    alloc: Global,
+    ledger: &Ledger,
+    keeper: &mut K,
+    vol: &mut V,
+    text: &[u8],
+    out: &mut O,
+) -> Option<Status>
+    requires works { K.works keeper.old }
+    requires ready { K.stores → V.tells → Ready (K.keeps keeper.old (V.disk vol.old) ledger.now) (V.disk vol.old)
+        ledger.now }
+    ensures told { Told text.now (seen O.taken O.faults out.old out.new)
+        (DiskFailed K.stores (V.faults vol.old) (V.faults vol.new)) result }
+    ensures later { O.faults out.old ≤ O.faults out.new }
+    ensures vol_later { V.faults vol.old ≤ V.faults vol.new }
+    ensures kept { K.stores → V.tells → KeptTelling ledger.now text.now (seen O.taken O.faults out.old out.new)
+        (V.disk vol.old) (V.disk vol.new) result }
+    ensures works { IsNone result → K.works keeper.new }
+    ensures keeps { K.stores → V.tells → IsNone result
+        → Ready (K.keeps keeper.new (V.disk vol.new) ledger.now) (V.disk vol.new) ledger.now }
+{
+    match write_all(out, text) {
+        Ok(()) => {}
+        Err(_) => return Some(Status::WriteFault),
+    }
+    match keeper.settle(alloc, vol, ledger) {
+        Ok(()) => None,
+        Err(KeepFault::DiskFault) => Some(Status::DiskFault),
+        Err(KeepFault::NoMemory) => Some(Status::NoMemory),
+    }
+}
+
+/// A close is kept, the ledger takes it, and its lines are written. All memory that the record takes is taken before it
+/// is kept.
+fn take_close<K: Keeper, V: Volume, O: Sink>(
     alloc: Global,
     ledger: &mut Ledger,
+    keeper: &mut K,
+    vol: &mut V,
+    bytes: &[u8],
     prepared: Prepared,
     out: &mut O,
 ) -> Option<Status>
-    requires { (bytes : List ℕ) × IsClose ledger.old bytes (Ok prepared) × (length bytes ≤ 16777216) }
-    ensures state { ledger.new ≡ prepared.state }
-    ensures wrote { WroteOn (seen O.taken O.faults out.old out.new) (lines_of prepared) result }
+    requires short { length bytes.now ≤ 16777216 }
+    requires closes { IsClose ledger.old bytes.now (Ok prepared) }
+    requires works { K.works keeper.old }
+    requires ready { K.stores → V.tells → Ready (K.keeps keeper.old (V.disk vol.old) ledger.old) (V.disk vol.old)
+        ledger.old }
+    ensures closes { Closes ledger.old bytes.now ledger.new (seen O.taken O.faults out.old out.new)
+        (DiskFailed K.stores (V.faults vol.old) (V.faults vol.new)) result }
     ensures later { O.faults out.old ≤ O.faults out.new }
+    ensures vol_later { V.faults vol.old ≤ V.faults vol.new }
+    ensures kept { K.stores → V.tells → KeptClose ledger.old bytes.now ledger.new (seen O.taken O.faults out.old
+        out.new)
+        (V.disk vol.old) (V.disk vol.new) result }
+    ensures works { IsNone result → K.works keeper.new }
+    ensures keeps { K.stores → V.tells → IsNone result
+        → Ready (K.keeps keeper.new (V.disk vol.new) ledger.new) (V.disk vol.new) ledger.new }
 {
     let pairs = prepared.results().results.as_slice();
-    let text = closed_text(alloc, prepared.header(), &prepared.header_hash(), pairs);
-    ledger.install(prepared);
-    let Ok(text) = text else {
+    let Ok(text) = closed_text(alloc, prepared.header(), &prepared.header_hash(), pairs) else {
         return Some(Status::NoMemory);
     };
-    match write_all(out, text.as_slice()) {
-        Ok(()) => None,
-        Err(_) => Some(Status::WriteFault),
+    let Ok(piece) = keeper.hold(alloc, bytes) else {
+        return Some(Status::NoMemory);
+    };
+    match keeper.keep(vol, piece) {
+        Ok(()) => {}
+        Err(_) => return Some(Status::DiskFault),
     }
+    ledger.install(prepared);
+    tell_close(alloc, ledger, keeper, vol, text.as_slice(), out)
 }
 
 /// Ends a run with a record that is refused, or where memory was.
@@ -70,44 +122,67 @@ fn refuse<O: Sink>(alloc: Global, ledger: &Ledger, fault: CloseFault, out: &mut 
 }
 
 /// A record closes the ledger, or ends the run.
-fn close_record<O: Sink, L: Count>(
+fn close_record<K: Keeper, V: Volume, O: Sink, L: Count>(
     alloc: Global,
     ledger: &mut Ledger,
+    keeper: &mut K,
+    vol: &mut V,
     text: &[u8],
     out: &mut O,
     steps: &mut Steps<L>,
 ) -> Option<Status>
-    requires { length text.now ≤ 16777216 }
-    ensures closes { Closes ledger.old text.now ledger.new (seen O.taken O.faults out.old out.new) result }
+    requires short { length text.now ≤ 16777216 }
+    requires works { K.works keeper.old }
+    requires ready { K.stores → V.tells → Ready (K.keeps keeper.old (V.disk vol.old) ledger.old) (V.disk vol.old)
+        ledger.old }
+    ensures closes { Closes ledger.old text.now ledger.new (seen O.taken O.faults out.old out.new)
+        (DiskFailed K.stores (V.faults vol.old) (V.faults vol.new)) result }
     ensures later { O.faults out.old ≤ O.faults out.new }
+    ensures vol_later { V.faults vol.old ≤ V.faults vol.new }
+    ensures kept { K.stores → V.tells → KeptClose ledger.old text.now ledger.new (seen O.taken O.faults out.old out.new)
+        (V.disk vol.old) (V.disk vol.new) result }
+    ensures works { IsNone result → K.works keeper.new }
+    ensures keeps { K.stores → V.tells → IsNone result
+        → Ready (K.keeps keeper.new (V.disk vol.new) ledger.new) (V.disk vol.new) ledger.new }
 {
     match ledger.prepare(text, steps) {
-        Ok(prepared) => take_close(alloc, ledger, prepared, out),
+        Ok(prepared) => take_close(alloc, ledger, keeper, vol, text, prepared, out),
         Err(fault) => Some(refuse(alloc, ledger, fault, out)),
     }
 }
 
 /// The record at the front of what is ahead closes the ledger and is taken away, or ends the run.
-fn pass_record<O: Sink, L: Count>(
+fn pass_record<K: Keeper, V: Volume, O: Sink, L: Count>(
     alloc: Global,
     ledger: &mut Ledger,
+    keeper: &mut K,
+    vol: &mut V,
     end: usize,
     ahead: &mut Vec<u8>,
     out: &mut O,
     steps: &mut Steps<L>,
 ) -> Option<Status>
-    requires { record_end ahead.old.items ≡ Ok end }
-    ensures passes { Passes ledger.old ahead.old.items end ledger.new
-        (seen O.taken O.faults out.old out.new) result }
+    requires ends { record_end ahead.old.items ≡ Ok end }
+    requires works { K.works keeper.old }
+    requires ready { K.stores → V.tells → Ready (K.keeps keeper.old (V.disk vol.old) ledger.old) (V.disk vol.old)
+        ledger.old }
+    ensures passes { Passes ledger.old ahead.old.items end ledger.new (seen O.taken O.faults out.old out.new)
+        (DiskFailed K.stores (V.faults vol.old) (V.faults vol.new)) result }
     ensures fits { IsBytes ahead.old.items }
     ensures rest { IsNone result → ahead.new.items ≡ drop end ahead.old.items }
     ensures later { O.faults out.old ≤ O.faults out.new }
+    ensures vol_later { V.faults vol.old ≤ V.faults vol.new }
+    ensures kept { K.stores → V.tells → KeptPass ledger.old ahead.old.items end ledger.new
+        (seen O.taken O.faults out.old out.new) (V.disk vol.old) (V.disk vol.new) result }
+    ensures works { IsNone result → K.works keeper.new }
+    ensures keeps { K.stores → V.tells → IsNone result
+        → Ready (K.keeps keeper.new (V.disk vol.new) ledger.new) (V.disk vol.new) ledger.new }
 {
     let record = front_record(ahead.as_slice(), end);
     let Ok(rest) = without_front(alloc, ahead.as_slice(), end) else {
         return Some(Status::NoMemory);
     };
-    if let Some(end) = close_record(alloc, ledger, record, out, steps) {
+    if let Some(end) = close_record(alloc, ledger, keeper, vol, record, out, steps) {
         return Some(end);
     }
     *ahead = rest;
@@ -138,25 +213,38 @@ fn stop<O: Sink>(
 }
 
 /// The next record closes the ledger, or ends the run.
-fn turn<I: Source, O: Sink, L: Count>(
+fn turn<K: Keeper, V: Volume, I: Source, O: Sink, L: Count>(
     alloc: Global,
     ledger: &mut Ledger,
+    keeper: &mut K,
+    vol: &mut V,
     at: &mut u128,
     input: &mut I,
     ahead: &mut Vec<u8>,
     out: &mut O,
     steps: &mut Steps<L>,
 ) -> Option<Status>
-    requires { at.old ≤ (ledger.old.header.ledger_seq + 1) * 2 ^ 64 }
-    ensures { Turned (record { state = ledger.old; at = at.old; ahead = ahead.old.items })
+    requires place { at.old ≤ (ledger.old.header.ledger_seq + 1) * 2 ^ 64 }
+    requires works { K.works keeper.old }
+    requires ready { K.stores → V.tells → Ready (K.keeps keeper.old (V.disk vol.old) ledger.old) (V.disk vol.old)
+        ledger.old }
+    ensures turned { Turned (record { state = ledger.old; at = at.old; ahead = ahead.old.items })
         (record { state = ledger.new; at = at.new; ahead = ahead.new.items })
-        (seen I.left I.faults input.old input.new) (seen O.taken O.faults out.old out.new) result }
+        (seen I.left I.faults input.old input.new) (seen O.taken O.faults out.old out.new)
+        (DiskFailed K.stores (V.faults vol.old) (V.faults vol.new)) result }
+    ensures vol_later { V.faults vol.old ≤ V.faults vol.new }
+    ensures kept { K.stores → V.tells → KeptTurn ledger.old ledger.new ahead.old.items
+        (seen I.left I.faults input.old input.new) (seen O.taken O.faults out.old out.new)
+        (V.disk vol.old) (V.disk vol.new) result }
+    ensures works { IsNone result → K.works keeper.new }
+    ensures keeps { K.stores → V.tells → IsNone result
+        → Ready (K.keeps keeper.new (V.disk vol.new) ledger.new) (V.disk vol.new) ledger.new }
 {
     let is_low = ledger.header().ledger_seq <= LAST_SEQ;
     prove!(is_low);
     match read_piece::<RecordLength, I>(input, ahead) {
         Ok(end) => {
-            let stopped = pass_record(alloc, ledger, end, ahead, out, steps);
+            let stopped = pass_record(alloc, ledger, keeper, vol, end, ahead, out, steps);
             *at += end as u128;
             stopped
         }
@@ -164,23 +252,33 @@ fn turn<I: Source, O: Sink, L: Count>(
     }
 }
 
-/// Closes a ledger for each record behind it, up to the end of the input or of the run.
-pub(crate) fn follow<I: Source, O: Sink, L: Count>(
+/// Closes a ledger for each record behind it and has it kept, up to the end of the input or of the run.
+pub(crate) fn follow<K: Keeper, V: Volume, I: Source, O: Sink, L: Count>(
     alloc: Global,
     ledger: &mut Ledger,
+    keeper: &mut K,
+    vol: &mut V,
     start: u128,
     input: &mut I,
     ahead: &mut Vec<u8>,
     out: &mut O,
     steps: &mut Steps<L>,
 ) -> Status
-    requires { start ≤ 2 ^ 64 }
-    ensures { Followed ledger.old start ahead.old.items (seen I.left I.faults input.old input.new)
-        (seen O.taken O.faults out.old out.new) result }
+    requires place { start ≤ 2 ^ 64 }
+    requires works { K.works keeper.old }
+    requires ready { K.stores → V.tells → Ready (K.keeps keeper.old (V.disk vol.old) ledger.old) (V.disk vol.old)
+        ledger.old }
+    ensures followed { Followed ledger.old start ahead.old.items (seen I.left I.faults input.old input.new)
+        (seen O.taken O.faults out.old out.new) (DiskFailed K.stores (V.faults vol.old) (V.faults vol.new)) result }
+    ensures vol_later { V.faults vol.old ≤ V.faults vol.new }
+    ensures kept { K.stores → V.tells → KeptOn ledger.old ahead.old.items (seen I.left I.faults input.old input.new)
+        (seen O.taken O.faults out.old out.new) (V.disk vol.old) (V.disk vol.new) result }
 {
     let mut at = start;
     loop {
-        match turn(alloc, ledger, &mut at, input, ahead, out, steps) {
+        match turn(
+            alloc, ledger, keeper, vol, &mut at, input, ahead, out, steps,
+        ) {
             Some(end) => return end,
             None => {}
         }

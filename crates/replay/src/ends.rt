@@ -1,19 +1,19 @@
 //! The last text of a run, and the line of its end.
 
-ghost use Rattle.std.specs.Prelude.{◌≡◌, ◌≤◌};
+ghost use Rattle.std.specs.Prelude.{◌≡◌, ◌≤◌, IfOk};
 ghost use Rattle.run_streams.specs.Seen.{seen};
 ghost use Rattle.run_outcome.specs.Lines.{end_line, refused_line};
 ghost use Rattle.run_outcome.specs.Statuses.{status_line};
 ghost use Rattle.run_outcome.specs.declared.status.Status.TheVariants as status;
 ghost use Rattle.replay.specs.Following.{Wrote};
 ghost use Rattle.run_outcome.specs.Run.{IsTold};
-ghost use Rattle.replay.specs.Telling.{IsToldOrRefused};
+ghost use Rattle.replay.specs.Telling.{IsToldOrRefused, IsToldSo};
 
 use ledger_close::{CloseFault, Ledger};
 use outside::{Sink, write_all};
 use run_outcome::Status;
-use run_text::{end_text, line_of, refused_text};
-use std::alloc::Global;
+use run_text::{bad_image_line, bad_input_line, bad_store_line, end_text, refused_text};
+use std::alloc::{AllocError, Global};
 
 /// Writes the last text of a run that ends with `whole`, where the sink takes it.
 fn write_last<O: Sink>(text: &[u8], whole: Status, out: &mut O) -> Status
@@ -78,12 +78,33 @@ pub(crate) fn tell_no_memory<E: Sink>(err: &mut E) -> Status
     write_line(b"no memory\n", Status::NoMemory, err)
 }
 
-/// Tells an end. Where memory is refused for its line, that is the end.
-pub(crate) fn tell<E: Sink>(alloc: Global, end: Status, err: &mut E) -> Status
+/// Tells an end whose line has numbers. Where memory was refused for the line, that is the end.
+fn tell_made<E: Sink>(line: Result<Vec<u8>, AllocError>, end: Status, err: &mut E) -> Status
+    requires { IfOk line (λ made. made.items ≡ status_line end) }
     ensures { IsToldOrRefused end (seen E.taken E.faults err.old err.new) result }
 {
-    match line_of(alloc, end) {
+    match line {
         Ok(line) => write_line(line.as_slice(), end, err),
         Err(_) => tell_no_memory(err),
+    }
+}
+
+/// Tells an end. Lines without numbers take no memory, so that want of memory can't hide a fault behind a write.
+pub(crate) fn tell<E: Sink>(alloc: Global, end: Status, err: &mut E) -> Status
+    ensures { IsToldSo end (seen E.taken E.faults err.old err.new) result }
+{
+    match end {
+        Status::Done => write_line(b"", end, err),
+        Status::Usage => tell_usage(err),
+        Status::Refused => write_line(b"", end, err),
+        Status::ReadFault => write_line(b"read fault\n", end, err),
+        Status::WriteFault => write_line(b"write fault\n", end, err),
+        Status::DiskFault => write_line(b"disk fault\n", end, err),
+        Status::BadStore { file, place } => tell_made(bad_store_line(alloc, file, place), end, err),
+        Status::NoMemory => tell_no_memory(err),
+        Status::BadInput { at } => tell_made(bad_input_line(alloc, at), end, err),
+        Status::BadImage { rule } => tell_made(bad_image_line(alloc, rule), end, err),
+        Status::Missing => write_line(b"missing\n", end, err),
+        Status::AlreadyThere => write_line(b"already there\n", end, err),
     }
 }

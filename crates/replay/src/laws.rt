@@ -8,6 +8,12 @@ pub fn runs_are_one()
     ensures { outcome.RunsAreOne }
 {}
 
+/// What records come to that all close ledgers, and others behind them: the lines of the first, and what the others
+/// come to from the state behind those.
+pub fn runs_go_on()
+    ensures { outcome.RunsGoOn }
+{}
+
 /// An input has at most one outcome on a network.
 pub fn outcomes_are_one()
     ensures { outcome.OutcomesAreOne }

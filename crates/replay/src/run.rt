@@ -2,6 +2,9 @@
 
 ghost use Rattle.std.specs.Prelude.{◌≡◌, None, Some, MatchOption};
 ghost use Rattle.run_streams.specs.Seen.{seen};
+ghost use Rattle.run_streams.specs.SeenVolume.{seen_volume};
+ghost use Rattle.stored_outcome.specs.StoredRun.{DidRun};
+ghost use Rattle.stored_outcome.specs.Init.{DidInit};
 ghost use Rattle.run_outcome.specs.Command.{passphrase_of};
 ghost use Rattle.run_outcome.specs.Run.{words_of, IsTold, DidCatchUp, Ran};
 ghost use Rattle.run_outcome.specs.Statuses.{status_code};
@@ -10,7 +13,9 @@ ghost use Rattle.run_outcome.specs.declared.status.Status.TheVariants as status;
 
 use crate::catchup::catch_up;
 use crate::ends::{tell, tell_no_memory, tell_usage};
-use outside::{Sink, Source, Steps};
+use crate::init::make;
+use crate::stored_run::run_stored;
+use outside::{Sink, Source, Steps, Volume};
 use run_outcome::Status;
 use std::alloc::Global;
 use std::sync::ledger::Ledger as Count;
@@ -100,6 +105,39 @@ pub fn do_catchup<I: Source, O: Sink, E: Sink, L: Count>(
     catch_up_told(alloc, network, input, out, err, steps).code()
 }
 
+/// Runs `run` without workers, with its line on standard error.
+fn run_told<I: Source, O: Sink, E: Sink, V: Volume, L: Count>(
+    alloc: Global,
+    input: &mut I,
+    out: &mut O,
+    err: &mut E,
+    vol: &mut V,
+    steps: &mut Steps<L>,
+) -> Status
+    ensures { DidRun (seen I.left I.faults input.old input.new) (seen O.taken O.faults out.old out.new)
+        (seen E.taken E.faults err.old err.new) (seen_volume V.tells V.disk V.faults vol.old vol.new) result }
+{
+    let end = run_stored(alloc, input, out, vol, steps);
+    tell(alloc, end, err)
+}
+
+/// Runs `run` without workers: it opens the store that the volume keeps, closes a ledger for each record of the input,
+/// keeps the record and prints what it came to. It answers the exit status of the process.
+pub fn do_run_alone<I: Source, O: Sink, E: Sink, V: Volume, L: Count>(
+    alloc: Global,
+    input: &mut I,
+    out: &mut O,
+    err: &mut E,
+    vol: &mut V,
+    steps: &mut Steps<L>,
+) -> u8
+    ensures { (end : Status) × ((result ≡ status_code end)
+        × DidRun (seen I.left I.faults input.old input.new) (seen O.taken O.faults out.old out.new)
+        (seen E.taken E.faults err.old err.new) (seen_volume V.tells V.disk V.faults vol.old vol.new) end) }
+{
+    run_told(alloc, input, out, err, vol, steps).code()
+}
+
 /// Ends the program where memory was refused before its words were read: nothing else is read or written. It answers
 /// the exit status of the process.
 pub fn end_without_memory<E: Sink>(err: &mut E) -> u8
@@ -107,4 +145,35 @@ pub fn end_without_memory<E: Sink>(err: &mut E) -> u8
         × IsTold status.NoMemory (seen E.taken E.faults err.old err.new) end) }
 {
     tell_no_memory(err).code()
+}
+
+/// Runs `init`, with its line on standard error.
+fn init_told<I: Source, E: Sink, V: Volume>(
+    alloc: Global,
+    network: &str,
+    input: &mut I,
+    err: &mut E,
+    vol: &mut V,
+) -> Status
+    ensures { DidInit network.now (seen I.left I.faults input.old input.new)
+        (seen E.taken E.faults err.old err.new) (seen_volume V.tells V.disk V.faults vol.old vol.new) result }
+{
+    let end = make(alloc, network, input, vol);
+    tell(alloc, end, err)
+}
+
+/// Runs `init` on the network with this passphrase: it reads a start image, which is the whole input, and makes a store
+/// of it on a volume that has none. It answers the exit status of the process.
+pub fn do_init<I: Source, E: Sink, V: Volume>(
+    alloc: Global,
+    network: &str,
+    input: &mut I,
+    err: &mut E,
+    vol: &mut V,
+) -> u8
+    ensures { (end : Status) × ((result ≡ status_code end)
+        × DidInit network.now (seen I.left I.faults input.old input.new)
+        (seen E.taken E.faults err.old err.new) (seen_volume V.tells V.disk V.faults vol.old vol.new) end) }
+{
+    init_told(alloc, network, input, err, vol).code()
 }

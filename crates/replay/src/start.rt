@@ -5,7 +5,7 @@ ghost use Rattle.xdr_core.specs.Format.{IsBytes};
 ghost use Rattle.run_streams.specs.Seen.{seen};
 ghost use Rattle.hash_ids.specs.Ids.{network_id_of};
 ghost use Rattle.run_outcome.specs.declared.status.Status.TheVariants as status;
-ghost use Rattle.replay.specs.Starting.{Cut, IsUnstarted, StartsAt, IsJudgedSo};
+ghost use Rattle.replay.specs.Starting.{Cut, IsUncut, IsUnstarted, StartsAt, IsJudgedSo};
 
 use hash_ids::network_id;
 use ledger_close::{ImageFault, Ledger};
@@ -25,9 +25,9 @@ pub(crate) struct Started {
 
 /// An image, and how long its spelling is.
 #[derive(Drop)]
-struct FrontImage {
-    image: StartImage,
-    at: usize,
+pub(crate) struct FrontImage {
+    pub(crate) image: StartImage,
+    pub(crate) at: usize,
 }
 
 /// The end of a run whose input has this fault in its image.
@@ -41,16 +41,15 @@ fn bad_image(text: &[u8], fault: XdrFault) -> Status
 }
 
 /// Reads the image at the front of the input. Behind it other bytes may be ahead.
-fn read_image<I: Source>(
+pub(crate) fn read_image<I: Source>(
     alloc: Global,
-    passphrase: &str,
     input: &mut I,
     ahead: &mut Vec<u8>,
 ) -> Result<FrontImage, Status>
     requires { ahead.old.items ≡ [] }
     ensures { MatchResult result
         (λ front. Cut front.image front.at ahead.new.items (seen I.left I.faults input.old input.new))
-        (λ end. IsUnstarted passphrase.now (seen I.left I.faults input.old input.new) end) }
+        (λ end. IsUncut (seen I.left I.faults input.old input.new) end) }
 {
     let at = match read_piece::<ImageLength, I>(input, ahead) {
         Ok(end) => end,
@@ -67,7 +66,7 @@ fn read_image<I: Source>(
 }
 
 /// The ledger of an image on the network with this passphrase, or the end of a run from it.
-fn judge(passphrase: &str, image: StartImage) -> Result<Ledger, Status>
+pub(crate) fn judge(passphrase: &str, image: StartImage) -> Result<Ledger, Status>
     ensures { IsJudgedSo (network_id_of passphrase.now) image result }
 {
     let Ok(network) = network_id(passphrase) else {
@@ -93,7 +92,7 @@ pub(crate) fn start<I: Source>(
         (seen I.left I.faults input.old input.new))
         (λ end. IsUnstarted passphrase.now (seen I.left I.faults input.old input.new) end) }
 {
-    let FrontImage { image, at } = read_image(alloc, passphrase, input, ahead)?;
+    let FrontImage { image, at } = read_image(alloc, input, ahead)?;
     match judge(passphrase, image) {
         Ok(ledger) => Ok(Started { ledger, at }),
         Err(end) => Err(end),

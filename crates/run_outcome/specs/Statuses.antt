@@ -11,9 +11,13 @@ status_code status.Usage = 2
 status_code status.Refused = 3
 status_code status.ReadFault = 4
 status_code status.WriteFault = 5
+status_code status.DiskFault = 6
+status_code (status.BadStore file place) = 7
 status_code status.NoMemory = 8
 status_code (status.BadInput at) = 9
 status_code (status.BadImage rule) = 10
+status_code status.Missing = 11
+status_code status.AlreadyThere = 12
 
 -- a line ends with a newline
 abbrev pub ended_line : List ℕ → List ℕ
@@ -26,13 +30,36 @@ status_line status.Usage = ended_line (codes "usage")
 status_line status.Refused = []
 status_line status.ReadFault = ended_line (codes "read fault")
 status_line status.WriteFault = ended_line (codes "write fault")
+status_line status.DiskFault = ended_line (codes "disk fault")
+status_line (status.BadStore file place) = ended_line (codes "bad store at " ++ decimal file ++ 32 ∷ decimal place)
 status_line status.NoMemory = ended_line (codes "no memory")
 status_line (status.BadInput at) = ended_line (codes "bad input at " ++ decimal at)
 status_line (status.BadImage rule) = ended_line (codes "bad image rule " ++ decimal (number_of rule))
+status_line status.Missing = ended_line (codes "missing")
+status_line status.AlreadyThere = ended_line (codes "already there")
 
 -- the ends at which the output may stop before the whole text
 abbrev pub IsCutShort : Status → Type 0
 IsCutShort status.ReadFault = Unit {0}
 IsCutShort status.WriteFault = Unit {0}
+IsCutShort status.DiskFault = Unit {0}
 IsCutShort status.NoMemory = Unit {0}
 IsCutShort other = ⊥
+
+-- the ends of the records of a run: all is done, one is refused, the input is cut, or a device or memory failed
+abbrev pub IsRecordsEnd : Status → Type 0
+IsRecordsEnd status.Usage = ⊥
+IsRecordsEnd (status.BadStore file place) = ⊥
+IsRecordsEnd (status.BadImage rule) = ⊥
+IsRecordsEnd status.Missing = ⊥
+IsRecordsEnd status.AlreadyThere = ⊥
+IsRecordsEnd other = Unit {0}
+
+-- the ends of `catchup`, which has no volume
+abbrev pub IsCatchUpEnd : Status → Type 0
+IsCatchUpEnd status.Usage = ⊥
+IsCatchUpEnd status.DiskFault = ⊥
+IsCatchUpEnd (status.BadStore file place) = ⊥
+IsCatchUpEnd status.Missing = ⊥
+IsCatchUpEnd status.AlreadyThere = ⊥
+IsCatchUpEnd other = Unit {0}

@@ -18,12 +18,20 @@ pub enum Status {
     ReadFault,
     /// 5: a write failed, or took nothing.
     WriteFault,
+    /// 6: a call on the volume failed.
+    DiskFault,
+    /// 7: what is open on the volume is no store, at this place of this file.
+    BadStore { file: u8, place: u64 },
     /// 8: memory was refused.
     NoMemory,
     /// 9: at this byte of the input neither an image nor a record goes on.
     BadInput { at: u128 },
     /// 10: the image breaks this rule, the first one that it breaks.
     BadImage { rule: ImageRule },
+    /// 11: no image is open on the volume.
+    Missing,
+    /// 12: an image is open on the volume.
+    AlreadyThere,
 }
 
 impl Status {
@@ -37,9 +45,13 @@ impl Status {
             Status::Refused => 3,
             Status::ReadFault => 4,
             Status::WriteFault => 5,
+            Status::DiskFault => 6,
+            Status::BadStore { .. } => 7,
             Status::NoMemory => 8,
             Status::BadInput { .. } => 9,
             Status::BadImage { .. } => 10,
+            Status::Missing => 11,
+            Status::AlreadyThere => 12,
         }
     }
 }

@@ -1,11 +1,12 @@
-//! The line of a status.
+//! The lines of statuses that have numbers.
 
 ghost use Rattle.std.specs.Prelude.{◌≡◌, ◌++◌, IfOk};
 ghost use Rattle.std.specs.Fmt.{decimal};
 ghost use Rattle.run_outcome.specs.Statuses as spec;
+ghost use Rattle.run_outcome.specs.declared.status.Status.TheVariants as status;
 
 use crate::pieces::push_number;
-use run_outcome::Status;
+use close_rules::ImageRule;
 use std::alloc::{AllocError, Global};
 
 /// The line of a text and a number.
@@ -18,20 +19,28 @@ fn numbered_line(alloc: Global, text: &[u8], number: u128) -> Result<Vec<u8>, Al
     Ok(line)
 }
 
-/// The line that is written for a status to standard error, or nothing.
-pub fn line_of(alloc: Global, status: Status) -> Result<Vec<u8>, AllocError>
-    ensures { IfOk result (λ line. line.items ≡ spec.status_line status) }
+/// The line of a fault of a store.
+pub fn bad_store_line(alloc: Global, file: u8, place: u64) -> Result<Vec<u8>, AllocError>
+    ensures { IfOk result (λ line. line.items ≡ spec.status_line (status.BadStore file place)) }
 {
-    match status {
-        Status::Done => Ok(Vec::new(alloc)),
-        Status::Usage => b"usage\n".to_vec(alloc),
-        Status::Refused => Ok(Vec::new(alloc)),
-        Status::ReadFault => b"read fault\n".to_vec(alloc),
-        Status::WriteFault => b"write fault\n".to_vec(alloc),
-        Status::NoMemory => b"no memory\n".to_vec(alloc),
-        Status::BadInput { at } => numbered_line(alloc, b"bad input at ", at),
-        Status::BadImage { rule } => {
-            numbered_line(alloc, b"bad image rule ", u128::from(rule.number()))
-        }
-    }
+    let mut line = b"bad store at ".to_vec(alloc)?;
+    push_number(alloc, &mut line, u128::from(file))?;
+    line.push(b' ')?;
+    push_number(alloc, &mut line, u128::from(place))?;
+    line.push(b'\n')?;
+    Ok(line)
+}
+
+/// The line of an input that is cut.
+pub fn bad_input_line(alloc: Global, at: u128) -> Result<Vec<u8>, AllocError>
+    ensures { IfOk result (λ line. line.items ≡ spec.status_line (status.BadInput at)) }
+{
+    numbered_line(alloc, b"bad input at ", at)
+}
+
+/// The line of an image that breaks a rule.
+pub fn bad_image_line(alloc: Global, rule: ImageRule) -> Result<Vec<u8>, AllocError>
+    ensures { IfOk result (λ line. line.items ≡ spec.status_line (status.BadImage rule)) }
+{
+    numbered_line(alloc, b"bad image rule ", u128::from(rule.number()))
 }

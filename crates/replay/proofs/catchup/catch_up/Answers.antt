@@ -8,7 +8,8 @@ returns-in-Ok g c =
     caught_up c.args.passphrase.now _ _ _
     (seen g.I.Source.left g.I.Source.faults c.args.input.now c.start.new.input)
     (seen g.O.Sink.taken g.O.Sink.faults c.args.out.now c.follow.new.out) (g.I.Source.left c.follow.new.input)
-    (g.I.Source.faults c.follow.new.input) c.follow.result c.in-Ok.ensures c.follow.ensures
+    (g.I.Source.faults c.follow.new.input) _ c.follow.result c.in-Ok.ensures (λ failed. failed.0)
+    c.follow.ensures.followed
 
 pub returns : goal.returns
 returns g c =

@@ -1,18 +1,34 @@
 use Rattle.std.proofs.Common.{ℕ, ◌+◌, ◌*◌, ◌-◌, ◌^◌, ◌≤◌, List, Option}
+use Rattle.run_streams.specs.Seen.{seen}
 use Rattle.run_outcome.specs.declared.status.Status.{Status}
 use Rattle.replay.specs.Following.{Followed}
+use Rattle.replay.specs.Keeping.{Ready, DiskFailed}
 use Rattle.replay.proofs.Turning.{over}
+use Rattle.replay.proofs.Keeping.{CarriesKept}
 use Rattle.replay.proofs.closes.follow.Given as goal
 
 -- whatever the run comes to from here, it came to from its start
 abbrev pub invariant-loop-end : goal.invariant-loop-end
 invariant-loop-end g l = record {
-  carries : (now out_now : Option (List ℕ)) (faults out_faults : ℕ) (end : Status)
+  carries : (now out_now : Option (List ℕ)) (faults out_faults vol_faults : ℕ) (end : Status)
       → Followed l.ledger l.at l.ahead.items (over (g.I.Source.left l.input) now (g.I.Source.faults l.input) faults)
-      (over (g.O.Sink.taken l.out) out_now (g.O.Sink.faults l.out) out_faults) end
+      (over (g.O.Sink.taken l.out) out_now (g.O.Sink.faults l.out) out_faults)
+      (DiskFailed g.K.Keeper.stores (g.V.Volume.faults l.vol) vol_faults) end
       → Followed l.initial.ledger l.initial.at l.initial.ahead.items
       (over (g.I.Source.left l.initial.input) now (g.I.Source.faults l.initial.input) faults)
-      (over (g.O.Sink.taken l.initial.out) out_now (g.O.Sink.faults l.initial.out) out_faults) end;
+      (over (g.O.Sink.taken l.initial.out) out_now (g.O.Sink.faults l.initial.out) out_faults)
+      (DiskFailed g.K.Keeper.stores (g.V.Volume.faults l.initial.vol) vol_faults) end;
+  carries_kept : g.K.Keeper.stores → g.V.Volume.tells → CarriesKept g.V.Volume.disk l.ledger l.initial.ledger
+      l.ahead.items l.initial.ahead.items
+      (seen g.I.Source.left g.I.Source.faults l.input l.input)
+      (seen g.I.Source.left g.I.Source.faults l.initial.input l.initial.input)
+      (seen g.O.Sink.taken g.O.Sink.faults l.out l.out)
+      (seen g.O.Sink.taken g.O.Sink.faults l.initial.out l.initial.out)
+      (g.V.Volume.disk l.vol) (g.V.Volume.disk l.initial.vol);
+  ready : g.K.Keeper.stores → g.V.Volume.tells
+      → Ready (g.K.Keeper.keeps l.keeper (g.V.Volume.disk l.vol) l.ledger) (g.V.Volume.disk l.vol) l.ledger;
+  works : g.K.Keeper.works l.keeper;
+  vol_later : g.V.Volume.faults l.initial.vol ≤ g.V.Volume.faults l.vol;
   low : l.at ≤ (l.ledger.header.ledger_seq + 1) * 2 ^ 64;
 }
 

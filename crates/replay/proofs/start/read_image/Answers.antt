@@ -2,8 +2,8 @@ use Rattle.std.proofs.Common.{ℕ, ◌<◌, List, subst, sym, rules}
 use Rattle.run_streams.specs.Seen.{Seen, seen}
 use Rattle.record_stream.specs.Filling.{Grown}
 use Rattle.xdr_core.specs.Format.{IsBytes}
-use Rattle.replay.specs.Starting.{IsUnstarted}
-use Rattle.replay.proofs.Starts.{image_taken, unread_bad}
+use Rattle.replay.specs.Starting.{IsUncut}
+use Rattle.replay.proofs.Starts.{image_taken, uncut_bad, uncut_failed}
 use Rattle.replay.proofs.start.read_image.Goals as goal
 
 pub returns-in-Err-Xdr : goal.returns-in-Err-Xdr
@@ -11,11 +11,19 @@ returns-in-Err-Xdr g c =
     let p = rw c.in-Err-Xdr.field-0-is at c.in-Err-Xdr.ensures.piece in
     let input : Seen = seen g.I.Source.left g.I.Source.faults c.args.input.now c.read_piece.new.source in
     let ends = rw c.in-Err-Xdr.field-0-is at c.bad_image.ensures.end in
-    subst (IsUnstarted c.args.passphrase.now input) (sym ends)
-    (unread_bad c.args.passphrase.now input c.read_piece.new.ahead.items c.in-Err-Xdr.fault
+    subst (IsUncut input) (sym ends)
+    (uncut_bad input c.read_piece.new.ahead.items c.in-Err-Xdr.fault
     (subst (λ (o : List ℕ). Grown (g.I.Source.left c.args.input.now) (g.I.Source.left c.read_piece.new.source) o
     c.read_piece.new.ahead.items) c.requires p.0)
     (subst IsBytes c.as_slice.ensures.value c.bad_image.ensures.fits) p.1 p.2)
+
+pub returns-in-Err-Failed : goal.returns-in-Err-Failed
+returns-in-Err-Failed g c =
+    let p = rw c.in-Err-Failed.field-0-is at c.in-Err-Failed.ensures.piece in
+    let input : Seen = seen g.I.Source.left g.I.Source.faults c.args.input.now c.read_piece.new.source in
+    uncut_failed input c.read_piece.new.ahead.items
+    (subst (λ (o : List ℕ). Grown (g.I.Source.left c.args.input.now) (g.I.Source.left c.read_piece.new.source) o
+    c.read_piece.new.ahead.items) c.requires p.0) p.1 p.2
 
 pub take_image-requires : goal.take_image-requires
 take_image-requires g c = (c.in-Ok.end, c.in-Ok.ensures.piece.1)

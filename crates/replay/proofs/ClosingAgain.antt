@@ -1,0 +1,73 @@
+-- The records of a journal, closed one behind another.
+use Rattle.std.proofs.Common.{◌≡◌, ℕ, suc, ◌+◌, ◌<◌, ◌≤◌, ◌^◌, List, [], ◌∷◌, ◌++◌, length, take, drop, get_or, Ok}
+use Rattle.std.proofs.Common.{Err, refl, sym, ap, subst, ◌∙◌, append_assoc, arith}
+use Rattle.std.proofs.Math.Seq.{take-suc}
+use Rattle.std.proofs.lemmas.List.{length-append, take-append-drop}
+use Rattle.byteorder.specs.Endian.{big_bytes}
+use Rattle.xdr_core.proofs.Numbers.{wide4}
+use Rattle.close_rules.specs.declared.close_fault.CloseFault.{CloseFault}
+use Rattle.close_rules.specs.State.{ClosingState}
+use Rattle.close_rules.specs.Close.{PreparedClose, IsClose}
+use Rattle.gate_journal.specs.Records.{block, blocks}
+use Rattle.replay.proofs.Comes.{closed_more}
+use Rattle.replay.specs.ClosingAgain.{AreClosedTo, IsRefusedAt}
+
+pub taken_more : (xs : List (List ℕ)) (i : ℕ) (x : List ℕ) → i < length xs → x ≡ get_or xs i x
+    → take (i + 1) xs ≡ take i xs ++ x ∷ []
+taken_more xs i x lt is =
+    let next : i + 1 ≡ suc i = omega arith in
+    ap (λ (n : ℕ). take n xs) next ∙ take-suc xs i x lt ∙ ap (λ (y : List ℕ). take i xs ++ y ∷ []) (sym is)
+
+cut_at : (xs : List (List ℕ)) (i : ℕ) (x : List ℕ) → i < length xs → x ≡ get_or xs i x
+    → xs ≡ take i xs ++ x ∷ drop (i + 1) xs
+cut_at xs i x lt is =
+    sym (take-append-drop (i + 1) xs) ∙ ap (λ (t : List (List ℕ)). t ++ drop (i + 1) xs) (taken_more xs i x lt is)
+    ∙ append_assoc (take i xs) (x ∷ []) (drop (i + 1) xs)
+
+block_len : (x : List ℕ) → length (block x) ≡ 5 + length x
+block_len x = omega (arith, length-append (big_bytes 4 (length x)) x, wide4.len (length x))
+
+blocks_len : (rs ss : List (List ℕ)) → length (blocks (rs ++ ss)) ≡ length (blocks rs) + length (blocks ss)
+blocks_len [] ss = omega arith
+blocks_len (r ∷ rs) ss =
+    let rest = blocks_len rs ss in
+    omega (arith, rest, length-append (block r) (blocks (rs ++ ss)), length-append (block r) (blocks rs))
+
+one_len : (x : List ℕ) → length (blocks (x ∷ [])) ≡ 5 + length x
+one_len x = omega (arith, length-append (block x) [], block_len x)
+
+pub place_more : (xs : List (List ℕ)) (i : ℕ) (x : List ℕ) (at : ℕ) → i < length xs → x ≡ get_or xs i x
+    → at ≡ length (blocks (take i xs)) → at + (5 + length x) ≡ length (blocks (take (i + 1) xs))
+place_more xs i x at lt is e =
+    let whole = ap (λ (t : List (List ℕ)). length (blocks t)) (taken_more xs i x lt is) in
+    omega (arith, e, whole, blocks_len (take i xs) (x ∷ []), one_len x)
+
+pub place_fits : (xs : List (List ℕ)) (i : ℕ) (x : List ℕ) (at : ℕ) → i < length xs → x ≡ get_or xs i x
+    → at ≡ length (blocks (take i xs)) → length (blocks xs) < 2 ^ 64 → at + (5 + length x) < 2 ^ 64
+place_fits xs i x at lt is e fits =
+    let whole = ap (λ (t : List (List ℕ)). length (blocks t)) (take-append-drop (i + 1) xs) in
+    omega (arith, fits, place_more xs i x at lt is e, whole, blocks_len (take (i + 1) xs) (drop (i + 1) xs))
+
+pub again_more : (s now next : ClosingState) (xs : List (List ℕ)) (i : ℕ) (x : List ℕ) (c : PreparedClose)
+    → i < length xs
+    → x ≡ get_or xs i x → AreClosedTo s (take i xs) now → IsClose now x (Ok c) → next ≡ c.state
+    → AreClosedTo s (take (i + 1) xs) next
+again_more s now next xs i x c lt is (lines, closed) closes same =
+    let more = closed_more s (take i xs) lines now x c closed closes in
+    subst (λ (t : List (List ℕ)). AreClosedTo s t next) (sym (taken_more xs i x lt is))
+    (subst (λ (y : ClosingState). AreClosedTo s (take i xs ++ x ∷ []) y) (sym same) more)
+
+pub refused_at : (s now : ClosingState) (xs : List (List ℕ)) (i : ℕ) (x : List ℕ) (at : ℕ) (wrong : CloseFault)
+    → i < length xs → x ≡ get_or xs i x → AreClosedTo s (take i xs) now → IsClose now x (Err wrong)
+    → at ≡ length (blocks (take i xs)) → IsRefusedAt s xs at
+refused_at s now xs i x at wrong lt is closed refused e = record {
+  front = take i xs;
+  bytes = x;
+  others = drop (i + 1) xs;
+  cut = cut_at xs i x lt is;
+  state = now;
+  closed = closed;
+  wrong = wrong;
+  refused = refused;
+  at = e;
+}

@@ -1,0 +1,72 @@
+-- A whole run.
+use Rattle.std.proofs.Common.{◌≡◌, ℕ, List, [], Result, Ok, Err, refl, sym, subst, ◌⊎◌, inl, inr}
+use Rattle.run_streams.specs.Seen.{Seen, IsUntouched}
+use Rattle.close_rules.specs.State.{ClosingState}
+use Rattle.run_outcome.specs.declared.status.Status.{Status}
+use Rattle.run_outcome.specs.declared.status.Status.TheVariants as status
+use Rattle.outside.specs.Disk.{Image, Disk, Runs, Same, IsSafe}
+use Rattle.run_streams.specs.SeenVolume.{SeenVolume, VolumeFailed}
+use Rattle.stored_outcome.specs.Opening.{OpensTo}
+use Rattle.replay.specs.Following.{Followed}
+use Rattle.replay.specs.Keeping.{Ready, KeptOn}
+use Rattle.replay.proofs.Surviving.{ran_from}
+use Rattle.replay.specs.StoredRuns.{OpensNot, IsUnbegun, Unopened, RanSo}
+
+pub ran_on : (s : ClosingState) (ahead : List ℕ) (input out : Seen) (vol : SeenVolume) (mid : Disk) (F K : Type 0)
+    (end : Status) → ((c : Image) → vol.before.left_since vol.before.moment c → vol.before.may_leave c)
+    → vol.now.may_leave vol.now.reads → Runs Same vol.before mid → Ready K mid s → mid.reads ≡ vol.before.reads
+    → ahead ≡ [] → Followed s 0 ahead input out F end → KeptOn s ahead input out mid vol.now end
+    → RanSo input out vol end
+ran_on s ahead input out vol mid F K end only reads_now first ready same empty f k = inl (
+  s,
+  subst (λ (x : Image). OpensTo x s) same ready.opens,
+  ran_from s input out vol mid F end only reads_now first ready.safe ready.opens
+      (subst (λ (t : List ℕ). Followed s 0 t input out F end) empty f)
+      (subst (λ (t : List ℕ). KeptOn s t input out mid vol.now end) empty k),
+)
+
+unopened : (vol : SeenVolume) (end : Status) → OpensNot vol.before.reads vol.now.reads end
+    → IsUnbegun (VolumeFailed vol) end → Unopened vol end
+unopened vol status.Missing h b = h
+unopened vol (status.BadStore file place) h b = h
+unopened vol status.NoMemory h b = h
+unopened vol status.DiskFault h b = b
+unopened vol status.Done h b = absurd h
+unopened vol status.Usage h b = absurd h
+unopened vol status.Refused h b = absurd h
+unopened vol status.ReadFault h b = absurd h
+unopened vol status.WriteFault h b = absurd h
+unopened vol (status.BadInput at) h b = absurd h
+unopened vol (status.BadImage rule) h b = absurd h
+unopened vol status.AlreadyThere h b = absurd h
+
+-- what is read stays, where the volume didn't fail
+reads_so : (vol : SeenVolume) (end : Status) → Unopened vol end → VolumeFailed vol ⊎ (vol.now.reads ≡ vol.before.reads)
+reads_so vol status.Missing u = inr u.1
+reads_so vol (status.BadStore file place) u = inr u.1
+reads_so vol status.NoMemory u = inr u
+reads_so vol status.DiskFault u = inl u
+reads_so vol status.Done u = absurd u
+reads_so vol status.Usage u = absurd u
+reads_so vol status.Refused u = absurd u
+reads_so vol status.ReadFault u = absurd u
+reads_so vol status.WriteFault u = absurd u
+reads_so vol (status.BadInput at) u = absurd u
+reads_so vol (status.BadImage rule) u = absurd u
+reads_so vol status.AlreadyThere u = absurd u
+
+pub ran_off : (input out : Seen) (vol : SeenVolume) (end : Status)
+    → IsUntouched input → IsUntouched out → Runs Same vol.before vol.now
+    → OpensNot vol.before.reads vol.now.reads end → IsUnbegun (VolumeFailed vol) end → RanSo input out vol end
+ran_off input out vol end unread unwritten runs h b =
+    let off = unopened vol end h b in
+    inr (
+      record {
+        unread = unread;
+        unwritten = unwritten;
+        runs = λ te. runs;
+        reads = λ te. reads_so vol end off;
+      },
+      runs,
+      off,
+    )

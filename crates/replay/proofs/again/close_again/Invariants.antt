@@ -1,0 +1,14 @@
+use Rattle.std.proofs.Common.{◌≡◌, ℕ, ◌-◌, ◌≤◌, length, take}
+use Rattle.gate_journal.specs.Records.{blocks}
+use Rattle.replay.specs.ClosingAgain.{AreClosedTo}
+use Rattle.replay.proofs.again.close_again.Given as goal
+
+abbrev pub invariant-loop-i : goal.invariant-loop-i
+invariant-loop-i g l = record {
+  le : l.i ≤ length l.closes;
+  closed : AreClosedTo l.initial.ledger (take l.i l.closes) l.ledger;
+  at : l.at ≡ length (blocks (take l.i l.closes));
+}
+
+abbrev pub decreases-loop-i : goal.decreases-loop-i
+decreases-loop-i g l = length l.closes - l.i

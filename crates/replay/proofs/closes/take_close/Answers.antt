@@ -1,0 +1,76 @@
+use Rattle.std.proofs.Common.{◌≡◌, ℕ, List, Ok, sym, subst, inl, inr, arith, rules}
+use Rattle.std.proofs.KnownBytes.{Appends-nil}
+use Rattle.run_streams.specs.Seen.{Seen, seen}
+use Rattle.close_rules.specs.State.{ClosingState}
+use Rattle.close_rules.specs.Close.{PreparedClose, IsClose}
+use Rattle.run_outcome.specs.Outcome.{lines_of}
+use Rattle.outside.specs.Disk.{Disk}
+use Rattle.replay.specs.Following.{Told}
+use Rattle.replay.specs.Keeping.{DiskFailed, KeptTelling}
+use Rattle.replay.proofs.Turning.{closed_told, rose_before}
+use Rattle.replay.proofs.Keeping.{keep_failed, kept_told}
+use Rattle.replay.proofs.closes.take_close.Goals as goal
+
+pub keep-requires-clause-ready : goal.keep-requires-clause-ready
+keep-requires-clause-ready g c st te = (
+  c.args.ledger.now,
+  c.args.prepared,
+  c.requires.ready st te,
+  subst (λ (b : List ℕ). IsClose c.args.ledger.now b (Ok c.args.prepared)) (sym (c.in-Ok-hold.ensures st))
+      c.requires.closes,
+)
+
+pub returns-clause-closes : goal.returns-clause-closes
+returns-clause-closes g c =
+    let closed : PreparedClose = c.args.prepared in
+    let before : ℕ = g.V.Volume.faults c.args.vol.now in
+    let mid : ℕ = g.V.Volume.faults c.keep.new.vol in
+    let after : ℕ = g.V.Volume.faults c.tell_close.new.vol in
+    let out : Seen = seen g.O.Sink.taken g.O.Sink.faults c.args.out.now c.tell_close.new.out in
+    let text : c.as_slice.result.now ≡ lines_of closed = search rules in
+    let late : Type 0 = DiskFailed g.K.Keeper.stores mid after in
+    let any : Type 0 = DiskFailed g.K.Keeper.stores before after in
+    closed_told c.args.ledger.now c.args.bytes.now closed c.install.new.self out late any c.tell_close.result
+    c.requires.closes c.install.ensures
+    (λ failed. (failed.0, rose_before before mid after c.keep.ensures.cause.later failed.1))
+    (subst (λ (t : List ℕ). Told t out late c.tell_close.result) text c.tell_close.ensures.told)
+
+pub returns-in-Err-clause-closes : goal.returns-in-Err-clause-closes
+returns-in-Err-clause-closes g c =
+    let st : g.K.Keeper.stores = search (rules, c.in-Err.ensures.stores) in
+    inl (
+      c.args.prepared,
+      c.requires.closes,
+      (st, c.in-Err.ensures.cause.failed),
+      (0, omega arith, Appends-nil (g.O.Sink.taken c.args.out.now)),
+    )
+
+pub returns-in-Err-clause-kept : goal.returns-in-Err-clause-kept
+returns-in-Err-clause-kept g c st te =
+    let s : ClosingState = c.args.ledger.now in
+    let closed : PreparedClose = c.args.prepared in
+    let r = c.requires.ready st te in
+    let closes = subst (λ (b : List ℕ). IsClose s b (Ok closed)) (sym (c.in-Ok-hold.ensures st)) c.requires.closes in
+    let out : Seen = seen g.O.Sink.taken g.O.Sink.faults c.args.out.now c.args.out.now in
+    let old : Disk = g.V.Volume.disk c.args.vol.now in
+    let new : Disk = g.V.Volume.disk c.keep.new.vol in
+    inr (keep_failed s c.args.bytes.now closed out old new c.requires.closes r.safe r.opens
+    (c.keep.ensures.runs st te s closed r closes) (Appends-nil (g.O.Sink.taken c.args.out.now)))
+
+pub returns-clause-kept : goal.returns-clause-kept
+returns-clause-kept g c st te =
+    let s : ClosingState = c.args.ledger.now in
+    let closed : PreparedClose = c.args.prepared in
+    let r = c.requires.ready st te in
+    let closes = subst (λ (b : List ℕ). IsClose s b (Ok closed)) (sym (c.in-Ok-hold.ensures st)) c.requires.closes in
+    let out : Seen = seen g.O.Sink.taken g.O.Sink.faults c.args.out.now c.tell_close.new.out in
+    let old : Disk = g.V.Volume.disk c.args.vol.now in
+    let mid : Disk = g.V.Volume.disk c.keep.new.vol in
+    let new : Disk = g.V.Volume.disk c.tell_close.new.vol in
+    let k = c.in-Ok-keep.ensures.kept st te s closed r closes in
+    let text : c.as_slice.result.now ≡ lines_of closed = search rules in
+    let first = subst (λ (x : ClosingState). KeptTelling x c.as_slice.result.now out mid new c.tell_close.result)
+    c.install.ensures (c.tell_close.ensures.kept st te) in
+    let second = subst (λ (t : List ℕ). KeptTelling closed.state t out mid new c.tell_close.result) text first in
+    kept_told s c.args.bytes.now closed c.install.new.self out old mid new c.tell_close.result c.requires.closes
+    c.install.ensures k.safe k.opens (c.keep.ensures.runs st te s closed r closes) second

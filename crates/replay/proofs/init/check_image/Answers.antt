@@ -1,0 +1,18 @@
+use Rattle.std.proofs.Common.{Ok, Err, subst}
+use Rattle.xdr_header.specs.declared.image.StartImage.{StartImage}
+use Rattle.hash_ids.specs.Ids.{network_id_of}
+use Rattle.replay.specs.Starting.{IsJudgedSo}
+use Rattle.replay.proofs.init.check_image.Goals as goal
+
+pub returns-in-Ok-judge : goal.returns-in-Ok-judge
+returns-in-Ok-judge c =
+    let s = c.in-Ok-judge._ledger in (
+      s,
+      subst (λ (i : StartImage). IsJudgedSo (network_id_of c.args.passphrase.now) i (Ok s)) c.in-Ok.ensures
+          c.in-Ok-judge.ensures,
+    )
+
+pub returns-in-Err : goal.returns-in-Err
+returns-in-Err c =
+    subst (λ (i : StartImage). IsJudgedSo (network_id_of c.args.passphrase.now) i (Err c.in-Err.end)) c.in-Ok.ensures
+    c.in-Err.ensures

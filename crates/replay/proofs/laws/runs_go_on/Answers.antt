@@ -1,0 +1,5 @@
+use Rattle.replay.proofs.GoingOn.{runs_go_on}
+use Rattle.replay.proofs.laws.runs_go_on.Goals as goal
+
+pub returns : goal.returns
+returns c = runs_go_on

@@ -1,0 +1,30 @@
+use Rattle.std.proofs.Common.{ℕ, List, refl}
+use Rattle.replay.specs.Stored.{IsStored}
+use Rattle.run_streams.specs.Seen.{Seen, seen}
+use Rattle.outside.specs.Disk.{Disk}
+use Rattle.run_streams.specs.SeenVolume.{SeenVolume, seen_volume}
+use Rattle.replay.proofs.Whole.{ran_on, ran_off}
+use Rattle.replay.proofs.stored_run.run_stored.Goals as goal
+
+pub returns-in-Ok-clause-ran : goal.returns-in-Ok-clause-ran
+returns-in-Ok-clause-ran g c te =
+    let input : Seen = seen g.I.Source.left g.I.Source.faults c.args.input.now c.follow.new.input in
+    let out : Seen = seen g.O.Sink.taken g.O.Sink.faults c.args.out.now c.follow.new.out in
+    let vol : SeenVolume = seen_volume g.V.Volume.tells g.V.Volume.disk g.V.Volume.faults c.args.vol.now
+    c.follow.new.vol in
+    let mid : Disk = g.V.Volume.disk c.open.new.vol in
+    let opens = c.in-Ok.ensures.opens te in
+    let kept : Type 0 = IsStored c.in-Ok.field-0.keeper.store mid c.in-Ok.field-0.ledger in
+    ran_on c.in-Ok.field-0.ledger c.new-ahead.result.items input out vol mid _ kept c.follow.result
+    (λ x left. g.met.V.Volume.only_now c.args.vol.now x left) (g.met.V.Volume.reads_now c.follow.new.vol te)
+    c.open.ensures.runs opens.0 opens.1 c.new-ahead.ensures.items c.follow.ensures.followed
+    (c.follow.ensures.kept tt te)
+
+pub returns-in-Err-clause-ran : goal.returns-in-Err-clause-ran
+returns-in-Err-clause-ran g c te =
+    let input : Seen = seen g.I.Source.left g.I.Source.faults c.args.input.now c.args.input.now in
+    let out : Seen = seen g.O.Sink.taken g.O.Sink.faults c.args.out.now c.args.out.now in
+    let vol : SeenVolume = seen_volume g.V.Volume.tells g.V.Volume.disk g.V.Volume.faults c.args.vol.now c.open.new.vol
+    in
+    ran_off input out vol c.in-Err.end (refl, refl) (refl, refl) c.open.ensures.runs
+    (c.in-Err.ensures.opens te) c.in-Err.ensures.cause

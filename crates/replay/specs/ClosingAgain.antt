@@ -1,0 +1,38 @@
+-- The records of a journal, closed again.
+use Rattle.std.specs.Prelude.{◌≡◌, ℕ, ◌+◌, List, [], ◌∷◌, ◌++◌, length, Result, Ok, Err}
+use Rattle.close_rules.specs.declared.close_fault.CloseFault.{CloseFault}
+use Rattle.close_rules.specs.State.{ClosingState}
+use Rattle.close_rules.specs.Close.{PreparedClose, IsClose}
+use Rattle.run_outcome.specs.Outcome.{AreClosed}
+use Rattle.gate_journal.specs.Records.{blocks}
+use Rattle.replay.specs.declared.again.AgainFault.{AgainFault}
+use Rattle.replay.specs.declared.again.AgainFault.TheVariants as again
+use Rattle.replay.specs.declared.again.OneFault.{OneFault}
+use Rattle.replay.specs.declared.again.OneFault.TheVariants as one
+
+-- these records closed ledgers one behind another
+abbrev pub AreClosedTo : ClosingState → List (List ℕ) → ClosingState → Type 0
+AreClosedTo s records now = (lines : List ℕ) × AreClosed s records lines now
+
+-- the record whose gate stands at this place is refused behind those before it
+pub record IsRefusedAt (s : ClosingState) (records : List (List ℕ)) (place : ℕ) : Type 0 where
+  pub front : List (List ℕ)
+  pub bytes : List ℕ
+  pub others : List (List ℕ)
+  pub cut : records ≡ front ++ bytes ∷ others
+  pub state : ClosingState
+  pub closed : AreClosedTo s front state
+  pub wrong : CloseFault
+  pub refused : IsClose state bytes (Err wrong)
+  pub at : place ≡ length (blocks front)
+
+abbrev pub ClosesAgain : (s : ClosingState) (records : List (List ℕ)) (now : ClosingState)
+    → Result (Unit {0}) AgainFault → Type 0
+ClosesAgain s records now (Ok done) = AreClosedTo s records now
+ClosesAgain s records now (Err (again.Refused place)) = IsRefusedAt s records place
+ClosesAgain s records now (Err again.NoMemory) = Unit {0}
+
+abbrev pub ClosesOne : (s : ClosingState) (bytes : List ℕ) (now : ClosingState) → Result (Unit {0}) OneFault → Type 0
+ClosesOne s bytes now (Ok done) = (closed : PreparedClose) × IsClose s bytes (Ok closed) × (now ≡ closed.state)
+ClosesOne s bytes now (Err one.Refused) = (wrong : CloseFault) × IsClose s bytes (Err wrong)
+ClosesOne s bytes now (Err one.NoMemory) = Unit {0}

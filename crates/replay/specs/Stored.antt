@@ -1,0 +1,22 @@
+-- What a store keeps, as the ledger that it comes to.
+use Rattle.close_rules.specs.State.{ClosingState}
+use Rattle.outside.specs.Disk.{Disk}
+use Rattle.image_store.specs.State.{StoreState}
+use Rattle.image_store.specs.Opening.{Kept}
+use Rattle.image_store.specs.Calls.{IsSettled}
+use Rattle.gate_journal.specs.declared.fault.StoreFault.{StoreFault}
+use Rattle.gate_journal.specs.declared.fault.StoreFault.TheVariants as fault
+use Rattle.stored_outcome.specs.Opening.{ComesTo}
+use Rattle.replay.specs.declared.keeper.KeepFault.{KeepFault}
+use Rattle.replay.specs.declared.keeper.KeepFault.TheVariants as keep
+
+-- the store stands for what the volume keeps, which comes to this state
+pub record IsStored (store : StoreState) (disk : Disk) (s : ClosingState) : Type 0 where
+  pub kept : Kept
+  pub settled : IsSettled store disk kept
+  pub comes : ComesTo kept s
+
+-- why a roll wasn't made
+abbrev pub keep_fault_of : StoreFault → KeepFault
+keep_fault_of fault.NoMemory = keep.NoMemory
+keep_fault_of other = keep.DiskFault

@@ -1,0 +1,80 @@
+-- What opening a store comes to, and a run behind it.
+use Rattle.std.specs.Prelude.{◌≡◌, ℕ, ◌%◌, ◌≤◌, List, length, All, Result, Ok, Err, ◌⊎◌}
+use Rattle.ledger_types.specs.declared.ids.Hash.{Hash}
+use Rattle.xdr_header.specs.declared.image.StartImage.{StartImage}
+use Rattle.run_streams.specs.Seen.{Seen}
+use Rattle.close_rules.specs.declared.image_fault.ImageFault.{ImageFault}
+use Rattle.close_rules.specs.declared.image_fault.ImageFault.TheVariants as image
+use Rattle.close_rules.specs.State.{ClosingState}
+use Rattle.run_outcome.specs.declared.status.Status.{Status}
+use Rattle.run_outcome.specs.declared.status.Status.TheVariants as status
+use Rattle.outside.specs.Disk.{Image, Runs, Same}
+use Rattle.run_streams.specs.SeenVolume.{SeenVolume, VolumeFailed}
+use Rattle.gate_journal.specs.Records.{max_record}
+use Rattle.image_store.specs.Opening.{Kept}
+use Rattle.gate_journal.specs.declared.fault.StoreFault.{StoreFault}
+use Rattle.gate_journal.specs.declared.fault.StoreFault.TheVariants as fault
+use Rattle.stored_outcome.specs.Opening.{OpensTo, ComesTo, BreaksRule, RefusesRecord, IsBadStore, IsMissing}
+use Rattle.stored_outcome.specs.StoredRun.{RanFrom, DidNotRun}
+
+-- the end of a run whose store isn't mounted
+abbrev pub status_of : StoreFault → Status
+status_of fault.DiskFault = status.DiskFault
+status_of fault.Failed = status.DiskFault
+status_of (fault.BadStore file place) = status.BadStore file place
+status_of fault.Missing = status.Missing
+status_of fault.AlreadyThere = status.AlreadyThere
+status_of fault.NoMemory = status.NoMemory
+
+-- the end of a run whose image is no ledger's
+abbrev pub image_status : ImageFault → (epoch : ℕ) → Status
+image_status image.NoMemory epoch = status.NoMemory
+image_status other epoch = status.BadStore (epoch % 2) 49
+
+abbrev pub kept_of : ℕ → Hash → StartImage → List (List ℕ) → Kept
+kept_of epoch network image records = record { epoch = epoch; network = network; image = image; records = records }
+
+abbrev pub AreShort : List (List ℕ) → Type 0
+AreShort records = All (λ bytes. length bytes ≤ max_record) records
+
+-- what is kept comes to a ledger, or has a fault
+abbrev pub Restores : Kept → Result ClosingState Status → Type 0
+Restores k (Ok s) = ComesTo k s
+Restores k (Err (status.BadStore file place)) = BreaksRule k file place ⊎ RefusesRecord k file place
+Restores k (Err status.NoMemory) = Unit {0}
+Restores k (Err other) = ⊥
+
+-- why what is read doesn't open; where the volume didn't fail it reads as before
+abbrev pub OpensNot : (old new : Image) → Status → Type 0
+OpensNot old new status.Missing = IsMissing old × (new ≡ old)
+OpensNot old new (status.BadStore file place) = IsBadStore old file place × (new ≡ old)
+OpensNot old new status.NoMemory = new ≡ old
+OpensNot old new status.DiskFault = Unit {0}
+OpensNot old new other = ⊥
+
+-- what is read opens, or why it doesn't
+abbrev pub OpensSo : {O : Type 0} → (O → Type 0) → (old new : Image) → Result O Status → Type 0
+OpensSo ready old new (Ok o) = ready o × (new ≡ old)
+OpensSo ready old new (Err end) = OpensNot old new end
+
+-- the ends of a run that doesn't begin
+abbrev pub IsUnbegun : (failed : Type 0) → Status → Type 0
+IsUnbegun failed status.DiskFault = failed
+IsUnbegun failed status.NoMemory = Unit {0}
+IsUnbegun failed status.Missing = Unit {0}
+IsUnbegun failed (status.BadStore file place) = Unit {0}
+IsUnbegun failed other = ⊥
+
+abbrev pub Unopened : SeenVolume → Status → Type 0
+Unopened vol status.Missing = IsMissing vol.before.reads × (vol.now.reads ≡ vol.before.reads)
+Unopened vol (status.BadStore file place) =
+    IsBadStore vol.before.reads file place × (vol.now.reads ≡ vol.before.reads)
+Unopened vol status.NoMemory = vol.now.reads ≡ vol.before.reads
+Unopened vol status.DiskFault = VolumeFailed vol
+Unopened vol other = ⊥
+
+-- a run from the state to which what is read opens; or nothing, but that the volume was read
+abbrev pub RanSo : (input out : Seen) (vol : SeenVolume) → Status → Type 0
+RanSo input out vol end =
+    ((s : ClosingState) × OpensTo vol.before.reads s × RanFrom s input out vol end)
+    ⊎ (DidNotRun input out vol × Runs Same vol.before vol.now × Unopened vol end)

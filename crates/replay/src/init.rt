@@ -1,0 +1,133 @@
+//! The command `init`, but for the line on standard error.
+
+ghost use Rattle.std.specs.Prelude.{◌≡◌, ◌≢◌, Err, IfOk, MatchResult};
+ghost use Rattle.xdr_header.specs.Image.{start_image};
+ghost use Rattle.hash_ids.specs.Ids.{network_id_of};
+ghost use Rattle.run_streams.specs.Seen.{seen};
+ghost use Rattle.run_streams.specs.SeenVolume.{seen_volume};
+ghost use Rattle.run_outcome.specs.declared.status.Status.TheVariants as status;
+ghost use Rattle.stored_outcome.specs.Init.{Made};
+ghost use Rattle.replay.specs.Starting.{IsJudgedSo};
+ghost use Rattle.replay.specs.Initing as spec;
+
+use crate::start::{FrontImage, judge, read_image};
+use hash_ids::network_id;
+use image_store::{Store, StoreFault};
+use item_list::ItemList;
+use ledger_types::Hash;
+use outside::{Failed, Source, Volume};
+use run_outcome::Status;
+use std::alloc::{AllocError, Global};
+use xdr_header::StartImage;
+
+/// Sees to it that nothing stands behind an image, which ends at a place. Bytes may be ahead.
+fn end_input<I: Source>(at: usize, input: &mut I, ahead: &[u8]) -> Result<(), Status>
+    ensures { MatchResult result (λ _. spec.IsEnded ahead.now (seen I.left I.faults input.old input.new))
+        (λ end. spec.IsUnended at ahead.now (seen I.left I.faults input.old input.new) end) }
+{
+    let followed = Status::BadInput { at: at as u128 };
+    if !ahead.is_empty() {
+        return Err(followed);
+    }
+    let mut byte = [0; 1];
+    match input.read(&mut byte) {
+        Ok(0) => Ok(()),
+        Ok(_) => Err(followed),
+        Err(Failed) => Err(Status::ReadFault),
+    }
+}
+
+/// Reads the input to its end, as an image.
+fn read_whole<I: Source>(alloc: Global, input: &mut I) -> Result<StartImage, Status>
+    ensures { MatchResult result (λ image. spec.IsInput image (seen I.left I.faults input.old input.new))
+        (λ end. spec.IsUnread (seen I.left I.faults input.old input.new) end) }
+{
+    let mut ahead = Vec::new(alloc);
+    let FrontImage { image, at } = read_image(alloc, input, &mut ahead)?;
+    match end_input(at, input, ahead.as_slice()) {
+        Ok(()) => Ok(image),
+        Err(end) => Err(end),
+    }
+}
+
+/// Copies of the files of an image.
+fn copy_files(alloc: Global, files: &[ItemList<u8>]) -> Result<ItemList<ItemList<u8>>, AllocError>
+    ensures { IfOk result (λ copies. copies ≡ files.now) }
+{
+    let mut copies = ItemList::new(alloc);
+    for file in files {
+        copies.push(file.copy()?)?;
+    }
+    Ok(copies)
+}
+
+/// A copy of an image.
+fn copy_image(alloc: Global, image: &StartImage) -> Result<StartImage, AllocError>
+    ensures { IfOk result (λ copy. copy ≡ image.now) }
+{
+    let header = image.header.copy()?;
+    let files = copy_files(alloc, image.files.as_slice())?;
+    Ok(StartImage { header, files })
+}
+
+/// Sees to it that an image is that of a ledger on the network with this passphrase.
+fn check_image(alloc: Global, passphrase: &str, image: &StartImage) -> Result<(), Status>
+    ensures { MatchResult result (λ _. spec.IsLedgers (network_id_of passphrase.now) image.now)
+        (λ end. IsJudgedSo (network_id_of passphrase.now) image.now (Err end)) }
+{
+    let Ok(copy) = copy_image(alloc, image) else {
+        return Err(Status::NoMemory);
+    };
+    match judge(passphrase, copy) {
+        Ok(_ledger) => Ok(()),
+        Err(end) => Err(end),
+    }
+}
+
+/// Makes a store of an image on a volume that has none.
+fn store_image<V: Volume>(alloc: Global, network: Hash, image: &StartImage, vol: &mut V) -> Status
+    requires { start_image.within image.now }
+    ensures { spec.Storing network image.now (seen_volume V.tells V.disk V.faults vol.old vol.new) result }
+{
+    match Store::create(alloc, vol, network, image) {
+        Ok(_) => Status::Done,
+        Err(StoreFault::DiskFault) => Status::DiskFault,
+        Err(StoreFault::AlreadyThere) => Status::AlreadyThere,
+        Err(StoreFault::NoMemory) => Status::NoMemory,
+        Err(_) => unreachable!(),
+    }
+}
+
+/// Makes a store of an image that is that of a ledger on the network with this passphrase. It is judged before the
+/// volume is asked.
+fn keep_image<V: Volume>(alloc: Global, passphrase: &str, image: &StartImage, vol: &mut V) -> Status
+    requires { start_image.within image.now }
+    ensures { spec.Keeps (network_id_of passphrase.now) image.now
+        (seen_volume V.tells V.disk V.faults vol.old vol.new) result }
+{
+    match check_image(alloc, passphrase, image) {
+        Ok(()) => {}
+        Err(end) => return end,
+    }
+    let Ok(network) = network_id(passphrase) else {
+        return Status::NoMemory;
+    };
+    store_image(alloc, network, image, vol)
+}
+
+/// Makes a store of the image that is the whole input, on the network with this passphrase.
+pub(crate) fn make<I: Source, V: Volume>(
+    alloc: Global,
+    passphrase: &str,
+    input: &mut I,
+    vol: &mut V,
+) -> Status
+    ensures made { Made (network_id_of passphrase.now) (seen I.left I.faults input.old input.new)
+        (seen_volume V.tells V.disk V.faults vol.old vol.new) result }
+    ensures no_write { result ≢ status.WriteFault }
+{
+    match read_whole(alloc, input) {
+        Ok(image) => keep_image(alloc, passphrase, &image, vol),
+        Err(end) => end,
+    }
+}

@@ -1,0 +1,84 @@
+//! A run over a store.
+
+ghost use Rattle.std.specs.Prelude.{◌≡◌, ◌≤◌, ℕ, List, Ok, IfOk, OnOk, length, false};
+ghost use Rattle.outside.specs.Streams.{HasCause};
+ghost use Rattle.close_rules.specs.State.{ClosingState};
+ghost use Rattle.close_rules.specs.Close.{PreparedClose, IsClose};
+ghost use Rattle.outside.specs.Disk.{Disk, Runs};
+ghost use Rattle.replay.specs.Keeping as spec;
+ghost use Rattle.replay.specs.Stored as stored;
+
+use crate::keeper::{KeepFault, Keeper};
+use image_store::{AppendBuf, Store, StoreFault};
+use ledger_close::Ledger;
+use outside::{Failed, Volume};
+use std::alloc::{AllocError, Global};
+
+/// A store that keeps the records of a run. Behind each ledger whose successor's number 64 divides it goes on to the
+/// next epoch.
+#[derive(Drop)]
+pub(crate) struct Stored {
+    pub(crate) store: Store,
+}
+
+/// An epoch from here on is the last one.
+const LAST_EPOCH: u64 = 9223372036854775807;
+
+/// Why the store didn't go on to the next epoch.
+fn keep_fault(fault: StoreFault) -> KeepFault
+    ensures { result ≡ stored.keep_fault_of fault }
+{
+    match fault {
+        StoreFault::NoMemory => KeepFault::NoMemory,
+        StoreFault::DiskFault => KeepFault::DiskFault,
+        StoreFault::Failed => KeepFault::DiskFault,
+        StoreFault::BadStore { file: _, place: _ } => KeepFault::DiskFault,
+        StoreFault::Missing => KeepFault::DiskFault,
+        StoreFault::AlreadyThere => KeepFault::DiskFault,
+    }
+}
+
+impl Keeper for Stored {
+    type Piece = AppendBuf;
+
+    ghost stores = { Unit {0} };
+
+    ghost held = { λ piece. piece };
+
+    ghost works = { λ k. k.store.failed ≡ false };
+
+    ghost keeps = { λ k d s. stored.IsStored k.store d s };
+
+    fn hold(&self, alloc: Global, bytes: &[u8]) -> Result<AppendBuf, AllocError> {
+        AppendBuf::new(alloc, bytes)
+    }
+
+    fn keep<V: Volume>(&mut self, vol: &mut V, piece: AppendBuf) -> Result<(), Failed> {
+        match self.store.append(vol, piece) {
+            Ok(()) => Ok(()),
+            Err(_) => Err(Failed),
+        }
+    }
+
+    fn settle<V: Volume>(
+        &mut self,
+        alloc: Global,
+        vol: &mut V,
+        ledger: &Ledger,
+    ) -> Result<(), KeepFault> {
+        let next = u64::from(ledger.header().ledger_seq) + 1;
+        if next % 64 != 0 {
+            return Ok(());
+        }
+        if self.store.epoch() >= LAST_EPOCH {
+            return Ok(());
+        }
+        let Ok(image) = ledger.image(alloc) else {
+            return Err(KeepFault::NoMemory);
+        };
+        match self.store.roll(alloc, vol, &image) {
+            Ok(()) => Ok(()),
+            Err(fault) => Err(keep_fault(fault)),
+        }
+    }
+}

@@ -1,0 +1,162 @@
+//! A run over the store that a volume keeps, but for the line on standard error.
+
+ghost use Rattle.std.specs.Prelude.{◌≡◌, ◌≤◌, ◌<◌, ◌^◌, false, length, IfOk, IfErr};
+ghost use Rattle.std.specs.Io.KnownBytes.{IsAtEnd};
+ghost use Rattle.outside.specs.Streams.{Rose};
+ghost use Rattle.outside.specs.Disk.{Runs, Same};
+ghost use Rattle.run_streams.specs.Seen.{seen, IsUntouched};
+ghost use Rattle.run_streams.specs.SeenVolume.{seen_volume};
+ghost use Rattle.run_outcome.specs.declared.status.Status.TheVariants as status;
+ghost use Rattle.gate_journal.specs.Records.{blocks};
+ghost use Rattle.stored_outcome.specs.StoredRun.{IsRunEnd, IsUnopenedEnd};
+ghost use Rattle.replay.specs.Stored.{IsStored};
+ghost use Rattle.replay.specs.Keeping.{Ready};
+ghost use Rattle.replay.specs.StoredRuns as spec;
+
+use crate::again::{AgainFault, close_again};
+use crate::closes::follow;
+use crate::stored::Stored;
+use image_store::{Mounted, Store, StoreFault};
+use item_list::ItemList;
+use ledger_close::{ImageFault, Ledger};
+use ledger_types::Hash;
+use outside::{Sink, Source, Steps, Volume};
+use run_outcome::Status;
+use std::alloc::Global;
+use std::sync::ledger::Ledger as Count;
+use xdr_header::StartImage;
+
+/// A ledger, and the store that keeps it.
+#[derive(Drop)]
+struct Opened {
+    ledger: Ledger,
+    keeper: Stored,
+}
+
+/// The end of a run whose store isn't mounted.
+fn status_of(fault: StoreFault) -> Status
+    ensures { result ≡ spec.status_of fault }
+{
+    match fault {
+        StoreFault::DiskFault => Status::DiskFault,
+        StoreFault::Failed => Status::DiskFault,
+        StoreFault::BadStore { file, place } => Status::BadStore { file, place },
+        StoreFault::Missing => Status::Missing,
+        StoreFault::AlreadyThere => Status::AlreadyThere,
+        StoreFault::NoMemory => Status::NoMemory,
+    }
+}
+
+/// The end of a run whose image is no ledger's.
+fn image_status(fault: ImageFault, epoch: u64) -> Status
+    ensures { result ≡ spec.image_status fault epoch }
+{
+    match fault {
+        ImageFault::NoMemory => Status::NoMemory,
+        ImageFault::BadImage { rule: _ } => Status::BadStore {
+            file: (epoch % 2) as u8,
+            place: 49,
+        },
+    }
+}
+
+/// The ledger to which an image and the records behind it come.
+fn restore<L: Count>(
+    image: StartImage,
+    network: Hash,
+    closes: &[ItemList<u8>],
+    epoch: u64,
+    steps: &mut Steps<L>,
+) -> Result<Ledger, Status>
+    requires short { spec.AreShort closes.now }
+    requires fits { length (blocks closes.now) < 2 ^ 64 }
+    ensures { spec.Restores (spec.kept_of epoch network image closes.now) result }
+{
+    let mut ledger = match Ledger::from_image(image, network) {
+        Ok(ledger) => ledger,
+        Err(fault) => return Err(image_status(fault, epoch)),
+    };
+    match close_again(&mut ledger, closes, steps) {
+        Ok(()) => Ok(ledger),
+        Err(AgainFault::NoMemory) => Err(Status::NoMemory),
+        Err(AgainFault::Refused { place }) => Err(Status::BadStore {
+            file: 2 + (epoch % 2) as u8,
+            place,
+        }),
+    }
+}
+
+/// Mounts a store, and closes its records again.
+fn open<V: Volume, L: Count>(
+    alloc: Global,
+    vol: &mut V,
+    steps: &mut Steps<L>,
+) -> Result<Opened, Status>
+    ensures works { IfOk result (λ o. o.keeper.store.failed ≡ false) }
+    ensures opens { V.tells → spec.OpensSo (λ o. Ready (IsStored o.keeper.store (V.disk vol.new) o.ledger)
+        (V.disk vol.new) o.ledger) (V.disk vol.old).reads (V.disk vol.new).reads result }
+    ensures runs { Runs Same (V.disk vol.old) (V.disk vol.new) }
+    ensures later { V.faults vol.old ≤ V.faults vol.new }
+    ensures cause { IfErr result (λ end. spec.IsUnbegun (Rose (V.faults vol.old) (V.faults vol.new)) end) }
+{
+    let Mounted {
+        store,
+        network,
+        image,
+        closes,
+        epoch,
+    } = match Store::mount(alloc, vol) {
+        Ok(mounted) => mounted,
+        Err(fault) => return Err(status_of(fault)),
+    };
+    match restore(image, network, closes.as_slice(), epoch, steps) {
+        Ok(ledger) => Ok(Opened {
+            ledger,
+            keeper: Stored { store },
+        }),
+        Err(end) => Err(end),
+    }
+}
+
+/// Mounts a store, closes a ledger for each record of the input, and has it kept.
+pub(crate) fn run_stored<I: Source, O: Sink, V: Volume, L: Count>(
+    alloc: Global,
+    input: &mut I,
+    out: &mut O,
+    vol: &mut V,
+    steps: &mut Steps<L>,
+) -> Status
+    ensures ran { V.tells → spec.RanSo (seen I.left I.faults input.old input.new)
+        (seen O.taken O.faults out.old out.new)
+        (seen_volume V.tells V.disk V.faults vol.old vol.new) result }
+    ensures disk_fault { result ≡ status.DiskFault → Rose (V.faults vol.old) (V.faults vol.new) }
+    ensures read_fault { result ≡ status.ReadFault → Rose (I.faults input.old) (I.faults input.new) }
+    ensures write_fault { result ≡ status.WriteFault → Rose (O.faults out.old) (O.faults out.new) }
+    ensures is_end { IsRunEnd result }
+    ensures unbegun { IsUnopenedEnd result → IsUntouched (seen I.left I.faults input.old input.new)
+        × IsUntouched (seen O.taken O.faults out.old out.new) }
+    ensures ended { result ≡ status.Done → IsAtEnd (I.left input.new) }
+{
+    match open(alloc, vol, steps) {
+        Ok(
+            Opened {
+                mut ledger,
+                mut keeper,
+            },
+        ) => {
+            let mut ahead = Vec::new(alloc);
+            follow(
+                alloc,
+                &mut ledger,
+                &mut keeper,
+                vol,
+                0,
+                input,
+                &mut ahead,
+                out,
+                steps,
+            )
+        }
+        Err(end) => end,
+    }
+}

@@ -1,0 +1,69 @@
+-- What a volume's content opens to: the state behind its image and all records of its journal.
+use Rattle.std.specs.Prelude.{◌≡◌, ℕ, ◌+◌, ◌%◌, List, [], ◌∷◌, ◌++◌, length, Ok, Err, ◌⊎◌}
+use Rattle.ledger_types.specs.declared.ids.Hash.{Hash}
+use Rattle.close_rules.specs.declared.close_fault.CloseFault.{CloseFault}
+use Rattle.close_rules.specs.declared.image_fault.ImageFault.{ImageFault}
+use Rattle.close_rules.specs.State.{ClosingState}
+use Rattle.close_rules.specs.Close.{IsClose}
+use Rattle.close_rules.specs.Images.{IsJudged}
+use Rattle.run_outcome.specs.Outcome.{AreClosed}
+use Rattle.outside.specs.Disk.{Image, Disk}
+use Rattle.gate_journal.specs.Records.{blocks}
+use Rattle.image_store.specs.Opening.{Kept, Holds, HoldsNothing, HoldsNoStore}
+
+-- ---- a content that opens
+
+-- the image is a ledger's, and each record closes a ledger behind the one before
+pub record ComesTo (k : Kept) (s : ClosingState) : Type 0 where
+  pub start : ClosingState
+  pub judged : IsJudged k.network k.image (Ok start)
+  pub lines : List ℕ
+  pub closed : AreClosed start k.records lines s
+
+abbrev pub OpensTo : Image → ClosingState → Type 0
+OpensTo c s = (k : Kept) × Holds c k × ComesTo k s
+
+-- ---- a content that doesn't
+
+-- the image breaks a rule
+pub record BreaksRule (k : Kept) (file place : ℕ) : Type 0 where
+  pub wrong : ImageFault
+  pub judged : IsJudged k.network k.image (Err wrong)
+  pub in_file : file ≡ k.epoch % 2
+  pub at : place ≡ 49
+
+-- a record is refused behind those before it; the place is its gate's
+pub record RefusesRecord (k : Kept) (file place : ℕ) : Type 0 where
+  pub start : ClosingState
+  pub judged : IsJudged k.network k.image (Ok start)
+  pub front : List (List ℕ)
+  pub bytes : List ℕ
+  pub others : List (List ℕ)
+  pub records : k.records ≡ front ++ bytes ∷ others
+  pub lines : List ℕ
+  pub state : ClosingState
+  pub closed : AreClosed start front lines state
+  pub wrong : CloseFault
+  pub refused : IsClose state bytes (Err wrong)
+  pub in_file : file ≡ 2 + k.epoch % 2
+  pub at : place ≡ length (blocks front)
+
+-- what a store's faults are, those of its form first
+abbrev pub IsBadStore : Image → (file place : ℕ) → Type 0
+IsBadStore c file place =
+    HoldsNoStore c file place
+    ⊎ ((k : Kept) × Holds c k × (BreaksRule k file place ⊎ RefusesRecord k file place))
+
+abbrev pub IsMissing : Image → Type 0
+IsMissing c = HoldsNothing c
+
+-- ---- volumes
+
+abbrev pub OpensOn : Hash → Image → Type 0
+OpensOn network c = (s : ClosingState) × OpensTo c s × (s.network ≡ network)
+
+-- whatever a crash leaves opens, and so does what is read, all on one network
+pub record IsSound (disk : Disk) : Type 0 where
+  pub network : Hash
+  pub crash : (c : Image) → disk.may_leave c → OpensOn network c
+  pub reads : OpensOn network disk.reads

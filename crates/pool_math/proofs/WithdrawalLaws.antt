@@ -45,3 +45,5 @@ withdrawn_fair reserve total shares within =
       all = taken_all reserve total shares;
       some_left = taken_left reserve total shares;
     }
+
+pub ruleset withdrawals = (withdrawn_within, withdrawn_fair)

@@ -6,7 +6,7 @@ ghost use Rattle.pool_math.specs.Pools.{withdrawn};
 ghost use Rattle.pool_math.specs.Laws.{IsFairWithdrawal};
 
 /// The same in numbers without a sign.
-#[tactic(auto, using(crate::proofs::WithdrawalLaws::withdrawn_within, crate::proofs::WithdrawalLaws::withdrawn_fair), unfolding(crate::specs::Pools::withdrawn))]
+#[tactic(auto, using(crate::proofs::WithdrawalLaws::withdrawals), unfolding(crate::specs::Pools::withdrawn))]
 fn withdrawn(reserve: u64, total: u64, shares: u64) -> u64
     requires within { shares ≤ total }
     ensures value { result ≡ spec.withdrawn reserve total shares }

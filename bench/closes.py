@@ -1,5 +1,5 @@
 #!/usr/bin/env python3
-"""Measures `catchup`: opening an image, and closing ledgers behind it.
+"""Measures `catchup`: opening an image, and closing ledgers behind it; and `run` over a store beside it.
 
     bench/closes.py [PROGRAM [OTHER]]
 
@@ -14,13 +14,16 @@ balances made, claimed and clawed back, and clawback. A third mix, of offers (`t
 offers of one account are opened too; it can't have more than 1,000 subentries. So are images of pools (`pooling.py`): of 1,000 and 10,000
 pools with a line of shares each, and of one pool with 1,000 and 10,000 lines.
 
+Behind 1,000 and 10,000 accounts the records of the mix of accounts are closed by `run` too, over a store of the same image in a directory,
+and the ratio of both is told: processor time of all closes but the longest, less what the same writes and syncs take a plain program.
+
 The script prints processor time and peak memory of opening; then the processor time of closing without the longest close, ledgers and
 transactions a second of it, and the longest close by itself, which is the one in which a deep level is merged; each close by the least
 of several runs. A close is measured from when its record is handed in until the program waits for the next one. Last it tells how much
 longer closing takes behind 100,000 accounts than behind 1,000, with the mix of offers than with that of accounts, and behind ten times
 the offers, and all of a run than sha256sum of the same input.
 
-Exit status: 0 where all is well, 1 where ten times the accounts, offers, pools or lines of one pool take more than 15 times as long to
+Exit status: 0 where all is well, 1 where `run` takes more than 1.15 times what `catchup` takes, ten times the accounts, offers, pools or lines of one pool take more than 15 times as long to
 open, closing takes more than twice as long behind 100,000 accounts as behind 1,000, or ten times the offers change the time of closing by
 more than a fifth, 2 where a run fails or prints another text. Linux (it reads /proc), Python 3.9 or later, its standard library, and sha256sum.
 """
@@ -45,7 +48,7 @@ LEDGERS, SIZE = 50, 100
 SENDERS = 500
 # AUTH_REVOCABLE and AUTH_CLAWBACK_ENABLED
 CLAWING = 10
-GREATEST_RATIO, GREATEST_GROWTH, GREATEST_CHANGE = 15, 2, 1.2
+GREATEST_RATIO, GREATEST_GROWTH, GREATEST_CHANGE, GREATEST_KEEPING = 15, 2, 1.2, 1.15
 BALANCE = 1_000_000_000
 NETWORK = "Test SDF Network ; September 2015"
 SEQ = 630
@@ -164,11 +167,10 @@ def story(data, sender):
 
 
 class Watched:
-    """A program that is run, and what it has used so far."""
+    """A program that is run in a folder, and what it has used so far."""
 
-    def __init__(self, program):
-        words = [program, "catchup", "--network", NETWORK]
-        self.process = subprocess.Popen(words, stdin=subprocess.PIPE, stdout=subprocess.PIPE, bufsize=0)
+    def __init__(self, program, words, folder=None):
+        self.process = subprocess.Popen([program, *words], stdin=subprocess.PIPE, stdout=subprocess.PIPE, bufsize=0, cwd=folder)
         self.folder, self.text = f"/proc/{self.process.pid}", b""
 
     def used(self):
@@ -210,9 +212,12 @@ class Watched:
         return self.text.decode()
 
 
-def watched(program, data, records, wanted):
+CATCHUP = ["catchup", "--network", NETWORK]
+
+
+def watched(program, data, records, wanted, words=CATCHUP, folder=None):
     """The processor time of opening, its peak of memory, and the processor time of each close, of one run."""
-    it = Watched(program)
+    it = Watched(program, words, folder)
     it.hand_in(data)
     opening, peak, closes = it.used(), it.peak(), []
     last = opening
@@ -223,7 +228,7 @@ def watched(program, data, records, wanted):
         closes.append(now - last)
         last = now
     if it.end() != wanted:
-        stop("catchup printed another text")
+        stop(f"{words[0]} printed another text")
     return opening, peak, closes
 
 
@@ -321,6 +326,42 @@ def watch_pools(program):
     return max(ratios) <= GREATEST_RATIO
 
 
+def synced(records, folder):
+    """The processor time of writing these records to a file, with two syncs for each."""
+    started = time.process_time()
+    with open(os.path.join(folder, "synced"), "wb", buffering=0) as file:
+        for record in records:
+            for piece in (record, b"\1"):
+                file.write(piece)
+                os.fsync(file.fileno())
+    return time.process_time() - started
+
+
+def kept(program, data, records, wanted):
+    """What one `run` over a store of an image takes, and what its writes and syncs take alone."""
+    with tempfile.TemporaryDirectory(dir=".") as folder:
+        subprocess.run([program, "init", "--network", NETWORK], input=data, cwd=folder, check=True)
+        return watched(program, b"", records, wanted, ["run"], folder), synced(records, folder)
+
+
+def watch_runs(program):
+    """Whether keeping the records costs little enough beside closing their ledgers."""
+    program, fine = os.path.abspath(program), True
+    for count in (1_000, 10_000):
+        data, sender = given(count, ACCOUNT_MIX)
+        records, wanted = story(data, sender)
+        alone, stored = [], []
+        for _ in range(7):
+            alone.append(watched(program, data, records, wanted))
+            stored.append(kept(program, data, records, wanted))
+        closing, keeping, syncs = least(alone)[2], least([it[0] for it in stored])[2], min(it[1] for it in stored)
+        ratio = (keeping - syncs) / closing
+        print(f"{count:7} accounts: {LEDGERS - 1} ledgers take catchup {closing * 1e3:.1f} ms and run {keeping * 1e3:.1f} ms, of which"
+              f" writing and syncing {syncs * 1e3:.1f} ms; the rest is {ratio:.2f} times catchup", flush=True)
+        fine = fine and ratio <= GREATEST_KEEPING
+    return fine
+
+
 def main():
     programs = sys.argv[1:] or [built("ledger")]
     with tempfile.TemporaryDirectory() as folder:
@@ -329,6 +370,7 @@ def main():
     fine = watch_accounts(results[programs[0]])
     fine = watch_offers(programs[0], results[programs[0]]) and fine
     fine = watch_pools(programs[0]) and fine
+    fine = watch_runs(programs[0]) and fine
     for other in programs[1:]:
         for count, mix in RUNS:
             new, old = results[programs[0]][count, mix], results[other][count, mix]

@@ -5,18 +5,21 @@
 
 PROGRAM is the built program, crates/ledger/out/ledger of this repository where none is given.
 
-It runs `catchup` over examples/accounts.slt, an image and three records, once for each call for memory that the run makes of the C
-library. A library that is loaded in front of that one counts the calls and refuses one of them. Each run has to answer 8, tell
-`no memory`, and write a front of the text that the ledger in Python beside `close_cases` gives; or it passes over the refusal, and
-answers 0 with all of the text.
+It runs `catchup`, `init` and `run` over an image and three records, those in examples/, once for each call for memory that the run makes
+of the C library. A library that is loaded in front of that one counts the calls and refuses one of them. Each run has to answer 8, tell
+`no memory`, and write a front of the text that the ledger in Python beside `close_cases` gives; or, where the directory of the store
+is refused memory, 6 with `disk fault`; or it passes over the refusal, and answers 0 with all of the text. Behind `init` and `run` the
+store is opened again, by a `run` without input: behind 8 and 0 at the last ledger whose `closed` line was written, behind 6 there or one
+further on. An `init` that answered 8 has made no store, and one that answered 6 may have.
 
-The script prints how many calls a run makes, and what the runs answered.
+The script prints how many calls each command makes, and what the runs answered.
 
 Exit status: 0 where all is well, 1 where a run answers otherwise, 2 where the script can't be run. Python 3.9 or later, its standard
 library, and a C compiler (cc).
 """
 
 import os
+import shutil
 import subprocess
 import sys
 import tempfile
@@ -95,35 +98,86 @@ def compiled(folder):
     return f"{folder}/counter.so"
 
 
+class Command:
+    """A command that is run behind a store, and what it has to come to."""
+
+    def __init__(self, program, words, data, text, store, ends):
+        # `ends` are the `end` lines of the ledgers that a `run` without input may open to, by how many were closed; None is no store
+        self.words, self.data, self.text, self.store, self.ends = [program, *words], data, text, store, ends
+
+    def ran(self, folder, **environment):
+        """One run in a folder of its own."""
+        at = tempfile.mkdtemp(dir=folder)
+        if self.store:
+            shutil.copytree(self.store, f"{at}/ledger-store")
+        how = {"input": self.data, "capture_output": True, "check": False, "cwd": at}
+        return at, subprocess.run(self.words, env={**os.environ, **environment}, **how)
+
+    def is_opened(self, at, end):
+        """Whether the store behind a run opens where it has to."""
+        if self.ends is None:
+            return True
+        closed = sum(line.startswith(b"closed ") for line in end.stdout.splitlines(True) if line.endswith(b"\n"))
+        if self.store is None:
+            may = {0: [1], 8: [0], 6: [0, 1]}[end.returncode]
+        else:
+            may = [closed, closed + 1] if end.returncode == 6 else [closed]
+        again = subprocess.run([self.words[0], "run"], input=b"", capture_output=True, check=False, cwd=at)
+        return again.stdout in [self.ends[number] for number in may if number < len(self.ends)]
+
+    def judged(self, at, end):
+        """What a run came to whose call for memory was refused: `passed`, `front`, `nothing`, `device`, or None where it is wrong."""
+        said = {0: b"", 8: b"no memory\n", 6: b"disk fault\n"}.get(end.returncode)
+        whole = end.returncode != 0 or end.stdout == self.text
+        if end.stderr != said or not whole or not self.text.startswith(end.stdout) or not self.is_opened(at, end):
+            return None
+        if end.returncode == 8:
+            return "front" if end.stdout else "nothing"
+        return {0: "passed", 6: "device"}[end.returncode]
+
+
+def tried(command, library, folder):
+    """Refuses each call for memory of a command in turn, and tells what came of it; gives how many runs were wrong."""
+    counted = f"{folder}/counted"
+    at, end = command.ran(folder, LD_PRELOAD=library, REFUSED="0", COUNTED=counted)
+    if command.judged(at, end) != "passed":
+        stop(f"{command.words[1]} without a refusal does something else")
+    calls, found = int(content(counted)), dict.fromkeys(["passed", "front", "nothing", "device", None], 0)
+    for number in range(1, calls + 1):
+        at, end = command.ran(folder, LD_PRELOAD=library, REFUSED=str(number), COUNTED=counted)
+        came = command.judged(at, end)
+        found[came] += 1
+        if came is None:
+            print(f"{command.words[1]}, call {number}: status {end.returncode}, {end.stderr!r}, {end.stdout[:80]!r}")
+        shutil.rmtree(at)
+    print(f"{command.words[1]}: {calls} calls for memory, each refused in turn; {found['front'] + found['nothing']} runs answer 8,"
+          f" {found['front']} of them behind some of the text, {found['device']} answer 6, {found['passed']} pass it over, and"
+          f" {found[None]} do otherwise")
+    return found[None]
+
+
+def commands(program, folder):
+    """The commands that are tried, with a store that `init` made."""
+    image, records = content(f"{TOP}/examples/accounts.image"), content(f"{TOP}/examples/accounts.records")
+    text = catchup(NETWORK, image + records)[0]
+    closed = [line.split()[1:3] for line in text.splitlines() if line.startswith("closed ")]
+    start = catchup(NETWORK, image)[0]
+    ends = [start.encode(), *(f"end {seq} {digest}\n".encode() for seq, digest in closed)]
+    made = f"{folder}/made"
+    os.mkdir(made)
+    subprocess.run([program, "init", "--network", NETWORK], input=image, check=True, cwd=made)
+    return [
+        Command(program, ["catchup", "--network", NETWORK], image + records, text.encode(), None, None),
+        Command(program, ["init", "--network", NETWORK], image, b"", None, [b"", ends[0]]),
+        Command(program, ["run"], records, text.encode(), f"{made}/ledger-store", ends),
+    ]
+
+
 def main():
-    program = sys.argv[1] if len(sys.argv) > 1 else built("ledger")
-    data = content(f"{TOP}/examples/accounts.slt")
-    text = catchup(NETWORK, data)[0].encode()
+    program = os.path.abspath(sys.argv[1]) if len(sys.argv) > 1 else built("ledger")
     with tempfile.TemporaryDirectory() as folder:
-        library, counted = compiled(folder), f"{folder}/counted"
-
-        def ran(number):
-            environment = {**os.environ, "LD_PRELOAD": library, "REFUSED": str(number), "COUNTED": counted}
-            words = [program, "catchup", "--network", NETWORK]
-            return subprocess.run(words, input=data, capture_output=True, env=environment, check=False)
-
-        whole = ran(0)
-        if (whole.returncode, whole.stdout, whole.stderr) != (0, text, b""):
-            stop("the run without a refusal prints another text")
-        calls = int(content(counted))
-        fronts, passed, wrong = 0, 0, 0
-        for number in range(1, calls + 1):
-            end = ran(number)
-            passes = (end.returncode, end.stdout, end.stderr) == (0, text, b"")
-            is_front = (end.returncode, end.stderr) == (8, b"no memory\n") and text.startswith(end.stdout)
-            passed += passes
-            fronts += is_front and end.stdout != b""
-            if not passes and not is_front:
-                print(f"call {number}: status {end.returncode}, {end.stderr!r}, {end.stdout[:80]!r}")
-                wrong += 1
-    print(f"{calls} calls for memory, each refused in turn")
-    print(f"{calls - passed - wrong} runs answer 8, {fronts} of them behind some of the text")
-    print(f"{passed} runs pass it over and answer 0 with all of the text, and {wrong} answer otherwise")
+        library = compiled(folder)
+        wrong = sum([tried(command, library, folder) for command in commands(program, folder)])
     sys.exit(1 if wrong else 0)
 
 

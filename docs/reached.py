@@ -1,7 +1,7 @@
 #!/usr/bin/env python3
 """Counts the definitions on which the statement of a contract rests: those in specs/ that it reaches by name.
 
-    docs/reached.py [CRATE.FILE.NAME]      run_outcome.Run.Ran where none is given
+    docs/reached.py [CRATE.FILE.NAME]      stored_outcome.Program.Ran where none is given
 
 A definition is a signature with its cases, a record or a type by cases. From the one that is named, each name in its text is looked up
 in its file and in what that file imports, and so on; definitions of the toolchain's library and the types of the code count as none. Prints
@@ -87,7 +87,7 @@ def reached(read, start):
 
 
 def main():
-    words = (sys.argv[1] if len(sys.argv) > 1 else "run_outcome.Run.Ran").split(".")
+    words = (sys.argv[1] if len(sys.argv) > 1 else "stored_outcome.Program.Ran").split(".")
     read = read_all()
     seen = reached(read, tuple(words))
     lines = {}

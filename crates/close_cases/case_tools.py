@@ -1,5 +1,7 @@
 """Images, records behind them, and cases: what the cases of accounts, in `run_cases.py`, and those of `asset_cases.py` are made with."""
 
+import re
+
 import ledger_model as model
 import set_cases as sets  # ledger_model puts its folder first
 from asset_model import line_rank
@@ -8,6 +10,7 @@ from ledger_model import (
     DEAD, EMPTY, ENTRY, HEADER, INIT, ITEM, META, NO_HASH, Bucket, Text, catchup, cut_image, key_of, ledger_of, many, marked, row, sha,
     u32, u64,
 )
+from store_model import FILES
 
 LUMEN, Account, Data, key, sent, var = sets.LUMEN, sets.Account, sets.Data, sets.key, sets.sent, sets.var
 
@@ -15,6 +18,10 @@ NETWORK = "Test SDF Network ; September 2015"
 # SHA-256 of four zero bytes
 NO_RESULTS = "df3f619804a92fdb4057192dc43dd748ea778adc52bc498ce80524c014b81119"
 
+# the files of a volume without bytes
+NO_FILES = (b"",) * len(FILES)
+
+# each a name, words, an input, what they come to (output, text on standard error, status), and a volume's files before and after
 CASES = []
 
 # ---- images
@@ -204,16 +211,49 @@ def upgrade(kind, value):
 # ---- cases
 
 
-def case(name, data, end, closes=None):
-    """A case. `end` is by hand: the last line of the output, or that on standard error where a number of its status stands in front;
-    `end LEDGER` alone leaves the hash to the model. `closes` is how many ledgers close."""
-    data = data.data if isinstance(data, Story) else data
-    out, err, status = catchup(NETWORK, data)
+def test_end(name, came, end, closes=None):
+    """Holds what a run came to to what is said by hand. `end` is the last line of the output, or that on standard error where a number
+    of its status stands in front; `end LEDGER` alone leaves the hash to the model. `closes` is how many ledgers close."""
+    out, err, status = came
     last = (out.splitlines() or [""])[-1]
     told = f"{status} {err.strip()}" if err else last.rsplit(" ", 1)[0] if last.startswith("end ") else last
     assert told == end, (name, told, end)
     assert closes is None or sum(line.startswith("closed ") for line in out.splitlines()) == closes, name
-    CASES.append((name, data, out, err, status))
+
+
+def case(name, data, end, closes=None):
+    """A case of `catchup`, with its end by hand (`test_end`)."""
+    data = data.data if isinstance(data, Story) else data
+    came = catchup(NETWORK, data)
+    test_end(name, came, end, closes)
+    CASES.append((name, ["catchup", "--network", NETWORK], data, came, NO_FILES, NO_FILES))
+
+
+def slug(name):
+    """The name of a case's file: its letters and digits, with a dash for each other stretch, and a number below 0 as `minus-N`."""
+    name = re.sub(r"(?<!\w)-(?=\d)", "minus ", name)
+    return "-".join("".join(letter if letter.isalnum() else " " for letter in name.replace("'", "").lower()).split())
+
+
+def spelled(words, data, came, before, after):
+    """The file of a case: a head of lines, the bytes that it tells, and the input."""
+    out, err, status = came
+    files = [(f"{when} {name}", file) for when, files in (("before", before), ("after", after)) for name, file in zip(FILES, files) if file]
+    parts = [("output", out.encode()), *files]
+    head = [f"word {word}" for word in words] + [f"status {status}"] + [f"error {line}" for line in err.splitlines()]
+    head += [f"{kind} {len(part)}" for kind, part in parts]
+    return "\n".join([*head, "", ""]).encode() + b"".join(part for _, part in parts) + data
+
+
+def write(path, data):
+    with open(path, "wb") as file:
+        file.write(data if isinstance(data, bytes) else data.encode())
+
+
+def write_names(folder, names):
+    """The list of the cases in a folder, and what the program prints beside it where each is as expected."""
+    write(f"{folder}/data/names", "".join(f"{name}\n" for name in names))
+    write(f"{folder}/stdout", "".join(f"{name}: as expected, also byte by byte\n" for name in names))
 
 
 A, B, C = (entry(Account(name, 100 * LUMEN)) for name in "abc")

@@ -1,19 +1,20 @@
 #!/usr/bin/env python3
-"""Writes cases of `catchup`, with what the program has to answer: of accounts and data, and of assets; the stored run of the program
-`ledger`; and the image and records in examples/. The cases whose names begin with `apart` came from elsewhere, and stay as they are.
+"""Writes cases of `catchup`, `init` and `run`, with what the program has to answer: of accounts and data, of assets, and of stores; the
+stored run of the program `ledger`; and the image and records in examples/. The cases whose names begin with `apart` came from elsewhere
+(`apart_cases.py`), and stay as they are.
 
-What is wanted comes from `ledger_model.py`, and each case says its end by hand as well, so that the model is held to it. Prints the name
-of each case. Python 3.9 or later and its standard library.
+What is wanted comes from `ledger_model.py` and `store_model.py`, and each case says its end by hand as well, so that the models are held
+to it. Prints the name of each case. Python 3.9 or later and its standard library.
 
-    run_cases.py [FOLDER]      FOLDER has cases from elsewhere, NAME/args, NAME/input.bin and NAME/expected_*: they are compared alone
+    run_cases.py [FOLDER]      FOLDER has cases from elsewhere, a folder each: they are compared alone
 """
 
 import os
-import re
 import sys
 
 from ledger_model import DEAD, GREATEST, HEADER, INIT, LIVE, NO_HASH, catchup, i32, marked, sha, u32, u64
 import set_cases as sets  # ledger_model puts its folder first
+from apart_cases import read_apart
 from asset_cases import PARTS as ASSET_PARTS
 from offer_cases import PARTS as OFFER_PARTS
 from path_bound_cases import PARTS as PATH_BOUND_PARTS
@@ -22,9 +23,13 @@ from pool_cases import PARTS as POOL_PARTS
 from pool_image_cases import PARTS as POOL_IMAGE_PARTS
 from revocation_cases import PARTS as REVOCATION_PARTS
 from share_line_cases import PARTS as SHARE_LINE_PARTS
+from store_cases import PARTS as STORE_PARTS
+from store_cases import files, input_of, kept, records_in, start_of
+from store_model import FILES, init, run
 from case_tools import (
     A_WITH_D, CASES, LUMEN, META_18, NETWORK, NO_RESULTS, A, Account, B, C, D, Data, Story, bucket, case, entry, header_of, image,
-    image_bytes, items, key, offer, pool, predicate, raw, sent, sponsored, upgrade, var, with_counts, with_liabilities,
+    image_bytes, items, key, offer, pool, predicate, raw, sent, slug, spelled, sponsored, upgrade, var, with_counts, with_liabilities,
+    write, write_names,
 )
 
 NOTHING = sets.NOTHING
@@ -395,27 +400,35 @@ def example():
 # ---- files
 
 
-def write(path, data):
-    with open(path, "wb") as file:
-        file.write(data if isinstance(data, bytes) else data.encode())
-
-
-def write_run(data, network, folder):
-    out, err, status = catchup(network, data)
+def write_run(story, folder):
+    """Writes the run of a program over a store that keeps the first record of a story: the others close ledgers."""
+    before, data = files(**kept(story, 1)), b"".join(map(marked, records_in(input_of(story))[1:]))
+    (out, err, status), _ = run(data, before)
     assert (err, status) == ("", 0)
+    os.makedirs(f"{folder}/data/ledger-store", exist_ok=True)
+    for name, file in zip(FILES, before):
+        if file:
+            write(f"{folder}/data/ledger-store/{name}", file)
     write(f"{folder}/stdin", data)
     write(f"{folder}/stdout", out)
-    write(f"{folder}/args", f"catchup\n--network\n{network}\n")
+    write(f"{folder}/args", "run\n")
+
+
+def came_to(words, data, before):
+    """What a command comes to by the model, and the files behind it."""
+    if words[0] == "catchup":
+        return catchup(words[2], data), before
+    return init(words[2], data, before) if words[0] == "init" else run(data, before)
 
 
 def compare(folder):
     """Compares the model with cases from elsewhere."""
     wrong = 0
     for name in sorted(os.listdir(folder)):
-        kinds = ("args", "input.bin", "expected_out", "expected_err", "expected_status")
-        words, data, out, err, status = (open(f"{folder}/{name}/{kind}", "rb").read() for kind in kinds)
-        got = catchup(words.decode().splitlines()[2], data)
-        if got != (out.decode(), err.decode(), int(status)):
+        words, data, came, before, after = read_apart(f"{folder}/{name}")
+        if words[0] not in ("catchup", "init", "run"):
+            print(f"{name}: passed by, since the model has no {words[0]}")
+        elif came_to(words, data, before) != (came, after):
             print(f"{name}: the model answers otherwise")
             wrong = 1
     sys.exit(wrong)
@@ -425,20 +438,8 @@ def compare(folder):
 PARTS = [
     ("", [forms, header_rules, file_rules, entry_rules, rules_at_once, bad_records, terms, upgrades, set_faults, faults_at_once, closes]),
     ("assets ", ASSET_PARTS), ("trades ", OFFER_PARTS), ("pools ", POOL_IMAGE_PARTS + SHARE_LINE_PARTS + POOL_PARTS + REVOCATION_PARTS),
-    ("paths ", PATH_PARTS + PATH_BOUND_PARTS),
+    ("paths ", PATH_PARTS + PATH_BOUND_PARTS), ("stores ", STORE_PARTS),
 ]
-
-
-def slug(name):
-    """The name of a case's file: its letters and digits, with a dash for each other stretch, and a number below 0 as `minus-N`."""
-    name = re.sub(r"(?<!\w)-(?=\d)", "minus ", name)
-    return "-".join("".join(letter if letter.isalnum() else " " for letter in name.replace("'", "").lower()).split())
-
-
-def spelled(words, data, out, err, status):
-    """The file of a case: a head of lines, what is to be written, and the input."""
-    head = [f"word {word}" for word in words] + [f"status {status}"] + [f"error {line}" for line in err.splitlines()]
-    return "\n".join([*head, f"output {len(out.encode())}", "", ""]).encode() + out.encode() + data
 
 
 def main():
@@ -450,16 +451,16 @@ def main():
         CASES.clear()
         for part in parts:
             part()
-        for name, data, out, err, status in CASES:
+        for name, *made in CASES:
             name = slug(prefix + name)
             assert name not in names, name
             names.append(name)
-            write(f"{folder}/{name}.case", spelled(["catchup", "--network", NETWORK], data, out, err, status))
+            write(f"{folder}/{name}.case", spelled(*made))
             print(name)
-    write(f"{folder}/names", "".join(f"{name}\n" for name in names))
-    write(f"{HERE}/stdout", "".join(f"{name}: as expected, also byte by byte\n" for name in names))
-    write_run(stored_run().data, NETWORK, f"{TOP}/crates/ledger")
-    write(f"{TOP}/examples/accounts.slt", example().data)
+    write_names(HERE, names)
+    write_run(stored_run(), f"{TOP}/crates/ledger")
+    write(f"{TOP}/examples/accounts.image", start_of(example()))
+    write(f"{TOP}/examples/accounts.records", input_of(example()))
     print(catchup(NETWORK, example().data)[0], end="")
 
 

@@ -1,13 +1,18 @@
 //! Runs the cases in a folder. `names` has their names, one a line, each of which says what the case shows;
-//! `NAME.case` has a head of lines, an empty line, what the program must write, and then its input. A line of the head
-//! is one of
+//! `NAME.case` has a head of lines, an empty line, and the bytes that the head tells. A line of the head is one of
 //!
 //! - `word WORD`, a word of the command line;
 //! - `status N`, the exit status that it must answer;
 //! - `error LINE`, a line that it must write to standard error;
-//! - `output N`, the number of bytes that it must write to standard output.
+//! - `output N`, the number of bytes that it must write to standard output;
+//! - `before FILE N`, the number of bytes that a file of the volume has when the program begins;
+//! - `after FILE N`, the number of bytes that it must have when the program has ended.
 //!
-//! Each is run twice: in pieces, and at one byte a read and a write. Prints a line for each case.
+//! FILE is `image0`, `image1`, `journal0` or `journal1`; a file without a line is empty. Behind the empty line stand
+//! the bytes of the last three kinds, in the order of their lines, and then the input.
+//!
+//! Each is run twice, over a volume of its own: in pieces, and at one byte a read and a write. Nothing may be pending
+//! on the volume behind it: a crash must leave the same files. Prints a line for each case.
 //!
 //! The folder is the program's one argument, or `data` where there is none.
 #![tactic(auto)]
@@ -17,9 +22,9 @@ ghost use Rattle.std.specs.Prelude.{◌≡◌, ◌<◌};
 mod case;
 
 use case::{Case, read_case};
-use outside::{MemSink, MemSource, Steps};
+use outside::{MemSink, MemSource, MemVolume, Steps, Volume};
 use replay::run_program;
-use std::alloc::Global;
+use std::alloc::{AllocError, Global};
 use std::marker::Brand;
 use std::rt::Files;
 use std::sync::ledger::{Blank, Ledger};
@@ -28,61 +33,110 @@ use std::{env, fs, io};
 /// The most bytes that a read or a write moves in the first run of a case.
 const PIECE: usize = 100;
 
-/// What differs first from what a case wants, if something does.
-fn compared(case: &Case, status: u8, out: &[u8], err: &[u8]) -> Option<&'static str> {
-    if status != case.status {
-        return Some("another status");
+/// What is said where a file of the volume differs, by its number.
+const OTHER_FILES: [&str; 4] = [
+    "another image0",
+    "another image1",
+    "another journal0",
+    "another journal1",
+];
+
+/// The streams and the volume of a run.
+#[derive(Drop)]
+struct Devices {
+    input: MemSource,
+    out: MemSink,
+    err: MemSink,
+    vol: MemVolume,
+}
+
+/// A volume with the files that a case begins with.
+fn laid_out(alloc: Global, case: &Case) -> MemVolume {
+    let mut vol = MemVolume::new(alloc);
+    for file in 0..4 {
+        let _ = vol.write_at(file, 0, case.before(file));
     }
-    if out != case.output.as_slice() {
-        return Some("other output");
-    }
-    if err != case.error.as_slice() {
-        return Some("other text on standard error");
+    let _ = vol.sync();
+    vol
+}
+
+/// The devices of a case, of which a read and a write move at most so many bytes.
+fn devices_of(alloc: Global, case: &Case, most: usize) -> Result<Devices, AllocError>
+    requires { 0 < most }
+{
+    let input = case.input.as_slice().to_vec(alloc)?;
+    Ok(Devices {
+        input: MemSource::new(input, most, Vec::new(alloc)),
+        out: MemSink::new(alloc, most, Vec::new(alloc)),
+        err: MemSink::new(alloc, most, Vec::new(alloc)),
+        vol: laid_out(alloc, case),
+    })
+}
+
+/// What differs first in the files of a volume from what a case wants, if something does.
+fn compared_files(case: &Case, vol: &MemVolume) -> Option<&'static str> {
+    for file in 0..4 {
+        if vol.bytes(file) != case.after(file) {
+            return Some(OTHER_FILES[file as usize]);
+        }
     }
     None
 }
 
+/// What differs first from what a case wants, if something does.
+fn compared(case: &Case, status: u8, devices: &Devices) -> Option<&'static str> {
+    if status != case.status {
+        return Some("another status");
+    }
+    if devices.out.bytes() != case.output.as_slice() {
+        return Some("other output");
+    }
+    if devices.err.bytes() != case.error.as_slice() {
+        return Some("other text on standard error");
+    }
+    compared_files(case, &devices.vol)
+}
+
 /// Runs the program, and counts the steps of its merges in a book of their own.
-fn run<L: Ledger>(
-    alloc: Global,
-    words: &[String],
-    input: &mut MemSource,
-    out: &mut MemSink,
-    err: &mut MemSink,
-    blank: Blank,
-) -> u8
+fn run<L: Ledger>(alloc: Global, words: &[String], devices: &mut Devices, blank: Blank) -> u8
     requires name { blank.name ≡ L.name }
     requires parts { blank.parts ≡ L.parts }
     requires some { 0 < L.parts }
 {
     let mut steps: Steps<L> = Steps::new(blank);
-    run_program(alloc, words, input, out, err, &mut steps)
+    let Devices {
+        input,
+        out,
+        err,
+        vol,
+    } = devices;
+    run_program(alloc, words, input, out, err, vol, &mut steps)
 }
 
-/// The status of the program over these words and streams.
-fn status_of(
-    alloc: Global,
-    words: &[String],
-    input: &mut MemSource,
-    out: &mut MemSink,
-    err: &mut MemSink,
-) -> u8 {
-    run::<Brand>(alloc, words, input, out, err, Blank::new(1))
+/// The status of the program over these words and devices.
+fn status_of(alloc: Global, words: &[String], devices: &mut Devices) -> u8 {
+    run::<Brand>(alloc, words, devices, Blank::new(1))
 }
 
 /// What differs first where a read and a write of a case move at most so many bytes, if something does.
-fn difference(alloc: Global, case: &Case, most: usize) -> io::Result<Option<&'static str>>
+fn difference(alloc: Global, case: &Case, most: usize) -> Result<Option<&'static str>, AllocError>
     requires { 0 < most }
 {
-    let mut input = MemSource::new(case.input.as_slice().to_vec(alloc)?, most, Vec::new(alloc));
-    let mut out = MemSink::new(alloc, most, Vec::new(alloc));
-    let mut err = MemSink::new(alloc, most, Vec::new(alloc));
-    let status = status_of(alloc, case.words.as_slice(), &mut input, &mut out, &mut err);
-    Ok(compared(case, status, out.bytes(), err.bytes()))
+    let mut devices = devices_of(alloc, case, most)?;
+    let status = status_of(alloc, case.words.as_slice(), &mut devices);
+    if let Some(difference) = compared(case, status, &devices) {
+        return Ok(Some(difference));
+    }
+    // a byte that no file is likely to have where something is pending
+    let crashed = devices.vol.crashed(0xa5)?;
+    match compared_files(case, &crashed) {
+        Some(_) => Ok(Some("something that isn't synced")),
+        None => Ok(None),
+    }
 }
 
 /// What a case shows.
-fn outcome(alloc: Global, case: &Case) -> io::Result<&'static str> {
+fn outcome(alloc: Global, case: &Case) -> Result<&'static str, AllocError> {
     if let Some(difference) = difference(alloc, case, PIECE)? {
         return Ok(difference);
     }
@@ -97,7 +151,7 @@ fn tried<R: Files + AllocGlobal>(rt: &R, folder: &str, name: &str) -> io::Result
     let path = format!(in rt.alloc(); "{folder}/{name}.case")?;
     let text = fs::read(rt, path.as_str())?;
     match read_case(rt.alloc(), text.as_slice())? {
-        Some(case) => outcome(rt.alloc(), &case),
+        Some(case) => Ok(outcome(rt.alloc(), &case)?),
         None => Ok("no case"),
     }
 }

@@ -13,3 +13,4 @@ pub mod Rules
 pub mod Judging
 pub mod Running
 pub mod Starting
+pub mod Contents

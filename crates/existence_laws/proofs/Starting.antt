@@ -45,7 +45,7 @@ header_spelled : (bytes : List ℕ) (h : LedgerHeader) → IsBytes bytes → hea
 unfolding header_in
 header_spelled bytes h text is = read_spelled bytes h (ledger_header.read (start_of bytes)) text refl is
 
-judged_state : (network : Hash) (image : StartImage) (s : ClosingState) → IsBytes image.header
+pub judged_state : (network : Hash) (image : StartImage) (s : ClosingState) → IsBytes image.header
     → IsJudged network image (Ok s) → IsClosingState s
 judged_state network image s text (h, levels, m, has, kept, is) =
     let whole : IsWhole image h levels m = record {
@@ -59,7 +59,7 @@ judged_state network image s text (h, levels, m, has, kept, is) =
 
 -- ---- an input
 
-header_bytes : (image : StartImage) → start_image.sized image → IsBytes image.header
+pub header_bytes : (image : StartImage) → start_image.sized image → IsBytes image.header
 unfolding start_image mark
 header_bytes image sized = sized.1.0
 
@@ -70,7 +70,7 @@ bytes_of_files (suc n) left [] within sized = absurd within
 bytes_of_files (suc n) left (v ∷ vs) within sized =
     All-cons IsBytes v vs sized.0 (bytes_of_files n (left - length v) vs within.1 sized.1)
 
-files_bytes : (image : StartImage) → start_image.within image → start_image.sized image → All IsBytes image.files
+pub files_bytes : (image : StartImage) → start_image.within image → start_image.sized image → All IsBytes image.files
 unfolding start_image
 files_bytes image within sized = bytes_of_files 22 536870912 image.files within.1.1 sized.1.1
 

@@ -1,5 +1,5 @@
--- That a close, an image and an input have an answer.
-use Rattle.std.specs.Prelude.{ℕ, ◌≤◌, List, length, All, Result}
+-- That a close, an image, an input and the content of a volume have an answer.
+use Rattle.std.specs.Prelude.{ℕ, ◌≤◌, List, length, All, Result, ◌⊎◌}
 use Rattle.ledger_types.specs.declared.ids.Hash.{Hash}
 use Rattle.xdr_core.specs.Format.{IsBytes}
 use Rattle.xdr_core.specs.Place.{Place}
@@ -10,6 +10,9 @@ use Rattle.close_rules.specs.State.{ClosingState, IsClosingState}
 use Rattle.close_rules.specs.Close.{PreparedClose, IsClose}
 use Rattle.close_rules.specs.Images.{IsJudged}
 use Rattle.run_outcome.specs.Outcome.{Outcome, max_record_len, IsRun, IsOutcome}
+use Rattle.outside.specs.Disk.{Image}
+use Rattle.image_store.specs.Opening.{HoldsNothing}
+use Rattle.stored_outcome.specs.Opening.{OpensTo, IsBadStore}
 
 -- bytes, no more than a record may have, do something to each state from which a ledger closes
 abbrev pub EachClose : Type 0
@@ -28,3 +31,14 @@ EachImage = (network : Hash) (image : StartImage) → All IsBytes image.files
 -- an input has an outcome on each network
 abbrev pub EachOutcome : Type 0
 EachOutcome = (passphrase input : List ℕ) → IsBytes input → (o : Outcome) × IsOutcome passphrase input o
+
+-- a content opens to a state from which a ledger closes, or has no store, or has a fault
+abbrev pub Opened : Image → Type 0
+Opened c =
+    ((s : ClosingState) × IsClosingState s × OpensTo c s)
+    ⊎ HoldsNothing c
+    ⊎ ((file : ℕ) × (place : ℕ) × IsBadStore c file place)
+
+-- so does each content of files that are bytes
+abbrev pub EachContent : Type 0
+EachContent = (c : Image) → ((file : ℕ) → IsBytes (c file)) → Opened c

@@ -1,6 +1,6 @@
 ghost use Rattle.std.specs.Prelude.{◌≡◌, ◌<◌, Some};
 
-use outside::{Failed, MemSink, MemSource, Sink, Steps, read_all};
+use outside::{Failed, MemSink, MemSource, MemVolume, Sink, Steps, read_all};
 use replay::{end_without_memory, run_program};
 use std::alloc::{AllocError, Global};
 use std::marker::Brand;
@@ -57,7 +57,16 @@ fn run<O: Sink, L: Ledger>(
 {
     let words = words_of(alloc, words)?;
     let mut steps: Steps<L> = Steps::new(blank);
-    Ok(run_program(alloc, words.as_slice(), input, out, err, &mut steps))
+    let mut vol = MemVolume::new(alloc);
+    Ok(run_program(
+        alloc,
+        words.as_slice(),
+        input,
+        out,
+        err,
+        &mut vol,
+        &mut steps,
+    ))
 }
 
 /// The status of the program over these words and streams.
@@ -181,7 +190,7 @@ fn ends_without_memory_before_anything_is_read(rt: HostRuntime) {
 
 // ---- a run that closes two ledgers
 
-/// The input of the stored run, the file `stdin`: an image of 664 bytes, and records that end at 756 and 952.
+/// An image of 664 bytes, and two records behind it, which end at 756 and 952.
 const INPUT: &str =
     "534c493180000144000000126db7d803e74f1ffa7d8f5adc0bf95b3e15bf4c8373fffadf546227cc6c6742cb000000000000000000000000\
     000000000000000000000000000000000000000000000000000003e80000000000000000df3f619804a92fdb4057192dc43dd748ea778adc\
@@ -234,11 +243,11 @@ impl Sink for Filling {
     }
 }
 
-/// How the stored run ends: its status, how much of its text is written, and the line that is told.
+/// How a run of it ends: its status, how much of its text is written, and the line that is told.
 type End = (u8, usize, &'static str);
 
-/// The status of the stored run over these streams, and whether the line that is told is that of its end.
-fn stored_status<O: Sink>(
+/// The status of `catchup` over it and these streams, and whether the line that is told is that of its end.
+fn two_closes<O: Sink>(
     alloc: Global,
     reads: Calls,
     out: &mut O,
@@ -256,28 +265,28 @@ fn stored_status<O: Sink>(
     Ok((status, err.bytes() == line.as_bytes()))
 }
 
-/// Whether what was written is the front of the stored text that has so many bytes.
+/// Whether what was written is the front of its text that has so many bytes.
 fn is_front(written: &[u8], count: usize) -> bool {
     written.len() == count && TEXT.as_bytes().starts_with(written)
 }
 
-/// Whether the stored run ends so, where calls fail so.
-fn stored_ends(alloc: Global, reads: Calls, writes: Calls, end: End) -> Result<bool, AllocError>
+/// Whether `catchup` over it ends so, where calls fail so.
+fn two_closes_end(alloc: Global, reads: Calls, writes: Calls, end: End) -> Result<bool, AllocError>
     requires { 0 < reads.most }
 {
     let mut out = sink(alloc, writes)?;
-    let told = stored_status(alloc, reads, &mut out, end.2)?;
+    let told = two_closes(alloc, reads, &mut out, end.2)?;
     Ok(told == (end.0, true) && is_front(out.bytes(), end.1))
 }
 
-/// Whether the stored run ends so, over a sink that takes so many writes.
+/// Whether `catchup` over it ends so, with a sink that takes so many writes.
 fn filling_ends(alloc: Global, left: usize, end: End) -> Result<bool, AllocError> {
     let mut out = Filling {
         bytes: Vec::new(alloc),
         left,
         faults: 0,
     };
-    let told = stored_status(alloc, pieces_of(100), &mut out, end.2)?;
+    let told = two_closes(alloc, pieces_of(100), &mut out, end.2)?;
     Ok(told == (end.0, true) && is_front(out.bytes.as_slice(), end.1))
 }
 
@@ -291,7 +300,7 @@ fn a_read_that_fails_leaves_the_lines_of_the_records_before(rt: HostRuntime) {
             11 => (4, 230, "read fault\n"),
             _ => (0, 301, ""),
         };
-        assert!(rt; stored_ends(rt.alloc(), reads, pieces_of(100), end) == Ok(true));
+        assert!(rt; two_closes_end(rt.alloc(), reads, pieces_of(100), end) == Ok(true));
     }
 }
 
@@ -300,7 +309,7 @@ fn a_write_that_fails_leaves_a_front_of_the_text(rt: HostRuntime) {
     for (failing, written) in [(1, 0), (2, 78), (3, 178), (4, 230)] {
         let writes = Calls { most: 100, failing };
         let end = (5, written, "write fault\n");
-        assert!(rt; stored_ends(rt.alloc(), pieces_of(100), writes, end) == Ok(true));
+        assert!(rt; two_closes_end(rt.alloc(), pieces_of(100), writes, end) == Ok(true));
     }
 }
 

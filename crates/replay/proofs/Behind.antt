@@ -1,20 +1,17 @@
 -- The states behind the first records of a text, and acknowledged ledgers.
-use Rattle.std.proofs.Common.{◌≡◌, ℕ, ◌+◌, ◌≤◌, ◌<◌, List, [], ◌∷◌, ◌++◌, length, Ok, Err, refl, sym, ap, subst, ◌∙◌}
-use Rattle.std.proofs.Common.{append_assoc, append-nil, arith, ◌⊎◌, inl, inr}
-use Rattle.std.specs.Prelude.{All}
+use Rattle.std.proofs.Common.{◌≡◌, ℕ, ◌+◌, ◌≤◌, ◌<◌, List, [], ◌∷◌, ◌++◌, length, Ok, refl, sym, ap, subst, ◌∙◌}
+use Rattle.std.proofs.Common.{append_assoc, append-nil, arith}
 use Rattle.std.proofs.lemmas.List.{length-append}
 use Rattle.std.proofs.lemmas.List.Elements.{All-cons, All-head, All-tail}
-use Rattle.xdr_core.specs.Place.{Place, start_of}
-use Rattle.close_rules.specs.declared.close_fault.CloseFault.{CloseFault}
 use Rattle.close_rules.specs.State.{ClosingState}
 use Rattle.close_rules.specs.Close.{PreparedClose, IsClose}
 use Rattle.run_outcome.specs.Outcome.{framed, frames, max_record_len, lines_of, AreClosed, IsFront}
 use Rattle.outside.specs.Disk.{Image}
 use Rattle.stored_outcome.specs.Opening.{OpensTo}
-use Rattle.stored_outcome.specs.Behind.{IsBehind, OpensBehind, OpensWithin, AreAcknowledged}
+use Rattle.stored_outcome.specs.Behind.{IsBehind, OpensBehind, AreAcknowledged}
 use Rattle.replay.proofs.Lines.{lines_some}
 use Rattle.replay.proofs.Fronts.{nothing_front, whole_front, front_later, front_short, front_apart}
-use Rattle.replay.proofs.Runs.{same_close, not_both, framed_apart, AreShort}
+use Rattle.replay.proofs.Runs.{same_close, framed_apart, AreShort}
 
 -- ---- behind records
 
@@ -101,7 +98,7 @@ ClosesNothing s text = (bytes more : List ℕ) (c : PreparedClose) → length by
     → text ≡ framed bytes ++ more
     → IsClose s bytes (Ok c) → ⊥
 
-nothing_by : (s : ClosingState) (text : List ℕ) (k : ℕ) (lines : List ℕ) (records : List (List ℕ)) (rest : List ℕ)
+pub nothing_by : (s : ClosingState) (text : List ℕ) (k : ℕ) (lines : List ℕ) (records : List (List ℕ)) (rest : List ℕ)
     (state : ClosingState) → ClosesNothing s text → text ≡ frames records ++ rest → AreShort records
     → AreClosed s records lines state → length records ≡ k + 1 → ⊥
 nothing_by s text k lines [] rest state none cut short closed count = absurd (omega (arith, count))
@@ -123,7 +120,8 @@ behind_some s text k lines t b = some_by s text k lines b.ahead.records b.ahead.
 -- ---- acknowledged ledgers
 
 -- none, since none closes
-pub ack_stopped : (s : ClosingState) (text front : List ℕ) → ClosesNothing s text → AreAcknowledged s text front 0
+abbrev pub ack_stopped : (s : ClosingState) (text front : List ℕ) → ClosesNothing s text
+    → AreAcknowledged s text front 0
 ack_stopped s text front none = record {
   lines = [];
   state = s;
@@ -134,7 +132,7 @@ ack_stopped s text front none = record {
 }
 
 -- none, since nothing was written
-pub ack_empty : (s : ClosingState) (text front : List ℕ) → front ≡ [] → AreAcknowledged s text front 0
+abbrev pub ack_empty : (s : ClosingState) (text front : List ℕ) → front ≡ [] → AreAcknowledged s text front 0
 ack_empty s text front empty = record {
   lines = [];
   state = s;
@@ -149,7 +147,7 @@ ack_empty s text front empty = record {
 }
 
 -- none, since the first ledger's lines weren't all written
-pub ack_partial : (s : ClosingState) (bytes : List ℕ) (c : PreparedClose) (others front : List ℕ)
+abbrev pub ack_partial : (s : ClosingState) (bytes : List ℕ) (c : PreparedClose) (others front : List ℕ)
     → length bytes ≤ max_record_len → IsClose s bytes (Ok c) → length front < length (lines_of c)
     → AreAcknowledged s (framed bytes ++ others) front 0
 ack_partial s bytes c others front fits closes less = record {
@@ -162,7 +160,7 @@ ack_partial s bytes c others front fits closes less = record {
 }
 
 -- the first one
-pub ack_one : (s : ClosingState) (bytes : List ℕ) (c : PreparedClose) (others front : List ℕ)
+abbrev pub ack_one : (s : ClosingState) (bytes : List ℕ) (c : PreparedClose) (others front : List ℕ)
     → length bytes ≤ max_record_len
     → IsClose s bytes (Ok c) → front ≡ lines_of c → AreAcknowledged s (framed bytes ++ others) front 1
 ack_one s bytes c others front fits closes same = record {
@@ -183,7 +181,7 @@ ack_one s bytes c others front fits closes same = record {
 }
 
 -- one more in front
-pub ack_more : (s : ClosingState) (bytes : List ℕ) (c : PreparedClose) (others front : List ℕ) (count : ℕ)
+abbrev pub ack_more : (s : ClosingState) (bytes : List ℕ) (c : PreparedClose) (others front : List ℕ) (count : ℕ)
     → length bytes ≤ max_record_len → IsClose s bytes (Ok c) → AreAcknowledged c.state others front count
     → AreAcknowledged s (framed bytes ++ others) (lines_of c ++ front) (count + 1)
 ack_more s bytes c others front count fits closes a = record {

@@ -1,5 +1,5 @@
 -- What is kept comes to a state: one record more, and a new image.
-use Rattle.std.proofs.Common.{◌≡◌, ℕ, List, [], ◌∷◌, ◌++◌, Ok, refl, sym, ap, subst, ◌∙◌, append_assoc, append-nil}
+use Rattle.std.proofs.Common.{◌≡◌, ℕ, List, [], ◌∷◌, ◌++◌, Ok, refl, sym, ap, subst, ◌∙◌}
 use Rattle.std.proofs.Common.{◌⊎◌, inl, inr}
 use Rattle.ledger_types.specs.declared.ids.Hash.{Hash}
 use Rattle.xdr_header.specs.declared.image.StartImage.{StartImage}
@@ -8,7 +8,6 @@ use Rattle.close_rules.specs.Close.{PreparedClose, IsClose}
 use Rattle.close_rules.specs.Images.{IsJudged}
 use Rattle.run_outcome.specs.Outcome.{AreClosed, lines_of}
 use Rattle.outside.specs.Disk.{Image, Disk, Runs}
-use Rattle.outside.specs.Disk.{IsSafe}
 use Rattle.gate_journal.proofs.Moments.{widened_from}
 use Rattle.image_store.specs.State.{StoreState}
 use Rattle.image_store.specs.Opening.{Kept, grown, rolled, Holds}

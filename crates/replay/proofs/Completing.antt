@@ -10,23 +10,27 @@ use Rattle.close_rules.specs.State.{ClosingState}
 use Rattle.run_outcome.specs.declared.status.Status.{Status}
 use Rattle.run_outcome.specs.declared.status.Status.TheVariants as status
 use Rattle.run_outcome.specs.Statuses.{IsCutShort}
-use Rattle.run_outcome.specs.Command.{passphrase_of}
 use Rattle.run_outcome.specs.Lines.{end_line}
 use Rattle.run_outcome.specs.Outcome.{Outcome, frames, IsOutcomeOf, IsOutcome}
-use Rattle.run_outcome.specs.Run.{AnsweredTo, DidCatchUp, RanAs, Ran}
+use Rattle.run_outcome.specs.Run.{AnsweredTo, DidCatchUp}
+use Rattle.run_streams.specs.SeenVolume.{SeenVolume}
+use Rattle.stored_outcome.specs.Command.{Command, CatchUp, command_of}
+use Rattle.stored_outcome.specs.Program.{RanAs, Ran}
 use Rattle.replay.specs.Completeness.{NoneFailed, Catchups, Runs, IsComplete, AreAccepted, IsDone, IsAnswered}
 use Rattle.replay.proofs.OneOutcome.{outcomes_are_one}
 
 -- the run that the words ask for
-catchup_of : (words : List (List ℕ)) (passphrase : List ℕ) (input out err : Seen) (end : Status)
-    → Ran words input out err end → passphrase_of words ≡ Some passphrase → DidCatchUp passphrase input out err end
-catchup_of words passphrase input out err end ran command =
-    subst (λ (c : Option (List ℕ)). RanAs c input out err end) command ran
+catchup_of : (words : List (List ℕ)) (passphrase : List ℕ) (input out err : Seen) (vol : SeenVolume) (end : Status)
+    → Ran words input out err vol end → command_of words ≡ Some (CatchUp passphrase)
+    → DidCatchUp passphrase input out err end
+catchup_of words passphrase input out err vol end ran command =
+    (subst (λ (c : Option Command). RanAs c input out err vol end) command ran).0
 
 -- what is claimed of each run of `catchup` is of those that words ask for
-runs_of : (P : (passphrase input : List ℕ) → (Seen → Seen → Seen → Status → Type 0)) → Catchups P → Runs P
-runs_of P h words passphrase bytes input out err end ran command told =
-    h passphrase bytes input out err end (catchup_of words passphrase input out err end ran command) told
+runs_of : (vol : SeenVolume) (P : (passphrase input : List ℕ) → (Seen → Seen → Seen → Status → Type 0)) → Catchups P
+    → Runs vol P
+runs_of vol P h words passphrase bytes input out err end ran command told =
+    h passphrase bytes input out err end (catchup_of words passphrase input out err vol end ran command) told
 
 answered_to : (passphrase bytes : List ℕ) (input out err : Seen) (end : Status)
     → DidCatchUp passphrase input out err end → input.before ≡ Some bytes → AnsweredTo passphrase bytes out end
@@ -59,18 +63,19 @@ failing passphrase input out err (status.BadImage rule) did short = absurd short
 answered_own : (passphrase bytes : List ℕ) (input out err : Seen) (end : Status) (o : Outcome)
     → DidCatchUp passphrase input out err end → AnsweredTo passphrase bytes out end → IsOutcome passphrase bytes o
     → ((end ≡ o.status) × Received out o.text) ⊎ Failing input out err end
-answered_own passphrase bytes input out err end o did (inl (x, is, e, h)) y =
+answered_own passphrase bytes input out err end o did (text, h, inl (x, is, e, are)) y =
     let same = outcomes_are_one passphrase bytes x o is y in
-    inl (subst (λ (z : Outcome). (end ≡ z.status) × Received out z.text) same (e, h))
-answered_own passphrase bytes input out err end o did (inr (short, front, f, h)) y =
+    inl (subst (λ (z : Outcome). (end ≡ z.status) × Received out z.text) same
+    (e, subst (Received out) are h))
+answered_own passphrase bytes input out err end o did (text, h, inr (short, f)) y =
     inr (failing passphrase input out err end did short)
 
 pub catchups_answered : Catchups IsAnswered
 catchups_answered passphrase bytes input out err end did told o is =
     answered_own passphrase bytes input out err end o did (answered_to passphrase bytes input out err end did told) is
 
-pub runs_answered : Runs IsAnswered
-runs_answered = runs_of IsAnswered catchups_answered
+pub runs_answered : (vol : SeenVolume) → Runs vol IsAnswered
+runs_answered vol = runs_of vol IsAnswered catchups_answered
 
 -- ---- where nothing failed
 
@@ -84,16 +89,17 @@ only_memory input out err end none (inr (inr e)) = e
 complete : (passphrase bytes : List ℕ) (input out err : Seen) (end : Status) → DidCatchUp passphrase input out err end
     → NoneFailed input out err → AnsweredTo passphrase bytes out end
     → ((o : Outcome) × IsOutcome passphrase bytes o × (end ≡ o.status) × Received out o.text) ⊎ (end ≡ status.NoMemory)
-complete passphrase bytes input out err end did none (inl h) = inl h
-complete passphrase bytes input out err end did none (inr (short, front, f, h)) =
+complete passphrase bytes input out err end did none (text, h, inl (o, is, e, are)) =
+    inl (o, is, e, subst (Received out) are h)
+complete passphrase bytes input out err end did none (text, h, inr (short, f)) =
     inr (only_memory input out err end none (failing passphrase input out err end did short))
 
 pub catchups_complete : Catchups IsComplete
 catchups_complete passphrase bytes input out err end did told none =
     complete passphrase bytes input out err end did none (answered_to passphrase bytes input out err end did told)
 
-pub runs_complete : Runs IsComplete
-runs_complete = runs_of IsComplete catchups_complete
+pub runs_complete : (vol : SeenVolume) → Runs vol IsComplete
+runs_complete vol = runs_of vol IsComplete catchups_complete
 
 -- ---- where all records are accepted
 
@@ -130,5 +136,5 @@ catchups_done passphrase bytes input out err end did told lines now a none =
     (catchups_answered passphrase bytes input out err end did told
     (record { status = status.Done; text = lines ++ end_line now.header }) (accepted passphrase bytes lines now a))
 
-pub runs_done : Runs IsDone
-runs_done = runs_of IsDone catchups_done
+pub runs_done : (vol : SeenVolume) → Runs vol IsDone
+runs_done vol = runs_of vol IsDone catchups_done

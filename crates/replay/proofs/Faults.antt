@@ -1,6 +1,5 @@
 -- What a fault of a store is to a run.
-use Rattle.std.proofs.Common.{◌≡◌, ℕ, Bool, true, false, Result, Ok, Err, refl, sym, ◌∙◌}
-use Rattle.outside.specs.Streams.{Rose}
+use Rattle.std.proofs.Common.{◌≡◌, ℕ, Bool, true, false, Err, refl}
 use Rattle.image_store.specs.Calls.{IsRollFault}
 use Rattle.gate_journal.specs.declared.fault.StoreFault.{StoreFault}
 use Rattle.gate_journal.specs.declared.fault.StoreFault.TheVariants as fault

@@ -1,6 +1,6 @@
 -- Fronts of texts.
 use Rattle.std.proofs.Common.{ℕ, ◌+◌, List, [], ◌++◌, length, refl, sym, ap, ◌∙◌, arith}
-use Rattle.std.proofs.Common.{◌≡◌, ◌≤◌, ◌<◌, ◌-◌, inl, inr, ◌⊎◌, take, drop, subst, leb, true, false}
+use Rattle.std.proofs.Common.{◌≡◌, ◌≤◌, ◌<◌, ◌-◌, inl, inr, ◌⊎◌, take, drop}
 use Rattle.std.proofs.lemmas.Bool.Decides.{leb_tells}
 use Rattle.std.proofs.lemmas.List.{length-append, take-append-le, length-take-le}
 use Rattle.xdr_core.proofs.LeafLaws.{drop_front}

@@ -1,5 +1,5 @@
 -- What the parts of `init` come to, and what a run of it leaves.
-use Rattle.std.proofs.Common.{◌≡◌, ◌≢◌, ℕ, ◌+◌, ◌<◌, List, [], ◌++◌, length, Option, Some, None, IfSome}
+use Rattle.std.proofs.Common.{◌≡◌, ◌≢◌, ℕ, ◌<◌, List, [], ◌++◌, length, Option, Some, None, IfSome}
 use Rattle.std.proofs.Common.{Ok, Err, refl, sym, ap, subst, ◌∙◌, append_assoc, append-nil, arith, ◌⊎◌, inl, inr}
 use Rattle.std.specs.Io.KnownBytes.{Consumes}
 use Rattle.std.proofs.KnownBytes.{Consumes-trans}
@@ -26,7 +26,8 @@ use Rattle.run_outcome.specs.declared.status.Status.{Status}
 use Rattle.run_outcome.specs.declared.status.Status.TheVariants as status
 use Rattle.run_outcome.specs.Run.{IsTold}
 use Rattle.stored_outcome.specs.Opening.{OpensTo, OpensOn, IsSound}
-use Rattle.stored_outcome.specs.Init.{IsBadInput, IsBadImage, MomentsOfInit, Asked, Stored, IsInitEnd, Made, DidInit}
+use Rattle.stored_outcome.specs.Init.{IsBadInput, IsBadImage, MomentsOfInit, Asked, Stored, IsInitEnd, InitLeft}
+use Rattle.stored_outcome.specs.Init.{DidInit}
 use Rattle.replay.specs.Starting.{Begins, Cut, IsFaulty, IsUncut, IsJudgedSo}
 use Rattle.replay.specs.Telling.{IsToldOrRefused, IsToldSo}
 use Rattle.replay.specs.StoredRuns.{status_of}
@@ -165,8 +166,10 @@ moment_of network start before c only (inr (d, may, (inr made))) = inr (d, may, 
 pub moments_of : (network : Hash) (start : StartImage) (vol : SeenVolume)
     → ((x : Image) → vol.before.left_since vol.before.moment x → vol.before.may_leave x)
     → Runs (IsCreated network start) vol.before vol.now → MomentsOfInit network start vol
-moments_of network start vol only runs c left =
-    moment_of network start vol.before c only (runs.since vol.before.moment c (omega arith) left)
+moments_of network start vol only runs = (
+  runs.later,
+  λ c left. moment_of network start vol.before c only (runs.since vol.before.moment c (omega arith) left),
+)
 
 -- a store stays as it is, and so does whatever a crash may leave of it
 opens_still : (network of : Hash) (start : StartImage) (d c : Image) → OpensOn of d → IsCreated network start d c
@@ -248,7 +251,7 @@ same_rule rule other e = cc
 
 module _ (network : Hash) (input : Seen) (vol : SeenVolume) where
   -- the volume isn't asked
-  no_memory : vol.same → Made network input vol status.NoMemory
+  no_memory : vol.same → InitLeft network input vol status.NoMemory
   no_memory same = record {
     left = inl same;
     done = λ e. absurd cc;
@@ -261,7 +264,7 @@ module _ (network : Hash) (input : Seen) (vol : SeenVolume) where
     is_end = tt;
   }
 
-  read_failed : vol.same → Failed input → Made network input vol status.ReadFault
+  read_failed : vol.same → Failed input → InitLeft network input vol status.ReadFault
   read_failed same failed = record {
     left = inl same;
     done = λ e. absurd cc;
@@ -275,7 +278,7 @@ module _ (network : Hash) (input : Seen) (vol : SeenVolume) where
   }
 
   bad_input : vol.same → (at : ℕ) → IfSome input.before (λ bytes. IsBadInput bytes at)
-      → Made network input vol (status.BadInput at)
+      → InitLeft network input vol (status.BadInput at)
   bad_input same at bad = record {
     left = inl same;
     done = λ e. absurd cc;
@@ -292,7 +295,7 @@ module _ (network : Hash) (input : Seen) (vol : SeenVolume) where
   }
 
   bad_image : vol.same → (rule : ImageRule) → IfSome input.before (λ bytes. IsBadImage network bytes rule)
-      → Made network input vol (status.BadImage rule)
+      → InitLeft network input vol (status.BadImage rule)
   bad_image same rule bad = record {
     left = inl same;
     done = λ e. absurd cc;
@@ -310,7 +313,7 @@ module _ (network : Hash) (input : Seen) (vol : SeenVolume) where
   }
 
   -- ends before the image is judged
-  pub unread_made : vol.same → (end : Status) → IsUnread input end → Made network input vol end
+  pub unread_made : vol.same → (end : Status) → IsUnread input end → InitLeft network input vol end
   unread_made same (status.BadInput at) h = bad_input same at h
   unread_made same status.ReadFault h = read_failed same h
   unread_made same status.NoMemory h = no_memory same
@@ -335,7 +338,7 @@ module _ (network : Hash) (input : Seen) (vol : SeenVolume) where
       (image, i.are, judged))
 
   unjudged_made : vol.same → (image : StartImage) (end : Status) → IsInput image input
-      → IsJudgedSo network image (Err end) → Made network input vol end
+      → IsJudgedSo network image (Err end) → InitLeft network input vol end
   unjudged_made same image (status.BadImage rule) i h = bad_image same rule (broken image rule i h)
   unjudged_made same image status.NoMemory i h = no_memory same
   unjudged_made same image (status.BadInput at) i h = absurd cc
@@ -365,7 +368,7 @@ module _ (network : Hash) (input : Seen) (vol : SeenVolume) where
   storing_end status.Missing h = absurd h
 
   stored_made : (image : StartImage) (end : Status) → IsInput image input → IsLedgers network image
-      → Storing network image vol end → Made network input vol end
+      → Storing network image vol end → InitLeft network input vol end
   stored_made image end i ledgers stores =
       let asked : Asked network input vol = record {
         given = i.given;
@@ -390,7 +393,7 @@ module _ (network : Hash) (input : Seen) (vol : SeenVolume) where
       }
 
   -- the line isn't told
-  as_write : (end : Status) → Made network input vol end → Made network input vol status.WriteFault
+  as_write : (end : Status) → InitLeft network input vol end → InitLeft network input vol status.WriteFault
   as_write end m = record {
     left = m.left;
     done = λ e. absurd cc;
@@ -405,7 +408,7 @@ module _ (network : Hash) (input : Seen) (vol : SeenVolume) where
 
 -- the image is kept, where it is judged to be that of a ledger
 pub kept_made : (network : Hash) (input : Seen) (vol : SeenVolume) (image : StartImage) (end : Status)
-    → IsInput image input → Keeps network image vol end → Made network input vol end
+    → IsInput image input → Keeps network image vol end → InitLeft network input vol end
 kept_made network input vol image end i (inl (same, judged)) = unjudged_made network input vol same image end i judged
 kept_made network input vol image end i (inr (ledgers, stores)) =
     stored_made network input vol image end i ledgers stores
@@ -425,27 +428,27 @@ unread_no_write input end h e = subst (IsUnread input) e h
 -- ---- a run with its line on standard error
 
 module _ (passphrase : List ℕ) (input err : Seen) (vol : SeenVolume) where
-  told_as : (end after : Status) → Made (network_id_of passphrase) input vol end → end ≢ status.WriteFault
+  told_as : (end after : Status) → InitLeft (network_id_of passphrase) input vol end → end ≢ status.WriteFault
       → IsTold end err after → DidInit passphrase input err vol after
   told_as end after m no_write (inl (e, h)) = subst (DidInit passphrase input err vol) (sym e) (record {
-    made = m;
+    left = m;
     write_fault = λ w. absurd (no_write w);
     told = inl h;
   })
   told_as end after m no_write (inr (e, failed)) = subst (DidInit passphrase input err vol) (sym e) (record {
-    made = as_write (network_id_of passphrase) input vol end m;
+    left = as_write (network_id_of passphrase) input vol end m;
     write_fault = λ w. failed;
     told = inr (refl, failed);
   })
 
   -- memory may be refused for the line
-  told_or : (end after : Status) → Made (network_id_of passphrase) input vol end → end ≢ status.WriteFault → vol.same
-      → IsToldOrRefused end err after → DidInit passphrase input err vol after
+  told_or : (end after : Status) → InitLeft (network_id_of passphrase) input vol end → end ≢ status.WriteFault
+      → vol.same → IsToldOrRefused end err after → DidInit passphrase input err vol after
   told_or end after m no_write same (inl told) = told_as end after m no_write told
   told_or end after m no_write same (inr told) =
       told_as status.NoMemory after (no_memory (network_id_of passphrase) input vol same) (λ e. cc) told
 
-  pub did_init : (end after : Status) → Made (network_id_of passphrase) input vol end → end ≢ status.WriteFault
+  pub did_init : (end after : Status) → InitLeft (network_id_of passphrase) input vol end → end ≢ status.WriteFault
       → IsToldSo end err after → DidInit passphrase input err vol after
   did_init (status.BadInput at) after m no_write told =
       told_or (status.BadInput at) after m no_write (m.bad_input at refl).0 told

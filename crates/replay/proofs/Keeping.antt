@@ -1,17 +1,18 @@
 -- What a run leaves of the volume upon which it keeps its records.
 use Rattle.std.proofs.Common.{◌≡◌, ℕ, ◌+◌, ◌≤◌, ◌<◌, List, [], ◌∷◌, ◌++◌, length, take, drop, Option, Some, None}
-use Rattle.std.proofs.Common.{Result, Ok, Err, refl, sym, ap, subst, ◌∙◌}
-use Rattle.std.proofs.Common.{append_assoc, arith, ◌⊎◌, inl, inr}
-use Rattle.std.specs.Io.KnownBytes.{Consumes}
-use Rattle.std.proofs.KnownBytes.{Appends-nil, Appends-trans, Consumes-trans}
+use Rattle.std.proofs.Common.{Ok, Err, refl, sym, ap, subst, ◌∙◌}
+use Rattle.std.proofs.Common.{append_assoc, append-nil, arith, ◌⊎◌, inl, inr}
+use Rattle.std.proofs.KnownBytes.{Appends-trans, Consumes-trans}
+use Rattle.xdr_core.specs.declared.fault.XdrFault.{XdrFault}
+use Rattle.xdr_core.specs.Place.{Place, start_of}
 use Rattle.xdr_core.specs.Format.{IsBytes}
-use Rattle.run_streams.specs.Seen.{Seen, Gave, Received, ReceivedPrefix, Failed}
+use Rattle.std.specs.Prelude.{◌≢◌}
+use Rattle.run_streams.specs.Seen.{Seen, Gave, Received, ReceivedPrefix}
 use Rattle.record_stream.specs.Filling.{Grown}
 use Rattle.record_stream.specs.Measured.{record_end}
-use Rattle.record_stream.specs.Piece.{IsPiece}
+use Rattle.record_stream.specs.Piece.{IsShort, IsPiece}
 use Rattle.record_stream.specs.declared.piece.PieceFault.{PieceFault}
 use Rattle.record_stream.specs.declared.piece.PieceFault.TheVariants as piece
-use Rattle.ledger_types.specs.declared.header.LedgerHeader.{LedgerHeader}
 use Rattle.close_rules.specs.declared.close_fault.CloseFault.{CloseFault}
 use Rattle.close_rules.specs.declared.close_fault.CloseFault.TheVariants as close
 use Rattle.close_rules.specs.State.{ClosingState}
@@ -19,22 +20,25 @@ use Rattle.close_rules.specs.Close.{PreparedClose, IsClose}
 use Rattle.ledger_close.specs.Answers.{FaultIs}
 use Rattle.run_outcome.specs.declared.status.Status.{Status}
 use Rattle.run_outcome.specs.declared.status.Status.TheVariants as status
-use Rattle.run_outcome.specs.Lines.{refused_line}
-use Rattle.run_outcome.specs.Outcome.{framed, max_record_len, lines_of, IsFront}
+use Rattle.run_outcome.specs.Statuses.{IsCutShort}
+use Rattle.run_outcome.specs.Lines.{end_line, refused_line}
+use Rattle.run_outcome.specs.Outcome.{Outcome, silent, framed, max_record_len, lines_of, IsRun, IsRunFront}
+use Rattle.run_outcome.specs.Outcome.{IsEnd}
+use Rattle.run_outcome.specs.Run.{IsAnswer}
 use Rattle.outside.specs.Disk.{Image, Disk, Runs, Same, IsSafe}
 use Rattle.outside.proofs.Running.{widened, onward}
 use Rattle.stored_outcome.specs.Opening.{OpensTo}
-use Rattle.stored_outcome.specs.Behind.{OpensBehind, OpensWithin}
+use Rattle.stored_outcome.specs.Behind.{OpensWithin}
 use Rattle.replay.specs.Following.{Standing, Goes, Wrote, Refuses, EndsAt}
-use Rattle.replay.specs.Keeping.{OpensEither, OpensOnward, MayBeAhead, Keeps, KeptOn, IsUnkept, IsHalfway, IsKept}
-use Rattle.replay.specs.Keeping.{KeptClose, KeptPass, KeptTurn, IsTelling, KeptTelling, UnlessDisk}
-use Rattle.replay.specs.declared.keeper.KeepFault.{KeepFault}
-use Rattle.replay.specs.declared.keeper.KeepFault.TheVariants as keep
+use Rattle.stored_outcome.specs.StoredRun.{MayBeAhead, IsFailedEnd, IsUnbrokenEnd, OpensAcknowledged}
+use Rattle.replay.specs.Keeping.{OpensEither, OpensOnward, Keeps, Answers, KeptOn, IsWritten, IsUnkept, IsHalfway}
+use Rattle.replay.specs.Keeping.{KeptClose, KeptPass, KeptTurn, IsTelling, KeptTelling}
 use Rattle.replay.proofs.Lines.{lines_some}
 use Rattle.replay.proofs.Fronts.{nothing_front, whole_front, whole_or_less}
-use Rattle.replay.proofs.Marking.{front_of}
-use Rattle.replay.proofs.Runs.{not_both, framed_apart, nothing_framed}
-use Rattle.replay.proofs.Turning.{over}
+use Rattle.replay.proofs.Marking.{read_mark, front_of}
+use Rattle.replay.proofs.Runs.{not_both, framed_apart, nothing_framed, ended_run, no_records, empty_front}
+use Rattle.replay.proofs.Turning.{over, no_record, end_err, bad_end, refused_end, cut_answer, answer_behind}
+use Rattle.replay.proofs.Turning.{whole_behind}
 use Rattle.replay.proofs.Behind.{ClosesNothing, ack_stopped, ack_empty, ack_partial, ack_one, ack_more}
 use Rattle.replay.proofs.Behind.{opens_none, opens_one, opens_more}
 
@@ -93,45 +97,48 @@ either_left s next old new safe opens runs c may =
 pub telling_failed : (s : ClosingState) (text : List ℕ) (out : Seen) (d : Disk) → IsSafe d → OpensTo d.reads s
     → ReceivedPrefix out text → IsTelling s text out d d status.WriteFault
 telling_failed s text out d safe opens (n, le, h) = record {
+  failed = tt;
   front = take n text;
   received = h;
   some = (n, le, refl);
   runs = stays_either s s d;
   crash = safe_opens d s safe opens;
-  reads = inl tt;
+  told = inl refl;
 }
 
 pub settle_failed : (s : ClosingState) (text : List ℕ) (out : Seen) (old new : Disk) → IsSafe old → OpensTo old.reads s
     → Runs (OpensEither s s) old new → Received out text → IsTelling s text out old new status.DiskFault
 settle_failed s text out old new safe opens runs h = record {
+  failed = tt;
   front = text;
   received = h;
   some = whole_front text;
   runs = runs;
   crash = λ c may. one_of s c (either_left s s old new safe opens runs c may);
-  reads = inl tt;
+  told = inr (inr refl);
 }
 
 pub settle_refused : (s : ClosingState) (text : List ℕ) (out : Seen) (old new : Disk) → IsSafe new
     → OpensTo new.reads s → Runs (OpensEither s s) old new → Received out text
     → IsTelling s text out old new status.NoMemory
 settle_refused s text out old new safe opens runs h = record {
+  failed = tt;
   front = text;
   received = h;
   some = whole_front text;
   runs = runs;
   crash = safe_opens new s safe opens;
-  reads = inr (refl, opens);
+  told = inr (inr refl);
 }
 
 -- ---- what a close comes to
 
 pub unkept_nothing : (s : ClosingState) (bytes : List ℕ) (out : Seen) (d : Disk) → Received out []
-    → IsUnkept s bytes out d d
+    → IsUnkept s bytes out d d status.NoMemory
 unkept_nothing s bytes out d h = record {
   front = [];
   received = h;
-  nothing = inl refl;
+  nothing = inl (refl, refl);
   runs = stays_same d;
   same = refl;
 }
@@ -146,13 +153,14 @@ pub keep_failed : (s : ClosingState) (bytes : List ℕ) (c : PreparedClose) (out
 keep_failed s bytes c out old new closes safe opens runs h = record {
   closed = c;
   closes = closes;
+  failed = tt;
   front = [];
   received = h;
   some = nothing_front (lines_of c);
   runs = runs;
   crash = either_left s c.state old new safe opens runs;
   whole = λ e. absurd (no_lines c e);
-  reads = inl tt;
+  told = inr (inl (refl, refl));
 }
 
 pub kept_told : (s : ClosingState) (bytes : List ℕ) (c : PreparedClose) (next : ClosingState) (out : Seen) (old mid
@@ -169,73 +177,87 @@ kept_told s bytes c next out old mid new None closes same safe opens runs t = re
 kept_told s bytes c next out old mid new (Some end) closes same safe opens runs t = inr (record {
   closed = c;
   closes = closes;
+  failed = t.failed;
   front = t.front;
   received = t.received;
   some = t.some;
   runs = kept_then s c.state old mid new safe opens runs t.runs;
   crash = λ x may. inr (t.crash x may);
   whole = λ e x may. t.crash x may;
-  reads = t.reads;
+  told = t.told;
 })
 
-abbrev Written : (out : Seen) → Type 0
-Written out = (front : List ℕ) × Received out front
+abbrev Written : (out : Seen) (text : List ℕ) (whole end : Status) → Type 0
+Written out text whole end = (front : List ℕ) × Received out front × IsWritten text whole front end
 
-wrote_front : (out : Seen) (text : List ℕ) (whole end : Status) → Wrote out text whole end → Written out
-wrote_front out text whole end (inl (e, h)) = (text, h)
-wrote_front out text whole end (inr (inl (e, failed, (n, le, h)))) = (take n text, h)
-wrote_front out text whole end (inr (inr (e, h))) = ([], h)
+wrote_front : (out : Seen) (text : List ℕ) (whole end : Status) → Wrote out text whole end → Written out text whole end
+wrote_front out text whole end (inl (e, h)) = (text, h, inl (e, refl))
+wrote_front out text whole end (inr (inl (e, failed, (n, le, h)))) = (take n text, h, inr (inl (e, (n, le, refl))))
+wrote_front out text whole end (inr (inr (e, h))) = ([], h, inr (inr (e, refl)))
 
-refused_by : (s : ClosingState) (bytes : List ℕ) (out : Seen) (d : Disk) (wrong : CloseFault)
-    → IsClose s bytes (Err wrong) → Written out → IsUnkept s bytes out d d
-refused_by s bytes out d wrong closes w = record {
-  front = w.0;
-  received = w.1;
-  nothing = inr (wrong, closes);
-  runs = stays_same d;
-  same = refl;
-}
+refused_by : (s : ClosingState) (bytes : List ℕ) (out : Seen) (d : Disk) (wrong : CloseFault) (end : Status)
+    → IsClose s bytes (Err wrong) → Wrote out (refused_line s.header wrong) status.Refused end
+    → IsUnkept s bytes out d d end
+refused_by s bytes out d wrong end closes wrote =
+    let w = wrote_front out (refused_line s.header wrong) status.Refused end wrote in
+    record {
+      front = w.0;
+      received = w.1;
+      nothing = inr (wrong, closes, w.2);
+      runs = stays_same d;
+      same = refl;
+    }
 
 pub unkept_refused : (s : ClosingState) (bytes : List ℕ) (out : Seen) (d : Disk) (wrong : CloseFault) (end : Status)
-    → FaultIs wrong (λ f. IsClose s bytes (Err f)) → Refuses s.header out wrong end → IsUnkept s bytes out d d
-unkept_refused s bytes out d close.NoMemory end h r = unkept_nothing s bytes out d r.1
+    → FaultIs wrong (λ f. IsClose s bytes (Err f)) → Refuses s.header out wrong end → IsUnkept s bytes out d d end
+unkept_refused s bytes out d close.NoMemory end h r =
+    subst (λ (e : Status). IsUnkept s bytes out d d e) (sym r.0) (unkept_nothing s bytes out d r.1)
 unkept_refused s bytes out d close.SeqEnd end h r =
-    refused_by s bytes out d close.SeqEnd h (wrote_front out _ _ end r)
+    refused_by s bytes out d close.SeqEnd end h r
 unkept_refused s bytes out d (close.BadXdr at kind) end h r =
-    refused_by s bytes out d (close.BadXdr at kind) h (wrote_front out _ _ end r)
+    refused_by s bytes out d (close.BadXdr at kind) end h r
 unkept_refused s bytes out d (close.WrongSeq want given) end h r =
-    refused_by s bytes out d (close.WrongSeq want given) h (wrote_front out _ _ end r)
+    refused_by s bytes out d (close.WrongSeq want given) end h r
 unkept_refused s bytes out d (close.WrongPrevious have given) end h r =
-    refused_by s bytes out d (close.WrongPrevious have given) h (wrote_front out _ _ end r)
+    refused_by s bytes out d (close.WrongPrevious have given) end h r
 unkept_refused s bytes out d (close.WrongSetHash have given) end h r =
-    refused_by s bytes out d (close.WrongSetHash have given) h (wrote_front out _ _ end r)
+    refused_by s bytes out d (close.WrongSetHash have given) end h r
 unkept_refused s bytes out d (close.StaleTime last given) end h r =
-    refused_by s bytes out d (close.StaleTime last given) h (wrote_front out _ _ end r)
+    refused_by s bytes out d (close.StaleTime last given) end h r
 unkept_refused s bytes out d (close.BadUpgrade index) end h r =
-    refused_by s bytes out d (close.BadUpgrade index) h (wrote_front out _ _ end r)
+    refused_by s bytes out d (close.BadUpgrade index) end h r
 unkept_refused s bytes out d (close.UpgradeOutOfProfile index) end h r =
-    refused_by s bytes out d (close.UpgradeOutOfProfile index) h (wrote_front out _ _ end r)
+    refused_by s bytes out d (close.UpgradeOutOfProfile index) end h r
 unkept_refused s bytes out d (close.FeeSourceMissing index) end h r =
-    refused_by s bytes out d (close.FeeSourceMissing index) h (wrote_front out _ _ end r)
+    refused_by s bytes out d (close.FeeSourceMissing index) end h r
 unkept_refused s bytes out d (close.LedgerFull total) end h r =
-    refused_by s bytes out d (close.LedgerFull total) h (wrote_front out _ _ end r)
+    refused_by s bytes out d (close.LedgerFull total) end h r
 
 -- ---- the end of a run at a record
 
+untouched_crash : (s : ClosingState) (text : List ℕ) (old new : Disk) (end : Status) → IsSafe old
+    → OpensTo old.reads s → Runs Same old new → (c : Image) → new.may_leave c → OpensAcknowledged s text 0 end c
+untouched_crash s text old new end safe opens runs c may =
+    let x = runs.crash c may in
+    inl (opens_none s text c (subst (λ (y : Image). OpensTo y s) (sym x.2) (safe_opens old s safe opens x.0 x.1)))
+
 -- nothing changed
 untouched : (s : ClosingState) (text front : List ℕ) (old new : Disk) (end : Status) → IsSafe old → OpensTo old.reads s
-    → Runs Same old new → new.reads ≡ old.reads
+    → Runs Same old new → (IsUnbrokenEnd end → front ≡ [])
     → (ClosesNothing s text ⊎ (front ≡ [])) → Keeps s text front old new end
-untouched s text front old new end safe opens runs same nothing = record {
+untouched s text front old new end safe opens runs whole (inl none) = record {
   runs = widened {step = Same} {wider = OpensOnward s text} old new (λ d c e. same_opens s text d c e) runs;
   count = 0;
-  acknowledged = elim nothing [
-    | inl none ↦ ack_stopped s text front none
-    | inr empty ↦ ack_empty s text front empty
-  ];
-  crash = λ c may. let x = runs.crash c may in
-      inl (opens_none s text c (subst (λ (y : Image). OpensTo y s) (sym x.2) (safe_opens old s safe opens x.0 x.1)));
-  reads = inr (opens_none s text new.reads (subst (λ (y : Image). OpensTo y s) (sym same) opens));
+  acknowledged = ack_stopped s text front none;
+  unbroken = whole;
+  crash = untouched_crash s text old new end safe opens runs;
+}
+untouched s text front old new end safe opens runs whole (inr empty) = record {
+  runs = widened {step = Same} {wider = OpensOnward s text} old new (λ d c e. same_opens s text d c e) runs;
+  count = 0;
+  acknowledged = ack_empty s text front empty;
+  unbroken = whole;
+  crash = untouched_crash s text old new end safe opens runs;
 }
 
 refused_closes_nothing : (s : ClosingState) (bytes others text : List ℕ) (wrong : CloseFault)
@@ -245,12 +267,25 @@ refused_closes_nothing s bytes others text wrong fits cut refused other more c s
     let apart = framed_apart other bytes more others short fits (sym same ∙ cut) in
     not_both s bytes c wrong (subst (λ (b : List ℕ). IsClose s b (Ok c)) apart.0 closes) refused
 
+written_unbroken : (text front : List ℕ) (whole end : Status) → IsWritten text whole front end
+    → (IsUnbrokenEnd whole → ⊥) → IsUnbrokenEnd end → front ≡ []
+written_unbroken text front whole end (inl (e, same)) broken un = absurd (broken (subst IsUnbrokenEnd e un))
+written_unbroken text front whole end (inr (inl (e, f))) broken un = absurd (subst IsUnbrokenEnd e un)
+written_unbroken text front whole end (inr (inr (e, empty))) broken un = empty
+
+unkept_unbroken : (s : ClosingState) (bytes : List ℕ) (out : Seen) (old new : Disk) (end : Status)
+    → (u : IsUnkept s bytes out old new end) → IsUnbrokenEnd end → u.front ≡ []
+unkept_unbroken s bytes out old new end u un = elim u.nothing [
+  | inl empty ↦ empty.1
+  | inr refused ↦ written_unbroken (refused_line s.header refused.0) u.front status.Refused end refused.2 (λ no. no) un
+]
+
 unkept_end : (s : ClosingState) (bytes others text : List ℕ) (out : Seen) (old new : Disk) (end : Status)
     → length bytes ≤ max_record_len → text ≡ framed bytes ++ others → IsSafe old → OpensTo old.reads s
-    → (u : IsUnkept s bytes out old new) → Keeps s text u.front old new end
+    → (u : IsUnkept s bytes out old new end) → Keeps s text u.front old new end
 unkept_end s bytes others text out old new end fits cut safe opens u =
-    untouched s text u.front old new end safe opens u.runs u.same (elim u.nothing [
-      | inl empty ↦ inr empty
+    untouched s text u.front old new end safe opens u.runs (unkept_unbroken s bytes out old new end u) (elim u.nothing [
+      | inl empty ↦ inr empty.1
       | inr refused ↦ inl (refused_closes_nothing s bytes others text refused.0 fits cut refused.1)
     ])
 
@@ -276,12 +311,31 @@ halfway_whole s bytes others out old new end fits h same = record {
   runs = runs_onward s bytes others h.closed old new fits h.closes h.runs;
   count = 1;
   acknowledged = ack_one s bytes h.closed others h.front fits h.closes same;
+  unbroken = λ un. same ∙ sym (append-nil (lines_of h.closed));
   crash = λ c may. inl (opens_one s bytes h.closed others c fits h.closes (h.whole same c may));
-  reads = elim h.reads [
-    | inl may ↦ inl may
-    | inr all ↦ inr (opens_one s bytes h.closed others new.reads fits h.closes all.1)
-  ];
 }
+
+-- not all lines were written: a device failed
+halfway_ahead : (s : ClosingState) (bytes : List ℕ) (out : Seen) (old new : Disk) (end : Status)
+    → (h : IsHalfway s bytes out old new end) → length h.front < length (lines_of h.closed) → MayBeAhead end
+halfway_ahead s bytes out old new end h less = elim h.told [
+  | inl write ↦ subst MayBeAhead (sym write) tt
+  | inr rest ↦ elim rest [
+    | inl disk ↦ subst MayBeAhead (sym disk.0) tt
+    | inr all ↦ absurd (omega (arith, less, ap length all))
+  ]
+]
+
+halfway_unbroken : (s : ClosingState) (bytes : List ℕ) (out : Seen) (old new : Disk) (end : Status)
+    → (h : IsHalfway s bytes out old new end) → length h.front < length (lines_of h.closed) → IsUnbrokenEnd end
+    → h.front ≡ []
+halfway_unbroken s bytes out old new end h less un = elim h.told [
+  | inl write ↦ absurd (subst IsUnbrokenEnd write un)
+  | inr rest ↦ elim rest [
+    | inl disk ↦ disk.1
+    | inr all ↦ absurd (omega (arith, less, ap length all))
+  ]
+]
 
 halfway_part : (s : ClosingState) (bytes others : List ℕ) (out : Seen) (old new : Disk) (end : Status)
     → length bytes ≤ max_record_len → (h : IsHalfway s bytes out old new end)
@@ -290,13 +344,13 @@ halfway_part s bytes others out old new end fits h less = record {
   runs = runs_onward s bytes others h.closed old new fits h.closes h.runs;
   count = 0;
   acknowledged = ack_partial s bytes h.closed others h.front fits h.closes less;
+  unbroken = halfway_unbroken s bytes out old new end h less;
   crash = λ c may. elim (h.crash c may) [
     | inl same ↦ inl (opens_none s (framed bytes ++ others) c same)
-    | inr next ↦ inr (opens_one s bytes h.closed others c fits h.closes next)
-  ];
-  reads = elim h.reads [
-    | inl may ↦ inl may
-    | inr all ↦ absurd (omega (arith, less, ap length all.0))
+    | inr next ↦ inr (
+      halfway_ahead s bytes out old new end h less,
+      opens_one s bytes h.closed others c fits h.closes next,
+    )
   ];
 }
 
@@ -308,49 +362,116 @@ halfway_end s bytes others out old new end fits h = elim (whole_or_less h.front 
   | inr less ↦ halfway_part s bytes others out old new end fits h less
 ]
 
-record_end_kept : (s : ClosingState) (ahead mid bytes others : List ℕ) (input out : Seen) (old new : Disk)
+-- ---- the text of such an end
+
+-- memory was refused, and nothing was written
+memory_answers : (s : ClosingState) (p : Place) (end : Status) → end ≡ status.NoMemory → Answers s p [] end
+memory_answers s p end e = record {
+  answer = inr (subst IsCutShort (sym e) tt, empty_front s p);
+  whole = λ r. let no : status.NoMemory ≡ status.ReadFault = sym e ∙ r in absurd cc;
+}
+
+-- what ends a run here is answered, or a front of its line is
+written_answers : (s : ClosingState) (at : ℕ) (text front : List ℕ) (last : Outcome) (end : Status)
+    → IsEnd s at text last → last.status ≢ status.ReadFault → IsWritten last.text last.status front end
+    → Answers s (record { at = at; rest = text }) front end
+written_answers s at text front last end ends no_read (inl (e, same)) = record {
+  answer = inl (last, ended_run s at text last ends, e, same);
+  whole = λ r. absurd (no_read (sym e ∙ r));
+}
+written_answers s at text front last end ends no_read (inr (inl (e, f))) = record {
+  answer = inr (subst IsCutShort (sym e) tt, inr (last, ended_run s at text last ends, f));
+  whole = λ r. let no : status.WriteFault ≡ status.ReadFault = sym e ∙ r in absurd cc;
+}
+written_answers s at text front last end ends no_read (inr (inr (e, same))) =
+    subst (λ (t : List ℕ). Answers s (record { at = at; rest = text }) t end) (sym same)
+    (memory_answers s (record { at = at; rest = text }) end e)
+
+unkept_answers : (s : ClosingState) (at : ℕ) (bytes others : List ℕ) (out : Seen) (old new : Disk) (end : Status)
+    → length bytes ≤ max_record_len → (u : IsUnkept s bytes out old new end)
+    → Answers s (record { at = at; rest = framed bytes ++ others }) u.front end
+unkept_answers s at bytes others out old new end fits u = elim u.nothing [
+  | inl empty ↦ subst (λ (t : List ℕ). Answers s (record { at = at; rest = framed bytes ++ others }) t end)
+      (sym empty.1)
+      (memory_answers s (record { at = at; rest = framed bytes ++ others }) end empty.0)
+  | inr refused ↦ written_answers s at (framed bytes ++ others) u.front
+      (record { status = status.Refused; text = refused_line s.header refused.0 }) end
+      (refused_end s at bytes others refused.0 fits refused.1) (λ r. cc) refused.2
+]
+
+pub failed_cut : (end : Status) → IsFailedEnd end → IsCutShort end × (end ≢ status.ReadFault)
+failed_cut status.WriteFault failed = (tt, λ r. cc)
+failed_cut status.DiskFault failed = (tt, λ r. cc)
+failed_cut status.NoMemory failed = (tt, λ r. cc)
+failed_cut status.ReadFault failed = absurd failed
+failed_cut status.Done failed = absurd failed
+failed_cut status.Usage failed = absurd failed
+failed_cut status.Refused failed = absurd failed
+failed_cut (status.BadStore file place) failed = absurd failed
+failed_cut (status.BadInput at) failed = absurd failed
+failed_cut (status.BadImage rule) failed = absurd failed
+failed_cut status.Missing failed = absurd failed
+failed_cut status.AlreadyThere failed = absurd failed
+
+halfway_answers : (s : ClosingState) (at : ℕ) (bytes others : List ℕ) (out : Seen) (old new : Disk) (end : Status)
+    → length bytes ≤ max_record_len → (h : IsHalfway s bytes out old new end)
+    → Answers s (record { at = at; rest = framed bytes ++ others }) h.front end
+halfway_answers s at bytes others out old new end fits h =
+    let f = failed_cut end h.failed in
+    record {
+      answer = cut_answer s bytes h.closed at others h.front end fits h.closes f.0 h.some;
+      whole = λ r. absurd (f.1 r);
+    }
+
+record_end_kept : (s : ClosingState) (at : ℕ) (ahead mid bytes others : List ℕ) (input out : Seen) (old new : Disk)
     (end : Status) → Grown input.before input.now ahead mid → mid ≡ framed bytes ++ others
     → length bytes ≤ max_record_len → IsSafe old → OpensTo old.reads s
-    → IsUnkept s bytes out old new ⊎ IsHalfway s bytes out old new end → KeptOn s ahead input out old new end
-record_end_kept s ahead mid bytes others input out old new end grown cut fits safe opens (inl u) = record {
+    → IsUnkept s bytes out old new end ⊎ IsHalfway s bytes out old new end → KeptOn s at ahead input out old new end
+record_end_kept s at ahead mid bytes others input out old new end grown cut fits safe opens (inl u) = record {
   given = grown.given;
   gave = grown.gave;
   front = u.front;
   received = u.received;
+  answers = subst (λ (t : List ℕ). Answers s (record { at = at; rest = t }) u.front end) (sym (sym grown.grown ∙ cut))
+      (unkept_answers s at bytes others out old new end fits u);
   keeps = unkept_end s bytes others (ahead ++ grown.given) out old new end fits (sym grown.grown ∙ cut) safe opens u;
 }
-record_end_kept s ahead mid bytes others input out old new end grown cut fits safe opens (inr h) = record {
+record_end_kept s at ahead mid bytes others input out old new end grown cut fits safe opens (inr h) = record {
   given = grown.given;
   gave = grown.gave;
   front = h.front;
   received = h.received;
+  answers = subst (λ (t : List ℕ). Answers s (record { at = at; rest = t }) h.front end) (sym (sym grown.grown ∙ cut))
+      (halfway_answers s at bytes others out old new end fits h);
   keeps = subst (λ (t : List ℕ). Keeps s t h.front old new end) (sym (sym grown.grown ∙ cut))
       (halfway_end s bytes others out old new end fits h);
 }
 
 -- a record was ahead
-pub kept_at : (s : ClosingState) (ahead mid : List ℕ) (end : ℕ) (next : ClosingState) (input out : Seen)
+pub kept_at : (s : ClosingState) (at : ℕ) (ahead mid : List ℕ) (end : ℕ) (next : ClosingState) (input out : Seen)
     (old new : Disk) (r : Option Status) → IsBytes mid → Grown input.before input.now ahead mid
     → record_end mid ≡ Ok end → IsSafe old → OpensTo old.reads s → KeptPass s mid end next out old new r
-    → KeptTurn s next ahead input out old new r
-kept_at s ahead mid end next input out old new None fits grown measured safe opens p =
+    → KeptTurn s next at ahead input out old new r
+kept_at s at ahead mid end next input out old new None fits grown measured safe opens p =
     subst (λ (x : ClosingState). Runs (OpensEither s x) old new) (sym p.kept.state) p.kept.runs
-kept_at s ahead mid end next input out old new (Some last) fits grown measured safe opens p =
+kept_at s at ahead mid end next input out old new (Some last) fits grown measured safe opens p =
     let f = front_of mid end fits measured in
-    record_end_kept s ahead mid p.bytes (drop end mid) input out old new last grown
+    record_end_kept s at ahead mid p.bytes (drop end mid) input out old new last grown
     (f.whole ∙ ap (λ (t : List ℕ). t ++ drop end mid) (f.framed_is ∙ sym p.framed_is)) p.short safe opens p.kept
 
 -- ---- the end of a run where no record is ahead
 
-still : (s : ClosingState) (ahead : List ℕ) (input out : Seen) (d : Disk) (end : Status) (given front : List ℕ)
-    → IsSafe d → OpensTo d.reads s → Gave input given → Received out front
-    → ClosesNothing s (ahead ++ given) ⊎ (front ≡ []) → KeptOn s ahead input out d d end
-still s ahead input out d end given front safe opens gave received nothing = record {
+still : (s : ClosingState) (at : ℕ) (ahead : List ℕ) (input out : Seen) (d : Disk) (end : Status)
+    (given front : List ℕ) → IsSafe d → OpensTo d.reads s → Gave input given → Received out front
+    → Answers s (record { at = at; rest = ahead ++ given }) front end → (IsUnbrokenEnd end → front ≡ [])
+    → ClosesNothing s (ahead ++ given) ⊎ (front ≡ []) → KeptOn s at ahead input out d d end
+still s at ahead input out d end given front safe opens gave received answers whole nothing = record {
   given = given;
   gave = gave;
   front = front;
   received = received;
-  keeps = untouched s (ahead ++ given) front d d end safe opens (stays_same d) refl nothing;
+  answers = answers;
+  keeps = untouched s (ahead ++ given) front d d end safe opens (stays_same d) whole nothing;
 }
 
 no_bytes : (new : List ℕ) → length new ≡ 0 → new ≡ []
@@ -364,20 +485,57 @@ none_or_some (byte ∷ rest) = inr (omega arith)
 empty_closes_nothing : (s : ClosingState) (text : List ℕ) → text ≡ [] → ClosesNothing s text
 empty_closes_nothing s text empty bytes more c short same closes = nothing_framed bytes more (sym empty ∙ same)
 
+-- nothing is ahead: the run is done
+done_answers : (s : ClosingState) (at : ℕ) (text front : List ℕ) (end : Status) → text ≡ []
+    → IsWritten (end_line s.header) status.Done front end → Answers s (record { at = at; rest = text }) front end
+done_answers s at text front end empty written =
+    let last : Outcome = record { status = status.Done; text = end_line s.header } in
+    written_answers s at text front last end (subst (λ (t : List ℕ). IsEnd s at t last) (sym empty) refl) (λ r. cc)
+    written
+
+-- what is ahead is no mark, or is cut
+bad_answers : (s : ClosingState) (at : ℕ) (text : List ℕ) (wrong : XdrFault) (end : Status)
+    → record_end text ≡ Err wrong → 0 < length text → end ≡ status.BadInput (at + wrong.at)
+    → Answers s (record { at = at; rest = text }) [] end
+bad_answers s at text wrong end measured some e =
+    written_answers s at text [] (silent (status.BadInput (at + wrong.at))) end
+    (bad_end s at text wrong some (end_err (read_mark (start_of text)) wrong measured)) (λ r. cc) (inl (e, refl))
+
+-- a read failed, and no whole record is ahead
+unread_answers : (s : ClosingState) (at : ℕ) (text : List ℕ) (end : Status) → IsShort record_end text
+    → end ≡ status.ReadFault → Answers s (record { at = at; rest = text }) [] end
+unread_answers s at text end short e = record {
+  answer = inr (subst IsCutShort (sym e) tt, empty_front s (record { at = at; rest = text }));
+  whole = λ r. record {
+    ahead = no_records s (record { at = at; rest = text });
+    partial = λ bytes more fits cut. no_record text bytes more short.0 short.1 fits cut;
+  };
+}
+
 pub kept_off : (s : ClosingState) (at : ℕ) (ahead mid : List ℕ) (input out : Seen) (d : Disk) (why : PieceFault)
     (end : Status) → IsSafe d → OpensTo d.reads s
     → IsPiece record_end input.before input.now input.faults_before input.faults_now ahead mid (Err why)
-    → EndsAt s at mid out why end → KeptOn s ahead input out d d end
+    → EndsAt s at mid out why end → KeptOn s at ahead input out d d end
 kept_off s at ahead mid input out d (piece.Xdr wrong) end safe opens h e = elim (none_or_some mid) [
-  | inl none ↦ let w = wrote_front out _ _ end (e.0 none) in
-      still s ahead input out d end h.0.given w.0 safe opens h.0.gave w.1
-      (inl (empty_closes_nothing s (ahead ++ h.0.given) (sym h.0.grown ∙ no_bytes mid none)))
-  | inr some ↦ still s ahead input out d end h.0.given [] safe opens h.0.gave (e.1 some).1 (inr refl)
+  | inl none ↦ let w = wrote_front out (end_line s.header) status.Done end (e.0 none) in
+      let empty : ahead ++ h.0.given ≡ [] = sym h.0.grown ∙ no_bytes mid none in
+      still s at ahead input out d end h.0.given w.0 safe opens h.0.gave w.1
+      (done_answers s at (ahead ++ h.0.given) w.0 end empty w.2)
+      (written_unbroken (end_line s.header) w.0 status.Done end w.2 (λ no. no))
+      (inl (empty_closes_nothing s (ahead ++ h.0.given) empty))
+  | inr some ↦ still s at ahead input out d end h.0.given [] safe opens h.0.gave (e.1 some).1
+      (subst (λ (t : List ℕ). Answers s (record { at = at; rest = t }) [] end) h.0.grown
+      (bad_answers s at mid wrong end h.1 some (e.1 some).0))
+      (λ un. refl) (inr refl)
 ]
 kept_off s at ahead mid input out d piece.Failed end safe opens h e =
-    still s ahead input out d end h.0.given [] safe opens h.0.gave e.1 (inr refl)
+    still s at ahead input out d end h.0.given [] safe opens h.0.gave e.1
+    (subst (λ (t : List ℕ). Answers s (record { at = at; rest = t }) [] end) h.0.grown
+    (unread_answers s at mid end h.1 e.0))
+    (λ un. refl) (inr refl)
 kept_off s at ahead mid input out d piece.NoMemory end safe opens h e =
-    still s ahead input out d end h.0 [] safe opens h.1 e.1 (inr refl)
+    still s at ahead input out d end h.0 [] safe opens h.1 e.1
+    (memory_answers s (record { at = at; rest = ahead ++ h.0 }) end e.0) (λ un. refl) (inr refl)
 
 -- ---- a record, and then the rest of the run
 
@@ -405,14 +563,22 @@ gone_keeps s bytes c others front old mid new end fits closes safe opens runs k 
   runs = gone_runs s bytes c others old mid new fits closes safe opens runs k.runs;
   count = k.count + 1;
   acknowledged = ack_more s bytes c others front k.count fits closes k.acknowledged;
+  unbroken = λ un. ap (λ (t : List ℕ). lines_of c ++ t) (k.unbroken un);
   crash = λ x may. elim (k.crash x may) [
     | inl o ↦ inl (opens_more s bytes c others k.count x fits closes o)
-    | inr o ↦ inr (opens_more s bytes c others (k.count + 1) x fits closes o)
+    | inr o ↦ inr (o.0, opens_more s bytes c others (k.count + 1) x fits closes o.1)
   ];
-  reads = elim k.reads [
-    | inl may ↦ inl may
-    | inr o ↦ inr (opens_more s bytes c others k.count new.reads fits closes o)
-  ];
+}
+
+gone_answers : (s : ClosingState) (at next : ℕ) (bytes : List ℕ) (c : PreparedClose) (others front : List ℕ)
+    (end : Status) → length bytes ≤ max_record_len → IsClose s bytes (Ok c) → next ≡ at + length (framed bytes)
+    → Answers c.state (record { at = next; rest = others }) front end
+    → Answers s (record { at = at; rest = framed bytes ++ others }) (lines_of c ++ front) end
+gone_answers s at next bytes c others front end fits closes place a = record {
+  answer = answer_behind s bytes c at others front end fits closes
+      (subst (λ (n : ℕ). IsAnswer (IsRun c.state (record { at = n; rest = others }))
+      (IsRunFront c.state (record { at = n; rest = others })) front end) place a.answer);
+  whole = λ e. whole_behind s bytes c at next others front fits closes (a.whole e);
 }
 
 -- the text from the old place on, by what was given
@@ -424,15 +590,21 @@ text_behind ahead given framed_one rest later cut =
 pub gone_on : (old new : Standing) (input out : Seen) (g : Goes old new input out) (now out_now : Option (List ℕ))
     (faults out_faults : ℕ) (before mid after : Disk) (end : Status) → IsSafe mid → OpensTo mid.reads new.state
     → Runs (OpensEither old.state new.state) before mid
-    → KeptOn new.state new.ahead (over input.now now input.faults_now faults)
+    → KeptOn new.state new.at new.ahead (over input.now now input.faults_now faults)
     (over out.now out_now out.faults_now out_faults) mid after end
-    → KeptOn old.state old.ahead (over input.before now input.faults_before faults)
+    → KeptOn old.state old.at old.ahead (over input.before now input.faults_before faults)
     (over out.before out_now out.faults_before out_faults) before after end
 gone_on old new input out g now out_now faults out_faults before mid after end safe opens runs k = record {
   given = g.given ++ k.given;
   gave = Consumes-trans input.before input.now now g.given k.given g.gave k.gave;
   front = lines_of g.closed ++ k.front;
   received = Appends-trans out.before out.now out_now (lines_of g.closed) k.front g.received k.received;
+  answers = subst
+      (λ (t : List ℕ). Answers old.state (record { at = old.at; rest = t }) (lines_of g.closed ++ k.front) end)
+      (sym (text_behind old.ahead g.given (framed g.bytes) new.ahead k.given g.cut))
+      (gone_answers old.state old.at new.at g.bytes g.closed (new.ahead ++ k.given) k.front end g.short g.closes g.at
+      (subst (λ (x : ClosingState). Answers x (record { at = new.at; rest = new.ahead ++ k.given }) k.front end) g.state
+      k.answers));
   keeps = subst (λ (t : List ℕ). Keeps old.state t (lines_of g.closed ++ k.front) before after end)
       (sym (text_behind old.ahead g.given (framed g.bytes) new.ahead k.given g.cut))
       (gone_keeps old.state g.bytes g.closed (new.ahead ++ k.given) k.front before mid after end g.short g.closes safe
@@ -443,11 +615,11 @@ gone_on old new input out g now out_now faults out_faults before mid after end s
 
 -- whatever the rest of a run leaves from here, the whole left from its start
 abbrev pub CarriesKept : {W : Type 0} → (W → Disk)
-    → (s s0 : ClosingState) (ahead ahead0 : List ℕ) (input input0 out out0 : Seen)
+    → (s s0 : ClosingState) (at at0 : ℕ) (ahead ahead0 : List ℕ) (input input0 out out0 : Seen)
     → (d d0 : Disk) → Type 0
-CarriesKept {W} disk s s0 ahead ahead0 input input0 out out0 d d0 =
+CarriesKept {W} disk s s0 at at0 ahead ahead0 input input0 out out0 d d0 =
     (later : W) (now out_now : Option (List ℕ)) (faults out_faults : ℕ) (end : Status)
-    → KeptOn s ahead (over input.before now input.faults_before faults)
+    → KeptOn s at ahead (over input.before now input.faults_before faults)
     (over out.before out_now out.faults_before out_faults) d (disk later) end
-    → KeptOn s0 ahead0 (over input0.before now input0.faults_before faults)
+    → KeptOn s0 at0 ahead0 (over input0.before now input0.faults_before faults)
     (over out0.before out_now out0.faults_before out_faults) d0 (disk later) end

@@ -1,4 +1,5 @@
 pub mod Completing
+pub mod StoredCompleting
 pub mod OneOutcome
 pub mod OneState
 pub mod Marking
@@ -18,4 +19,8 @@ pub mod Initing
 pub mod Starts
 pub mod Tellings
 pub mod StoredTellings
+pub mod Programs
+pub mod LineEnds
+pub mod Counting
+pub mod Acknowledging
 pub mod GoingOn

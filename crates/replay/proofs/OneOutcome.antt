@@ -17,8 +17,8 @@ use Rattle.close_rules.specs.State.{ClosingState}
 use Rattle.close_laws.proofs.OneImage.{images_are_one}
 use Rattle.run_outcome.specs.declared.status.Status.{Status}
 use Rattle.run_outcome.specs.Outcome.{Outcome, behind, framed, frames, max_record_len, lines_of, AreClosed, IsEnd}
-use Rattle.run_outcome.specs.Outcome.{IsRun, IsStarted, IsOutcomeOf, IsFront, IsRunFront, IsOutputFrontOf}
-use Rattle.replay.specs.Outcomes.{RunsAreOne, OutcomesAreOne, FrontsAreOfOutcomes, OutputsAreFronts}
+use Rattle.run_outcome.specs.Outcome.{IsRun, IsStarted, IsOutcomeOf, IsFront, IsOutputFrontOf}
+use Rattle.replay.specs.Outcomes.{RunsAreOne, OutcomesAreOne, FrontsAreOfRuns, FrontsAreOfOutcomes, OutputsAreFronts}
 use Rattle.replay.proofs.Fronts.{nothing_front, whole_front, front_more}
 use Rattle.replay.proofs.Runs.{AreShort, at_front, one_end, peeled}
 
@@ -99,8 +99,7 @@ ahead_front (w ∷ ws) s at text rest lines state o cut short closed run =
           ∙ ap (λ (l : List ℕ). l ++ tail.0) (sym closed.4),
     )
 
-run_front : (s : ClosingState) (p : Place) (front : List ℕ) (o : Outcome) → IsRunFront s p front → IsRun s p o
-    → IsFront front o.text
+pub run_front : FrontsAreOfRuns
 run_front s p front o (inl (lines, a, f)) run =
     let h = ahead_front a.records s p.at p.rest a.rest lines a.state o a.cut a.short a.closed run in
     subst (IsFront front) (sym h.1) (front_more front lines h.0 f)
@@ -127,8 +126,8 @@ received_front : (out : Seen) (front text : List ℕ) → IsFront front text →
 received_front out front text (n, le, e) h = (n, le, subst (Appends out.before out.now) e h)
 
 pub outputs_are_fronts : OutputsAreFronts
-outputs_are_fronts passphrase input out end o (inl (x, is, e, h)) y =
-    received_front out x.text o.text
-    (subst (λ (z : Outcome). IsFront x.text z.text) (outcomes_are_one passphrase input x o is y) (whole_front x.text)) h
-outputs_are_fronts passphrase input out end o (inr (short, front, f, h)) y =
-    received_front out front o.text (fronts_are_of_outcomes passphrase input front o f y) h
+outputs_are_fronts passphrase input out end o (text, h, inl (x, is, e, same)) y =
+    let one : x.text ≡ o.text = ap (λ (z : Outcome). z.text) (outcomes_are_one passphrase input x o is y) in
+    received_front out text o.text (subst (IsFront text) (same ∙ one) (whole_front text)) h
+outputs_are_fronts passphrase input out end o (text, h, inr (short, f)) y =
+    received_front out text o.text (fronts_are_of_outcomes passphrase input text o f y) h

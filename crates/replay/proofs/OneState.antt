@@ -5,16 +5,15 @@ use Rattle.close_rules.specs.declared.close_fault.CloseFault.{CloseFault}
 use Rattle.close_rules.specs.declared.image_fault.ImageFault.{ImageFault}
 use Rattle.close_rules.specs.State.{ClosingState}
 use Rattle.close_rules.specs.Close.{PreparedClose, IsClose}
-use Rattle.close_rules.specs.Images.{IsJudged}
 use Rattle.close_laws.proofs.OneImage.{images_are_one}
 use Rattle.run_outcome.specs.Outcome.{AreClosed}
 use Rattle.outside.specs.Disk.{Image}
 use Rattle.gate_journal.specs.Records.{blocks}
 use Rattle.gate_journal.specs.declared.fault.StoreFault.{StoreFault}
 use Rattle.gate_journal.specs.declared.fault.StoreFault.TheVariants as fault
-use Rattle.image_store.specs.Opening.{Kept, Holds, HoldsNoStore}
+use Rattle.image_store.specs.Opening.{Kept, Holds, HoldsNoStore, HoldsNothing}
 use Rattle.image_store.proofs.OneOpening.{openings_are_one}
-use Rattle.stored_outcome.specs.Opening.{ComesTo, OpensTo, BreaksRule, RefusesRecord, IsBadStore, IsMissing}
+use Rattle.stored_outcome.specs.Opening.{ComesTo, OpensTo, BreaksRule, RefusesRecord, IsBadStore}
 use Rattle.replay.proofs.Runs.{same_close, not_both}
 
 -- ---- what is kept
@@ -54,7 +53,7 @@ opens_to_one c s t (k, holds, comes) (other, holds_other, comes_other) =
 
 -- ---- no fault beside it
 
-pub opens_not_missing : (c : Image) (s : ClosingState) → OpensTo c s → IsMissing c → ⊥
+pub opens_not_missing : (c : Image) (s : ClosingState) → OpensTo c s → HoldsNothing c → ⊥
 opens_not_missing c s (k, holds, comes) none =
     let same : opening (Ok k) ≡ Err fault.Missing = openings_are_one c (Ok k) (Err fault.Missing) holds none in
     absurd (cc)
@@ -111,7 +110,7 @@ holds_not_bad c k file place holds bad =
     openings_are_one c (Ok k) (Err (fault.BadStore file place)) holds bad in
     absurd (cc)
 
-pub missing_not_bad : (c : Image) (file place : ℕ) → IsMissing c → IsBadStore c file place → ⊥
+pub missing_not_bad : (c : Image) (file place : ℕ) → HoldsNothing c → IsBadStore c file place → ⊥
 missing_not_bad c file place none (inl bad) =
     let same : opening (Err fault.Missing) ≡ Err (fault.BadStore file place) =
     openings_are_one c (Err fault.Missing) (Err (fault.BadStore file place)) none bad in

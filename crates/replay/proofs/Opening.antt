@@ -1,22 +1,24 @@
 -- What a run is to a volume that opens, and to one that doesn't.
-use Rattle.std.proofs.Common.{◌≡◌, ◌≢◌, ℕ, List, [], Option, Some, None, IfSome, refl, sym, subst, ◌⊎◌, inl, inr}
+use Rattle.std.proofs.Common.{◌≡◌, ℕ, List, [], Option, refl, sym, subst, ◌⊎◌, inl, inr}
 use Rattle.std.specs.Io.KnownBytes.{Appends, Consumes}
 use Rattle.std.proofs.KnownBytes.{Appends-nil, Consumes-nil}
 use Rattle.xdr_core.specs.Place.{start_of}
-use Rattle.run_streams.specs.Seen.{Seen, IsUntouched, Received}
+use Rattle.run_streams.specs.Seen.{Seen, Failed, IsUntouched, Received}
 use Rattle.close_rules.specs.State.{ClosingState}
 use Rattle.run_outcome.specs.declared.status.Status.{Status}
 use Rattle.run_outcome.specs.declared.status.Status.TheVariants as status
 use Rattle.run_outcome.specs.Statuses.{IsCutShort, IsRecordsEnd}
 use Rattle.run_outcome.specs.Outcome.{IsRun, IsRunFront}
-use Rattle.outside.specs.Disk.{Image, Disk, Runs, Same}
+use Rattle.outside.specs.Disk.{Image, Runs, Same}
 use Rattle.run_streams.specs.SeenVolume.{SeenVolume, VolumeFailed}
-use Rattle.stored_outcome.specs.Opening.{OpensTo, IsMissing, IsBadStore, IsSound}
-use Rattle.stored_outcome.specs.StoredRun.{RanFrom, ReadsAs, DidNotRun, DidNotOpen, IsOpenedEnd}
+use Rattle.image_store.specs.Opening.{HoldsNothing}
+use Rattle.stored_outcome.specs.Opening.{OpensTo, IsBadStore}
+use Rattle.stored_outcome.specs.StoredRun.{RanFrom, IsFailedEnd, MayRead, DidNotRun, DidNotOpen, IsOpenedEnd}
 use Rattle.stored_outcome.specs.StoredRun.{IsUnopenedEnd}
 use Rattle.replay.proofs.Runs.{empty_front}
 use Rattle.replay.proofs.Turning.{cut_answered}
 use Rattle.replay.proofs.Behind.{opens_none}
+use Rattle.replay.proofs.Keeping.{failed_cut}
 use Rattle.replay.proofs.Surviving.{unmounted}
 use Rattle.replay.proofs.OneState.{opens_to_one, opens_not_missing, opens_not_bad, missing_not_bad, bad_at_one}
 use Rattle.replay.specs.StoredRuns.{Unopened, RanSo}
@@ -46,18 +48,19 @@ nothing_received out same =
     subst (λ (o : Option (List ℕ)). Appends out.before o []) (sym same.0) (Appends-nil out.before)
 
 cut_run : (s : ClosingState) (input out : Seen) (vol : SeenVolume) (end : Status) → OnlyBefore vol → NowLeaves vol
-    → DidNotRun input out vol → Runs Same vol.before vol.now → IsCutShort end → end ≢ status.ReadFault
-    → ReadsAs s [] 0 vol end → RanFrom s input out vol end
-cut_run s input out vol end only now d runs short no_read reads = record {
+    → DidNotRun input out vol → Runs Same vol.before vol.now → IsFailedEnd end
+    → MayRead s [] 0 vol end vol.now.reads → RanFrom s input out vol end
+cut_run s input out vol end only now d runs failed reads = let f = failed_cut end failed in record {
   answered = cut_answered (λ bytes. IsRun s (start_of bytes)) (λ bytes. IsRunFront s (start_of bytes)) input.before out
-      end (nothing_received out d.unwritten) short (λ bytes. empty_front s (start_of bytes));
-  is_end = cut_is_end end short;
-  told = λ e. absurd (no_read e);
-  survived = record {
-    given = [];
-    gave = subst (λ (o : Option (List ℕ)). Consumes input.before o []) (sym d.unread.0) (Consumes-nil input.before);
-    survived = unmounted s [] out vol end only runs (nothing_received out d.unwritten) reads now;
-  };
+      end (nothing_received out d.unwritten) f.0 (λ bytes. empty_front s (start_of bytes));
+  is_end = cut_is_end end f.0;
+  given = [];
+  gave = subst (λ (o : Option (List ℕ)). Consumes input.before o []) (sym d.unread.0) (Consumes-nil input.before);
+  text = [];
+  received = nothing_received out d.unwritten;
+  answer = inr (f.0, empty_front s (start_of []));
+  whole = λ e. absurd (f.1 e);
+  survived = unmounted s [] vol end only runs failed reads now;
 }
 
 not_begun : (s : ClosingState) (input out : Seen) (vol : SeenVolume) (end : Status) → OpensTo vol.before.reads s
@@ -67,12 +70,12 @@ not_begun s input out vol status.Missing o only now d runs u = absurd (opens_not
 not_begun s input out vol (status.BadStore file place) o only now d runs u =
     absurd (opens_not_bad vol.before.reads s file place o u.0)
 not_begun s input out vol status.NoMemory o only now d runs u =
-    cut_run s input out vol status.NoMemory only now d runs tt (λ e. cc)
-    (opens_none s [] vol.now.reads (subst (λ (x : Image). OpensTo x s) (sym u) o))
+    cut_run s input out vol status.NoMemory only now d runs tt
+    (inl (inl (opens_none s [] vol.now.reads (subst (λ (x : Image). OpensTo x s) (sym u) o))))
 not_begun s input out vol status.DiskFault o only now d runs u =
     let x = runs.crash vol.now.reads now in
-    cut_run s input out vol status.DiskFault only now d runs tt (λ e. cc)
-    (inr (inr (refl, u, subst (λ (y : Image). vol.before.may_leave y) (sym x.2) x.1)))
+    cut_run s input out vol status.DiskFault only now d runs tt
+    (inr (refl, tt, u, subst (λ (y : Image). vol.before.may_leave y) (sym x.2) x.1))
 not_begun s input out vol status.Done o only now d runs u = absurd u
 not_begun s input out vol status.Usage o only now d runs u = absurd u
 not_begun s input out vol status.Refused o only now d runs u = absurd u
@@ -87,70 +90,70 @@ pub ran_opened : (s : ClosingState) (input out : Seen) (vol : SeenVolume) (end :
     → OnlyBefore vol → NowLeaves vol → RanSo input out vol end → RanFrom s input out vol end
 ran_opened s input out vol end o only now (inl (t, opens, r)) =
     subst (λ (x : ClosingState). RanFrom x input out vol end) (opens_to_one vol.before.reads t s opens o) r
-ran_opened s input out vol end o only now (inr (d, runs, u)) = not_begun s input out vol end o only now d runs u
+ran_opened s input out vol end o only now (inr (d, u)) = not_begun s input out vol end o only now d d.runs u
 
 -- ---- on a volume that doesn't open
 
-abbrev IsOff : (before : Status) → SeenVolume → Status → Type 0
-IsOff before vol end =
-    (end ≡ before) ⊎ ((end ≡ status.DiskFault) × VolumeFailed vol) ⊎ (end ≡ status.WriteFault)
+abbrev IsOff : (before : Status) → (err : Seen) → SeenVolume → Status → Type 0
+IsOff before err vol end =
+    (end ≡ before) ⊎ ((end ≡ status.DiskFault) × VolumeFailed vol) ⊎ ((end ≡ status.WriteFault) × Failed err)
     ⊎ (end ≡ status.NoMemory)
 
-missing_end : (vol : SeenVolume) (end : Status) → IsMissing vol.before.reads → Unopened vol end
-    → IsOff status.Missing vol end
-missing_end vol status.Missing none u = inl refl
-missing_end vol (status.BadStore file place) none u = absurd (missing_not_bad vol.before.reads file place none u.0)
-missing_end vol status.NoMemory none u = inr (inr (inr refl))
-missing_end vol status.DiskFault none u = inr (inl (refl, u))
-missing_end vol status.Done none u = absurd u
-missing_end vol status.Usage none u = absurd u
-missing_end vol status.Refused none u = absurd u
-missing_end vol status.ReadFault none u = absurd u
-missing_end vol status.WriteFault none u = absurd u
-missing_end vol (status.BadInput at) none u = absurd u
-missing_end vol (status.BadImage rule) none u = absurd u
-missing_end vol status.AlreadyThere none u = absurd u
+missing_end : (err : Seen) (vol : SeenVolume) (end : Status) → HoldsNothing vol.before.reads → Unopened vol end
+    → IsOff status.Missing err vol end
+missing_end err vol status.Missing none u = inl refl
+missing_end err vol (status.BadStore file place) none u = absurd (missing_not_bad vol.before.reads file place none u.0)
+missing_end err vol status.NoMemory none u = inr (inr (inr refl))
+missing_end err vol status.DiskFault none u = inr (inl (refl, u))
+missing_end err vol status.Done none u = absurd u
+missing_end err vol status.Usage none u = absurd u
+missing_end err vol status.Refused none u = absurd u
+missing_end err vol status.ReadFault none u = absurd u
+missing_end err vol status.WriteFault none u = absurd u
+missing_end err vol (status.BadInput at) none u = absurd u
+missing_end err vol (status.BadImage rule) none u = absurd u
+missing_end err vol status.AlreadyThere none u = absurd u
 
-bad_end : (vol : SeenVolume) (file place : ℕ) (end : Status) → IsBadStore vol.before.reads file place
-    → Unopened vol end → IsOff (status.BadStore file place) vol end
-bad_end vol file place status.Missing bad u = absurd (missing_not_bad vol.before.reads file place u.0 bad)
-bad_end vol file place (status.BadStore other at) bad u =
+bad_end : (err : Seen) (vol : SeenVolume) (file place : ℕ) (end : Status) → IsBadStore vol.before.reads file place
+    → Unopened vol end → IsOff (status.BadStore file place) err vol end
+bad_end err vol file place status.Missing bad u = absurd (missing_not_bad vol.before.reads file place u.0 bad)
+bad_end err vol file place (status.BadStore other at) bad u =
     let same = bad_at_one vol.before.reads other at file place u.0 bad in
     inl (λ i. status.BadStore (same.0 i) (same.1 i))
-bad_end vol file place status.NoMemory bad u = inr (inr (inr refl))
-bad_end vol file place status.DiskFault bad u = inr (inl (refl, u))
-bad_end vol file place status.Done bad u = absurd u
-bad_end vol file place status.Usage bad u = absurd u
-bad_end vol file place status.Refused bad u = absurd u
-bad_end vol file place status.ReadFault bad u = absurd u
-bad_end vol file place status.WriteFault bad u = absurd u
-bad_end vol file place (status.BadInput at) bad u = absurd u
-bad_end vol file place (status.BadImage rule) bad u = absurd u
-bad_end vol file place status.AlreadyThere bad u = absurd u
+bad_end err vol file place status.NoMemory bad u = inr (inr (inr refl))
+bad_end err vol file place status.DiskFault bad u = inr (inl (refl, u))
+bad_end err vol file place status.Done bad u = absurd u
+bad_end err vol file place status.Usage bad u = absurd u
+bad_end err vol file place status.Refused bad u = absurd u
+bad_end err vol file place status.ReadFault bad u = absurd u
+bad_end err vol file place status.WriteFault bad u = absurd u
+bad_end err vol file place (status.BadInput at) bad u = absurd u
+bad_end err vol file place (status.BadImage rule) bad u = absurd u
+bad_end err vol file place status.AlreadyThere bad u = absurd u
 
-pub ran_missing : (input out : Seen) (vol : SeenVolume) (end : Status) → IsMissing vol.before.reads
-    → RanSo input out vol end → DidNotOpen status.Missing input out vol end
-ran_missing input out vol end none (inl (s, opens, ran)) = absurd (opens_not_missing vol.before.reads s opens none)
-ran_missing input out vol end none (inr (d, runs, u)) = (d, missing_end vol end none u)
+pub ran_missing : (input out err : Seen) (vol : SeenVolume) (end : Status) → HoldsNothing vol.before.reads
+    → RanSo input out vol end → DidNotOpen status.Missing input out err vol end
+ran_missing input out err vol end none (inl (s, opens, ran)) = absurd (opens_not_missing vol.before.reads s opens none)
+ran_missing input out err vol end none (inr (d, u)) = (d, missing_end err vol end none u)
 
-pub ran_bad : (input out : Seen) (vol : SeenVolume) (file place : ℕ) (end : Status)
+pub ran_bad : (input out err : Seen) (vol : SeenVolume) (file place : ℕ) (end : Status)
     → IsBadStore vol.before.reads file place → RanSo input out vol end
-    → DidNotOpen (status.BadStore file place) input out vol end
-ran_bad input out vol file place end bad (inl (s, opens, ran)) =
+    → DidNotOpen (status.BadStore file place) input out err vol end
+ran_bad input out err vol file place end bad (inl (s, opens, ran)) =
     absurd (opens_not_bad vol.before.reads s file place opens bad)
-ran_bad input out vol file place end bad (inr (d, runs, u)) = (d, bad_end vol file place end bad u)
+ran_bad input out err vol file place end bad (inr (d, u)) = (d, bad_end err vol file place end bad u)
 
 -- ---- where these ends come
 
 pub only_missing : (input out : Seen) (vol : SeenVolume) → RanSo input out vol status.Missing
-    → IsMissing vol.before.reads
+    → HoldsNothing vol.before.reads
 only_missing input out vol (inl (s, opens, ran)) = absurd ran.is_end
-only_missing input out vol (inr (d, runs, u)) = u.0
+only_missing input out vol (inr (d, u)) = u.0
 
 pub only_bad : (input out : Seen) (vol : SeenVolume) (file place : ℕ)
     → RanSo input out vol (status.BadStore file place) → IsBadStore vol.before.reads file place
 only_bad input out vol file place (inl (s, opens, ran)) = absurd ran.is_end
-only_bad input out vol file place (inr (d, runs, u)) = u.0
+only_bad input out vol file place (inr (d, u)) = u.0
 
 opened_end : (end : Status) → IsOpenedEnd end → (vol : SeenVolume) → Unopened vol end → ⊥
 opened_end status.Done opened vol u = u
@@ -169,11 +172,11 @@ opened_end status.AlreadyThere opened vol u = opened
 pub only_opened : (input out : Seen) (vol : SeenVolume) (end : Status) → IsOpenedEnd end → RanSo input out vol end
     → (s : ClosingState) × OpensTo vol.before.reads s
 only_opened input out vol end opened (inl (s, opens, ran)) = (s, opens)
-only_opened input out vol end opened (inr (d, runs, u)) = absurd (opened_end end opened vol u)
+only_opened input out vol end opened (inr (d, u)) = absurd (opened_end end opened vol u)
 
 -- ---- runs on a volume that doesn't open
 
-not_of_records : (end : Status) → IsUnopenedEnd end → IsRecordsEnd end → ⊥
+pub not_of_records : (end : Status) → IsUnopenedEnd end → IsRecordsEnd end → ⊥
 not_of_records status.Missing ended records = records
 not_of_records (status.BadStore file place) ended records = records
 not_of_records status.Done ended records = ended
@@ -186,16 +189,3 @@ not_of_records status.NoMemory ended records = ended
 not_of_records (status.BadInput at) ended records = ended
 not_of_records (status.BadImage rule) ended records = ended
 not_of_records status.AlreadyThere ended records = ended
-
-did_not_run : (input out : Seen) (vol : SeenVolume) (end : Status) → IsUnopenedEnd end → RanSo input out vol end
-    → DidNotRun input out vol
-did_not_run input out vol end ended (inl (s, opens, ran)) = absurd (not_of_records end ended ran.is_end)
-did_not_run input out vol end ended (inr (d, runs, u)) = d
-
-pub stayed : (input out : Seen) (vol : SeenVolume) (end : Status) → IsUnopenedEnd end → vol.tells
-    → RanSo input out vol end → Runs Same vol.before vol.now
-stayed input out vol end ended te ran = (did_not_run input out vol end ended ran).runs te
-
-pub reads_same : (input out : Seen) (vol : SeenVolume) (end : Status) → IsUnopenedEnd end → vol.tells
-    → RanSo input out vol end → VolumeFailed vol ⊎ (vol.now.reads ≡ vol.before.reads)
-reads_same input out vol end ended te ran = (did_not_run input out vol end ended ran).reads te

@@ -69,8 +69,8 @@ nothing_framed bytes rest e =
     absurd (omega (arith, sizes, length-append (framed bytes) rest, framed_above bytes))
 
 -- a record at the front of what is left is refused
-refused_at : (s : ClosingState) (at : ℕ) (text : List ℕ) (last : Outcome) (bytes rest : List ℕ) → IsEnd s at text last
-    → text ≡ framed bytes ++ rest → length bytes ≤ max_record_len
+pub refused_at : (s : ClosingState) (at : ℕ) (text : List ℕ) (last : Outcome) (bytes rest : List ℕ)
+    → IsEnd s at text last → text ≡ framed bytes ++ rest → length bytes ≤ max_record_len
     → (wrong : CloseFault) × IsClose s bytes (Err wrong)
     × (last ≡ record { status = status.Refused; text = refused_line s.header wrong })
 refused_at s at [] last bytes rest h e short = absurd (nothing_framed bytes rest e)
@@ -227,7 +227,7 @@ no_records s p = record {
   closed = (refl, refl);
 }
 
-pub one_more : (s : ClosingState) (bytes : List ℕ) (c : PreparedClose) (at next : ℕ) (others lines : List ℕ)
+abbrev pub one_more : (s : ClosingState) (bytes : List ℕ) (c : PreparedClose) (at next : ℕ) (others lines : List ℕ)
     → length bytes ≤ max_record_len → IsClose s bytes (Ok c)
     → AreClosedAhead c.state (record { at = next; rest = others }) lines
     → AreClosedAhead s (record { at = at; rest = framed bytes ++ others }) (lines_of c ++ lines)

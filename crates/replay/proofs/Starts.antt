@@ -103,6 +103,7 @@ unwritten passphrase input out end short h =
 pub unread_memory : (passphrase : List ℕ) (input : Seen) → IsUnstarted passphrase input status.NoMemory
 unread_memory passphrase input out h = record {
   answered = unwritten passphrase input out status.NoMemory tt h;
+  bad_image = λ rule e. h;
   ended = λ e. absurd cc;
   read_fault = λ e. absurd cc;
   write_fault = λ e. absurd cc;
@@ -118,7 +119,7 @@ silent_end passphrase input out end h ends = answered_by input.before ends
     answered_by : (before : Option (List ℕ)) → IfSome before (λ bytes. IsOutcome passphrase bytes (silent end))
         → IfSome before (λ bytes. AnsweredTo passphrase bytes out end)
     answered_by None i = tt
-    answered_by (Some bytes) i = inl (silent end, i, refl, h)
+    answered_by (Some bytes) i = ([], h, inl (silent end, i, refl, refl))
 
 -- what a fault comes to behind which more bytes stand, where they can
 fault_stays : (new others : List ℕ) (now : Option (List ℕ)) (wrong : XdrFault) → IsBytes new
@@ -163,6 +164,7 @@ unread_bad : (passphrase : List ℕ) (input : Seen) (at : ℕ) → IfSome input.
     → IsUnstarted passphrase input (status.BadInput at)
 unread_bad passphrase input at faulty out h = record {
   answered = silent_end passphrase input out (status.BadInput at) h (faulty_outcome passphrase at input.before faulty);
+  bad_image = λ rule e. h;
   ended = λ e. absurd cc;
   read_fault = λ e. absurd cc;
   write_fault = λ e. absurd cc;
@@ -173,6 +175,7 @@ unread_failed : (passphrase : List ℕ) (input : Seen) → Failed input → Gave
     → IsUnstarted passphrase input status.ReadFault
 unread_failed passphrase input failed none out h = record {
   answered = unwritten passphrase input out status.ReadFault tt h;
+  bad_image = λ rule e. h;
   ended = λ e. absurd cc;
   read_fault = λ e. (
     failed,
@@ -230,6 +233,7 @@ pub unjudged : (passphrase : List ℕ) (image : StartImage) (at : ℕ) (ahead : 
 unjudged passphrase image at ahead input (status.BadImage rule) c is out h = record {
   answered = judged_end passphrase image at ahead input (status.BadImage rule) (Err (image_fault.BadImage rule)) c is
       (λ p. refl) out h;
+  bad_image = λ rule e. h;
   ended = λ e. absurd cc;
   read_fault = λ e. absurd cc;
   write_fault = λ e. absurd cc;
@@ -267,8 +271,8 @@ answered_by passphrase s at ahead input start (Some x) (Some y) out end gave h =
     whole : (p : Place) → Answered (IsRun s p) (IsRunFront s p) out end
         → Answered (IsOutcomeOf (network_id_of passphrase) (Ok (start.image, p)))
         (IsOutputFrontOf (network_id_of passphrase) (Ok (start.image, p))) out end
-    whole p (inl (o, run, e, received)) = inl (o, (Ok s, start.judged, run), e, received)
-    whole p (inr (short, front, f, received)) = inr (short, front, inr (s, start.judged, f), received)
+    whole p (text, received, inl (o, run, e, same)) = (text, received, inl (o, (Ok s, start.judged, run), e, same))
+    whole p (text, received, inr (short, f)) = (text, received, inr (short, inr (s, start.judged, f)))
 
 -- a run without a volume ends like `catchup`
 caught_end : (end : Status) → IsRecordsEnd end → (end ≡ status.DiskFault → ⊥) → IsCatchUpEnd end
@@ -292,6 +296,7 @@ pub caught_up : (passphrase : List ℕ) (s : ClosingState) (at : ℕ) (ahead : L
     → CaughtUp passphrase (over input.before now input.faults_before faults) out end
 caught_up passphrase s at ahead input out now faults F end start never f = record {
   answered = answered_by passphrase s at ahead input start input.before input.now out end start.cut.gave f.answered;
+  bad_image = λ rule e. absurd (subst IsRecordsEnd e f.is_end);
   ended = f.ended;
   read_fault = λ e. let h = f.read_fault e in (
     rose_before input.faults_before input.faults_now faults start.cut.later h.0,

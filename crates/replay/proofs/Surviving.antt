@@ -1,20 +1,18 @@
 -- The headline, from what mounting and the run behind it leave.
-use Rattle.std.proofs.Common.{◌≡◌, ℕ, ◌+◌, ◌≤◌, ◌<◌, List, [], ◌∷◌, ◌++◌, length, Ok, refl, sym, ap, subst, ◌∙◌}
+use Rattle.std.proofs.Common.{◌≡◌, ℕ, ◌+◌, List, [], refl, sym, ap, subst, ◌∙◌}
 use Rattle.std.proofs.Common.{arith, ◌⊎◌, inl, inr}
-use Rattle.run_streams.specs.Seen.{Seen, Received}
+use Rattle.run_streams.specs.Seen.{Seen}
 use Rattle.replay.proofs.Behind.{ack_empty}
 use Rattle.close_rules.specs.State.{ClosingState}
-use Rattle.run_outcome.specs.Outcome.{AreClosed}
 use Rattle.run_outcome.specs.declared.status.Status.{Status}
-use Rattle.run_outcome.specs.declared.status.Status.TheVariants as status
 use Rattle.outside.specs.Disk.{Image, Disk, Runs, Same, IsSafe}
 use Rattle.run_streams.specs.SeenVolume.{SeenVolume}
 use Rattle.outside.proofs.Running.{onward}
-use Rattle.stored_outcome.specs.Opening.{OpensTo, OpensOn, IsSound}
+use Rattle.stored_outcome.specs.Opening.{OpensTo, OpensOn}
 use Rattle.stored_outcome.specs.Behind.{IsBehind, OpensBehind, OpensWithin}
-use Rattle.stored_outcome.specs.StoredRun.{OpensInRun, MayRead, ReadsAs, Survived, RanFrom}
+use Rattle.stored_outcome.specs.StoredRun.{OpensInRun, IsFailedEnd, OpensAcknowledged, MayRead, Survived, RanFrom}
 use Rattle.replay.specs.Following.{Followed}
-use Rattle.replay.specs.Keeping.{OpensOnward, MayBeAhead, KeptOn}
+use Rattle.replay.specs.Keeping.{OpensOnward, KeptOn}
 use Rattle.replay.proofs.Comes.{closed_network}
 
 -- a content stays as it was, or opens behind records
@@ -47,39 +45,13 @@ behind_network s text k lines t b =
     ap (λ (x : ClosingState). x.network) (sym b.is)
     ∙ closed_network s b.ahead.records lines b.ahead.state b.ahead.closed
 
-behind_on : (s : ClosingState) (text : List ℕ) (k : ℕ) (c : Image) → OpensBehind s text k c → OpensOn s.network c
+pub behind_on : (s : ClosingState) (text : List ℕ) (k : ℕ) (c : Image) → OpensBehind s text k c → OpensOn s.network c
 behind_on s text k c (lines, t, b, o) = (t, o, behind_network s text k lines t b)
 
-one_on : (s : ClosingState) (text : List ℕ) (k : ℕ) (c : Image)
-    → OpensBehind s text k c ⊎ OpensBehind s text (k + 1) c → OpensOn s.network c
-one_on s text k c (inl o) = behind_on s text k c o
-one_on s text k c (inr o) = behind_on s text (k + 1) c o
-
-either_read : (s : ClosingState) (given : List ℕ) (n : ℕ) (vol : SeenVolume)
-    → OpensBehind s given n vol.now.reads ⊎ OpensBehind s given (n + 1) vol.now.reads → MayRead s given n vol
-either_read s given n vol (inl o) = inl o
-either_read s given n vol (inr o) = inr (inl o)
-
-not_ahead : (s : ClosingState) (given : List ℕ) (n : ℕ) (vol : SeenVolume) (P : Type 0) → (P → ⊥)
-    → P ⊎ OpensBehind s given n vol.now.reads → OpensBehind s given n vol.now.reads
-not_ahead s given n vol P never (inl p) = absurd (never p)
-not_ahead s given n vol P never (inr o) = o
-
-reads_as : (s : ClosingState) (given : List ℕ) (n : ℕ) (vol : SeenVolume) (end : Status)
-    → OpensBehind s given n vol.now.reads ⊎ OpensBehind s given (n + 1) vol.now.reads
-    → MayBeAhead end ⊎ OpensBehind s given n vol.now.reads → ReadsAs s given n vol end
-reads_as s given n vol status.WriteFault either o = either_read s given n vol either
-reads_as s given n vol status.DiskFault either o = either_read s given n vol either
-reads_as s given n vol status.Done either o = not_ahead s given n vol ⊥ (λ p. p) o
-reads_as s given n vol status.Usage either o = not_ahead s given n vol ⊥ (λ p. p) o
-reads_as s given n vol status.Refused either o = not_ahead s given n vol ⊥ (λ p. p) o
-reads_as s given n vol status.ReadFault either o = not_ahead s given n vol ⊥ (λ p. p) o
-reads_as s given n vol (status.BadStore file place) either o = not_ahead s given n vol ⊥ (λ p. p) o
-reads_as s given n vol status.NoMemory either o = not_ahead s given n vol ⊥ (λ p. p) o
-reads_as s given n vol (status.BadInput at) either o = not_ahead s given n vol ⊥ (λ p. p) o
-reads_as s given n vol (status.BadImage rule) either o = not_ahead s given n vol ⊥ (λ p. p) o
-reads_as s given n vol status.Missing either o = not_ahead s given n vol ⊥ (λ p. p) o
-reads_as s given n vol status.AlreadyThere either o = not_ahead s given n vol ⊥ (λ p. p) o
+one_on : (s : ClosingState) (text : List ℕ) (k : ℕ) (end : Status) (c : Image) → OpensAcknowledged s text k end c
+    → OpensOn s.network c
+one_on s text k end c (inl o) = behind_on s text k c o
+one_on s text k end c (inr o) = behind_on s text (k + 1) c o.1
 
 same_left : (vol : SeenVolume) (c : Image)
     → ((x : Image) → vol.before.left_since vol.before.moment x → vol.before.may_leave x)
@@ -89,42 +61,43 @@ same_left vol c only (inl left) = only c left
 same_left vol c only (inr (d, may, same)) = subst (λ (x : Image). vol.before.may_leave x) (sym same) may
 
 -- mounted, and then run
-pub survived : (s : ClosingState) (input out : Seen) (vol : SeenVolume) (mid : Disk) (end : Status)
+pub survived : (s : ClosingState) (at : ℕ) (input out : Seen) (vol : SeenVolume) (mid : Disk) (end : Status)
     → ((c : Image) → vol.before.left_since vol.before.moment c → vol.before.may_leave c)
     → vol.now.may_leave vol.now.reads → Runs Same vol.before mid → IsSafe mid → OpensTo mid.reads s
-    → (k : KeptOn s [] input out mid vol.now end) → Survived s k.given out vol end
-survived s input out vol mid end only reads_now first safe opens k =
+    → (k : KeptOn s at [] input out mid vol.now end) → Survived s k.given k.front vol end
+survived s at input out vol mid end only reads_now first safe opens k =
     let runs = whole_runs s k.given vol.before mid vol.now safe opens first k.keeps.runs in
     let now = k.keeps.crash vol.now.reads reads_now in
     record {
       moments = λ c left. in_run s k.given vol c only (runs.since vol.before.moment c (omega arith) left);
-      front = k.front;
-      received = k.received;
+      later = runs.later;
       count = k.keeps.count;
       acknowledged = k.keeps.acknowledged;
-      crash = λ some c may. k.keeps.crash c may;
-      reads = reads_as s k.given k.keeps.count vol end now k.keeps.reads;
+      unbroken = k.keeps.unbroken;
+      crash = λ c may. inl (k.keeps.crash c may);
+      reads = inl now;
       sound = λ before. record {
         network = s.network;
-        crash = λ c may. one_on s k.given k.keeps.count c (k.keeps.crash c may);
-        reads = one_on s k.given k.keeps.count vol.now.reads now;
+        crash = λ c may. one_on s k.given k.keeps.count end c (k.keeps.crash c may);
+        reads = one_on s k.given k.keeps.count end vol.now.reads now;
       };
     }
 
 -- ---- a run that ends as it is mounted
 
 -- nothing was written to the output, and the volume stays
-pub unmounted : (s : ClosingState) (given : List ℕ) (out : Seen) (vol : SeenVolume) (end : Status)
+pub unmounted : (s : ClosingState) (given : List ℕ) (vol : SeenVolume) (end : Status)
     → ((c : Image) → vol.before.left_since vol.before.moment c → vol.before.may_leave c)
-    → Runs Same vol.before vol.now → Received out [] → ReadsAs s given 0 vol end → vol.now.may_leave vol.now.reads
-    → Survived s given out vol end
-unmounted s given out vol end only runs nothing reads now = record {
+    → Runs Same vol.before vol.now → IsFailedEnd end → MayRead s given 0 vol end vol.now.reads
+    → vol.now.may_leave vol.now.reads → Survived s given [] vol end
+unmounted s given vol end only runs failed reads now = record {
   moments = λ c left. inl (same_left vol c only (runs.since vol.before.moment c (omega arith) left));
-  front = [];
-  received = nothing;
+  later = runs.later;
   count = 0;
   acknowledged = ack_empty s given [] refl;
-  crash = λ some c may. absurd (omega (arith, some));
+  unbroken = λ un. refl;
+  crash = λ c may. let x = runs.crash c may in
+      inr (refl, failed, subst (λ (y : Image). vol.before.may_leave y) (sym x.2) x.1);
   reads = reads;
   sound = λ before.
       let sound_now = λ (c : Image) (may : vol.now.may_leave c). let x = runs.crash c may in
@@ -137,20 +110,15 @@ unmounted s given out vol end only runs nothing reads now = record {
 pub ran_from : (s : ClosingState) (input out : Seen) (vol : SeenVolume) (mid : Disk) (F : Type 0) (end : Status)
     → ((c : Image) → vol.before.left_since vol.before.moment c → vol.before.may_leave c)
     → vol.now.may_leave vol.now.reads → Runs Same vol.before mid → IsSafe mid → OpensTo mid.reads s
-    → Followed s 0 [] input out F end → KeptOn s [] input out mid vol.now end → RanFrom s input out vol end
+    → Followed s 0 [] input out F end → KeptOn s 0 [] input out mid vol.now end → RanFrom s input out vol end
 ran_from s input out vol mid F end only reads_now first safe opens f k = record {
   answered = f.answered;
   is_end = f.is_end;
-  told = λ e. let w = (f.read_fault e).1 in record {
-    given = w.given;
-    gave = w.gave;
-    lines = w.lines;
-    received = w.received;
-    all = w.all;
-  };
-  survived = record {
-    given = k.given;
-    gave = k.gave;
-    survived = survived s input out vol mid end only reads_now first safe opens k;
-  };
+  given = k.given;
+  gave = k.gave;
+  text = k.front;
+  received = k.received;
+  answer = k.answers.answer;
+  whole = k.answers.whole;
+  survived = survived s 0 input out vol mid end only reads_now first safe opens k;
 }

@@ -1,6 +1,6 @@
--- The line of an end, and whole runs of the program.
-use Rattle.std.proofs.Common.{◌≡◌, ℕ, List, Option, Some, None, IfSome, Result, Ok, Err, refl, sym, ap, subst, inl, inr}
-use Rattle.run_streams.specs.Seen.{Seen, Failed, Received, IsUntouched}
+-- The line of an end behind a run of `catchup`.
+use Rattle.std.proofs.Common.{ℕ, List, Option, Some, None, IfSome, Result, Ok, Err, refl, sym, ap, subst, inl, inr}
+use Rattle.run_streams.specs.Seen.{Seen, Failed, Received}
 use Rattle.ledger_types.specs.declared.ids.Hash.{Hash}
 use Rattle.xdr_core.specs.declared.fault.XdrFault.{XdrFault}
 use Rattle.xdr_core.specs.Place.{Place, Reading, start_of}
@@ -14,9 +14,8 @@ use Rattle.close_rules.specs.Images.{IsJudged}
 use Rattle.run_outcome.specs.declared.status.Status.{Status}
 use Rattle.run_outcome.specs.declared.status.Status.TheVariants as status
 use Rattle.run_outcome.specs.Statuses.{status_line, IsCutShort}
-use Rattle.run_outcome.specs.Command.{passphrase_of}
-use Rattle.run_outcome.specs.Outcome.{Outcome, IsStarted, IsOutcomeOf, IsOutputFrontOf}
-use Rattle.run_outcome.specs.Run.{IsTold, AnsweredTo, DidCatchUp, RanAs, Ran}
+use Rattle.run_outcome.specs.Outcome.{Outcome, IsStarted, IsOutcomeOf, IsOutcome, IsOutputFrontOf, IsOutputFront}
+use Rattle.run_outcome.specs.Run.{IsAnswer, AnsweredTo, DidCatchUp}
 use Rattle.replay.specs.Starting.{CaughtUp}
 use Rattle.replay.specs.Telling.{IsToldOrRefused, IsToldSo}
 use Rattle.replay.proofs.Fronts.{whole_front}
@@ -35,26 +34,28 @@ outcome_front network (Err wrong) o h = ap (λ (x : Outcome). x.text) h
 outcome_front network (Ok x) o h = started_front network x.0 x.1 h.0 o h.1 h.2
 
 -- an end that cuts a run short in place of another one
-shorter : (passphrase bytes : List ℕ) (out : Seen) (end after : Status) → IsCutShort after
-    → AnsweredTo passphrase bytes out end → AnsweredTo passphrase bytes out after
-shorter passphrase bytes out end after short (inl (o, is, e, received)) = inr (
+shorter : (passphrase bytes text : List ℕ) (end after : Status) → IsCutShort after
+    → IsAnswer (IsOutcome passphrase bytes) (IsOutputFront passphrase bytes) text end
+    → IsAnswer (IsOutcome passphrase bytes) (IsOutputFront passphrase bytes) text after
+shorter passphrase bytes text end after short (inl (o, is, e, same)) = inr (
   short,
-  o.text,
-  outcome_front (network_id_of passphrase) (start_image.read (start_of bytes)) o is,
-  received,
+  subst (IsOutputFront passphrase bytes) (sym same)
+      (outcome_front (network_id_of passphrase) (start_image.read (start_of bytes)) o is),
 )
-shorter passphrase bytes out end after short (inr (old, front, f, received)) = inr (short, front, f, received)
+shorter passphrase bytes text end after short (inr (old, f)) = inr (short, f)
 
 shorter_if : (passphrase : List ℕ) (before : Option (List ℕ)) (out : Seen) (end after : Status) → IsCutShort after
     → IfSome before (λ bytes. AnsweredTo passphrase bytes out end)
     → IfSome before (λ bytes. AnsweredTo passphrase bytes out after)
 shorter_if passphrase None out end after short h = tt
-shorter_if passphrase (Some bytes) out end after short h = shorter passphrase bytes out end after short h
+shorter_if passphrase (Some bytes) out end after short (text, h, answer) =
+    (text, h, shorter passphrase bytes text end after short answer)
 
 told_whole : (passphrase : List ℕ) (input out err : Seen) (end : Status) → CaughtUp passphrase input out end
     → Received err (status_line end) → DidCatchUp passphrase input out err end
 told_whole passphrase input out err end run h = record {
   answered = run.answered;
+  bad_image = run.bad_image;
   ended = run.ended;
   read_fault = run.read_fault;
   write_fault = λ e. inl (run.write_fault e);
@@ -66,6 +67,7 @@ told_failed : (passphrase : List ℕ) (input out err : Seen) (end : Status) → 
     → Failed err → DidCatchUp passphrase input out err status.WriteFault
 told_failed passphrase input out err end run failed = record {
   answered = shorter_if passphrase input.before out end status.WriteFault tt run.answered;
+  bad_image = λ rule e. absurd cc;
   ended = λ e. absurd cc;
   read_fault = λ e. absurd cc;
   write_fault = λ e. inr failed;
@@ -77,6 +79,7 @@ told_no_memory : (passphrase : List ℕ) (input out err : Seen) (end : Status) �
     → Received err (status_line status.NoMemory) → DidCatchUp passphrase input out err status.NoMemory
 told_no_memory passphrase input out err end run h = record {
   answered = shorter_if passphrase input.before out end status.NoMemory tt run.answered;
+  bad_image = λ rule e. absurd cc;
   ended = λ e. absurd cc;
   read_fault = λ e. absurd cc;
   write_fault = λ e. absurd cc;
@@ -111,16 +114,3 @@ told_or_refused status.DiskFault err after told = inl told
 told_or_refused status.NoMemory err after told = inl told
 told_or_refused status.Missing err after told = inl told
 told_or_refused status.AlreadyThere err after told = inl told
-
--- ---- the words
-
-pub ran_command : (words : List (List ℕ)) (passphrase : List ℕ) (input out err : Seen) (end : Status)
-    → passphrase_of words ≡ Some passphrase → DidCatchUp passphrase input out err end → Ran words input out err end
-ran_command words passphrase input out err end command did =
-    subst (λ (c : Option (List ℕ)). RanAs c input out err end) (sym command) did
-
-pub ran_usage : (words : List (List ℕ)) (input out err : Seen) (end : Status) → passphrase_of words ≡ None
-    → IsUntouched input → IsUntouched out → IsTold status.Usage err end → Ran words input out err end
-ran_usage words input out err end none same_input same_out told =
-    subst (λ (c : Option (List ℕ)). RanAs c input out err end) (sym none)
-    (record { told = told; unread = same_input; unwritten = same_out })

@@ -7,7 +7,6 @@ use Rattle.std.specs.Prelude.{◌≢◌, IsNone}
 use Rattle.std.specs.Io.KnownBytes.{Consumes, IsAtEnd}
 use Rattle.std.proofs.KnownBytes.{Appends-trans, Consumes-trans}
 use Rattle.std.proofs.lemmas.List.{length-append}
-use Rattle.std.proofs.lemmas.List.Elements.{All-cons}
 use Rattle.outside.specs.Streams.{Rose}
 use Rattle.run_streams.specs.Seen.{Seen, Failed, Received}
 use Rattle.record_stream.specs.Filling.{Grown}
@@ -31,8 +30,8 @@ use Rattle.run_outcome.specs.Statuses.{IsCutShort, IsRecordsEnd}
 use Rattle.run_outcome.specs.Lines.{end_line, refused_line}
 use Rattle.run_outcome.specs.Outcome.{Outcome, silent, behind, framed, max_record_len, lines_of, IsStopped, IsEnd}
 use Rattle.run_outcome.specs.Outcome.{IsRun}
-use Rattle.run_outcome.specs.Outcome.{frames, AreClosed, IsRunFront}
-use Rattle.run_outcome.specs.Run.{Answered}
+use Rattle.run_outcome.specs.Outcome.{IsFront, IsRunFront, AreWhole}
+use Rattle.run_outcome.specs.Run.{IsAnswer, Answered}
 use Rattle.replay.specs.Following.{Refuses, Closes, Passes, EndsAt, Turned, IsCut, Told}
 use Rattle.replay.specs.Following.{Wrote, Stops, AnsweredFrom, Followed, FollowedFrom, Standing, Goes, WholeLines}
 use Rattle.xdr_core.proofs.FormatLaws.{faults_placed, mark_laws}
@@ -56,23 +55,41 @@ joined first second = over first.before second.now first.faults_before second.fa
 
 -- ---- a record, and then the rest of the run
 
+abbrev AnswerFrom : ClosingState → (at : ℕ) → (rest text : List ℕ) → (end : Status) → Type 0
+AnswerFrom s at rest text end =
+    IsAnswer (IsRun s (record { at = at; rest = rest })) (IsRunFront s (record { at = at; rest = rest })) text end
+
+pub answer_behind : (s : ClosingState) (bytes : List ℕ) (c : PreparedClose) (at : ℕ) (others text : List ℕ)
+    (end : Status) → length bytes ≤ max_record_len → IsClose s bytes (Ok c)
+    → AnswerFrom c.state (at + length (framed bytes)) others text end
+    → AnswerFrom s at (framed bytes ++ others) (lines_of c ++ text) end
+answer_behind s bytes c at others text end fits closes (inl (o, run, e, same)) = inl (
+  behind (lines_of c) o,
+  prepended s bytes c at others o fits closes run,
+  e,
+  ap (λ (t : List ℕ). lines_of c ++ t) same,
+)
+answer_behind s bytes c at others text end fits closes (inr (short, f)) =
+    inr (short, later_front s bytes c at others text fits closes f)
+
 answered_behind : (s : ClosingState) (bytes : List ℕ) (c : PreparedClose) (at : ℕ) (others : List ℕ) (out : Seen)
     (later : Option (List ℕ)) (faults : ℕ) (end : Status) → length bytes ≤ max_record_len → IsClose s bytes (Ok c)
     → Received out (lines_of c)
     → AnsweredFrom c.state (at + length (framed bytes)) others (over out.now later out.faults_now faults) end
     → AnsweredFrom s at (framed bytes ++ others) (over out.before later out.faults_before faults) end
-answered_behind s bytes c at others out later faults end fits closes received (inl (o, run, e, h)) = inl (
-  behind (lines_of c) o,
-  prepended s bytes c at others o fits closes run,
-  e,
-  Appends-trans out.before out.now later (lines_of c) o.text received h,
+answered_behind s bytes c at others out later faults end fits closes received (text, h, answer) = (
+  lines_of c ++ text,
+  Appends-trans out.before out.now later (lines_of c) text received h,
+  answer_behind s bytes c at others text end fits closes answer,
 )
-answered_behind s bytes c at others out later faults end fits closes received (inr (short, front, f, h)) = inr (
-  short,
-  lines_of c ++ front,
-  later_front s bytes c at others front fits closes f,
-  Appends-trans out.before out.now later (lines_of c) front received h,
-)
+
+-- all lines of what is whole
+pub whole_behind : (s : ClosingState) (bytes : List ℕ) (c : PreparedClose) (at next : ℕ) (others lines : List ℕ)
+    → length bytes ≤ max_record_len → IsClose s bytes (Ok c)
+    → AreWhole c.state (record { at = next; rest = others }) lines
+    → AreWhole s (record { at = at; rest = framed bytes ++ others }) (lines_of c ++ lines)
+whole_behind s bytes c at next others lines fits closes w =
+    record { ahead = one_more s bytes c at next others lines fits closes w.ahead; partial = w.partial }
 
 -- the text from the old place on, by what was given
 text_behind : (ahead given framed_one rest x y : List ℕ) → ahead ++ given ≡ framed_one ++ rest → x ≡ given ++ y
@@ -113,26 +130,11 @@ gone_lines old new input out g now out_now faults out_faults w = record {
   gave = Consumes-trans input.before input.now now g.given w.given g.gave w.gave;
   lines = lines_of g.closed ++ w.lines;
   received = Appends-trans out.before out.now out_now (lines_of g.closed) w.lines g.received w.received;
-  all = record {
-    ahead = record {
-      records = g.bytes ∷ w.all.ahead.records;
-      rest = w.all.ahead.rest;
-      cut = text_behind old.ahead g.given (framed g.bytes) new.ahead (g.given ++ w.given) w.given g.cut refl
-          ∙ ap (λ (t : List ℕ). framed g.bytes ++ t) w.all.ahead.cut
-          ∙ sym (append_assoc (framed g.bytes) (frames w.all.ahead.records) w.all.ahead.rest);
-      short = All-cons (λ b. length b ≤ max_record_len) g.bytes w.all.ahead.records g.short w.all.ahead.short;
-      state = w.all.ahead.state;
-      closed = (
-        g.closed,
-        w.lines,
-        g.closes,
-        subst (λ (s : ClosingState). AreClosed s w.all.ahead.records w.lines w.all.ahead.state) g.state
-            w.all.ahead.closed,
-        refl,
-      );
-    };
-    partial = w.all.partial;
-  };
+  all = subst (λ (t : List ℕ). AreWhole old.state (record { at = old.at; rest = t }) (lines_of g.closed ++ w.lines))
+      (sym (text_behind old.ahead g.given (framed g.bytes) new.ahead (g.given ++ w.given) w.given g.cut refl))
+      (whole_behind old.state g.bytes g.closed old.at new.at (new.ahead ++ w.given) w.lines g.short g.closes
+      (subst (λ (s : ClosingState). AreWhole s (record { at = new.at; rest = new.ahead ++ w.given }) w.lines) g.state
+      w.all));
 }
 
 pub gone : (old new : Standing) (input out : Seen) → Goes old new input out → (now out_now : Option (List ℕ))
@@ -171,7 +173,7 @@ pub cut_answered : (IsOne : List ℕ → Outcome → Type 0) (IsOneFront : List 
     → ((bytes : List ℕ) → IsOneFront bytes [])
     → IfSome before (λ bytes. Answered (IsOne bytes) (IsOneFront bytes) out end)
 cut_answered IsOne IsOneFront None out end h short empty = tt
-cut_answered IsOne IsOneFront (Some bytes) out end h short empty = inr (short, [], empty bytes, h)
+cut_answered IsOne IsOneFront (Some bytes) out end h short empty = ([], h, inr (short, empty bytes))
 
 unfollowed : (s : ClosingState) (at : ℕ) (ahead : List ℕ) (before : Option (List ℕ)) (out : Seen) (end : Status)
     → Received out [] → IsCutShort end → IfSome before (λ bytes. AnsweredFrom s at (ahead ++ bytes) out end)
@@ -198,7 +200,7 @@ pub stopped : (s : ClosingState) (at : ℕ) (ahead : List ℕ) (input out : Seen
 stopped s at ahead input out F end last ends (inl (e, received)) done is_last = record {
   answered = if_some input.before (λ bytes. IsEnd s at (ahead ++ bytes) last)
       (λ bytes. AnsweredFrom s at (ahead ++ bytes) out end)
-      (λ bytes h. inl (last, ended_run s at (ahead ++ bytes) last h, e, received)) ends;
+      (λ bytes h. (last.text, received, inl (last, ended_run s at (ahead ++ bytes) last h, e, refl))) ends;
   ended = λ d. done (sym e ∙ d);
   read_fault = λ r. absurd (is_last.no_read (sym e ∙ r));
   write_fault = λ r. absurd (is_last.no_write (sym e ∙ r));
@@ -208,11 +210,13 @@ stopped s at ahead input out F end last ends (inl (e, received)) done is_last = 
 stopped s at ahead input out F end last ends (inr (inl (e, failed, front))) done is_last = record {
   answered = if_some input.before (λ bytes. IsEnd s at (ahead ++ bytes) last)
       (λ bytes. AnsweredFrom s at (ahead ++ bytes) out end)
-      (λ bytes h. inr (
-        subst IsCutShort (sym e) tt,
+      (λ bytes h. (
         take front.0 last.text,
-        inr (last, ended_run s at (ahead ++ bytes) last h, (front.0, front.1, refl)),
         front.2,
+        inr (
+          subst IsCutShort (sym e) tt,
+          inr (last, ended_run s at (ahead ++ bytes) last h, (front.0, front.1, refl)),
+        ),
       )) ends;
   ended = λ d. absurd cc;
   read_fault = λ r. absurd cc;
@@ -227,7 +231,7 @@ stopped s at ahead input out F end last ends (inr (inr (e, none))) done is_last 
 abbrev ended : Result ℕ XdrFault → Result ℕ XdrFault
 ended r = r
 
-no_record : (text bytes more : List ℕ) (wrong : XdrFault) → record_end text ≡ Err wrong
+pub no_record : (text bytes more : List ℕ) (wrong : XdrFault) → record_end text ≡ Err wrong
     → length bytes ≤ max_record_len → text ≡ framed bytes ++ more → ⊥
 no_record text bytes more wrong e fits cut =
     let r = ap (λ (t : List ℕ). read_mark (start_of t)) cut ∙ framed_is_read 0 bytes more fits in
@@ -288,7 +292,7 @@ short_or_not kind.BadMark = inr (λ e. cc)
 short_or_not kind.Trailing = inr (λ e. cc)
 short_or_not kind.TooDeep = inr (λ e. cc)
 
-end_err : (r : Reading XdrFault (List ℕ)) (wrong : XdrFault) → end_by r ≡ Err wrong → r ≡ Err wrong
+pub end_err : (r : Reading XdrFault (List ℕ)) (wrong : XdrFault) → end_by r ≡ Err wrong → r ≡ Err wrong
 end_err (Ok x) wrong e = absurd cc
 end_err (Err other) wrong e = cc
 
@@ -301,7 +305,7 @@ mark_stays new others now wrong fits e at_end told = elim (short_or_not wrong.ki
   | inr other ↦ (faults_placed (mark_laws max_record_len (omega arith))).stays (start_of new) wrong others fits e other
 ]
 
-bad_end : (s : ClosingState) (at : ℕ) (text : List ℕ) (wrong : XdrFault) → 0 < length text
+pub bad_end : (s : ClosingState) (at : ℕ) (text : List ℕ) (wrong : XdrFault) → 0 < length text
     → read_mark (start_of text) ≡ Err wrong → IsEnd s at text (silent (status.BadInput (at + wrong.at)))
 bad_end s at [] wrong some e = absurd (omega arith)
 bad_end s at (byte ∷ rest) wrong some e =
@@ -354,7 +358,7 @@ front_text : (ahead new given front rest others : List ℕ) → new ≡ ahead ++
 front_text ahead new given front rest others e cut =
     text_of ahead new given others e ∙ ap (λ (t : List ℕ). t ++ others) cut ∙ append_assoc front rest others
 
-refused_end : (s : ClosingState) (at : ℕ) (bytes rest : List ℕ) (wrong : CloseFault) → length bytes ≤ max_record_len
+pub refused_end : (s : ClosingState) (at : ℕ) (bytes rest : List ℕ) (wrong : CloseFault) → length bytes ≤ max_record_len
     → IsClose s bytes (Err wrong)
     → IsEnd s at (framed bytes ++ rest) (record { status = status.Refused; text = refused_line s.header wrong })
 refused_end s at bytes rest wrong fits closes =
@@ -407,6 +411,19 @@ cut_end out F (status.BadImage rule) h = absurd h
 cut_end out F status.Missing h = absurd h
 cut_end out F status.AlreadyThere h = absurd h
 
+-- a record closes the ledger, and a front of its lines was written
+pub cut_answer : (s : ClosingState) (bytes : List ℕ) (c : PreparedClose) (at : ℕ) (others front : List ℕ) (end : Status)
+    → length bytes ≤ max_record_len → IsClose s bytes (Ok c) → IsCutShort end → IsFront front (lines_of c)
+    → AnswerFrom s at (framed bytes ++ others) front end
+cut_answer s bytes c at others front end fits closes short f = inr (
+  short,
+  inl (
+    lines_of c ++ [],
+    one_more s bytes c at at others [] fits closes (no_records c.state (record { at = at; rest = others })),
+    front_more front (lines_of c) [] f,
+  ),
+)
+
 pub record_stops : (s : ClosingState) (at : ℕ) (ahead new rest bytes : List ℕ) (input out : Seen) (F : Type 0)
     (end : Status)
     → Grown input.before input.now ahead new → new ≡ framed bytes ++ rest → length bytes ≤ max_record_len
@@ -415,18 +432,12 @@ record_stops s at ahead new rest bytes input out F end grown cut fits (inl (c, c
   answered = told_front input.before input.now grown.given (λ given. AnsweredFrom s at (ahead ++ given) out end)
       grown.gave
       (λ others told. subst (λ (t : List ℕ). AnsweredFrom s at t out end)
-      (sym (front_text ahead new grown.given (framed bytes) rest others grown.grown cut))
-      (inr (
-        cut_short out F end why,
+      (sym (front_text ahead new grown.given (framed bytes) rest others grown.grown cut)) (
         take front.0 (lines_of c),
-        inl (
-          lines_of c ++ [],
-          one_more s bytes c at at (rest ++ others) [] fits closes
-              (no_records c.state (record { at = at; rest = rest ++ others })),
-          front_more (take front.0 (lines_of c)) (lines_of c) [] (front.0, front.1, refl),
-        ),
         front.2,
-      )));
+        cut_answer s bytes c at (rest ++ others) (take front.0 (lines_of c)) end fits closes (cut_short out F end why)
+            (front.0, front.1, refl),
+      ));
   ended = λ d. absurd (not_done out F end why d);
   read_fault = λ d. absurd (not_read out F end why d);
   write_fault = λ d. subst (λ (e : Status). IsCut out F e) d why;

@@ -1,28 +1,31 @@
 -- A whole run.
-use Rattle.std.proofs.Common.{◌≡◌, ℕ, List, [], Result, Ok, Err, refl, sym, subst, ◌⊎◌, inl, inr}
+use Rattle.std.proofs.Common.{◌≡◌, ℕ, List, [], subst, ◌⊎◌, inl, inr}
 use Rattle.run_streams.specs.Seen.{Seen, IsUntouched}
 use Rattle.close_rules.specs.State.{ClosingState}
 use Rattle.run_outcome.specs.declared.status.Status.{Status}
 use Rattle.run_outcome.specs.declared.status.Status.TheVariants as status
-use Rattle.outside.specs.Disk.{Image, Disk, Runs, Same, IsSafe}
+use Rattle.outside.specs.Disk.{Image, Disk, Runs, Same}
 use Rattle.run_streams.specs.SeenVolume.{SeenVolume, VolumeFailed}
 use Rattle.stored_outcome.specs.Opening.{OpensTo}
 use Rattle.replay.specs.Following.{Followed}
 use Rattle.replay.specs.Keeping.{Ready, KeptOn}
 use Rattle.replay.proofs.Surviving.{ran_from}
-use Rattle.replay.specs.StoredRuns.{OpensNot, IsUnbegun, Unopened, RanSo}
+use Rattle.stored_outcome.specs.StoredRun.{DidNotRun, IsUnopenedEnd}
+use Rattle.run_outcome.specs.Statuses.{IsRecordsEnd}
+use Rattle.replay.proofs.Opening.{not_of_records}
+use Rattle.replay.specs.StoredRuns.{OpensNot, IsUnbegun, Unopened, RanSo, RanOrNot}
 
 pub ran_on : (s : ClosingState) (ahead : List ℕ) (input out : Seen) (vol : SeenVolume) (mid : Disk) (F K : Type 0)
     (end : Status) → ((c : Image) → vol.before.left_since vol.before.moment c → vol.before.may_leave c)
     → vol.now.may_leave vol.now.reads → Runs Same vol.before mid → Ready K mid s → mid.reads ≡ vol.before.reads
-    → ahead ≡ [] → Followed s 0 ahead input out F end → KeptOn s ahead input out mid vol.now end
+    → ahead ≡ [] → Followed s 0 ahead input out F end → KeptOn s 0 ahead input out mid vol.now end
     → RanSo input out vol end
 ran_on s ahead input out vol mid F K end only reads_now first ready same empty f k = inl (
   s,
   subst (λ (x : Image). OpensTo x s) same ready.opens,
   ran_from s input out vol mid F end only reads_now first ready.safe ready.opens
       (subst (λ (t : List ℕ). Followed s 0 t input out F end) empty f)
-      (subst (λ (t : List ℕ). KeptOn s t input out mid vol.now end) empty k),
+      (subst (λ (t : List ℕ). KeptOn s 0 t input out mid vol.now end) empty k),
 )
 
 unopened : (vol : SeenVolume) (end : Status) → OpensNot vol.before.reads vol.now.reads end
@@ -55,18 +58,28 @@ reads_so vol (status.BadInput at) u = absurd u
 reads_so vol (status.BadImage rule) u = absurd u
 reads_so vol status.AlreadyThere u = absurd u
 
-pub ran_off : (input out : Seen) (vol : SeenVolume) (end : Status)
+-- nothing but that the volume was read
+pub not_run : (input out : Seen) (vol : SeenVolume) (end : Status)
     → IsUntouched input → IsUntouched out → Runs Same vol.before vol.now
+    → (vol.tells → OpensNot vol.before.reads vol.now.reads end) → IsUnbegun (VolumeFailed vol) end
+    → DidNotRun input out vol
+not_run input out vol end unread unwritten runs h b = record {
+  unread = unread;
+  unwritten = unwritten;
+  runs = runs;
+  reads = λ te. reads_so vol end (unopened vol end (h te) b);
+}
+
+pub ran_off : (input out : Seen) (vol : SeenVolume) (end : Status) → DidNotRun input out vol
     → OpensNot vol.before.reads vol.now.reads end → IsUnbegun (VolumeFailed vol) end → RanSo input out vol end
-ran_off input out vol end unread unwritten runs h b =
-    let off = unopened vol end h b in
-    inr (
-      record {
-        unread = unread;
-        unwritten = unwritten;
-        runs = λ te. runs;
-        reads = λ te. reads_so vol end off;
-      },
-      runs,
-      off,
-    )
+ran_off input out vol end none h b = inr (none, unopened vol end h b)
+
+-- the text of a run from the state to which a store opened
+pub printed : (s : ClosingState) (ahead : List ℕ) (input out : Seen) (vol : SeenVolume) (F : Type 0) (end : Status)
+    → ahead ≡ [] → Followed s 0 ahead input out F end → RanOrNot input out vol end
+printed s ahead input out vol F end empty f =
+    inr (s, (subst (λ (t : List ℕ). Followed s 0 t input out F end) empty f).answered)
+
+-- a run over records doesn't end as one that doesn't begin
+pub did_begin : (end : Status) (P : Type 0) → IsRecordsEnd end → IsUnopenedEnd end → P
+did_begin end P records unopened = absurd (not_of_records end unopened records)

@@ -10,10 +10,12 @@ use Rattle.close_rules.specs.State.{ClosingState}
 use Rattle.close_rules.specs.Images.{IsJudged}
 use Rattle.run_outcome.specs.declared.status.Status.{Status}
 use Rattle.run_outcome.specs.declared.status.Status.TheVariants as status
-use Rattle.run_outcome.specs.Command.{passphrase_of}
 use Rattle.run_outcome.specs.Lines.{end_line}
 use Rattle.run_outcome.specs.Outcome.{Outcome, IsOutcome, max_record_len, frames, AreClosed}
-use Rattle.run_outcome.specs.Run.{DidCatchUp, Ran}
+use Rattle.run_outcome.specs.Run.{DidCatchUp}
+use Rattle.run_streams.specs.SeenVolume.{SeenVolume}
+use Rattle.stored_outcome.specs.Command.{CatchUp, command_of}
+use Rattle.stored_outcome.specs.Program.{Ran}
 
 -- no stream's count of faults rose
 pub record NoneFailed (input out err : Seen) : Type 0 where
@@ -26,10 +28,10 @@ abbrev pub Catchups : ((passphrase input : List ℕ) → (Seen → Seen → Seen
 Catchups P = (passphrase bytes : List ℕ) (input out err : Seen) (end : Status)
     → DidCatchUp passphrase input out err end → input.before ≡ Some bytes → P passphrase bytes input out err end
 
--- the same, of the runs that the words ask for
-abbrev pub Runs : ((passphrase input : List ℕ) → (Seen → Seen → Seen → Status → Type 0)) → Type 0
-Runs P = (words : List (List ℕ)) (passphrase bytes : List ℕ) (input out err : Seen) (end : Status)
-    → Ran words input out err end → passphrase_of words ≡ Some passphrase → input.before ≡ Some bytes
+-- the same, of the runs beside this volume that the words ask for
+abbrev pub Runs : SeenVolume → ((passphrase input : List ℕ) → (Seen → Seen → Seen → Status → Type 0)) → Type 0
+Runs vol P = (words : List (List ℕ)) (passphrase bytes : List ℕ) (input out err : Seen) (end : Status)
+    → Ran words input out err vol end → command_of words ≡ Some (CatchUp passphrase) → input.before ≡ Some bytes
     → P passphrase bytes input out err end
 
 -- ---- where nothing failed

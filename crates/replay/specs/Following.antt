@@ -1,5 +1,5 @@
 -- What the records behind a start image come to: one record, and all of them up to the end of a run.
-use Rattle.std.specs.Prelude.{◌≡◌, ◌≢◌, ℕ, ◌+◌, ◌<◌, ◌≤◌, List, [], ◌++◌, length, take, Option, Some, None, IfSome, Ok}
+use Rattle.std.specs.Prelude.{◌≡◌, ℕ, ◌+◌, ◌<◌, ◌≤◌, List, [], ◌++◌, length, take, Option, Some, None, IfSome, Ok}
 use Rattle.std.specs.Prelude.{Err, ◌⊎◌}
 use Rattle.std.specs.Io.KnownBytes.{IsAtEnd}
 use Rattle.run_streams.specs.Seen.{Seen, Failed, Gave, Received, ReceivedPrefix}

@@ -1,5 +1,5 @@
 -- What a run leaves of the volume upon which it keeps its records.
-use Rattle.std.specs.Prelude.{◌≡◌, ℕ, ◌+◌, ◌≤◌, List, [], ◌++◌, length, take, Option, Some, None, Result, Ok, Err, ◌⊎◌}
+use Rattle.std.specs.Prelude.{◌≡◌, ℕ, ◌≤◌, List, [], ◌++◌, length, take, Option, Some, None, Result, Ok, Err, ◌⊎◌}
 use Rattle.outside.specs.Streams.{Rose}
 use Rattle.run_streams.specs.Seen.{Seen, Gave, Received}
 use Rattle.close_rules.specs.declared.close_fault.CloseFault.{CloseFault}
@@ -7,10 +7,14 @@ use Rattle.close_rules.specs.State.{ClosingState}
 use Rattle.close_rules.specs.Close.{PreparedClose, IsClose}
 use Rattle.run_outcome.specs.declared.status.Status.{Status}
 use Rattle.run_outcome.specs.declared.status.Status.TheVariants as status
-use Rattle.run_outcome.specs.Outcome.{framed, max_record_len, lines_of, IsFront}
+use Rattle.xdr_core.specs.Place.{Place}
+use Rattle.run_outcome.specs.Lines.{refused_line}
+use Rattle.run_outcome.specs.Outcome.{framed, max_record_len, lines_of, IsFront, IsRun, AreWhole, IsRunFront}
+use Rattle.run_outcome.specs.Run.{IsAnswer}
 use Rattle.outside.specs.Disk.{Image, Disk, Runs, Same, IsSafe}
 use Rattle.stored_outcome.specs.Opening.{OpensTo}
-use Rattle.stored_outcome.specs.Behind.{OpensBehind, OpensWithin, AreAcknowledged}
+use Rattle.stored_outcome.specs.Behind.{OpensWithin, AreAcknowledged}
+use Rattle.stored_outcome.specs.StoredRun.{IsFailedEnd, IsUnbrokenEnd, OpensAcknowledged}
 use Rattle.replay.specs.declared.keeper.KeepFault.{KeepFault}
 use Rattle.replay.specs.declared.keeper.KeepFault.TheVariants as fault
 
@@ -43,12 +47,6 @@ IsCaused stores before now (Ok done) = Unit {0}
 IsCaused stores before now (Err fault.NoMemory) = Unit {0}
 IsCaused stores before now (Err fault.DiskFault) = DiskFailed stores before now
 
--- ends at which what is read may be one ledger further on
-abbrev pub MayBeAhead : Status → Type 0
-MayBeAhead status.WriteFault = Unit {0}
-MayBeAhead status.DiskFault = Unit {0}
-MayBeAhead other = ⊥
-
 -- ---- the rest of a run
 
 -- from a state to which all opens that a crash may leave, with what the output received
@@ -56,24 +54,45 @@ pub record Keeps (s : ClosingState) (text front : List ℕ) (old new : Disk) (en
   pub runs : Runs (OpensOnward s text) old new
   pub count : ℕ
   pub acknowledged : AreAcknowledged s text front count
-  pub crash : (c : Image) → new.may_leave c → OpensBehind s text count c ⊎ OpensBehind s text (count + 1) c
-  pub reads : MayBeAhead end ⊎ OpensBehind s text count new.reads
+  pub unbroken : IsUnbrokenEnd end → front ≡ acknowledged.lines
+  pub crash : (c : Image) → new.may_leave c → OpensAcknowledged s text count end c
+
+-- the end and the text of the records at a place, and where a read failed the lines of every whole one
+pub record Answers (s : ClosingState) (p : Place) (text : List ℕ) (end : Status) : Type 0 where
+  pub answer : IsAnswer (IsRun s p) (IsRunFront s p) text end
+  pub whole : end ≡ status.ReadFault → AreWhole s p text
 
 -- the same, of the records ahead and in the source
-pub record KeptOn (s : ClosingState) (ahead : List ℕ) (input out : Seen) (old new : Disk) (end : Status) : Type 0 where
+pub record KeptOn (s : ClosingState) (at : ℕ) (ahead : List ℕ) (input out : Seen) (old new : Disk) (end : Status)
+    : Type 0 where
   pub given : List ℕ
   pub gave : Gave input given
   pub front : List ℕ
   pub received : Received out front
+  pub answers : Answers s (record { at = at; rest = ahead ++ given }) front end
   pub keeps : Keeps s (ahead ++ given) front old new end
 
 -- ---- one record
 
--- the record isn't kept: nothing was written, or it was refused
-pub record IsUnkept (s : ClosingState) (bytes : List ℕ) (out : Seen) (old new : Disk) : Type 0 where
+-- a text was written whole, or a front of it where the sink failed, or nothing where memory was refused
+abbrev pub IsWritten : (text : List ℕ) → (whole : Status) → (front : List ℕ) → (end : Status) → Type 0
+IsWritten text whole front end =
+    ((end ≡ whole) × (front ≡ text))
+    ⊎ ((end ≡ status.WriteFault) × IsFront front text)
+    ⊎ ((end ≡ status.NoMemory) × (front ≡ []))
+
+-- how much of its lines stands behind the end of a record that closes the ledger: all, or where a device failed less
+abbrev pub IsToldSoFar : (text front : List ℕ) → (end : Status) → Type 0
+IsToldSoFar text front end =
+    (end ≡ status.WriteFault) ⊎ ((end ≡ status.DiskFault) × (front ≡ [])) ⊎ (front ≡ text)
+
+-- the record isn't kept: memory was refused for it, or it was refused
+pub record IsUnkept (s : ClosingState) (bytes : List ℕ) (out : Seen) (old new : Disk) (end : Status) : Type 0 where
   pub front : List ℕ
   pub received : Received out front
-  pub nothing : (front ≡ []) ⊎ ((wrong : CloseFault) × IsClose s bytes (Err wrong))
+  pub nothing : ((end ≡ status.NoMemory) × (front ≡ []))
+      ⊎ ((wrong : CloseFault) × IsClose s bytes (Err wrong)
+      × IsWritten (refused_line s.header wrong) status.Refused front end)
   pub runs : Runs Same old new
   pub same : new.reads ≡ old.reads
 
@@ -81,6 +100,7 @@ pub record IsUnkept (s : ClosingState) (bytes : List ℕ) (out : Seen) (old new 
 pub record IsHalfway (s : ClosingState) (bytes : List ℕ) (out : Seen) (old new : Disk) (end : Status) : Type 0 where
   pub closed : PreparedClose
   pub closes : IsClose s bytes (Ok closed)
+  pub failed : IsFailedEnd end
   pub front : List ℕ
   pub received : Received out front
   pub some : IsFront front (lines_of closed)
@@ -88,7 +108,7 @@ pub record IsHalfway (s : ClosingState) (bytes : List ℕ) (out : Seen) (old new
   pub crash : (c : Image) → new.may_leave c → OpensTo c s ⊎ OpensTo c closed.state
   -- all lines were written
   pub whole : front ≡ lines_of closed → (c : Image) → new.may_leave c → OpensTo c closed.state
-  pub reads : MayBeAhead end ⊎ ((front ≡ lines_of closed) × OpensTo new.reads closed.state)
+  pub told : IsToldSoFar (lines_of closed) front end
 
 -- the record is kept, and its lines were written
 pub record IsKept (s : ClosingState) (bytes : List ℕ) (next : ClosingState) (old new : Disk) : Type 0 where
@@ -100,7 +120,7 @@ pub record IsKept (s : ClosingState) (bytes : List ℕ) (next : ClosingState) (o
 abbrev pub KeptClose : (s : ClosingState) (bytes : List ℕ) (next : ClosingState) (out : Seen) (old new : Disk)
     → Option Status → Type 0
 KeptClose s bytes next out old new None = IsKept s bytes next old new
-KeptClose s bytes next out old new (Some end) = IsUnkept s bytes out old new ⊎ IsHalfway s bytes out old new end
+KeptClose s bytes next out old new (Some end) = IsUnkept s bytes out old new end ⊎ IsHalfway s bytes out old new end
 
 -- what the record at the front of what is ahead came to
 pub record KeptPass (s : ClosingState) (ahead : List ℕ) (end : ℕ) (next : ClosingState) (out : Seen) (old new : Disk)
@@ -111,21 +131,22 @@ pub record KeptPass (s : ClosingState) (ahead : List ℕ) (end : ℕ) (next : Cl
   pub kept : KeptClose s bytes next out old new result
 
 -- the run goes on from the next state, or this is its end
-abbrev pub KeptTurn : (s next : ClosingState) (ahead : List ℕ) (input out : Seen) (old new : Disk) → Option Status
-    → Type 0
-KeptTurn s next ahead input out old new None = Runs (OpensEither s next) old new
-KeptTurn s next ahead input out old new (Some end) = KeptOn s ahead input out old new end
+abbrev pub KeptTurn : (s next : ClosingState) (at : ℕ) (ahead : List ℕ) (input out : Seen) (old new : Disk)
+    → Option Status → Type 0
+KeptTurn s next at ahead input out old new None = Runs (OpensEither s next) old new
+KeptTurn s next at ahead input out old new (Some end) = KeptOn s at ahead input out old new end
 
 -- ---- the lines of a close, and what is due behind them
 
 -- some of the lines were written, and what is kept opens as before
 pub record IsTelling (s : ClosingState) (text : List ℕ) (out : Seen) (old new : Disk) (end : Status) : Type 0 where
+  pub failed : IsFailedEnd end
   pub front : List ℕ
   pub received : Received out front
   pub some : IsFront front text
   pub runs : Runs (OpensEither s s) old new
   pub crash : (c : Image) → new.may_leave c → OpensTo c s
-  pub reads : MayBeAhead end ⊎ ((front ≡ text) × OpensTo new.reads s)
+  pub told : IsToldSoFar text front end
 
 abbrev pub KeptTelling : (s : ClosingState) (text : List ℕ) (out : Seen) (old new : Disk) → Option Status → Type 0
 KeptTelling s text out old new None = Runs (OpensEither s s) old new

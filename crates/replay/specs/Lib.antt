@@ -8,3 +8,4 @@ pub mod StoredRuns
 pub mod Outcomes
 pub mod Completeness
 pub mod Initing
+pub mod StoredLaws

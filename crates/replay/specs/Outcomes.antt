@@ -5,7 +5,7 @@ use Rattle.xdr_core.specs.Place.{Place}
 use Rattle.close_rules.specs.State.{ClosingState}
 use Rattle.run_outcome.specs.declared.status.Status.{Status}
 use Rattle.run_outcome.specs.Outcome.{Outcome, behind, max_record_len, frames, AreClosed, IsRun, IsOutcome}
-use Rattle.run_outcome.specs.Outcome.{IsFront, IsOutputFront}
+use Rattle.run_outcome.specs.Outcome.{IsFront, IsRunFront, IsOutputFront}
 use Rattle.run_outcome.specs.Run.{AnsweredTo}
 
 -- what the records behind a state come to is one thing
@@ -28,6 +28,11 @@ OutcomesAreOne =
 abbrev pub FrontsAreOfOutcomes : Type 0
 FrontsAreOfOutcomes = (passphrase input front : List ℕ) (o : Outcome) → IsOutputFront passphrase input front
     → IsOutcome passphrase input o → IsFront front o.text
+
+-- each front of what records behind a state come to is one of the outcome's text
+abbrev pub FrontsAreOfRuns : Type 0
+FrontsAreOfRuns = (s : ClosingState) (p : Place) (front : List ℕ) (o : Outcome) → IsRunFront s p front → IsRun s p o
+    → IsFront front o.text
 
 -- at every end the output has received a front of the outcome's text
 abbrev pub OutputsAreFronts : Type 0

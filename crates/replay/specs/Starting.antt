@@ -11,6 +11,7 @@ use Rattle.hash_ids.specs.Ids.{network_id_of}
 use Rattle.close_rules.specs.State.{ClosingState}
 use Rattle.close_rules.specs.Images.{IsJudged}
 use Rattle.close_rules.specs.declared.image_fault.ImageFault.TheVariants as image_fault
+use Rattle.close_rules.specs.declared.image_fault.ImageRule.{ImageRule}
 use Rattle.run_outcome.specs.declared.status.Status.{Status}
 use Rattle.run_outcome.specs.declared.status.Status.TheVariants as status
 use Rattle.run_outcome.specs.Statuses.{IsCatchUpEnd}
@@ -19,6 +20,7 @@ use Rattle.run_outcome.specs.Run.{AnsweredTo, Told}
 -- a passphrase's run of `catchup`, over these streams, with this end; all but the line on standard error
 pub record CaughtUp (passphrase : List ℕ) (input out : Seen) (end : Status) : Type 0 where
   pub answered : IfSome input.before (λ bytes. AnsweredTo passphrase bytes out end)
+  pub bad_image : (rule : ImageRule) → end ≡ status.BadImage rule → Received out []
   pub ended : end ≡ status.Done → IsAtEnd input.now
   pub read_fault : end ≡ status.ReadFault → Failed input × Told passphrase input out
   pub write_fault : end ≡ status.WriteFault → Failed out

@@ -1,5 +1,5 @@
 -- What opening a store comes to, and a run behind it.
-use Rattle.std.specs.Prelude.{◌≡◌, ℕ, ◌%◌, ◌≤◌, List, length, All, Result, Ok, Err, ◌⊎◌}
+use Rattle.std.specs.Prelude.{◌≡◌, ℕ, ◌%◌, ◌≤◌, List, length, All, Result, Ok, Err, ◌⊎◌, IfSome}
 use Rattle.ledger_types.specs.declared.ids.Hash.{Hash}
 use Rattle.xdr_header.specs.declared.image.StartImage.{StartImage}
 use Rattle.run_streams.specs.Seen.{Seen}
@@ -8,14 +8,15 @@ use Rattle.close_rules.specs.declared.image_fault.ImageFault.TheVariants as imag
 use Rattle.close_rules.specs.State.{ClosingState}
 use Rattle.run_outcome.specs.declared.status.Status.{Status}
 use Rattle.run_outcome.specs.declared.status.Status.TheVariants as status
-use Rattle.outside.specs.Disk.{Image, Runs, Same}
+use Rattle.outside.specs.Disk.{Image}
 use Rattle.run_streams.specs.SeenVolume.{SeenVolume, VolumeFailed}
 use Rattle.gate_journal.specs.Records.{max_record}
-use Rattle.image_store.specs.Opening.{Kept}
+use Rattle.image_store.specs.ImageFiles.{head_len}
+use Rattle.image_store.specs.Opening.{Kept, HoldsNothing}
 use Rattle.gate_journal.specs.declared.fault.StoreFault.{StoreFault}
 use Rattle.gate_journal.specs.declared.fault.StoreFault.TheVariants as fault
-use Rattle.stored_outcome.specs.Opening.{OpensTo, ComesTo, BreaksRule, RefusesRecord, IsBadStore, IsMissing}
-use Rattle.stored_outcome.specs.StoredRun.{RanFrom, DidNotRun}
+use Rattle.stored_outcome.specs.Opening.{OpensTo, ComesTo, BreaksRule, RefusesRecord, IsBadStore}
+use Rattle.stored_outcome.specs.StoredRun.{AnsweredBehind, RanFrom, DidNotRun}
 
 -- the end of a run whose store isn't mounted
 abbrev pub status_of : StoreFault → Status
@@ -29,7 +30,7 @@ status_of fault.NoMemory = status.NoMemory
 -- the end of a run whose image is no ledger's
 abbrev pub image_status : ImageFault → (epoch : ℕ) → Status
 image_status image.NoMemory epoch = status.NoMemory
-image_status other epoch = status.BadStore (epoch % 2) 49
+image_status other epoch = status.BadStore (epoch % 2) head_len
 
 abbrev pub kept_of : ℕ → Hash → StartImage → List (List ℕ) → Kept
 kept_of epoch network image records = record { epoch = epoch; network = network; image = image; records = records }
@@ -46,7 +47,7 @@ Restores k (Err other) = ⊥
 
 -- why what is read doesn't open; where the volume didn't fail it reads as before
 abbrev pub OpensNot : (old new : Image) → Status → Type 0
-OpensNot old new status.Missing = IsMissing old × (new ≡ old)
+OpensNot old new status.Missing = HoldsNothing old × (new ≡ old)
 OpensNot old new (status.BadStore file place) = IsBadStore old file place × (new ≡ old)
 OpensNot old new status.NoMemory = new ≡ old
 OpensNot old new status.DiskFault = Unit {0}
@@ -66,15 +67,20 @@ IsUnbegun failed (status.BadStore file place) = Unit {0}
 IsUnbegun failed other = ⊥
 
 abbrev pub Unopened : SeenVolume → Status → Type 0
-Unopened vol status.Missing = IsMissing vol.before.reads × (vol.now.reads ≡ vol.before.reads)
+Unopened vol status.Missing = HoldsNothing vol.before.reads × (vol.now.reads ≡ vol.before.reads)
 Unopened vol (status.BadStore file place) =
     IsBadStore vol.before.reads file place × (vol.now.reads ≡ vol.before.reads)
 Unopened vol status.NoMemory = vol.now.reads ≡ vol.before.reads
 Unopened vol status.DiskFault = VolumeFailed vol
 Unopened vol other = ⊥
 
+-- whatever the volume tells: nothing was read or written, or what was is the answer to a state
+abbrev pub RanOrNot : (input out : Seen) (vol : SeenVolume) → Status → Type 0
+RanOrNot input out vol end =
+    DidNotRun input out vol ⊎ ((s : ClosingState) × IfSome input.before (λ bytes. AnsweredBehind s bytes out end))
+
 -- a run from the state to which what is read opens; or nothing, but that the volume was read
 abbrev pub RanSo : (input out : Seen) (vol : SeenVolume) → Status → Type 0
 RanSo input out vol end =
     ((s : ClosingState) × OpensTo vol.before.reads s × RanFrom s input out vol end)
-    ⊎ (DidNotRun input out vol × Runs Same vol.before vol.now × Unopened vol end)
+    ⊎ (DidNotRun input out vol × Unopened vol end)

@@ -233,7 +233,7 @@ fn turn<K: Keeper, V: Volume, I: Source, O: Sink, L: Count>(
         (seen I.left I.faults input.old input.new) (seen O.taken O.faults out.old out.new)
         (DiskFailed K.stores (V.faults vol.old) (V.faults vol.new)) result }
     ensures vol_later { V.faults vol.old ≤ V.faults vol.new }
-    ensures kept { K.stores → V.tells → KeptTurn ledger.old ledger.new ahead.old.items
+    ensures kept { K.stores → V.tells → KeptTurn ledger.old ledger.new at.old ahead.old.items
         (seen I.left I.faults input.old input.new) (seen O.taken O.faults out.old out.new)
         (V.disk vol.old) (V.disk vol.new) result }
     ensures works { IsNone result → K.works keeper.new }
@@ -271,7 +271,8 @@ pub(crate) fn follow<K: Keeper, V: Volume, I: Source, O: Sink, L: Count>(
     ensures followed { Followed ledger.old start ahead.old.items (seen I.left I.faults input.old input.new)
         (seen O.taken O.faults out.old out.new) (DiskFailed K.stores (V.faults vol.old) (V.faults vol.new)) result }
     ensures vol_later { V.faults vol.old ≤ V.faults vol.new }
-    ensures kept { K.stores → V.tells → KeptOn ledger.old ahead.old.items (seen I.left I.faults input.old input.new)
+    ensures kept { K.stores → V.tells → KeptOn ledger.old start ahead.old.items
+        (seen I.left I.faults input.old input.new)
         (seen O.taken O.faults out.old out.new) (V.disk vol.old) (V.disk vol.new) result }
 {
     let mut at = start;

@@ -6,7 +6,7 @@ ghost use Rattle.hash_ids.specs.Ids.{network_id_of};
 ghost use Rattle.run_streams.specs.Seen.{seen};
 ghost use Rattle.run_streams.specs.SeenVolume.{seen_volume};
 ghost use Rattle.run_outcome.specs.declared.status.Status.TheVariants as status;
-ghost use Rattle.stored_outcome.specs.Init.{Made};
+ghost use Rattle.stored_outcome.specs.Init.{InitLeft};
 ghost use Rattle.replay.specs.Starting.{IsJudgedSo};
 ghost use Rattle.replay.specs.Initing as spec;
 
@@ -122,7 +122,7 @@ pub(crate) fn make<I: Source, V: Volume>(
     input: &mut I,
     vol: &mut V,
 ) -> Status
-    ensures made { Made (network_id_of passphrase.now) (seen I.left I.faults input.old input.new)
+    ensures made { InitLeft (network_id_of passphrase.now) (seen I.left I.faults input.old input.new)
         (seen_volume V.tells V.disk V.faults vol.old vol.new) result }
     ensures no_write { result ≢ status.WriteFault }
 {

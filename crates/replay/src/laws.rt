@@ -2,6 +2,10 @@
 
 ghost use Rattle.replay.specs.Outcomes as outcome;
 ghost use Rattle.replay.specs.Completeness as whole;
+ghost use Rattle.replay.specs.StoredLaws as stored;
+ghost use Rattle.run_streams.specs.SeenVolume.{seen_volume};
+
+use outside::Volume;
 
 /// What the records behind a state come to is one thing.
 pub fn runs_are_one()
@@ -19,28 +23,71 @@ pub fn outcomes_are_one()
     ensures { outcome.OutcomesAreOne }
 {}
 
-/// What a run wrote that was cut short is a front of the text of its input's outcome.
+/// What a run wrote that was cut short is a front of the text of its input's outcome, or of that of the records behind
+/// the ledger that it opened.
 pub fn fronts_are_of_outcomes()
+    ensures runs { outcome.FrontsAreOfRuns }
     ensures fronts { outcome.FrontsAreOfOutcomes }
     ensures outputs { outcome.OutputsAreFronts }
 {}
 
 /// Where no stream's count of faults rose, a run of `catchup` answers the outcome of its input and writes its text, or
-/// wants memory.
-pub fn runs_are_complete()
+/// wants memory. It is run alone, or by the words beside this volume.
+pub fn runs_are_complete<V: Volume>(old: &V, new: &V)
     ensures catchups { whole.Catchups whole.IsComplete }
-    ensures runs { whole.Runs whole.IsComplete }
+    ensures runs { whole.Runs (seen_volume V.tells V.disk V.faults old.now new.now) whole.IsComplete }
 {}
 
 /// On a legal image and records that all close ledgers, a run of `catchup` of which no stream's count of faults rose
 /// answers that all is done, and writes all lines, or wants memory.
-pub fn accepted_runs_are_done()
+pub fn accepted_runs_are_done<V: Volume>(old: &V, new: &V)
     ensures catchups { whole.Catchups whole.IsDone }
-    ensures runs { whole.Runs whole.IsDone }
+    ensures runs { whole.Runs (seen_volume V.tells V.disk V.faults old.now new.now) whole.IsDone }
 {}
 
 /// Where an input has an outcome, its status is the answer, or a count of faults rose, or memory was refused.
-pub fn outcomes_are_answered()
+pub fn outcomes_are_answered<V: Volume>(old: &V, new: &V)
     ensures catchups { whole.Catchups whole.IsAnswered }
-    ensures runs { whole.Runs whole.IsAnswered }
+    ensures runs { whole.Runs (seen_volume V.tells V.disk V.faults old.now new.now) whole.IsAnswered }
+{}
+
+// ---- over a store
+
+/// What `run` answers on a volume that opens. Where no count of faults rose, it is what the records come to, with its
+/// text, or want of memory; so all is done where all records close ledgers. Else a count rose that explains the answer.
+pub fn stored_runs_are_answered<V: Volume>(old: &V, new: &V)
+    ensures complete { stored.StoredRuns (seen_volume V.tells V.disk V.faults old.now new.now)
+        (stored.IsRunComplete (seen_volume V.tells V.disk V.faults old.now new.now)) }
+    ensures done { stored.StoredRuns (seen_volume V.tells V.disk V.faults old.now new.now)
+        (stored.IsRunDone (seen_volume V.tells V.disk V.faults old.now new.now)) }
+    ensures answered { stored.StoredRuns (seen_volume V.tells V.disk V.faults old.now new.now)
+        (stored.IsRunAnswered (seen_volume V.tells V.disk V.faults old.now new.now)) }
+{}
+
+/// What `init` answers to its input, unless a count of faults rose or memory was refused: where the input is no image,
+/// or which rule the image breaks; and to a volume that tells its bytes, that the image is stored or another is open.
+pub fn inits_are_answered<V: Volume>(old: &V, new: &V)
+    ensures bad_input { stored.Inits (seen_volume V.tells V.disk V.faults old.now new.now)
+        stored.IsBadInputAnswered }
+    ensures bad_image { stored.Inits (seen_volume V.tells V.disk V.faults old.now new.now)
+        stored.IsBadImageAnswered }
+    ensures image { stored.Inits (seen_volume V.tells V.disk V.faults old.now new.now)
+        (stored.IsImageAnswered (seen_volume V.tells V.disk V.faults old.now new.now)) }
+{}
+
+/// What a volume opens to is one ledger, one fault at a file and place, or that there is no store.
+pub fn openings_are_one()
+    ensures { stored.OpeningsAreOne }
+{}
+
+/// As many ledgers are acknowledged as whole `closed` lines were printed.
+pub fn acknowledged_are_counted()
+    ensures { stored.AcknowledgedAreCounted }
+{}
+
+/// A volume that is opened again behind a crash, and reads what that left, is sound where the one before was. So is one
+/// that reads what a crash left at some moment of a run.
+pub fn reopened_volumes_are_sound<V: Volume>(old: &V, new: &V, again: &V)
+    ensures now { stored.IsSoundAgain (V.disk old.now) (V.disk again.now) }
+    ensures moments { stored.IsSoundInRun (seen_volume V.tells V.disk V.faults old.now new.now) (V.disk again.now) }
 {}

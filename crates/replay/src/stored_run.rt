@@ -4,11 +4,11 @@ ghost use Rattle.std.specs.Prelude.{◌≡◌, ◌≤◌, ◌<◌, ◌^◌, fals
 ghost use Rattle.std.specs.Io.KnownBytes.{IsAtEnd};
 ghost use Rattle.outside.specs.Streams.{Rose};
 ghost use Rattle.outside.specs.Disk.{Runs, Same};
-ghost use Rattle.run_streams.specs.Seen.{seen, IsUntouched};
+ghost use Rattle.run_streams.specs.Seen.{seen};
 ghost use Rattle.run_streams.specs.SeenVolume.{seen_volume};
 ghost use Rattle.run_outcome.specs.declared.status.Status.TheVariants as status;
 ghost use Rattle.gate_journal.specs.Records.{blocks};
-ghost use Rattle.stored_outcome.specs.StoredRun.{IsRunEnd, IsUnopenedEnd};
+ghost use Rattle.stored_outcome.specs.StoredRun.{IsRunEnd, IsUnopenedEnd, DidNotRun};
 ghost use Rattle.replay.specs.Stored.{IsStored};
 ghost use Rattle.replay.specs.Keeping.{Ready};
 ghost use Rattle.replay.specs.StoredRuns as spec;
@@ -133,8 +133,10 @@ pub(crate) fn run_stored<I: Source, O: Sink, V: Volume, L: Count>(
     ensures read_fault { result ≡ status.ReadFault → Rose (I.faults input.old) (I.faults input.new) }
     ensures write_fault { result ≡ status.WriteFault → Rose (O.faults out.old) (O.faults out.new) }
     ensures is_end { IsRunEnd result }
-    ensures unbegun { IsUnopenedEnd result → IsUntouched (seen I.left I.faults input.old input.new)
-        × IsUntouched (seen O.taken O.faults out.old out.new) }
+    ensures unbegun { IsUnopenedEnd result → DidNotRun (seen I.left I.faults input.old input.new)
+        (seen O.taken O.faults out.old out.new) (seen_volume V.tells V.disk V.faults vol.old vol.new) }
+    ensures printed { spec.RanOrNot (seen I.left I.faults input.old input.new)
+        (seen O.taken O.faults out.old out.new) (seen_volume V.tells V.disk V.faults vol.old vol.new) result }
     ensures ended { result ≡ status.Done → IsAtEnd (I.left input.new) }
 {
     match open(alloc, vol, steps) {

@@ -48,18 +48,22 @@ IsCutShort other = ⊥
 
 -- the ends of the records of a run: all is done, one is refused, the input is cut, or a device or memory failed
 abbrev pub IsRecordsEnd : Status → Type 0
-IsRecordsEnd status.Usage = ⊥
-IsRecordsEnd (status.BadStore file place) = ⊥
-IsRecordsEnd (status.BadImage rule) = ⊥
-IsRecordsEnd status.Missing = ⊥
-IsRecordsEnd status.AlreadyThere = ⊥
-IsRecordsEnd other = Unit {0}
+IsRecordsEnd status.Done = Unit {0}
+IsRecordsEnd status.Refused = Unit {0}
+IsRecordsEnd status.ReadFault = Unit {0}
+IsRecordsEnd status.WriteFault = Unit {0}
+IsRecordsEnd status.DiskFault = Unit {0}
+IsRecordsEnd status.NoMemory = Unit {0}
+IsRecordsEnd (status.BadInput at) = Unit {0}
+IsRecordsEnd other = ⊥
 
 -- the ends of `catchup`, which has no volume
 abbrev pub IsCatchUpEnd : Status → Type 0
-IsCatchUpEnd status.Usage = ⊥
-IsCatchUpEnd status.DiskFault = ⊥
-IsCatchUpEnd (status.BadStore file place) = ⊥
-IsCatchUpEnd status.Missing = ⊥
-IsCatchUpEnd status.AlreadyThere = ⊥
-IsCatchUpEnd other = Unit {0}
+IsCatchUpEnd status.Done = Unit {0}
+IsCatchUpEnd status.Refused = Unit {0}
+IsCatchUpEnd status.ReadFault = Unit {0}
+IsCatchUpEnd status.WriteFault = Unit {0}
+IsCatchUpEnd status.NoMemory = Unit {0}
+IsCatchUpEnd (status.BadInput at) = Unit {0}
+IsCatchUpEnd (status.BadImage rule) = Unit {0}
+IsCatchUpEnd other = ⊥

@@ -1,5 +1,7 @@
--- The states behind the records at the front of a text, and how many of them an output acknowledges.
-use Rattle.std.specs.Prelude.{◌≡◌, ℕ, ◌+◌, List, length}
+-- The states behind the records at the front of a text, and how many of them what is printed acknowledges.
+use Rattle.std.specs.Prelude.{◌≡◌, ℕ, ◌+◌, List, [], ◌∷◌, ◌++◌, length, take, codes, nat_eq, count_by, Bool}
+use Rattle.std.specs.Prelude.{if◌then◌else◌}
+use Rattle.std.specs.Str.{bytes_eq}
 use Rattle.xdr_core.specs.Place.{start_of}
 use Rattle.close_rules.specs.State.{ClosingState}
 use Rattle.run_outcome.specs.Outcome.{AreClosedAhead, IsFront}
@@ -20,11 +22,27 @@ OpensBehind s text k c = (lines : List ℕ) × (state : ClosingState) × IsBehin
 abbrev pub OpensWithin : ClosingState → (text : List ℕ) → Image → Type 0
 OpensWithin s text c = (k : ℕ) × OpensBehind s text k c
 
--- So many ledgers are acknowledged by an output: it has all lines of these, down to the last byte of the last line, and
--- not all of one more.
-pub record AreAcknowledged (s : ClosingState) (text front : List ℕ) (count : ℕ) : Type 0 where
+-- So many ledgers are acknowledged by what is printed of the records at the front of a text: it begins with all lines
+-- of these, down to the last byte of the last line, and not with all of one more.
+pub record AreAcknowledged (s : ClosingState) (text printed : List ℕ) (count : ℕ) : Type 0 where
   pub lines : List ℕ
   pub state : ClosingState
   pub behind : IsBehind s text count lines state
-  pub whole : IsFront lines front
-  pub no_more : (more : List ℕ) (next : ClosingState) → IsBehind s text (count + 1) more next → IsFront more front → ⊥
+  pub whole : IsFront lines printed
+  pub no_more : (more : List ℕ) (next : ClosingState) → IsBehind s text (count + 1) more next → IsFront more printed
+      → ⊥
+
+-- ---- counting lines
+
+-- the lines of a text that end, of which the first one goes on from these bytes
+unfoldable pub whole_lines : (begun text : List ℕ) → List (List ℕ)
+whole_lines begun [] = []
+whole_lines begun (byte ∷ rest) =
+    if nat_eq byte 10 then begun ∷ whole_lines [] rest else whole_lines (begun ++ byte ∷ []) rest
+
+abbrev pub is_closed_line : List ℕ → Bool
+is_closed_line line = bytes_eq (take 7 line) (codes "closed ")
+
+-- how many whole `closed` lines a text has
+abbrev pub closed_count : List ℕ → ℕ
+closed_count text = count_by is_closed_line (whole_lines [] text)

@@ -1,5 +1,5 @@
 -- What `init` leaves, over what was seen of its source, of standard error and of its volume before and after.
-use Rattle.std.specs.Prelude.{◌≡◌, ◌≢◌, ℕ, List, [], ◌⊎◌, IfSome, Ok, Err}
+use Rattle.std.specs.Prelude.{◌≡◌, ◌≢◌, ◌≤◌, ℕ, List, [], ◌⊎◌, IfSome, Ok, Err}
 use Rattle.std.specs.Io.KnownBytes.{IsAtEnd}
 use Rattle.ledger_types.specs.declared.ids.Hash.{Hash}
 use Rattle.xdr_core.specs.declared.fault.XdrFault.{XdrFault}
@@ -7,14 +7,14 @@ use Rattle.xdr_core.specs.Place.{Place, start_of}
 use Rattle.xdr_header.specs.declared.image.StartImage.{StartImage}
 use Rattle.xdr_header.specs.Image.{start_image}
 use Rattle.hash_ids.specs.Ids.{network_id_of}
-use Rattle.run_streams.specs.Seen.{Seen, Failed, Gave, Received}
+use Rattle.run_streams.specs.Seen.{Seen, Failed, Gave}
 use Rattle.close_rules.specs.declared.image_fault.ImageRule.{ImageRule}
 use Rattle.close_rules.specs.declared.image_fault.ImageFault.TheVariants as image
 use Rattle.close_rules.specs.State.{ClosingState}
 use Rattle.close_rules.specs.Images.{IsJudged}
 use Rattle.run_outcome.specs.declared.status.Status.{Status}
 use Rattle.run_outcome.specs.declared.status.Status.TheVariants as status
-use Rattle.run_outcome.specs.Statuses.{status_line}
+use Rattle.run_outcome.specs.Run.{IsLineTold}
 use Rattle.outside.specs.Disk.{Image, IsSafe}
 use Rattle.run_streams.specs.SeenVolume.{SeenVolume, VolumeFailed, MightLeave}
 use Rattle.image_store.specs.ImageFiles.{IsImage}
@@ -43,12 +43,13 @@ IsBadImage network bytes rule =
 
 -- ---- the volume
 
--- At each moment a crash leaves what one might have left before, or where that had no open image, none or this one.
+-- At each moment since, and now, a crash leaves what one might have left before, or where that had no open image, none
+-- or this one.
 abbrev pub MomentsOfInit : Hash → StartImage → SeenVolume → Type 0
-MomentsOfInit network start vol = (c : Image) → MightLeave vol c
+MomentsOfInit network start vol = (vol.before.moment ≤ vol.now.moment) × ((c : Image) → MightLeave vol c
     → vol.before.may_leave c
     ⊎ ((d : Image) × vol.before.may_leave d × HoldsNothing d
-    × (HoldsNothing c ⊎ Holds c (first_kept network start)))
+    × (HoldsNothing c ⊎ Holds c (first_kept network start))))
 
 -- it was asked for the image that was the whole input
 pub record Asked (network : Hash) (input : Seen) (vol : SeenVolume) : Type 0 where
@@ -83,8 +84,8 @@ IsInitEnd (status.BadImage rule) = Unit {0}
 IsInitEnd status.AlreadyThere = Unit {0}
 IsInitEnd other = ⊥
 
--- all but the line on standard error
-pub record Made (network : Hash) (input : Seen) (vol : SeenVolume) (end : Status) : Type 0 where
+-- all that `init` leaves but the line on standard error
+pub record InitLeft (network : Hash) (input : Seen) (vol : SeenVolume) (end : Status) : Type 0 where
   -- the whole input is judged before the volume is asked
   pub left : vol.same ⊎ Asked network input vol
   pub done : end ≡ status.Done → (asked : Asked network input vol)
@@ -103,6 +104,6 @@ pub record Made (network : Hash) (input : Seen) (vol : SeenVolume) (end : Status
 
 -- `init` with this end and its line on standard error
 pub record DidInit (passphrase : List ℕ) (input err : Seen) (vol : SeenVolume) (end : Status) : Type 0 where
-  pub made : Made (network_id_of passphrase) input vol end
+  pub left : InitLeft (network_id_of passphrase) input vol end
   pub write_fault : end ≡ status.WriteFault → Failed err
-  pub told : Received err (status_line end) ⊎ ((end ≡ status.WriteFault) × Failed err)
+  pub told : IsLineTold err end

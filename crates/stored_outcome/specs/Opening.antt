@@ -7,9 +7,10 @@ use Rattle.close_rules.specs.State.{ClosingState}
 use Rattle.close_rules.specs.Close.{IsClose}
 use Rattle.close_rules.specs.Images.{IsJudged}
 use Rattle.run_outcome.specs.Outcome.{AreClosed}
-use Rattle.outside.specs.Disk.{Image, Disk}
+use Rattle.outside.specs.Disk.{Image, Disk, IsSafe}
 use Rattle.gate_journal.specs.Records.{blocks}
-use Rattle.image_store.specs.Opening.{Kept, Holds, HoldsNothing, HoldsNoStore}
+use Rattle.image_store.specs.ImageFiles.{head_len}
+use Rattle.image_store.specs.Opening.{Kept, Holds, HoldsNoStore}
 
 -- ---- a content that opens
 
@@ -30,7 +31,7 @@ pub record BreaksRule (k : Kept) (file place : ℕ) : Type 0 where
   pub wrong : ImageFault
   pub judged : IsJudged k.network k.image (Err wrong)
   pub in_file : file ≡ k.epoch % 2
-  pub at : place ≡ 49
+  pub at : place ≡ head_len
 
 -- a record is refused behind those before it; the place is its gate's
 pub record RefusesRecord (k : Kept) (file place : ℕ) : Type 0 where
@@ -54,10 +55,12 @@ IsBadStore c file place =
     HoldsNoStore c file place
     ⊎ ((k : Kept) × Holds c k × (BreaksRule k file place ⊎ RefusesRecord k file place))
 
-abbrev pub IsMissing : Image → Type 0
-IsMissing c = HoldsNothing c
-
 -- ---- volumes
+
+-- a volume that was opened again behind a crash: it reads what that left, and nothing is pending
+pub record IsReopened (c : Image) (disk : Disk) : Type 0 where
+  pub reads : disk.reads ≡ c
+  pub safe : IsSafe disk
 
 abbrev pub OpensOn : Hash → Image → Type 0
 OpensOn network c = (s : ClosingState) × OpensTo c s × (s.network ≡ network)

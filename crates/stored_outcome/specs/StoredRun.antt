@@ -1,32 +1,29 @@
 -- What `run` leaves, over what was seen of its streams and its volume before and after.
-use Rattle.std.specs.Prelude.{◌≡◌, ◌≢◌, ℕ, ◌+◌, ◌<◌, List, [], ◌⊎◌, IfSome}
+use Rattle.std.specs.Prelude.{◌≡◌, ℕ, ◌+◌, ◌≤◌, List, ◌⊎◌, IfSome}
 use Rattle.std.specs.Io.KnownBytes.{IsAtEnd}
 use Rattle.xdr_core.specs.Place.{start_of}
 use Rattle.run_streams.specs.Seen.{Seen, Failed, IsUntouched, Gave, Received}
 use Rattle.close_rules.specs.State.{ClosingState}
 use Rattle.run_outcome.specs.declared.status.Status.{Status}
 use Rattle.run_outcome.specs.declared.status.Status.TheVariants as status
-use Rattle.run_outcome.specs.Statuses.{status_line, IsRecordsEnd}
+use Rattle.run_outcome.specs.Statuses.{IsRecordsEnd}
 use Rattle.run_outcome.specs.Outcome.{IsRun, AreWhole, IsRunFront}
-use Rattle.run_outcome.specs.Run.{Answered}
+use Rattle.run_outcome.specs.Run.{IsAnswer, Answered, IsLineTold}
 use Rattle.outside.specs.Disk.{Image, Runs, Same}
 use Rattle.run_streams.specs.SeenVolume.{SeenVolume, VolumeFailed, MightLeave}
-use Rattle.stored_outcome.specs.Opening.{OpensTo, IsBadStore, IsMissing, IsSound}
+use Rattle.image_store.specs.Opening.{HoldsNothing}
+use Rattle.stored_outcome.specs.Opening.{OpensTo, IsBadStore, IsSound}
 use Rattle.stored_outcome.specs.Behind.{OpensBehind, OpensWithin, AreAcknowledged}
 
 -- ---- the text
 
--- the end and the output are those of the records behind a state, or are cut short
+-- the end and the text are those of the records behind a state, or are cut short
+abbrev pub IsAnswerBehind : ClosingState → (bytes text : List ℕ) → (end : Status) → Type 0
+IsAnswerBehind s bytes text end = IsAnswer (IsRun s (start_of bytes)) (IsRunFront s (start_of bytes)) text end
+
+-- the same, of the text that the output received
 abbrev pub AnsweredBehind : ClosingState → (bytes : List ℕ) → (out : Seen) → (end : Status) → Type 0
 AnsweredBehind s bytes out end = Answered (IsRun s (start_of bytes)) (IsRunFront s (start_of bytes)) out end
-
--- where a read failed, the output has the lines of every whole record that was given
-pub record ToldBehind (s : ClosingState) (input out : Seen) : Type 0 where
-  pub given : List ℕ
-  pub gave : Gave input given
-  pub lines : List ℕ
-  pub received : Received out lines
-  pub all : AreWhole s (start_of given) lines
 
 -- ---- the volume
 
@@ -35,62 +32,85 @@ pub record ToldBehind (s : ClosingState) (input out : Seen) : Type 0 where
 abbrev pub OpensInRun : ClosingState → (given : List ℕ) → SeenVolume → Image → Type 0
 OpensInRun s given vol c = vol.before.may_leave c ⊎ OpensWithin s given c
 
--- What is read behind a run opens to the state behind the last ledger that was acknowledged. Where a device failed it
--- may be one ledger further on; or, where none was acknowledged and the volume failed, what a crash might have left
--- before the run.
-abbrev pub MayRead : ClosingState → (given : List ℕ) → (acknowledged : ℕ) → SeenVolume → Type 0
-MayRead s given n vol =
-    OpensBehind s given n vol.now.reads ⊎ OpensBehind s given (n + 1) vol.now.reads
-    ⊎ ((n ≡ 0) × VolumeFailed vol × vol.before.may_leave vol.now.reads)
+-- the ends at which one more record may be kept than were acknowledged: a device failed in its append or behind it
+abbrev pub MayBeAhead : Status → Type 0
+MayBeAhead status.WriteFault = Unit {0}
+MayBeAhead status.DiskFault = Unit {0}
+MayBeAhead other = ⊥
 
-abbrev pub ReadsAs : ClosingState → (given : List ℕ) → (acknowledged : ℕ) → SeenVolume → Status → Type 0
-ReadsAs s given n vol status.WriteFault = MayRead s given n vol
-ReadsAs s given n vol status.DiskFault = MayRead s given n vol
-ReadsAs s given n vol end = OpensBehind s given n vol.now.reads
+-- the ends at which a write, the volume or memory failed, perhaps before the store was opened
+abbrev pub IsFailedEnd : Status → Type 0
+IsFailedEnd status.WriteFault = Unit {0}
+IsFailedEnd status.DiskFault = Unit {0}
+IsFailedEnd status.NoMemory = Unit {0}
+IsFailedEnd other = ⊥
 
--- from a state to which what is read opened
-pub record Survived (s : ClosingState) (given : List ℕ) (out : Seen) (vol : SeenVolume) (end : Status) : Type 0 where
+-- the ends at which nothing stands behind the last whole `closed` line: no last line, and no write that failed
+abbrev pub IsUnbrokenEnd : Status → Type 0
+IsUnbrokenEnd status.Done = ⊥
+IsUnbrokenEnd status.Refused = ⊥
+IsUnbrokenEnd status.WriteFault = ⊥
+IsUnbrokenEnd other = Unit {0}
+
+-- a content opens to the state behind the last ledger that was acknowledged, or where a device failed behind one more
+abbrev pub OpensAcknowledged : ClosingState → (given : List ℕ) → (acknowledged : ℕ) → Status → Image → Type 0
+OpensAcknowledged s given n end c = OpensBehind s given n c ⊎ (MayBeAhead end × OpensBehind s given (n + 1) c)
+
+-- The same; or none was acknowledged, something failed, and a crash might have left this before the run.
+abbrev pub MayLeaveNow : ClosingState → (given : List ℕ) → (acknowledged : ℕ) → SeenVolume → Status → Image → Type 0
+MayLeaveNow s given n vol end c =
+    OpensAcknowledged s given n end c ⊎ ((n ≡ 0) × IsFailedEnd end × vol.before.may_leave c)
+
+-- what is read behind a run; where the volume failed before a ledger was acknowledged, it may be what a crash might
+-- have left before
+abbrev pub MayRead : ClosingState → (given : List ℕ) → (acknowledged : ℕ) → SeenVolume → Status → Image → Type 0
+MayRead s given n vol end c =
+    OpensAcknowledged s given n end c ⊎ ((n ≡ 0) × MayBeAhead end × VolumeFailed vol × vol.before.may_leave c)
+
+-- what a run leaves that was given these bytes and printed this text, from a state to which what is read opened
+pub record Survived (s : ClosingState) (given text : List ℕ) (vol : SeenVolume) (end : Status) : Type 0 where
   -- at every moment
   pub moments : (c : Image) → MightLeave vol c → OpensInRun s given vol c
+  pub later : vol.before.moment ≤ vol.now.moment
   -- acknowledged
-  pub front : List ℕ
-  pub received : Received out front
   pub count : ℕ
-  pub acknowledged : AreAcknowledged s given front count
-  pub crash : 0 < count → (c : Image) → vol.now.may_leave c
-      → OpensBehind s given count c ⊎ OpensBehind s given (count + 1) c
-  pub reads : ReadsAs s given count vol end
+  pub acknowledged : AreAcknowledged s given text count
+  pub unbroken : IsUnbrokenEnd end → text ≡ acknowledged.lines
+  pub crash : (c : Image) → vol.now.may_leave c → MayLeaveNow s given count vol end c
+  pub reads : MayRead s given count vol end vol.now.reads
   -- reopening
   pub sound : IsSound vol.before → IsSound vol.now
 
 -- ---- runs
 
--- the volume, with the bytes that the source gave
-pub record SurvivedGiven (s : ClosingState) (input out : Seen) (vol : SeenVolume) (end : Status) : Type 0 where
-  pub given : List ℕ
-  pub gave : Gave input given
-  pub survived : Survived s given out vol end
-
 -- from a state to which what was read opened
 pub record RanFrom (s : ClosingState) (input out : Seen) (vol : SeenVolume) (end : Status) : Type 0 where
   pub answered : IfSome input.before (λ bytes. AnsweredBehind s bytes out end)
   pub is_end : IsRecordsEnd end
-  pub told : end ≡ status.ReadFault → ToldBehind s input out
-  pub survived : SurvivedGiven s input out vol end
+  -- The same of what the source gave, where that is known, and of one text that the output received. A cut at the end
+  -- of what was given need not be one of the whole input.
+  pub given : List ℕ
+  pub gave : Gave input given
+  pub text : List ℕ
+  pub received : Received out text
+  pub answer : IsAnswerBehind s given text end
+  -- where a read failed, it has the lines of every whole record that was given
+  pub whole : end ≡ status.ReadFault → AreWhole s (start_of given) text
+  pub survived : Survived s given text vol end
 
 -- nothing was read or written, and the volume stays
 pub record DidNotRun (input out : Seen) (vol : SeenVolume) : Type 0 where
   pub unread : IsUntouched input
   pub unwritten : IsUntouched out
-  pub runs : vol.tells → Runs Same vol.before vol.now
+  pub runs : Runs Same vol.before vol.now
   pub reads : vol.tells → VolumeFailed vol ⊎ (vol.now.reads ≡ vol.before.reads)
 
 -- on a volume that doesn't open
-abbrev pub DidNotOpen : (before : Status) (input out : Seen) (vol : SeenVolume) (end : Status) → Type 0
-DidNotOpen before input out vol end =
+abbrev pub DidNotOpen : (cause : Status) (input out err : Seen) (vol : SeenVolume) (end : Status) → Type 0
+DidNotOpen cause input out err vol end =
     DidNotRun input out vol
-    × ((end ≡ before) ⊎ ((end ≡ status.DiskFault) × VolumeFailed vol) ⊎ (end ≡ status.WriteFault)
-    ⊎ (end ≡ status.NoMemory))
+    × ((end ≡ cause) ⊎ ((end ≡ status.DiskFault) × VolumeFailed vol)
+    ⊎ ((end ≡ status.WriteFault) × Failed err) ⊎ (end ≡ status.NoMemory))
 
 -- the ends of `run` on a volume that opens, but for those at which a device or memory may have failed before
 abbrev pub IsOpenedEnd : Status → Type 0
@@ -100,7 +120,7 @@ IsOpenedEnd status.ReadFault = Unit {0}
 IsOpenedEnd (status.BadInput at) = Unit {0}
 IsOpenedEnd other = ⊥
 
--- its ends on a volume that doesn't
+-- its ends on such a volume alone
 abbrev pub IsUnopenedEnd : Status → Type 0
 IsUnopenedEnd status.Missing = Unit {0}
 IsUnopenedEnd (status.BadStore file place) = Unit {0}
@@ -122,19 +142,22 @@ IsRunEnd other = ⊥
 -- `run`, over these streams and this volume, with this end and its line on standard error
 pub record DidRun (input out err : Seen) (vol : SeenVolume) (end : Status) : Type 0 where
   pub opened : vol.tells → (s : ClosingState) → OpensTo vol.before.reads s → RanFrom s input out vol end
-  pub missing : vol.tells → IsMissing vol.before.reads → DidNotOpen status.Missing input out vol end
+  pub missing : vol.tells → HoldsNothing vol.before.reads → DidNotOpen status.Missing input out err vol end
   pub bad_store : vol.tells → (file place : ℕ) → IsBadStore vol.before.reads file place
-      → DidNotOpen (status.BadStore file place) input out vol end
+      → DidNotOpen (status.BadStore file place) input out err vol end
   -- these ends come there alone
   pub only_opened : vol.tells → IsOpenedEnd end → (s : ClosingState) × OpensTo vol.before.reads s
-  pub unopened : IsUnopenedEnd end → DidNotRun input out vol
-  pub only_missing : vol.tells → end ≡ status.Missing → IsMissing vol.before.reads
+  pub only_missing : vol.tells → end ≡ status.Missing → HoldsNothing vol.before.reads
   pub only_bad : vol.tells → (file place : ℕ) → end ≡ status.BadStore file place
       → IsBadStore vol.before.reads file place
+  -- whatever the volume tells: nothing was read or written, or what was is the answer to a state
+  pub unopened : IsUnopenedEnd end → DidNotRun input out vol
+  pub ran : DidNotRun input out vol
+      ⊎ ((s : ClosingState) × IfSome input.before (λ bytes. AnsweredBehind s bytes out end))
   pub ended : end ≡ status.Done → IsAtEnd input.now
   -- a fault of a device is answered only where its count rose
   pub read_fault : end ≡ status.ReadFault → Failed input
   pub write_fault : end ≡ status.WriteFault → Failed out ⊎ Failed err
   pub disk_fault : end ≡ status.DiskFault → VolumeFailed vol
   pub is_end : IsRunEnd end
-  pub told : Received err (status_line end) ⊎ ((end ≡ status.WriteFault) × Failed err)
+  pub told : IsLineTold err end

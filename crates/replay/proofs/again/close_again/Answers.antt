@@ -1,4 +1,4 @@
-use Rattle.std.proofs.Common.{◌≡◌, ℕ, List, length, Ok, Err, subst, ap, ◌+◌, ◌<◌, sym, ◌^◌, arith}
+use Rattle.std.proofs.Common.{ℕ, List, length, Ok, Err, subst, ap, arith}
 use Rattle.std.proofs.Math.Facts.{Fits-of_lt}
 use Rattle.close_rules.specs.Close.{IsClose}
 use Rattle.replay.proofs.ClosingAgain.{place_more, place_fits, again_more, refused_at}

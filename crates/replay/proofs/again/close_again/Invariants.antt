@@ -1,4 +1,4 @@
-use Rattle.std.proofs.Common.{◌≡◌, ℕ, ◌-◌, ◌≤◌, length, take}
+use Rattle.std.proofs.Common.{◌≡◌, ◌-◌, ◌≤◌, length, take}
 use Rattle.gate_journal.specs.Records.{blocks}
 use Rattle.replay.specs.ClosingAgain.{AreClosedTo}
 use Rattle.replay.proofs.again.close_again.Given as goal

@@ -1,4 +1,4 @@
-use Rattle.std.proofs.Common.{ℕ, ◌≤◌, arith, refl}
+use Rattle.std.proofs.Common.{arith, refl}
 use Rattle.outside.specs.Disk.{Disk}
 use Rattle.replay.proofs.Turning.{gone, goes_low, goes_smaller, rose_before}
 use Rattle.replay.proofs.Keeping.{gone_on}

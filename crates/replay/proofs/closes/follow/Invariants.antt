@@ -19,7 +19,7 @@ invariant-loop-end g l = record {
       (over (g.O.Sink.taken l.initial.out) out_now (g.O.Sink.faults l.initial.out) out_faults)
       (DiskFailed g.K.Keeper.stores (g.V.Volume.faults l.initial.vol) vol_faults) end;
   carries_kept : g.K.Keeper.stores → g.V.Volume.tells → CarriesKept g.V.Volume.disk l.ledger l.initial.ledger
-      l.ahead.items l.initial.ahead.items
+      l.at l.initial.at l.ahead.items l.initial.ahead.items
       (seen g.I.Source.left g.I.Source.faults l.input l.input)
       (seen g.I.Source.left g.I.Source.faults l.initial.input l.initial.input)
       (seen g.O.Sink.taken g.O.Sink.faults l.out l.out)

@@ -1,4 +1,4 @@
-use Rattle.std.proofs.Common.{◌≡◌, inl, ap, ◌∙◌, take}
+use Rattle.std.proofs.Common.{inl, ap, ◌∙◌, take}
 use Rattle.std.proofs.KnownBytes.{Appends-nil}
 use Rattle.run_streams.specs.Seen.{seen}
 use Rattle.replay.proofs.Keeping.{unkept_nothing}

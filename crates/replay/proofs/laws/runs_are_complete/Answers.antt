@@ -1,8 +1,10 @@
+use Rattle.run_streams.specs.SeenVolume.{seen_volume}
 use Rattle.replay.proofs.Completing.{catchups_complete, runs_complete}
 use Rattle.replay.proofs.laws.runs_are_complete.Goals as goal
 
 pub returns-clause-catchups : goal.returns-clause-catchups
-returns-clause-catchups c = catchups_complete
+returns-clause-catchups g c = catchups_complete
 
 pub returns-clause-runs : goal.returns-clause-runs
-returns-clause-runs c = runs_complete
+returns-clause-runs g c =
+    runs_complete (seen_volume g.V.Volume.tells g.V.Volume.disk g.V.Volume.faults c.args.old.now c.args.new.now)

@@ -17,4 +17,4 @@ returns g c =
       r.ensures.ran te,
     ))
     r.ensures.ended r.ensures.read_fault r.ensures.write_fault r.ensures.disk_fault r.ensures.is_end
-    r.ensures.unbegun c.tell.ensures
+    r.ensures.unbegun r.ensures.printed c.tell.ensures

@@ -1,0 +1,161 @@
+"""A ledger in the four files of a volume, beside `ledger_model.py`: what `init` and `run` print, and what they leave in the files.
+
+It shares nothing with the program: docs/FORMATS.md has the layout of the files, and when a store goes on to its next epoch.
+"""
+
+from ledger_model import HEADER, BadImage, BadRecord, Text, Wrong, cut_image, ledger_of, marked, sha, take_mark, u32, u64
+
+FILES = ("image0", "image1", "journal0", "journal1")
+HEAD = 49
+MOST = 16777216
+LAST_EPOCH = 2**63 - 1
+# how many ledgers are closed between two images
+STRETCH = 64
+
+
+class BadStore(Exception):
+    """Open files that are no store: a file, and a place in it."""
+
+
+class Missing(Exception):
+    """No image is open."""
+
+
+# ---- what is in the files
+
+
+def image_file(epoch, network, image, gate=1):
+    return bytes([gate]) + u64(epoch) + network + u64(len(image)) + image
+
+
+def journal_file(records, rest=b"\0"):
+    """A journal of records, with what stands behind them: a closed gate, unless it is said."""
+    return b"".join(b"\1" + u32(len(record)) + record for record in records) + rest
+
+
+def is_open(file):
+    return len(file) >= HEAD and file[0] == 1
+
+
+def number(data):
+    return int.from_bytes(data, "big")
+
+
+def records_of(place, file):
+    """The records of a journal, with the places of their gates, and that of the gate behind them."""
+    at, records = 0, []
+    while True:
+        if at >= len(file):
+            raise BadStore(place, at)
+        if file[at] != 1:
+            return records, at
+        length = number(file[at + 1:at + 5])
+        end = at + 5 + length
+        if len(file) < at + 5 or length > MOST or len(file) < end:
+            raise BadStore(place, at)
+        records.append((at, file[at + 5:end]))
+        at = end
+
+
+def whole_image(data):
+    """The header and the files of an image behind which nothing stands, or None."""
+    text = Text(data)
+    try:
+        cut = cut_image(text)
+    except Wrong:
+        return None
+    return cut if text.at == len(data) else None
+
+
+class Store:
+    """What a volume opens to: an epoch, and the ledger behind its image and its records."""
+
+    def __init__(self, files):
+        self.files, epochs = list(files), {}
+        for place, file in enumerate(self.files[:2]):
+            if is_open(file):
+                epochs[place] = number(file[1:9])
+                if epochs[place] % 2 != place:
+                    raise BadStore(place, 1)
+                if number(file[41:49]) != len(file) - HEAD:
+                    raise BadStore(place, 41)
+        if not epochs:
+            raise Missing
+        place = max(epochs, key=epochs.get)
+        self.epoch, self.network = epochs[place], self.files[place][9:41]
+        cut = whole_image(self.files[place][HEAD:])
+        if cut is None:
+            raise BadStore(place, HEAD)
+        records, self.gate = records_of(2 + place, self.files[2 + place])
+        try:
+            self.ledger = ledger_of(self.network, *cut)
+        except BadImage:
+            raise BadStore(place, HEAD) from None
+        for at, record in records:
+            try:
+                self.ledger.close(record)
+            except BadRecord:
+                raise BadStore(2 + place, at) from None
+
+    def close(self, record):
+        """Closes the ledger by a record and keeps it; answers its lines."""
+        lines = self.ledger.close(record)
+        place = 2 + self.epoch % 2
+        written = journal_file([record])
+        file = self.files[place]
+        self.files[place] = file[:self.gate] + written + file[self.gate + len(written):]
+        self.gate += len(written) - 1
+        if (self.ledger.header["seq"] + 1) % STRETCH == 0 and self.epoch < LAST_EPOCH:
+            self.go_on()
+        return lines
+
+    def go_on(self):
+        """Goes on to the next epoch."""
+        self.epoch, self.gate = self.epoch + 1, 0
+        place = self.epoch % 2
+        self.files[place] = image_file(self.epoch, self.network, image_of(self.ledger))
+        self.files[2 + place] = journal_file([])
+
+
+def image_of(ledger):
+    files = [bucket.file for bucket in ledger.levels.files]
+    return b"SLI1" + marked(HEADER.write(ledger.header)) + b"".join(u64(len(file)) + file for file in files)
+
+
+# ---- the commands: what each writes to its output and to standard error, its status, and the files behind it
+
+
+def init(passphrase, data, files):
+    """What `init` comes to over the files of a volume."""
+    text, network = Text(data), sha(passphrase.encode())
+    try:
+        cut = cut_image(text)
+        if text.at < len(data):
+            raise Wrong(text.at, "bytes behind the image")
+        ledger_of(network, *cut)
+    except Wrong as wrong:
+        return ("", f"bad input at {wrong.at}\n", 9), files
+    except BadImage as wrong:
+        return ("", f"bad image {wrong}\n", 10), files
+    if any(map(is_open, files[:2])):
+        return ("", "already there\n", 12), files
+    return ("", "", 0), [image_file(0, network, data), files[1], journal_file([]), files[3]]
+
+
+def run(data, files):
+    """What `run` comes to over the files of a volume."""
+    try:
+        store = Store(files)
+    except Missing:
+        return ("", "missing\n", 11), files
+    except BadStore as wrong:
+        return ("", f"bad store at {wrong.args[0]} {wrong.args[1]}\n", 7), files
+    text, out = Text(data), []
+    try:
+        while text.at < len(data):
+            out.append(store.close(text.take(take_mark(text, MOST))))
+    except Wrong as wrong:
+        return ("".join(out), f"bad input at {wrong.at}\n", 9), store.files
+    except BadRecord as wrong:
+        return ("".join(out) + f"refused {store.ledger.header['seq'] + 1} {wrong}\n", "", 3), store.files
+    return ("".join(out) + f"end {store.ledger.header['seq']} {store.ledger.hash.hex()}\n", "", 0), store.files

@@ -10,12 +10,13 @@ Images of 1,000, 10,000 and 100,000 accounts are opened, and then 50 records of 
 One is of accounts: payments, new accounts, options, data, sequence numbers, data that another account pays for, and merges. The other is
 of assets: lines that are made and changed, what is issued, paid and redeemed in them, authorisations taken back and given, claimable
 balances made, claimed and clawed back, and clawback. A third mix, of offers (`trading.py`), and a fourth, of all 24 operations
-(`everything.py`), are run behind images of 10,000 and 100,000 offers in 20 books, the fourth with ten pools. What the program prints is compared with what the ledger in Python beside `close_cases` says. Images of 98 and 980
-offers of one account are opened too; it can't have more than 1,000 subentries. So are images of pools (`pooling.py`): of 1,000 and 10,000
-pools with a line of shares each, and of one pool with 1,000 and 10,000 lines.
+(`everything.py`), are run behind images of 10,000 and 100,000 offers in 20 books, the fourth with ten pools. What the program prints is
+compared with what the ledger in Python beside `close_cases` says. Images of 98 and 980 offers of one account are opened too; it can't
+have more than 1,000 subentries. So are images of pools (`pooling.py`): of 1,000 and 10,000 pools with a line of shares each, and of one
+pool with 1,000 and 10,000 lines.
 
 Behind 1,000 and 10,000 accounts the records of the mix of accounts are closed by `run` too, over a store of the same image in a directory,
-and the ratio of both is told: processor time of all closes but the longest, less what the same writes and syncs take a plain program.
+and the ratio of both is told: processor time of all closes but the longest, where the syncs of `run` do nothing.
 
 The script prints processor time and peak memory of opening; then the processor time of closing without the longest close, ledgers and
 transactions a second of it, and the longest close by itself, which is the one in which a deep level is merged; each close by the least
@@ -23,9 +24,10 @@ of several runs. A close is measured from when its record is handed in until the
 longer closing takes behind 100,000 accounts than behind 1,000, with the mix of offers than with that of accounts, and behind ten times
 the offers, and all of a run than sha256sum of the same input.
 
-Exit status: 0 where all is well, 1 where `run` takes more than 1.15 times what `catchup` takes, ten times the accounts, offers, pools or lines of one pool take more than 15 times as long to
-open, closing takes more than twice as long behind 100,000 accounts as behind 1,000, or ten times the offers change the time of closing by
-more than a fifth, 2 where a run fails or prints another text. Linux (it reads /proc), Python 3.9 or later, its standard library, and sha256sum.
+Exit status: 0 where all is well, 1 where ten times the accounts, offers, pools or lines of one pool take more than 15 times as long to
+open, closing takes more than twice as long behind 100,000 accounts as behind 1,000, ten times the offers change the time of closing by
+more than a fifth, or `run` takes more than 1.15 times what `catchup` takes, 2 where a run fails or prints another text. Linux (it reads
+/proc), Python 3.9 or later, its standard library, sha256sum, and a C compiler (cc).
 """
 
 import os
@@ -169,8 +171,9 @@ def story(data, sender):
 class Watched:
     """A program that is run in a folder, and what it has used so far."""
 
-    def __init__(self, program, words, folder=None):
-        self.process = subprocess.Popen([program, *words], stdin=subprocess.PIPE, stdout=subprocess.PIPE, bufsize=0, cwd=folder)
+    def __init__(self, program, words, folder, environment):
+        how = {"stdin": subprocess.PIPE, "stdout": subprocess.PIPE, "bufsize": 0, "cwd": folder, "env": {**os.environ, **environment}}
+        self.process = subprocess.Popen([program, *words], **how)
         self.folder, self.text = f"/proc/{self.process.pid}", b""
 
     def used(self):
@@ -215,9 +218,9 @@ class Watched:
 CATCHUP = ["catchup", "--network", NETWORK]
 
 
-def watched(program, data, records, wanted, words=CATCHUP, folder=None):
+def watched(program, data, records, wanted, words=CATCHUP, folder=None, environment={}):
     """The processor time of opening, its peak of memory, and the processor time of each close, of one run."""
-    it = Watched(program, words, folder)
+    it = Watched(program, words, folder, environment)
     it.hand_in(data)
     opening, peak, closes = it.used(), it.peak(), []
     last = opening
@@ -326,39 +329,44 @@ def watch_pools(program):
     return max(ratios) <= GREATEST_RATIO
 
 
-def synced(records, folder):
-    """The processor time of writing these records to a file, with two syncs for each."""
-    started = time.process_time()
-    with open(os.path.join(folder, "synced"), "wb", buffering=0) as file:
-        for record in records:
-            for piece in (record, b"\1"):
-                file.write(piece)
-                os.fsync(file.fileno())
-    return time.process_time() - started
+# Syncs that do nothing, to tell what the syncs of a run take.
+NO_SYNCS = "int fsync(int file) { return 0; }\nint fdatasync(int file) { return 0; }\n"
 
 
-def kept(program, data, records, wanted):
-    """What one `run` over a store of an image takes, and what its writes and syncs take alone."""
+def without_syncs(folder):
+    """A library that is loaded in front of the C library, and whose syncs do nothing."""
+    with open(f"{folder}/syncs.c", "w", encoding="ascii") as file:
+        file.write(NO_SYNCS)
+    words = ["cc", "-shared", "-fPIC", "-o", f"{folder}/syncs.so", f"{folder}/syncs.c"]
+    if subprocess.run(words, check=False).returncode:
+        stop("the library without syncs could not be compiled")
+    return f"{folder}/syncs.so"
+
+
+def kept(program, data, records, wanted, library):
+    """What one `run` over a store of an image takes, in front of which a library is loaded where one is given."""
     with tempfile.TemporaryDirectory(dir=".") as folder:
         subprocess.run([program, "init", "--network", NETWORK], input=data, cwd=folder, check=True)
-        return watched(program, b"", records, wanted, ["run"], folder), synced(records, folder)
+        return watched(program, b"", records, wanted, ["run"], folder, {"LD_PRELOAD": library} if library else {})
 
 
 def watch_runs(program):
-    """Whether keeping the records costs little enough beside closing their ledgers."""
+    """Whether keeping the records costs little enough beside closing their ledgers, the syncs apart."""
     program, fine = os.path.abspath(program), True
-    for count in (1_000, 10_000):
-        data, sender = given(count, ACCOUNT_MIX)
-        records, wanted = story(data, sender)
-        alone, stored = [], []
-        for _ in range(7):
-            alone.append(watched(program, data, records, wanted))
-            stored.append(kept(program, data, records, wanted))
-        closing, keeping, syncs = least(alone)[2], least([it[0] for it in stored])[2], min(it[1] for it in stored)
-        ratio = (keeping - syncs) / closing
-        print(f"{count:7} accounts: {LEDGERS - 1} ledgers take catchup {closing * 1e3:.1f} ms and run {keeping * 1e3:.1f} ms, of which"
-              f" writing and syncing {syncs * 1e3:.1f} ms; the rest is {ratio:.2f} times catchup", flush=True)
-        fine = fine and ratio <= GREATEST_KEEPING
+    with tempfile.TemporaryDirectory() as folder:
+        library = without_syncs(folder)
+        for count in (1_000, 10_000):
+            data, sender = given(count, ACCOUNT_MIX)
+            records, wanted = story(data, sender)
+            alone, stored, unsynced = [], [], []
+            for _ in range(7):
+                alone.append(watched(program, data, records, wanted))
+                stored.append(kept(program, data, records, wanted, None))
+                unsynced.append(kept(program, data, records, wanted, library))
+            closing, keeping, rest = [least(it)[2] for it in (alone, stored, unsynced)]
+            print(f"{count:7} accounts: {LEDGERS - 1} ledgers take catchup {closing * 1e3:.1f} ms and run {keeping * 1e3:.1f} ms, of which"
+                  f" the syncs {(keeping - rest) * 1e3:.1f} ms; the rest is {rest / closing:.2f} times catchup", flush=True)
+            fine = fine and rest / closing <= GREATEST_KEEPING
     return fine
 
 

@@ -1,9 +1,10 @@
 //! Levels that take closes.
 
-ghost use Rattle.std.specs.Prelude.{◌≡◌, ◌+◌, ◌<◌, ◌^◌};
+ghost use Rattle.std.specs.Prelude.{◌≡◌, ◌+◌, ◌<◌, ◌≤◌, ◌^◌};
 
 use bucket_core::Bucket;
-use bucket_levels::{LevelPair, Levels};
+use bucket_levels::{HandInFault, LevelPair, Levels};
+use bucket_merge::{MergeJob, MergeOut};
 use outside::Steps;
 use std::alloc::{AllocError, Global};
 use std::marker::Brand;
@@ -31,8 +32,8 @@ impl Closing {
         Ok(Closing { levels, seq: 0 })
     }
 
-    /// Levels that are made anew of the same files.
-    pub fn restarted(&self, alloc: Global) -> Result<Closing, AllocError> {
+    /// Levels that are made anew of the same files, behind a ledger of this number.
+    pub fn renumbered(&self, alloc: Global, seq: u32) -> Result<Closing, AllocError> {
         let mut pairs = Vec::new(alloc);
         for level in 0..11u32 {
             let pair = self.levels.pair(level);
@@ -40,9 +41,13 @@ impl Closing {
             let snap = pair.snap.clone()?;
             pairs.push(LevelPair { curr, snap })?;
         }
-        let seq = self.seq;
         let levels = Levels::restart(pairs, seq)?;
         Ok(Closing { levels, seq })
+    }
+
+    /// Levels that are made anew of the same files.
+    pub fn restarted(&self, alloc: Global) -> Result<Closing, AllocError> {
+        self.renumbered(alloc, self.seq)
     }
 
     /// The number of the ledger.
@@ -57,6 +62,30 @@ impl Closing {
         requires { self.old.seq + 1 < 2 ^ 32 }
     {
         close_in::<Brand>(self, fresh, Blank::new(1))
+    }
+
+    /// The files of a level.
+    pub fn pair(&self, level: u32) -> &LevelPair
+        requires { level ≤ 10 }
+    {
+        self.levels.pair(level)
+    }
+
+    /// Draws the job of the next merge that waits.
+    pub fn next_job(&mut self) -> Option<MergeJob>
+        ensures { self.new.seq ≡ self.old.seq }
+    {
+        self.levels.next_job()
+    }
+
+    /// Hands a merge in, and says why it came back, where it did.
+    pub fn hand_in(&mut self, out: MergeOut) -> Option<HandInFault>
+        ensures { self.new.seq ≡ self.old.seq }
+    {
+        match self.levels.hand_in(out) {
+            Ok(()) => None,
+            Err(back) => Some(back.fault),
+        }
     }
 
     /// The hash of the levels, in hexadecimal.

@@ -3,16 +3,23 @@
 //! version, the number of its items and its hash, or its first fault with the fault's place. A line of `merges.tsv`
 //! has a level, an older and a newer file, and their merge; `-` is the empty file. A line of `levels.tsv` has the
 //! number of a ledger, the file of what it changed, and the hash of the levels behind it; the levels are empty before
-//! the first line, and are made anew of their files behind one in the middle.
+//! the first line, and are made anew of their files behind one in the middle. These lines are run again while merges
+//! are handed in: as they begin, late, twice, of other levels, or with another input. Then further closes are run with
+//! and without such merges.
 //!
 //! The folder is the program's one argument, or `data` where there is none.
 #![tactic(auto)]
 
+mod handed;
+mod handing;
 mod levels;
 mod merged;
+mod schedule;
 mod verdict;
+mod wanted;
 
 use bucket_core::{Bucket, BucketFault};
+use handed::run_handed;
 use hex::FromHexError;
 use levels::Closing;
 use merged::merge_of;
@@ -187,7 +194,8 @@ fn run_folder<R: Print + Files + AllocGlobal>(rt: &R, folder: &str) -> io::Resul
     let merges = text(rt, folder, "merges")?;
     run_merges(rt, merges.as_str())?;
     let closes = text(rt, folder, "levels")?;
-    run_closes(rt, closes.as_str())
+    run_closes(rt, closes.as_str())?;
+    run_handed(rt, closes.as_str())
 }
 
 fn main(rt: HostRuntime) -> io::Result<()> {

@@ -1,12 +1,16 @@
 -- When levels spill: where one does, so does each above it.
-use Rattle.std.proofs.Common.{◌≡◌, ℕ, suc, ◌+◌, ◌*◌, ◌%◌, ◌^◌, ◌<◌, ◌≤◌, Bool, true, false, eqb, ltb, refl, sym, ap}
+use Rattle.std.proofs.Common.{◌≡◌, ℕ, zero, suc, ◌+◌, ◌-◌, ◌*◌, ◌%◌, ◌^◌, ◌<◌, ◌≤◌, Bool, true, false, eqb, ltb, refl, sym, ap}
 use Rattle.std.proofs.Common.{◌∙◌, add-one, arith}
 use Rattle.std.specs.Prelude.{◌&&◌}
 use Rattle.std.proofs.lemmas.Bool.{eqb-true, ltb-true, lt-ltb}
 use Rattle.std.proofs.Common.{eq-eqb}
 use Rattle.std.proofs.Math.Nat.{pow-suc, one-le-pow, pow-le-pow_right}
 use Rattle.std.proofs.Math.Arith.{mod-mul}
-use Rattle.bucket_levels.specs.Spills.{half, size, spills}
+use Rattle.bucket_levels.specs.Spills.{half, size, upper, spills}
+
+pub upper_is : (i : ℕ) → 1 ≤ i → upper i ≡ i - 1
+upper_is zero low = absurd (omega (arith, low))
+upper_is (suc i) low = omega arith
 
 -- a half is twice a power of 4
 half_is : (i : ℕ) → half i ≡ 2 * 4 ^ i
@@ -54,3 +58,14 @@ still_below i seq false e s = e
 -- below a level that doesn't spill none does
 pub none_spills_below : (i seq : ℕ) → spills i seq ≡ false → spills (suc i) seq ≡ false
 none_spills_below i seq s = still_below i seq (spills (suc i) seq) refl s
+
+-- the half of a level that spills divides the ledger
+pub is_divided : (i seq : ℕ) → spills i seq ≡ true → seq % half i ≡ 0
+is_divided i seq e = eqb-true (seq % half i) 0 (both_hold (ltb i 10) (eqb (seq % half i) 0) e).1
+
+-- and that of another one, which isn't the deepest, doesn't
+pub is_not_divided : (i seq : ℕ) → i < 10 → spills i seq ≡ false → seq % half i ≡ 0 → ⊥
+is_not_divided i seq low e divided =
+    let spilled : spills i seq ≡ true = ap (λ b. b && eqb (seq % half i) 0) (lt-ltb i 10 low)
+    ∙ eq-eqb (seq % half i) 0 divided in
+    absurd (cc (e, spilled))

@@ -1,7 +1,14 @@
 pub mod Halves
+pub mod Starts
 pub mod Marks
 pub mod Joined
 pub mod Climb
 pub mod Standing
 pub mod Planning
+pub mod Inputs
+pub mod Working
+pub mod Renewing
+pub mod Drawing
+pub mod Differing
+pub mod Ordering
 pub mod Unmerged

@@ -7,10 +7,9 @@ use Rattle.bucket_core.specs.Bucket.{Contents}
 use Rattle.bucket_levels.specs.declared.pair.LevelPair.{LevelPair}
 use Rattle.bucket_levels.specs.Spills.{level_count}
 use Rattle.bucket_levels.specs.Pairs.{Pair, pair_at, empty_pair}
-use Rattle.bucket_levels.specs.Levels.{pair_of}
-use Rattle.bucket_levels.specs.Step.{IsPairAfter}
+use Rattle.bucket_levels.specs.Levels.{LevelsAt, pair_of}
 use Rattle.bucket_levels.specs.Work.{work_at, work_above}
-use Rattle.bucket_levels.specs.Planned.{ArePlanned}
+use Rattle.bucket_levels.specs.EachLevel.{EachLevel}
 
 -- ---- the files of one level
 
@@ -20,18 +19,14 @@ pair_is_at items i pair lt is = ap pair_of is ∙ sym (get_or-map pair_of items 
 
 -- ---- level by level
 
-pub none_planned : (seq : ℕ) (fresh : Contents) (old : List Pair) → ArePlanned seq fresh old 0 []
-none_planned seq fresh old = record { count = refl; pairs = λ i lt. absurd (omega arith) }
-
-pub one_more_planned : (seq : ℕ) (fresh : Contents) (old : List Pair) (level : ℕ) (new : List Pair) (pair : Pair)
-    → ArePlanned seq fresh old level new → IsPairAfter seq fresh old level pair
-    → ArePlanned seq fresh old (level + 1) (new ++ pair ∷ [])
-one_more_planned seq fresh old level new pair p here = record {
-  count = length_push new pair ∙ ap (λ (n : ℕ). n + 1) p.count;
-  pairs = below_more (λ (i : ℕ). IsPairAfter seq fresh old i (pair_at (new ++ pair ∷ []) i)) level
-      (λ i lt. let within : i < length new = omega (arith, p.count) in
-      subst (IsPairAfter seq fresh old i) (sym (get_or_append_left new (pair ∷ []) empty_pair i within)) (p.pairs i lt))
-      (subst (IsPairAfter seq fresh old level) (sym (get_or_push new pair empty_pair level p.count)) here);
+pub one_more_level : {X : Type 0} (none : X) (P : ℕ → X → Type 0) (level : ℕ) (items : List X) (x : X)
+    → EachLevel none P level items → P level x → EachLevel none P (level + 1) (items ++ x ∷ [])
+one_more_level none P level items x each here = record {
+  count = length_push items x ∙ ap (λ (n : ℕ). n + 1) each.count;
+  levels = below_more (λ (i : ℕ). P i (get_or (items ++ x ∷ []) i none)) level
+      (λ i lt. let within : i < length items = omega (arith, each.count) in
+      subst (P i) (sym (get_or_append_left items (x ∷ []) none i within)) (each.levels i lt))
+      (subst (P level) (sym (get_or_push items x none level each.count)) here);
 }
 
 pub pushed : (items after : List LevelPair) (pair : LevelPair) → after ≡ items ++ pair ∷ []
@@ -41,12 +36,12 @@ pushed items after pair e =
 
 -- ---- the work
 
-pub work_more : (seq : ℕ) (fresh : Contents) (old : List Pair) (level : ℕ)
+pub work_more : (seq : ℕ) (fresh : Contents) (old : LevelsAt) (level : ℕ)
     → work_above seq fresh old (level + 1) ≡ work_above seq fresh old level + work_at seq fresh old level
 unfolding work_above
 work_more seq fresh old level = ap (work_above seq fresh old) (add-one level)
 
-work_within : (seq : ℕ) (fresh : Contents) (old : List Pair) (n level : ℕ) → level + n ≡ level_count
+work_within : (seq : ℕ) (fresh : Contents) (old : LevelsAt) (n level : ℕ) → level + n ≡ level_count
     → work_above seq fresh old level ≤ work_above seq fresh old level_count
 work_within seq fresh old zero level e =
     let same = ap (work_above seq fresh old) (let f : level ≡ level_count = omega (arith, e) in f) in
@@ -57,20 +52,20 @@ work_within seq fresh old (suc n) level e =
     omega (arith, more, rest)
 
 -- the work of the first levels is within that of all
-work_is_within : (seq : ℕ) (fresh : Contents) (old : List Pair) (level : ℕ) → level ≤ level_count
+work_is_within : (seq : ℕ) (fresh : Contents) (old : LevelsAt) (level : ℕ) → level ≤ level_count
     → work_above seq fresh old level ≤ work_above seq fresh old level_count
 work_is_within seq fresh old level le =
     work_within seq fresh old (level_count - level) level (omega (arith, le))
 
 -- the work of one level more
-pub work_follows : (seq : ℕ) (fresh : Contents) (old : List Pair) (level start before now : ℕ)
+pub work_follows : (seq : ℕ) (fresh : Contents) (old : LevelsAt) (level start before now : ℕ)
     → before ≤ start + work_above seq fresh old level → now ≤ before + work_at seq fresh old level
     → now ≤ start + work_above seq fresh old (level + 1)
 work_follows seq fresh old level start before now was more =
     let next = work_more seq fresh old level in
     omega (arith, next, was, more)
 
-pub work_stays_within : (seq : ℕ) (fresh : Contents) (old : List Pair) (level start before now : ℕ)
+pub work_stays_within : (seq : ℕ) (fresh : Contents) (old : LevelsAt) (level start before now : ℕ)
     → level < level_count → before ≤ start + work_above seq fresh old level
     → now ≤ before + work_at seq fresh old level → now ≤ start + work_above seq fresh old level_count
 work_stays_within seq fresh old level start before now lt was more =

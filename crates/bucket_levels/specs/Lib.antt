@@ -1,11 +1,16 @@
+pub mod EachLevel
 pub mod Spills
 pub mod Pairs
 pub mod Step
-pub mod Work
 pub mod Hash
 pub mod Size
 pub mod Meaning
 pub mod Fresh
 pub mod Laws
+pub mod Pending
 pub mod Levels
+pub mod Held
+pub mod HandIn
+pub mod Work
+pub mod InOrder
 pub mod Planned

@@ -1,20 +1,23 @@
--- How many items the merges of a step go over.
-use Rattle.std.specs.Prelude.{ℕ, zero, suc, ◌+◌, List, if◌then◌else◌}
+-- How many items the merges of a step go over: none where the outcome is ready.
+use Rattle.std.specs.Prelude.{ℕ, zero, suc, ◌+◌, ◌&&◌, not, if◌then◌else◌}
 use Rattle.bucket_core.specs.Bucket.{Contents}
 use Rattle.bucket_core.specs.File.{count_of}
 use Rattle.bucket_levels.specs.Spills.{level_count, spills}
-use Rattle.bucket_levels.specs.Pairs.{Pair, pair_at}
+use Rattle.bucket_levels.specs.Pairs.{pair_at}
 use Rattle.bucket_levels.specs.Step.{base_at}
+use Rattle.bucket_levels.specs.Levels.{LevelsAt}
+use Rattle.bucket_levels.specs.Pending.{pending_at}
 
-abbrev pub work_at : (seq : ℕ) → (fresh : Contents) → List Pair → ℕ → ℕ
-work_at seq fresh pairs zero = count_of (base_at seq pairs 0) + count_of fresh
-work_at seq fresh pairs (suc i) =
-    if spills i seq then count_of (base_at seq pairs (suc i)) + count_of (pair_at pairs i).snap else 0
+abbrev pub work_at : (seq : ℕ) → (fresh : Contents) → LevelsAt → ℕ → ℕ
+work_at seq fresh l zero = count_of (base_at seq l.pairs 0) + count_of fresh
+work_at seq fresh l (suc i) =
+    if spills i seq && not (pending_at l.pending (suc i)).ready
+    then count_of (base_at seq l.pairs (suc i)) + count_of (pair_at l.pairs i).snap else 0
 
 -- the levels above one
-unfoldable pub work_above : (seq : ℕ) → (fresh : Contents) → List Pair → ℕ → ℕ
-work_above seq fresh pairs zero = 0
-work_above seq fresh pairs (suc i) = work_above seq fresh pairs i + work_at seq fresh pairs i
+unfoldable pub work_above : (seq : ℕ) → (fresh : Contents) → LevelsAt → ℕ → ℕ
+work_above seq fresh l zero = 0
+work_above seq fresh l (suc i) = work_above seq fresh l i + work_at seq fresh l i
 
-abbrev pub work : (seq : ℕ) → (fresh : Contents) → List Pair → ℕ
-work seq fresh pairs = work_above seq fresh pairs level_count
+abbrev pub work : (seq : ℕ) → (fresh : Contents) → LevelsAt → ℕ
+work seq fresh l = work_above seq fresh l level_count

@@ -11,6 +11,7 @@ ghost use Rattle.bucket_levels.specs.Hash.{list_hash};
 ghost use Rattle.bucket_levels.specs.Size.{file_total as size_of_levels};
 
 use crate::hash::hash_of_levels;
+use crate::jobs::begun_jobs;
 use crate::levels::Levels;
 use crate::pair::LevelPair;
 use crate::size::file_total;
@@ -29,17 +30,23 @@ use std::sync::ledger::Ledger;
 pub struct LevelStep {
     pub(crate) pairs: Vec<LevelPair>,
     pub(crate) seq: u32,
+    // The jobs of the merges that begin with it, level by level.
+    pub(crate) jobs: Vec<Option<MergeJob>>,
 }
 
 impl Model for LevelStep {
     ghost use Rattle.std.specs.Prelude.{map};
-    ghost use Rattle.bucket_levels.specs.Levels.{LevelsAt, levels_code, pair_of};
+    ghost use Rattle.bucket_levels.specs.Levels.{LevelsAfter, step_code, pair_of};
+    ghost use Rattle.bucket_levels.specs.Held.{AreBegun};
+    ghost use Rattle.bucket_levels.specs.Spills.{level_count};
 
-    ghost Value = { LevelsAt };
+    ghost Value = { LevelsAfter };
 
-    ghost coded = { levels_code };
+    ghost coded = { step_code };
 
     ghost view = { λ s. record { pairs = map pair_of s.pairs.items; seq = s.seq } };
+
+    ghost invariant = { λ s. AreBegun (map pair_of s.pairs.items) s.seq level_count s.jobs.items };
 }
 
 impl LevelStep {
@@ -92,7 +99,7 @@ impl Levels {
         steps: &mut Steps<L>,
     ) -> Result<Arc<Bucket>, AllocError>
         ensures curr { IfOk result (λ curr. IsCurrAfter seq fresh.now.value self.now.pairs 0 curr.value) }
-        ensures most { steps.new ≤ steps.old + work_at seq fresh.now.value self.now.pairs 0 }
+        ensures most { steps.new ≤ steps.old + work_at seq fresh.now.value self.now 0 }
     {
         if spills(0, seq) {
             return fresh.hashed();
@@ -101,8 +108,9 @@ impl Levels {
     }
 
     /// The curr of a level from 1 to 10 behind a step, onto which the snap above is merged where the level above
-    /// spills. Where the level spills too, that snap is merged onto nothing, and stays as it is.
-    #[tactic(auto, using(crate::proofs::Unmerged::spilled_below, crate::proofs::Unmerged::merged_below))]
+    /// spills. Where the level spills too, that snap is merged onto nothing, and stays as it is. A merge that is ready
+    /// isn't made again.
+    #[tactic(auto, using(crate::proofs::Unmerged::spilled_below, crate::proofs::Unmerged::merged_below, crate::proofs::Working::work_is_merge, crate::proofs::Working::ready_curr,))]
     fn curr_below<L: Ledger>(
         &self,
         level: u32,
@@ -111,9 +119,10 @@ impl Levels {
     ) -> Result<Arc<Bucket>, AllocError>
         requires low { 1 ≤ level }
         requires high { level ≤ 10 }
+        requires next { seq ≡ self.now.seq + 1 }
         ensures curr { (fresh : Contents)
             → IfOk result (λ curr. IsCurrAfter seq fresh self.now.pairs level curr.value) }
-        ensures most { (fresh : Contents) → steps.new ≤ steps.old + work_at seq fresh self.now.pairs level }
+        ensures most { (fresh : Contents) → steps.new ≤ steps.old + work_at seq fresh self.now level }
     {
         if !spills(level - 1, seq) {
             return self.pair(level).curr.clone();
@@ -122,6 +131,9 @@ impl Levels {
         let onto_nothing = spills(level, seq);
         if onto_nothing {
             return Ok(snap);
+        }
+        if let Some(bucket) = self.ready(level) {
+            return bucket.clone();
         }
         let curr = self.pair(level).curr.clone()?;
         merged(MergeJob::new(level, seq, curr, snap), steps)
@@ -135,9 +147,10 @@ impl Levels {
         fresh: &Arc<Bucket>,
         steps: &mut Steps<L>,
     ) -> Result<Arc<Bucket>, AllocError>
-        requires { level ≤ 10 }
+        requires high { level ≤ 10 }
+        requires next { seq ≡ self.now.seq + 1 }
         ensures curr { IfOk result (λ curr. IsCurrAfter seq fresh.now.value self.now.pairs level curr.value) }
-        ensures most { steps.new ≤ steps.old + work_at seq fresh.now.value self.now.pairs level }
+        ensures most { steps.new ≤ steps.old + work_at seq fresh.now.value self.now level }
     {
         if level == 0 {
             return self.first_curr(seq, fresh, steps);
@@ -153,9 +166,10 @@ impl Levels {
         fresh: &Arc<Bucket>,
         steps: &mut Steps<L>,
     ) -> Result<LevelPair, AllocError>
-        requires { level ≤ 10 }
+        requires high { level ≤ 10 }
+        requires next { seq ≡ self.now.seq + 1 }
         ensures pair { IfOk result (λ pair. IsPairAfter seq fresh.now.value self.now.pairs level (pair_of pair)) }
-        ensures most { steps.new ≤ steps.old + work_at seq fresh.now.value self.now.pairs level }
+        ensures most { steps.new ≤ steps.old + work_at seq fresh.now.value self.now level }
     {
         let curr = self.curr_after(level, seq, fresh, steps)?;
         let snap = self.snap_after(level, seq).clone()?;
@@ -163,7 +177,8 @@ impl Levels {
     }
 
     /// The step of ledger `seq`, the one behind the levels' own, with the bucket of what it changed. It raises the
-    /// steps by at most the items of the files that it merges. The levels stay as they are.
+    /// steps by at most the items of the files that it merges, which are none where the outcome is ready. The levels
+    /// stay as they are.
     pub fn plan_batch<L: Ledger>(
         &self,
         seq: u32,
@@ -173,12 +188,14 @@ impl Levels {
         requires { seq ≡ self.now.seq + 1 }
         ensures seq { IfOk result (λ step. step.seq ≡ seq) }
         ensures step { IfOk result (λ step. IsStep seq fresh.value self.now.pairs step.pairs) }
-        ensures most { steps.new ≤ steps.old + work seq fresh.value self.now.pairs }
+        ensures most { steps.new ≤ steps.old + work seq fresh.value self.now }
     {
-        let mut pairs = Vec::with_capacity(self.empty().allocator(), 11)?;
+        let alloc = self.empty.allocator();
+        let mut pairs = Vec::with_capacity(alloc, 11)?;
         for level in 0..11u32 {
             pairs.push(self.pair_after(level, seq, &fresh, steps)?)?;
         }
-        Ok(LevelStep { pairs, seq })
+        let jobs = begun_jobs(alloc, pairs.as_slice(), seq, &self.empty)?;
+        Ok(LevelStep { pairs, seq, jobs })
     }
 }

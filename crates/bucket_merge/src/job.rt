@@ -22,6 +22,7 @@ pub struct MergeJob {
 }
 
 impl Model for MergeJob {
+    ghost use Rattle.std.specs.Prelude.{◌≤◌};
     ghost use Rattle.bucket_merge.specs.Job.{Job, job_code};
 
     ghost Value = { Job };
@@ -35,6 +36,8 @@ impl Model for MergeJob {
       curr = j.curr.value;
       snap = j.snap.value;
     } };
+
+    ghost invariant = { λ j. (1 ≤ j.level) × (j.level ≤ 10) };
 }
 
 /// A merge that memory was refused to, handed back.
@@ -65,9 +68,18 @@ impl MergeJob {
         }
     }
 
-    /// The level that the merge is for.
+    /// The same merge with a number.
+    pub fn numbered(self, number: u64) -> MergeJob
+        ensures { result ≡ record self { number = number } }
+    {
+        MergeJob { number, ..self }
+    }
+
+    /// The level that the merge is for, 1 to 10.
     pub fn level(&self) -> u32
-        ensures { result ≡ self.now.level }
+        ensures level { result ≡ self.now.level }
+        ensures low { 1 ≤ result }
+        ensures high { result ≤ 10 }
     {
         self.level
     }

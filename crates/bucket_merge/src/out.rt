@@ -1,6 +1,6 @@
 //! A merge that was made.
 
-ghost use Rattle.std.specs.Prelude.{◌≡◌};
+ghost use Rattle.std.specs.Prelude.{◌≡◌, ◌≤◌};
 ghost use Rattle.bucket_merge.specs.Merge.{IsMerge};
 
 use crate::job::MergeJob;
@@ -36,9 +36,11 @@ impl MergeOut {
         MergeOut { job, bucket }
     }
 
-    /// The level that the merge is for.
+    /// The level that the merge is for, 1 to 10.
     pub fn level(&self) -> u32
-        ensures { result ≡ self.now.level }
+        ensures level { result ≡ self.now.level }
+        ensures low { 1 ≤ result }
+        ensures high { result ≤ 10 }
     {
         self.job.level()
     }

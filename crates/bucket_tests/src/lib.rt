@@ -6,6 +6,8 @@ mod files;
 #[cfg(test)]
 mod fresh;
 #[cfg(test)]
+mod hand_in;
+#[cfg(test)]
 mod items;
 #[cfg(test)]
 mod levels;

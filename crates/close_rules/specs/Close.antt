@@ -8,6 +8,7 @@ use Rattle.xdr_header.specs.declared.record.CloseRecord.{CloseRecord}
 use Rattle.value_hashes.specs.Hashes.{ledger_hash_of, results_hash_of}
 use Rattle.entry_changes.specs.Next.{AreNextEntries}
 use Rattle.bucket_core.specs.Bucket.{Contents, version_of}
+use Rattle.bucket_levels.specs.Pairs.{Pair}
 use Rattle.bucket_levels.specs.Fresh.{IsFresh}
 use Rattle.bucket_levels.specs.Step.{IsStep}
 use Rattle.bucket_levels.specs.Hash.{list_hash}
@@ -61,16 +62,21 @@ pub record IsFreshOf (version : ℕ) (s : ClosingState) (next : ClosingState) (f
   pub meta : version_of fresh ≡ Some version
   pub changes : IsFresh s.entries next.entries fresh
 
-pub record IsClosed (s : ClosingState) (closing : CloseRecord) (closed : PreparedClose) : Type 0 where
+-- a close of a record over levels that step in this way
+pub record IsClosedOver (Step : (seq : ℕ) → (fresh : Contents) → (old new : List Pair) → Type 0) (s : ClosingState)
+    (closing : CloseRecord) (closed : PreparedClose) : Type 0 where
   pub results : closed.results ≡ (applied_in s closing).results
   pub network : closed.state.network ≡ s.network
   pub entries : AreNextEntries (s.header.ledger_seq + 1) s.entries (applied_in s closing).entries closed.state.entries
   -- the bucket of what changed goes into the levels
   pub fresh : Contents
   pub told : IsFreshOf (upgraded_header s closing).ledger_version s closed.state fresh
-  pub levels : IsStep (s.header.ledger_seq + 1) fresh s.levels closed.state.levels
+  pub levels : Step (s.header.ledger_seq + 1) fresh s.levels closed.state.levels
   -- and last the header takes the hash of the levels
   pub header : closed.state.header ≡ finished (upgraded_header s closing) (list_hash closed.state.levels)
+
+abbrev pub IsClosed : ClosingState → CloseRecord → PreparedClose → Type 0
+IsClosed s closing closed = IsClosedOver IsStep s closing closed
 
 -- ---- what bytes do to a state
 

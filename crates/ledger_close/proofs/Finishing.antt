@@ -16,7 +16,7 @@ use Rattle.op_types.specs.declared.transaction_result.TransactionResultSet.{Tran
 use Rattle.op_types.specs.declared.transaction_result.TransactionResultPair.{TransactionResultPair}
 use Rattle.entry_map.specs.EntryMap.{EntryMap}
 use Rattle.bucket_levels.specs.Pairs.{Pair}
-use Rattle.bucket_levels.specs.Levels.{LevelsAt}
+use Rattle.bucket_levels.specs.Levels.{LevelsAfter}
 use Rattle.bucket_levels.specs.Hash.{list_hash}
 use Rattle.bucket_levels.specs.Size.{file_total}
 use Rattle.header_chain.specs.Upgrades.{upgrade_in, all_upgraded}
@@ -92,7 +92,7 @@ headed s closing given next e1 e2 e3 e4 e5 e6 is =
 
 -- ---- the close
 
-pub closes : (s : ClosingState) (closing : CloseRecord) (worked : Worked) (step : LevelsAt) → Leaves s closing worked
+pub closes : (s : ClosingState) (closing : CloseRecord) (worked : Worked) (step : LevelsAfter) → Leaves s closing worked
     → IsLeveled s (all_upgraded s.header (map upgrade_in closing.scp_value.upgrades)).ledger_version worked.entries step
     → IsClosed s closing (record {
       results = worked.done.results.results;
@@ -119,7 +119,7 @@ pub results_spelled : ResultsAreSpelled → (s : ClosingState) (closing : CloseR
 results_spelled law s closing results can is =
     subst (λ pairs. transaction_result_set.within (result_set pairs)) (sym is) (law s closing can)
 
-pub header_spelled : NextHeaderIsSpelled → (s : ClosingState) (closing : CloseRecord) (step : LevelsAt)
+pub header_spelled : NextHeaderIsSpelled → (s : ClosingState) (closing : CloseRecord) (step : LevelsAfter)
     (header : LedgerHeader) → IsClosable s closing
     → header ≡ finished (upgraded_header s closing) (list_hash step.pairs) → ledger_header.within header
 header_spelled law s closing step header can is =

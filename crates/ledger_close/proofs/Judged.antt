@@ -40,7 +40,7 @@ use Rattle.close_rules.specs.declared.image_fault.ImageRule.TheVariants as rule
 use Rattle.close_rules.specs.State.{IsClosingState, IsSpelled, max_file_total}
 use Rattle.close_rules.specs.EntryRules.{IsFirstBroken, entry_rules}
 use Rattle.close_rules.specs.Images.{header_in, read_whole, if_whole, AreFilesOf, HasHeader}
-use Rattle.close_rules.specs.Images.{HasLevels, HasEntries, state_of}
+use Rattle.close_rules.specs.Images.{HasLevels, HasEntries, IsJudged, state_of}
 use Rattle.close_laws.proofs.StateImages.{number_of_levels}
 use Rattle.ledger_close.specs.States.{IsKept}
 use Rattle.ledger_close.specs.Answers.{JudgesImage}
@@ -320,7 +320,7 @@ whole_has image h levels m w =
 
 pub is_kept : (network digest : Hash) (image : StartImage) (h : LedgerHeader) (m : EntryMap) (levels : LevelsAt)
     → IsWhole image h levels.pairs m → digest ≡ ledger_hash_of h → levels.seq ≡ h.ledger_seq
-    → IsKept network digest h m levels
+    → IsKept network digest h m levels.pairs levels.seq
 is_kept network digest image h m levels w hashed number = record {
   state = is_closing network image h levels.pairs m (whole_has image h levels.pairs m w) w.header.1 w.judged.1;
   hashed = hashed;
@@ -328,6 +328,6 @@ is_kept network digest image h m levels w hashed number = record {
 }
 
 pub whole_judged : (network : Hash) (image : StartImage) (h : LedgerHeader) (levels : List Pair) (m : EntryMap)
-    → IsWhole image h levels m → JudgesImage network image (Ok (state_of network h levels m))
+    → IsWhole image h levels m → IsJudged network image (Ok (state_of network h levels m))
 whole_judged network image h levels m w =
     (h, levels, m, whole_has image h levels m w, w.judged.1, refl)

@@ -19,6 +19,7 @@ use Rattle.close_rules.specs.Refusals.{record_in, term_fault, upgrade_fault}
 use Rattle.close_rules.specs.Close.{PreparedClose, IsClose}
 use Rattle.close_rules.specs.Images.{IsJudged}
 use Rattle.fee_rules.specs.Turns.{apply_order_of}
+use Rattle.ledger_close.specs.States.{LedgerAt}
 use Rattle.ledger_close.specs.declared.refusals.Judged.{Judged}
 
 -- Want of memory is free; every other fault is the one that a definition names.
@@ -70,6 +71,7 @@ Answers s bytes (Ok closed) = IsClose s bytes (Ok closed)
 Answers s bytes (Err wrong) = FaultIs wrong (λ f. IsClose s bytes (Err f))
 
 -- the answer to a start image
-abbrev pub JudgesImage : Hash → StartImage → Result ClosingState ImageFault → Type 0
+abbrev pub JudgesImage : Hash → StartImage → Result LedgerAt ImageFault → Type 0
+JudgesImage network started (Ok ledger) = IsJudged network started (Ok ledger.state)
 JudgesImage network started (Err image.NoMemory) = Unit {0}
-JudgesImage network started answer = IsJudged network started answer
+JudgesImage network started (Err wrong) = IsJudged network started (Err wrong)

@@ -1,5 +1,5 @@
 -- The steps that a close counts: none where it makes no merge, and else at most one for each item of the files that it
--- merges, among them the bucket of what changed.
+-- merges, among them the bucket of what changed. A merge that is ready isn't made again.
 use Rattle.std.specs.Prelude.{◌≡◌, ◌≤◌, ℕ, ◌+◌, List, None, ◌⊎◌}
 use Rattle.xdr_header.specs.declared.record.CloseRecord.{CloseRecord}
 use Rattle.entry_map.specs.EntryMap.{EntryMap}
@@ -10,27 +10,32 @@ use Rattle.bucket_levels.specs.Work.{work}
 use Rattle.close_rules.specs.State.{ClosingState}
 use Rattle.close_rules.specs.Refusals.{record_fault}
 use Rattle.close_rules.specs.Close.{applied_in, IsTaken}
+use Rattle.ledger_close.specs.States.{LedgerAt, levels_at}
 
 -- at most one for each item that is merged with this bucket
-abbrev pub AreFew : ClosingState → (fresh : Contents) → (old new : ℕ) → Type 0
-AreFew s fresh old new = new ≤ old + work (s.header.ledger_seq + 1) fresh s.levels
+abbrev pub AreFew : LedgerAt → (fresh : Contents) → (old new : ℕ) → Type 0
+AreFew l fresh old new = new ≤ old + work (l.state.header.ledger_seq + 1) fresh (levels_at l)
 
 -- the steps of the levels, with the bucket of what changed up to these entries
-abbrev pub AreStepsTo : ClosingState → (after : EntryMap) → (old new : ℕ) → Type 0
-AreStepsTo s after old new = (new ≡ old) ⊎ ((fresh : Contents) × IsFresh s.entries after fresh × AreFew s fresh old new)
+abbrev pub AreStepsTo : LedgerAt → (after : EntryMap) → (old new : ℕ) → Type 0
+AreStepsTo l after old new =
+    (new ≡ old) ⊎ ((fresh : Contents) × IsFresh l.state.entries after fresh × AreFew l fresh old new)
+
+-- these entries are those behind a record, and this bucket what changed up to them
+pub record IsBehind (s : ClosingState) (closing : CloseRecord) (next : EntryMap) (fresh : Contents) : Type 0 where
+  pub entries : AreNextEntries (s.header.ledger_seq + 1) s.entries (applied_in s closing).entries next
+  pub told : IsFresh s.entries next fresh
 
 -- the steps of the close of a record
-abbrev pub AreStepsWith : ClosingState → CloseRecord → (old new : ℕ) → Type 0
-AreStepsWith s closing old new =
+abbrev pub AreStepsWith : LedgerAt → CloseRecord → (old new : ℕ) → Type 0
+AreStepsWith l closing old new =
     (new ≡ old)
-    ⊎ ((record_fault s closing ≡ None) × (next : EntryMap) × (fresh : Contents)
-    × AreNextEntries (s.header.ledger_seq + 1) s.entries (applied_in s closing).entries next
-    × IsFresh s.entries next fresh × AreFew s fresh old new)
+    ⊎ ((record_fault l.state closing ≡ None) × (next : EntryMap) × (fresh : Contents)
+    × IsBehind l.state closing next fresh × AreFew l fresh old new)
 
 -- the steps of the close of bytes, which are those of a record that is taken
-abbrev pub AreSteps : ClosingState → List ℕ → (old new : ℕ) → Type 0
-AreSteps s bytes old new =
+abbrev pub AreSteps : LedgerAt → List ℕ → (old new : ℕ) → Type 0
+AreSteps l bytes old new =
     (new ≡ old)
-    ⊎ ((taken : IsTaken s bytes) × (next : EntryMap) × (fresh : Contents)
-    × AreNextEntries (s.header.ledger_seq + 1) s.entries (applied_in s taken.closing).entries next
-    × IsFresh s.entries next fresh × AreFew s fresh old new)
+    ⊎ ((taken : IsTaken l.state bytes) × (next : EntryMap) × (fresh : Contents)
+    × IsBehind l.state taken.closing next fresh × AreFew l fresh old new)

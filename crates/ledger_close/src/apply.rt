@@ -38,10 +38,10 @@ impl Ledger {
     /// Applies the set of a record, in its order, to the ledger's entries, which stay as they are.
     pub(crate) fn apply(&self, closing: &CloseRecord, order: &[u32]) -> Result<Worked, CloseFault>
         requires spelled { IsSpelled close_record closing.now }
-        requires seq { self.now.header.ledger_seq < last_seq }
+        requires seq { self.now.state.header.ledger_seq < last_seq }
         requires few { length closing.now.tx_set.txs ≤ 16777216 }
         requires order { order.now ≡ apply_order_of closing.now.tx_set }
-        ensures { spec.IsWorked self.now closing.now result }
+        ensures { spec.IsWorked self.now.state closing.now result }
     {
         let alloc = closing.tx_set.txs.allocator();
         let mut entries = Entries::new(alloc, &self.entries)?;

@@ -44,10 +44,10 @@ impl Ledger {
     ) -> Result<Prepared, CloseFault>
         requires spelled { IsSpelled close_record closing }
         requires few { length closing.tx_set.txs ≤ 16777216 }
-        requires unrefused { record_fault self.now closing ≡ None }
-        requires next { next ≡ all_upgraded self.now.header (map upgrade_in closing.scp_value.upgrades) }
-        requires worked { Leaves self.now closing worked }
-        ensures finished { spec.IsFinished self.now closing result }
+        requires unrefused { record_fault self.now.state closing ≡ None }
+        requires next { next ≡ all_upgraded self.now.state.header (map upgrade_in closing.scp_value.upgrades) }
+        requires worked { Leaves self.now.state closing worked }
+        ensures finished { spec.IsFinished self.now.state closing result }
         ensures steps { AreStepsWith self.now closing steps.old steps.new }
     {
         // read, so that the contract can speak of the ledger as a whole
@@ -87,7 +87,7 @@ impl Ledger {
     ) -> Result<Prepared, CloseFault>
         requires spelled { IsSpelled close_record closing }
         requires few { length closing.tx_set.txs ≤ 16777216 }
-        ensures closed { spec.IsClosedBy self.now closing result }
+        ensures closed { spec.IsClosedBy self.now.state closing result }
         ensures steps { AreStepsWith self.now closing steps.old steps.new }
     {
         // read, so that the contract can speak of the ledger as a whole
@@ -112,7 +112,7 @@ impl Ledger {
         steps: &mut Steps<L>,
     ) -> Result<Prepared, CloseFault>
         requires { length bytes.now ≤ 16777216 }
-        ensures answers { answer.Answers self.now bytes.now result }
+        ensures answers { answer.Answers self.now.state bytes.now result }
         ensures steps { AreSteps self.now bytes.now steps.old steps.new }
     {
         let closing = match read_record(self.allocator(), bytes) {

@@ -51,12 +51,12 @@ impl Ledger {
         done: &SetDone,
         step: &LevelStep,
     ) -> Result<LedgerHeader, AllocError>
-        requires seq { self.now.header.ledger_seq < last_seq }
+        requires seq { self.now.state.header.ledger_seq < last_seq }
         requires results { transaction_result_set.within done.now.results }
         ensures { (closing : ARecord) → scp_value ≡ closing.scp_value
-            → next ≡ all_upgraded self.now.header (map upgrade_in closing.scp_value.upgrades)
-            → spec.IsDone self.now closing done.now
-            → IfOk result (λ header. header ≡ finished (upgraded_header self.now closing) (list_hash step.now.pairs)) }
+            → next ≡ all_upgraded self.now.state.header (map upgrade_in closing.scp_value.upgrades)
+            → spec.IsDone self.now.state closing done.now
+            → IfOk result (λ header. header ≡ finished (upgraded_header self.now.state closing) (list_hash step.now.pairs)) }
     {
         let given = Given {
             previous_ledger_hash: self.digest,

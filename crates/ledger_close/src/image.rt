@@ -6,6 +6,7 @@ ghost use Rattle.xdr_header.specs.Image.{start_image};
 ghost use Rattle.bucket_levels.specs.Spills.{level_count};
 ghost use Rattle.bucket_levels.specs.Levels.{pair_of};
 ghost use Rattle.bucket_levels.specs.Pairs.{Pair};
+ghost use Rattle.bucket_levels.specs.Pending.{AreUndrawnAt};
 ghost use Rattle.close_rules.specs.Images.{IsJudged};
 ghost use Rattle.ledger_close.specs.Answers as answer;
 ghost use Rattle.ledger_close.specs.ImageFiles.{IsFileFault};
@@ -137,9 +138,11 @@ fn header_bytes(alloc: Global, header: &LedgerHeader) -> Result<ItemList<u8>, Al
 }
 
 impl Ledger {
-    /// The ledger behind a start image, on the network with this id; or the first rule that the image breaks.
+    /// The ledger behind a start image, on the network with this id; or the first rule that the image breaks. No job of
+    /// the merges that are pending is drawn, and none is ready.
     pub fn from_image(image: StartImage, network: Hash) -> Result<Ledger, ImageFault>
-        ensures { answer.JudgesImage network image result }
+        ensures judges { answer.JudgesImage network image result }
+        ensures pending { IfOk result (λ ledger. AreUndrawnAt ledger.pending) }
     {
         let alloc = image.header.allocator();
         let header = match judge_header(alloc, &image) {
@@ -174,7 +177,7 @@ impl Ledger {
     /// the files.
     pub fn image(&self, alloc: Global) -> Result<StartImage, AllocError>
         ensures within { IfOk result (λ image. start_image.within image) }
-        ensures judged { IfOk result (λ image. IsJudged self.now.network image (Ok self.now)) }
+        ensures judged { IfOk result (λ image. IsJudged self.now.state.network image (Ok self.now.state)) }
     {
         images_stand_for_states();
         let header = header_bytes(alloc, &self.header)?;

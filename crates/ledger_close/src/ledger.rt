@@ -4,6 +4,7 @@ ghost use Rattle.std.specs.Prelude.{◌≡◌, ◌≤◌, IfOk, ℕ, List, lengt
 ghost use Rattle.std.specs.FinMap.{get};
 ghost use Rattle.value_hashes.specs.Hashes.{ledger_hash_of};
 ghost use Rattle.op_form.specs.Sequences.{last_seq};
+ghost use Rattle.bucket_levels.specs.Pending.{AreRenewed};
 ghost use Rattle.close_rules.specs.Close.{IsClose};
 
 use crate::prepare::Prepared;
@@ -16,7 +17,7 @@ use std::alloc::AllocError;
 use std::marker::Model;
 
 /// A ledger behind its last close: its header, its entries, and the files of its levels. Contracts see these, with the
-/// network that its transactions are signed for.
+/// network that its transactions are signed for, and what is there of the merge that is pending into each level.
 #[derive(Drop)]
 pub struct Ledger {
     pub(crate) network: Hash,
@@ -28,23 +29,25 @@ pub struct Ledger {
 }
 
 impl Model for Ledger {
-    ghost use Rattle.close_rules.specs.State.{ClosingState};
     ghost use Rattle.close_rules.specs.Images.{state_of};
-    ghost use Rattle.ledger_close.specs.States.{state_code, IsKept};
+    ghost use Rattle.ledger_close.specs.States.{LedgerAt, ledger_code, IsKept};
 
-    ghost Value = { ClosingState };
+    ghost Value = { LedgerAt };
 
-    ghost coded = { state_code };
+    ghost coded = { ledger_code };
 
-    ghost view = { λ l. state_of l.network l.header l.levels.pairs l.entries };
+    ghost view = { λ l. record {
+      state = state_of l.network l.header l.levels.pairs l.entries;
+      pending = l.levels.pending;
+    } };
 
-    ghost invariant = { λ l. IsKept l.network l.digest l.header l.entries l.levels };
+    ghost invariant = { λ l. IsKept l.network l.digest l.header l.entries l.levels.pairs l.levels.seq };
 }
 
 impl Ledger {
     /// The header of the last close.
     pub fn header(&self) -> &LedgerHeader
-        ensures header { result.now ≡ self.now.header }
+        ensures header { result.now ≡ self.now.state.header }
         ensures seq { result.now.ledger_seq ≤ last_seq }
     {
         &self.header
@@ -52,22 +55,23 @@ impl Ledger {
 
     /// The hash of that header, SHA-256 (FIPS 180-4) of its XDR.
     pub fn header_hash(&self) -> Hash
-        ensures { result ≡ ledger_hash_of self.now.header }
+        ensures { result ≡ ledger_hash_of self.now.state.header }
     {
         self.digest
     }
 
     /// The entry with a key.
     pub fn get(&self, key: &LedgerKey) -> Result<Option<LedgerEntry>, AllocError>
-        ensures { IfOk result (λ entry. entry ≡ get self.now.entries key.now) }
+        ensures { IfOk result (λ entry. entry ≡ get self.now.state.entries key.now) }
     {
         self.entries.find(key)
     }
 
     /// The ledger takes a close that was prepared from it, of a record of at most 16777216 bytes. It takes no memory.
     pub fn install(&mut self, prepared: Prepared)
-        requires { (bytes : List ℕ) × IsClose self.old bytes (Ok prepared) × (length bytes ≤ 16777216) }
-        ensures { self.new ≡ prepared.state }
+        requires { (bytes : List ℕ) × IsClose self.old.state bytes (Ok prepared) × (length bytes ≤ 16777216) }
+        ensures state { self.new.state ≡ prepared.state }
+        ensures pending { AreRenewed prepared.state.header.ledger_seq self.old.pending self.new.pending }
     {
         taken_is_closable();
         next_is_closing();
@@ -88,7 +92,7 @@ impl Ledger {
 }
 
 impl Base for Ledger {
-    ghost entries = { λ ledger. ledger.entries };
+    ghost entries = { λ ledger. ledger.state.entries };
 
     fn find(&self, key: &LedgerKey) -> Result<Option<LedgerEntry>, AllocError> {
         self.entries.find(key)

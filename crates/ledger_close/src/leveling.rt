@@ -25,11 +25,11 @@ impl Ledger {
         batch: &Batch,
         steps: &mut Steps<L>,
     ) -> Result<LevelStep, AllocError>
-        requires seq { self.now.header.ledger_seq < last_seq }
-        requires spellable { (after : EntryMap) × IsExactBatch self.now.entries after batch.now × AreSpellable after }
-        ensures levels { (after : EntryMap) → IsExactBatch self.now.entries after batch.now → IsKeyed after
-            → IfOk result (IsLeveled self.now version after) }
-        ensures steps { (after : EntryMap) → IsExactBatch self.now.entries after batch.now → IsKeyed after
+        requires seq { self.now.state.header.ledger_seq < last_seq }
+        requires spellable { (after : EntryMap) × IsExactBatch self.now.state.entries after batch.now × AreSpellable after }
+        ensures levels { (after : EntryMap) → IsExactBatch self.now.state.entries after batch.now → IsKeyed after
+            → IfOk result (IsLeveled self.now.state version after) }
+        ensures steps { (after : EntryMap) → IsExactBatch self.now.state.entries after batch.now → IsKeyed after
             → AreStepsTo self.now after steps.old steps.new }
     {
         let seq = self.header.ledger_seq + 1;

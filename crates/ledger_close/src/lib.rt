@@ -8,6 +8,7 @@ mod heading;
 mod image;
 mod ledger;
 mod leveling;
+mod merges;
 mod prepare;
 mod refusals;
 

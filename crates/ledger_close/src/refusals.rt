@@ -124,7 +124,7 @@ impl Ledger {
     /// What a record that isn't refused by its terms asks for, or what it is refused for by them.
     pub(crate) fn judge_terms(&self, closing: &CloseRecord) -> Result<Judged, CloseFault>
         requires { IsSpelled close_record closing.now }
-        ensures { answer.IsJudgedBy self.now closing.now result }
+        ensures { answer.IsJudgedBy self.now.state closing.now result }
     {
         let alloc = closing.tx_set.txs.allocator();
         let SetOrder { set_hash, places } = set_order(alloc, &closing.tx_set)?;

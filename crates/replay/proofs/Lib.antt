@@ -24,3 +24,4 @@ pub mod LineEnds
 pub mod Counting
 pub mod Acknowledging
 pub mod GoingOn
+pub mod Machining

@@ -9,3 +9,4 @@ pub mod Outcomes
 pub mod Completeness
 pub mod Initing
 pub mod StoredLaws
+pub mod Machine

@@ -12,6 +12,7 @@ use Rattle.close_rules.specs.State.{ClosingState}
 use Rattle.close_rules.specs.Images.{IsJudged}
 use Rattle.close_rules.specs.declared.image_fault.ImageFault.TheVariants as image_fault
 use Rattle.close_rules.specs.declared.image_fault.ImageRule.{ImageRule}
+use Rattle.ledger_close.specs.States.{LedgerAt}
 use Rattle.run_outcome.specs.declared.status.Status.{Status}
 use Rattle.run_outcome.specs.declared.status.Status.TheVariants as status
 use Rattle.run_outcome.specs.Statuses.{IsCatchUpEnd}
@@ -68,8 +69,8 @@ abbrev pub IsUnstarted : (passphrase : List ℕ) (input : Seen) (end : Status) �
 IsUnstarted passphrase input end = (out : Seen) → Received out [] → CaughtUp passphrase input out end
 
 -- what an image is judged to be, with the end of a run where it is none of a ledger
-abbrev pub IsJudgedSo : Hash → StartImage → Result ClosingState Status → Type 0
-IsJudgedSo network image (Ok s) = IsJudged network image (Ok s)
+abbrev pub IsJudgedSo : Hash → StartImage → Result LedgerAt Status → Type 0
+IsJudgedSo network image (Ok ledger) = IsJudged network image (Ok ledger.state)
 IsJudgedSo network image (Err (status.BadImage rule)) = IsJudged network image (Err (image_fault.BadImage rule))
 IsJudgedSo network image (Err end) = end ≡ status.NoMemory
 

@@ -6,6 +6,7 @@ use Rattle.run_streams.specs.Seen.{Seen}
 use Rattle.close_rules.specs.declared.image_fault.ImageFault.{ImageFault}
 use Rattle.close_rules.specs.declared.image_fault.ImageFault.TheVariants as image
 use Rattle.close_rules.specs.State.{ClosingState}
+use Rattle.ledger_close.specs.States.{LedgerAt}
 use Rattle.run_outcome.specs.declared.status.Status.{Status}
 use Rattle.run_outcome.specs.declared.status.Status.TheVariants as status
 use Rattle.outside.specs.Disk.{Image}
@@ -39,8 +40,8 @@ abbrev pub AreShort : List (List ℕ) → Type 0
 AreShort records = All (λ bytes. length bytes ≤ max_record) records
 
 -- what is kept comes to a ledger, or has a fault
-abbrev pub Restores : Kept → Result ClosingState Status → Type 0
-Restores k (Ok s) = ComesTo k s
+abbrev pub Restores : Kept → Result LedgerAt Status → Type 0
+Restores k (Ok ledger) = ComesTo k ledger.state
 Restores k (Err (status.BadStore file place)) = BreaksRule k file place ⊎ RefusesRecord k file place
 Restores k (Err status.NoMemory) = Unit {0}
 Restores k (Err other) = ⊥

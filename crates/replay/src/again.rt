@@ -35,7 +35,7 @@ fn close_one<L: Count>(
     steps: &mut Steps<L>,
 ) -> Result<(), OneFault>
     requires { length bytes.now ≤ 16777216 }
-    ensures { spec.ClosesOne ledger.old bytes.now ledger.new result }
+    ensures { spec.ClosesOne ledger.old.state bytes.now ledger.new.state result }
 {
     match ledger.prepare(bytes, steps) {
         Ok(prepared) => {
@@ -57,7 +57,7 @@ pub(crate) fn close_again<L: Count>(
 ) -> Result<(), AgainFault>
     requires short { AreShort closes.now }
     requires fits { length (blocks closes.now) < 2 ^ 64 }
-    ensures { spec.ClosesAgain ledger.old closes.now ledger.new result }
+    ensures { spec.ClosesAgain ledger.old.state closes.now ledger.new.state result }
 {
     let mut at: u64 = 0;
     let mut i = 0;

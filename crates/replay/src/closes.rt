@@ -45,17 +45,17 @@ fn tell_close<K: Keeper, V: Volume, O: Sink>(
     out: &mut O,
 ) -> Option<Status>
     requires works { K.works keeper.old }
-    requires ready { K.stores → V.tells → Ready (K.keeps keeper.old (V.disk vol.old) ledger.now) (V.disk vol.old)
-        ledger.now }
+    requires ready { K.stores → V.tells → Ready (K.keeps keeper.old (V.disk vol.old) ledger.now.state) (V.disk vol.old)
+        ledger.now.state }
     ensures told { Told text.now (seen O.taken O.faults out.old out.new)
         (DiskFailed K.stores (V.faults vol.old) (V.faults vol.new)) result }
     ensures later { O.faults out.old ≤ O.faults out.new }
     ensures vol_later { V.faults vol.old ≤ V.faults vol.new }
-    ensures kept { K.stores → V.tells → KeptTelling ledger.now text.now (seen O.taken O.faults out.old out.new)
+    ensures kept { K.stores → V.tells → KeptTelling ledger.now.state text.now (seen O.taken O.faults out.old out.new)
         (V.disk vol.old) (V.disk vol.new) result }
     ensures works { IsNone result → K.works keeper.new }
     ensures keeps { K.stores → V.tells → IsNone result
-        → Ready (K.keeps keeper.new (V.disk vol.new) ledger.now) (V.disk vol.new) ledger.now }
+        → Ready (K.keeps keeper.new (V.disk vol.new) ledger.now.state) (V.disk vol.new) ledger.now.state }
 {
     match write_all(out, text) {
         Ok(()) => {}
@@ -80,20 +80,20 @@ fn take_close<K: Keeper, V: Volume, O: Sink>(
     out: &mut O,
 ) -> Option<Status>
     requires short { length bytes.now ≤ 16777216 }
-    requires closes { IsClose ledger.old bytes.now (Ok prepared) }
+    requires closes { IsClose ledger.old.state bytes.now (Ok prepared) }
     requires works { K.works keeper.old }
-    requires ready { K.stores → V.tells → Ready (K.keeps keeper.old (V.disk vol.old) ledger.old) (V.disk vol.old)
-        ledger.old }
-    ensures closes { Closes ledger.old bytes.now ledger.new (seen O.taken O.faults out.old out.new)
+    requires ready { K.stores → V.tells → Ready (K.keeps keeper.old (V.disk vol.old) ledger.old.state) (V.disk vol.old)
+        ledger.old.state }
+    ensures closes { Closes ledger.old.state bytes.now ledger.new.state (seen O.taken O.faults out.old out.new)
         (DiskFailed K.stores (V.faults vol.old) (V.faults vol.new)) result }
     ensures later { O.faults out.old ≤ O.faults out.new }
     ensures vol_later { V.faults vol.old ≤ V.faults vol.new }
-    ensures kept { K.stores → V.tells → KeptClose ledger.old bytes.now ledger.new (seen O.taken O.faults out.old
+    ensures kept { K.stores → V.tells → KeptClose ledger.old.state bytes.now ledger.new.state (seen O.taken O.faults out.old
         out.new)
         (V.disk vol.old) (V.disk vol.new) result }
     ensures works { IsNone result → K.works keeper.new }
     ensures keeps { K.stores → V.tells → IsNone result
-        → Ready (K.keeps keeper.new (V.disk vol.new) ledger.new) (V.disk vol.new) ledger.new }
+        → Ready (K.keeps keeper.new (V.disk vol.new) ledger.new.state) (V.disk vol.new) ledger.new.state }
 {
     let pairs = prepared.results().results.as_slice();
     let Ok(text) = closed_text(alloc, prepared.header(), &prepared.header_hash(), pairs) else {
@@ -112,7 +112,7 @@ fn take_close<K: Keeper, V: Volume, O: Sink>(
 
 /// Ends a run with a record that is refused, or where memory was.
 fn refuse<O: Sink>(alloc: Global, ledger: &Ledger, fault: CloseFault, out: &mut O) -> Status
-    ensures refuses { Refuses ledger.now.header (seen O.taken O.faults out.old out.new) fault result }
+    ensures refuses { Refuses ledger.now.state.header (seen O.taken O.faults out.old out.new) fault result }
     ensures later { O.faults out.old ≤ O.faults out.new }
 {
     match fault {
@@ -133,17 +133,17 @@ fn close_record<K: Keeper, V: Volume, O: Sink, L: Count>(
 ) -> Option<Status>
     requires short { length text.now ≤ 16777216 }
     requires works { K.works keeper.old }
-    requires ready { K.stores → V.tells → Ready (K.keeps keeper.old (V.disk vol.old) ledger.old) (V.disk vol.old)
-        ledger.old }
-    ensures closes { Closes ledger.old text.now ledger.new (seen O.taken O.faults out.old out.new)
+    requires ready { K.stores → V.tells → Ready (K.keeps keeper.old (V.disk vol.old) ledger.old.state) (V.disk vol.old)
+        ledger.old.state }
+    ensures closes { Closes ledger.old.state text.now ledger.new.state (seen O.taken O.faults out.old out.new)
         (DiskFailed K.stores (V.faults vol.old) (V.faults vol.new)) result }
     ensures later { O.faults out.old ≤ O.faults out.new }
     ensures vol_later { V.faults vol.old ≤ V.faults vol.new }
-    ensures kept { K.stores → V.tells → KeptClose ledger.old text.now ledger.new (seen O.taken O.faults out.old out.new)
+    ensures kept { K.stores → V.tells → KeptClose ledger.old.state text.now ledger.new.state (seen O.taken O.faults out.old out.new)
         (V.disk vol.old) (V.disk vol.new) result }
     ensures works { IsNone result → K.works keeper.new }
     ensures keeps { K.stores → V.tells → IsNone result
-        → Ready (K.keeps keeper.new (V.disk vol.new) ledger.new) (V.disk vol.new) ledger.new }
+        → Ready (K.keeps keeper.new (V.disk vol.new) ledger.new.state) (V.disk vol.new) ledger.new.state }
 {
     match ledger.prepare(text, steps) {
         Ok(prepared) => take_close(alloc, ledger, keeper, vol, text, prepared, out),
@@ -164,19 +164,19 @@ fn pass_record<K: Keeper, V: Volume, O: Sink, L: Count>(
 ) -> Option<Status>
     requires ends { record_end ahead.old.items ≡ Ok end }
     requires works { K.works keeper.old }
-    requires ready { K.stores → V.tells → Ready (K.keeps keeper.old (V.disk vol.old) ledger.old) (V.disk vol.old)
-        ledger.old }
-    ensures passes { Passes ledger.old ahead.old.items end ledger.new (seen O.taken O.faults out.old out.new)
+    requires ready { K.stores → V.tells → Ready (K.keeps keeper.old (V.disk vol.old) ledger.old.state) (V.disk vol.old)
+        ledger.old.state }
+    ensures passes { Passes ledger.old.state ahead.old.items end ledger.new.state (seen O.taken O.faults out.old out.new)
         (DiskFailed K.stores (V.faults vol.old) (V.faults vol.new)) result }
     ensures fits { IsBytes ahead.old.items }
     ensures rest { IsNone result → ahead.new.items ≡ drop end ahead.old.items }
     ensures later { O.faults out.old ≤ O.faults out.new }
     ensures vol_later { V.faults vol.old ≤ V.faults vol.new }
-    ensures kept { K.stores → V.tells → KeptPass ledger.old ahead.old.items end ledger.new
+    ensures kept { K.stores → V.tells → KeptPass ledger.old.state ahead.old.items end ledger.new.state
         (seen O.taken O.faults out.old out.new) (V.disk vol.old) (V.disk vol.new) result }
     ensures works { IsNone result → K.works keeper.new }
     ensures keeps { K.stores → V.tells → IsNone result
-        → Ready (K.keeps keeper.new (V.disk vol.new) ledger.new) (V.disk vol.new) ledger.new }
+        → Ready (K.keeps keeper.new (V.disk vol.new) ledger.new.state) (V.disk vol.new) ledger.new.state }
 {
     let record = front_record(ahead.as_slice(), end);
     let Ok(rest) = without_front(alloc, ahead.as_slice(), end) else {
@@ -199,7 +199,7 @@ fn stop<O: Sink>(
     out: &mut O,
 ) -> Status
     requires { at ≤ 2 ^ 127 }
-    ensures ends { EndsAt ledger.now at ahead.now (seen O.taken O.faults out.old out.new) fault result }
+    ensures ends { EndsAt ledger.now.state at ahead.now (seen O.taken O.faults out.old out.new) fault result }
     ensures fits { IsBytes ahead.now }
 {
     match fault {
@@ -224,21 +224,21 @@ fn turn<K: Keeper, V: Volume, I: Source, O: Sink, L: Count>(
     out: &mut O,
     steps: &mut Steps<L>,
 ) -> Option<Status>
-    requires place { at.old ≤ (ledger.old.header.ledger_seq + 1) * 2 ^ 64 }
+    requires place { at.old ≤ (ledger.old.state.header.ledger_seq + 1) * 2 ^ 64 }
     requires works { K.works keeper.old }
-    requires ready { K.stores → V.tells → Ready (K.keeps keeper.old (V.disk vol.old) ledger.old) (V.disk vol.old)
-        ledger.old }
-    ensures turned { Turned (record { state = ledger.old; at = at.old; ahead = ahead.old.items })
-        (record { state = ledger.new; at = at.new; ahead = ahead.new.items })
+    requires ready { K.stores → V.tells → Ready (K.keeps keeper.old (V.disk vol.old) ledger.old.state) (V.disk vol.old)
+        ledger.old.state }
+    ensures turned { Turned (record { state = ledger.old.state; at = at.old; ahead = ahead.old.items })
+        (record { state = ledger.new.state; at = at.new; ahead = ahead.new.items })
         (seen I.left I.faults input.old input.new) (seen O.taken O.faults out.old out.new)
         (DiskFailed K.stores (V.faults vol.old) (V.faults vol.new)) result }
     ensures vol_later { V.faults vol.old ≤ V.faults vol.new }
-    ensures kept { K.stores → V.tells → KeptTurn ledger.old ledger.new at.old ahead.old.items
+    ensures kept { K.stores → V.tells → KeptTurn ledger.old.state ledger.new.state at.old ahead.old.items
         (seen I.left I.faults input.old input.new) (seen O.taken O.faults out.old out.new)
         (V.disk vol.old) (V.disk vol.new) result }
     ensures works { IsNone result → K.works keeper.new }
     ensures keeps { K.stores → V.tells → IsNone result
-        → Ready (K.keeps keeper.new (V.disk vol.new) ledger.new) (V.disk vol.new) ledger.new }
+        → Ready (K.keeps keeper.new (V.disk vol.new) ledger.new.state) (V.disk vol.new) ledger.new.state }
 {
     let is_low = ledger.header().ledger_seq <= LAST_SEQ;
     prove!(is_low);
@@ -266,12 +266,12 @@ pub(crate) fn follow<K: Keeper, V: Volume, I: Source, O: Sink, L: Count>(
 ) -> Status
     requires place { start ≤ 2 ^ 64 }
     requires works { K.works keeper.old }
-    requires ready { K.stores → V.tells → Ready (K.keeps keeper.old (V.disk vol.old) ledger.old) (V.disk vol.old)
-        ledger.old }
-    ensures followed { Followed ledger.old start ahead.old.items (seen I.left I.faults input.old input.new)
+    requires ready { K.stores → V.tells → Ready (K.keeps keeper.old (V.disk vol.old) ledger.old.state) (V.disk vol.old)
+        ledger.old.state }
+    ensures followed { Followed ledger.old.state start ahead.old.items (seen I.left I.faults input.old input.new)
         (seen O.taken O.faults out.old out.new) (DiskFailed K.stores (V.faults vol.old) (V.faults vol.new)) result }
     ensures vol_later { V.faults vol.old ≤ V.faults vol.new }
-    ensures kept { K.stores → V.tells → KeptOn ledger.old start ahead.old.items
+    ensures kept { K.stores → V.tells → KeptOn ledger.old.state start ahead.old.items
         (seen I.left I.faults input.old input.new)
         (seen O.taken O.faults out.old out.new) (V.disk vol.old) (V.disk vol.new) result }
 {

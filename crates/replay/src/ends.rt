@@ -28,7 +28,7 @@ fn write_last<O: Sink>(text: &[u8], whole: Status, out: &mut O) -> Status
 
 /// Writes the line at the end of the input.
 pub(crate) fn write_end<O: Sink>(alloc: Global, ledger: &Ledger, out: &mut O) -> Status
-    ensures { Wrote (seen O.taken O.faults out.old out.new) (end_line ledger.now.header) status.Done result }
+    ensures { Wrote (seen O.taken O.faults out.old out.new) (end_line ledger.now.state.header) status.Done result }
 {
     match end_text(alloc, ledger.header(), &ledger.header_hash()) {
         Ok(text) => write_last(text.as_slice(), Status::Done, out),
@@ -43,7 +43,7 @@ pub(crate) fn write_refusal<O: Sink>(
     fault: CloseFault,
     out: &mut O,
 ) -> Status
-    ensures wrote { Wrote (seen O.taken O.faults out.old out.new) (refused_line ledger.now.header fault)
+    ensures wrote { Wrote (seen O.taken O.faults out.old out.new) (refused_line ledger.now.state.header fault)
         status.Refused result }
     ensures later { O.faults out.old ≤ O.faults out.new }
 {

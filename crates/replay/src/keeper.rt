@@ -71,11 +71,11 @@ pub(crate) trait Keeper {
     ) -> Result<(), KeepFault>
         requires works { works self.old }
         requires ready { stores → V.tells
-            → spec.Ready (keeps self.old (V.disk vol.old) ledger.now) (V.disk vol.old) ledger.now }
+            → spec.Ready (keeps self.old (V.disk vol.old) ledger.now.state) (V.disk vol.old) ledger.now.state }
         ensures kept { stores → V.tells → spec.UnlessDisk result (spec.Ready (keeps self.new (V.disk vol.new)
-            ledger.now) (V.disk vol.new) ledger.now) }
+            ledger.now.state) (V.disk vol.new) ledger.now.state) }
         ensures runs { stores → V.tells
-            → Runs (spec.OpensEither ledger.now ledger.now) (V.disk vol.old) (V.disk vol.new) }
+            → Runs (spec.OpensEither ledger.now.state ledger.now.state) (V.disk vol.old) (V.disk vol.new) }
         ensures works { OnOk result (works self.new) }
         ensures later { V.faults vol.old ≤ V.faults vol.new }
         ensures cause { spec.IsCaused stores (V.faults vol.old) (V.faults vol.new) result };

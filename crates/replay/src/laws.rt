@@ -2,6 +2,7 @@
 
 ghost use Rattle.replay.specs.Outcomes as outcome;
 ghost use Rattle.replay.specs.Completeness as whole;
+ghost use Rattle.replay.specs.Machine as machine;
 ghost use Rattle.replay.specs.StoredLaws as stored;
 ghost use Rattle.run_streams.specs.SeenVolume.{seen_volume};
 
@@ -90,4 +91,17 @@ pub fn acknowledged_are_counted()
 pub fn reopened_volumes_are_sound<V: Volume>(old: &V, new: &V, again: &V)
     ensures now { stored.IsSoundAgain (V.disk old.now) (V.disk again.now) }
     ensures moments { stored.IsSoundInRun (seen_volume V.tells V.disk V.faults old.now new.now) (V.disk again.now) }
+{}
+
+// ---- with merges beside it
+
+/// Whatever merges are handed in, and wherever it crashes, the ledger is what its records come to with no merge but their
+/// own; at least as many are closed as are acknowledged, and a crash leaves these, or with them the record in hand.
+pub fn machines_keep_up()
+    ensures { machine.MachinesKeepUp }
+{}
+
+/// A record that is closed stays so, whatever happens.
+pub fn logs_grow()
+    ensures { machine.LogsGrow }
 {}

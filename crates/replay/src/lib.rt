@@ -1,4 +1,4 @@
-//! The program: its command over sources and sinks of bytes.
+//! The program: its commands over sources and sinks of bytes and a volume.
 #![tactic(auto)]
 
 mod again;

@@ -1,4 +1,4 @@
-//! The top call: one command over the words, the input and the outputs of the process.
+//! The top call: one command over the words, the input, the outputs and the volume of the process.
 
 ghost use Rattle.std.specs.Prelude.{◌≡◌, None, Some, MatchOption};
 ghost use Rattle.run_streams.specs.Seen.{seen};

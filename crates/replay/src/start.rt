@@ -88,7 +88,7 @@ pub(crate) fn start<I: Source>(
 ) -> Result<Started, Status>
     requires { ahead.old.items ≡ [] }
     ensures { MatchResult result
-        (λ started. StartsAt passphrase.now started.ledger started.at ahead.new.items
+        (λ started. StartsAt passphrase.now started.ledger.state started.at ahead.new.items
         (seen I.left I.faults input.old input.new))
         (λ end. IsUnstarted passphrase.now (seen I.left I.faults input.old input.new) end) }
 {

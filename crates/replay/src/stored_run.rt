@@ -93,8 +93,8 @@ fn open<V: Volume, L: Count>(
     steps: &mut Steps<L>,
 ) -> Result<Opened, Status>
     ensures works { IfOk result (λ o. o.keeper.store.failed ≡ false) }
-    ensures opens { V.tells → spec.OpensSo (λ o. Ready (IsStored o.keeper.store (V.disk vol.new) o.ledger)
-        (V.disk vol.new) o.ledger) (V.disk vol.old).reads (V.disk vol.new).reads result }
+    ensures opens { V.tells → spec.OpensSo (λ o. Ready (IsStored o.keeper.store (V.disk vol.new) o.ledger.state)
+        (V.disk vol.new) o.ledger.state) (V.disk vol.old).reads (V.disk vol.new).reads result }
     ensures runs { Runs Same (V.disk vol.old) (V.disk vol.new) }
     ensures later { V.faults vol.old ≤ V.faults vol.new }
     ensures cause { IfErr result (λ end. spec.IsUnbegun (Rose (V.faults vol.old) (V.faults vol.new)) end) }

@@ -120,7 +120,7 @@ IsOpenedEnd status.ReadFault = Unit {0}
 IsOpenedEnd (status.BadInput at) = Unit {0}
 IsOpenedEnd other = ⊥
 
--- its ends on such a volume alone
+-- its ends on a volume that doesn't open alone
 abbrev pub IsUnopenedEnd : Status → Type 0
 IsUnopenedEnd status.Missing = Unit {0}
 IsUnopenedEnd (status.BadStore file place) = Unit {0}

@@ -6,7 +6,7 @@ use Rattle.replay.proofs.again.close_again.Given as goal
 abbrev pub invariant-loop-i : goal.invariant-loop-i
 invariant-loop-i g l = record {
   le : l.i ≤ length l.closes;
-  closed : AreClosedTo l.initial.ledger (take l.i l.closes) l.ledger;
+  closed : AreClosedTo l.initial.ledger.state (take l.i l.closes) l.ledger.state;
   at : l.at ≡ length (blocks (take l.i l.closes));
 }
 

@@ -9,7 +9,7 @@ returns-in_default-clause-kept g c st te = record {
   bytes = c.front_record-record.result.now;
   framed_is = c.front_record-record.ensures.framed ∙ ap (take c.args.end) c.as_slice.ensures.value;
   short = c.front_record-record.ensures.short;
-  kept = inl (unkept_nothing c.args.ledger.now c.front_record-record.result.now
+  kept = inl (unkept_nothing c.args.ledger.now.state c.front_record-record.result.now
       (seen g.O.Sink.taken g.O.Sink.faults c.args.out.now c.args.out.now) (g.V.Volume.disk c.args.vol.now)
       (Appends-nil (g.O.Sink.taken c.args.out.now)));
 }

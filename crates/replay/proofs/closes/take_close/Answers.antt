@@ -13,10 +13,10 @@ use Rattle.replay.proofs.closes.take_close.Goals as goal
 
 pub keep-requires-clause-ready : goal.keep-requires-clause-ready
 keep-requires-clause-ready g c st te = (
-  c.args.ledger.now,
+  c.args.ledger.now.state,
   c.args.prepared,
   c.requires.ready st te,
-  subst (λ (b : List ℕ). IsClose c.args.ledger.now b (Ok c.args.prepared)) (sym (c.in-Ok-hold.ensures st))
+  subst (λ (b : List ℕ). IsClose c.args.ledger.now.state b (Ok c.args.prepared)) (sym (c.in-Ok-hold.ensures st))
       c.requires.closes,
 )
 
@@ -30,8 +30,8 @@ returns-clause-closes g c =
     let text : c.as_slice.result.now ≡ lines_of closed = search rules in
     let late : Type 0 = DiskFailed g.K.Keeper.stores mid after in
     let any : Type 0 = DiskFailed g.K.Keeper.stores before after in
-    closed_told c.args.ledger.now c.args.bytes.now closed c.install.new.self out late any c.tell_close.result
-    c.requires.closes c.install.ensures
+    closed_told c.args.ledger.now.state c.args.bytes.now closed c.install.new.self.state out late any c.tell_close.result
+    c.requires.closes c.install.ensures.state
     (λ failed. (failed.0, rose_before before mid after c.keep.ensures.cause.later failed.1))
     (subst (λ (t : List ℕ). Told t out late c.tell_close.result) text c.tell_close.ensures.told)
 
@@ -47,7 +47,7 @@ returns-in-Err-clause-closes g c =
 
 pub returns-in-Err-clause-kept : goal.returns-in-Err-clause-kept
 returns-in-Err-clause-kept g c st te =
-    let s : ClosingState = c.args.ledger.now in
+    let s : ClosingState = c.args.ledger.now.state in
     let closed : PreparedClose = c.args.prepared in
     let r = c.requires.ready st te in
     let closes = subst (λ (b : List ℕ). IsClose s b (Ok closed)) (sym (c.in-Ok-hold.ensures st)) c.requires.closes in
@@ -59,7 +59,7 @@ returns-in-Err-clause-kept g c st te =
 
 pub returns-clause-kept : goal.returns-clause-kept
 returns-clause-kept g c st te =
-    let s : ClosingState = c.args.ledger.now in
+    let s : ClosingState = c.args.ledger.now.state in
     let closed : PreparedClose = c.args.prepared in
     let r = c.requires.ready st te in
     let closes = subst (λ (b : List ℕ). IsClose s b (Ok closed)) (sym (c.in-Ok-hold.ensures st)) c.requires.closes in
@@ -70,7 +70,7 @@ returns-clause-kept g c st te =
     let k = c.in-Ok-keep.ensures.kept st te s closed r closes in
     let text : c.as_slice.result.now ≡ lines_of closed = search rules in
     let first = subst (λ (x : ClosingState). KeptTelling x c.as_slice.result.now out mid new c.tell_close.result)
-    c.install.ensures (c.tell_close.ensures.kept st te) in
+    c.install.ensures.state (c.tell_close.ensures.kept st te) in
     let second = subst (λ (t : List ℕ). KeptTelling closed.state t out mid new c.tell_close.result) text first in
-    kept_told s c.args.bytes.now closed c.install.new.self out old mid new c.tell_close.result c.requires.closes
-    c.install.ensures k.safe k.opens (c.keep.ensures.runs st te s closed r closes) second
+    kept_told s c.args.bytes.now closed c.install.new.self.state out old mid new c.tell_close.result c.requires.closes
+    c.install.ensures.state k.safe k.opens (c.keep.ensures.runs st te s closed r closes) second

@@ -7,7 +7,7 @@ use Rattle.replay.proofs.init.check_image.Goals as goal
 pub returns-in-Ok-judge : goal.returns-in-Ok-judge
 returns-in-Ok-judge c =
     let s = c.in-Ok-judge._ledger in (
-      s,
+      s.state,
       subst (λ (i : StartImage). IsJudgedSo (network_id_of c.args.passphrase.now) i (Ok s)) c.in-Ok.ensures
           c.in-Ok-judge.ensures,
     )

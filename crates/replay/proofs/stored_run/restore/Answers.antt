@@ -4,14 +4,14 @@ use Rattle.replay.proofs.stored_run.restore.Goals as goal
 pub returns-in-Ok-close_again : goal.returns-in-Ok-close_again
 returns-in-Ok-close_again g c =
     let closed = c.in-Ok-close_again.ensures in
-    record { start = c.in-Ok.ledger; judged = c.in-Ok.ensures; lines = closed.0; closed = closed.1 }
+    record { start = c.in-Ok.ledger.state; judged = c.in-Ok.ensures.judges; lines = closed.0; closed = closed.1 }
 
 pub returns : goal.returns
 returns g c =
     let refused = rw c.in-Err-Refused.field-0-is at c.in-Err-Refused.ensures in
     inr (record {
-      start = c.in-Ok.ledger;
-      judged = c.in-Ok.ensures;
+      start = c.in-Ok.ledger.state;
+      judged = c.in-Ok.ensures.judges;
       front = refused.front;
       bytes = refused.bytes;
       others = refused.others;

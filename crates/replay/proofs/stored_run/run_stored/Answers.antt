@@ -14,15 +14,15 @@ returns-in-Ok-clause-ran g c te =
     c.follow.new.vol in
     let mid : Disk = g.V.Volume.disk c.open.new.vol in
     let opens = c.in-Ok.ensures.opens te in
-    let kept : Type 0 = IsStored c.in-Ok.field-0.keeper.store mid c.in-Ok.field-0.ledger in
-    ran_on c.in-Ok.field-0.ledger c.new-ahead.result.items input out vol mid _ kept c.follow.result
+    let kept : Type 0 = IsStored c.in-Ok.field-0.keeper.store mid c.in-Ok.field-0.ledger.state in
+    ran_on c.in-Ok.field-0.ledger.state c.new-ahead.result.items input out vol mid _ kept c.follow.result
     (λ x left. g.met.V.Volume.only_now c.args.vol.now x left) (g.met.V.Volume.reads_now c.follow.new.vol te)
     c.open.ensures.runs opens.0 opens.1 c.new-ahead.ensures.items c.follow.ensures.followed
     (c.follow.ensures.kept tt te)
 
 pub returns-in-Ok-clause-printed : goal.returns-in-Ok-clause-printed
 returns-in-Ok-clause-printed g c =
-    printed c.in-Ok.field-0.ledger c.new-ahead.result.items
+    printed c.in-Ok.field-0.ledger.state c.new-ahead.result.items
     (seen g.I.Source.left g.I.Source.faults c.args.input.now c.follow.new.input)
     (seen g.O.Sink.taken g.O.Sink.faults c.args.out.now c.follow.new.out)
     (seen_volume g.V.Volume.tells g.V.Volume.disk g.V.Volume.faults c.args.vol.now c.follow.new.vol) _ c.follow.result

@@ -1,19 +1,20 @@
 use Rattle.std.proofs.Common.{◌+◌, List, map, sym, subst}
-use Rattle.bucket_levels.specs.Pairs.{Pair}
+use Rattle.bucket_levels.specs.Pairs.{Pair, empty_pair}
+use Rattle.bucket_levels.specs.Step.{IsPairAfter}
 use Rattle.bucket_levels.specs.Levels.{pair_of}
 use Rattle.bucket_levels.specs.Planned.{ArePlanned}
-use Rattle.bucket_levels.proofs.Planning.{one_more_planned, pushed, work_follows, work_stays_within}
+use Rattle.bucket_levels.proofs.Planning.{one_more_level, pushed, work_follows, work_stays_within}
 use Rattle.bucket_levels.proofs.levels.Levels.plan_batch.Goals as goal
 
 pub returns-in_err-pair_after-clause-most : goal.returns-in_err-pair_after-clause-most
 returns-in_err-pair_after-clause-most g c =
-    work_stays_within c.args.seq c.args.fresh.value c.args.self.now.pairs c.loop-level.level c.args.steps.now
+    work_stays_within c.args.seq c.args.fresh.value c.args.self.now c.loop-level.level c.args.steps.now
     c.loop-level.steps c.pair_after.new.steps c.loop-level-test.true c.loop-level.invariant.most
     c.pair_after.ensures.most
 
 pub returns-in_err-push-clause-most : goal.returns-in_err-push-clause-most
 returns-in_err-push-clause-most g c =
-    work_stays_within c.args.seq c.args.fresh.value c.args.self.now.pairs c.loop-level.level c.args.steps.now
+    work_stays_within c.args.seq c.args.fresh.value c.args.self.now c.loop-level.level c.args.steps.now
     c.loop-level.steps c.pair_after.new.steps c.loop-level-test.true c.loop-level.invariant.most
     c.pair_after.ensures.most
 
@@ -26,8 +27,8 @@ loop-level-preserved g c =
     let items = pushed c.loop-level.pairs.items c.push.new.self.items pair c.in_ok-push.ensures.items in
     record {
       planned = subst (λ (pairs : List Pair). ArePlanned seq c.args.fresh.value old (level + 1) pairs) (sym items)
-          (one_more_planned seq c.args.fresh.value old level (map pair_of c.loop-level.pairs.items) (pair_of pair)
-          c.loop-level.invariant.planned c.in_ok-pair_after.ensures.pair);
-      most = work_follows seq c.args.fresh.value old level c.args.steps.now c.loop-level.steps
+          (one_more_level empty_pair (IsPairAfter seq c.args.fresh.value old) level (map pair_of c.loop-level.pairs.items)
+          (pair_of pair) c.loop-level.invariant.planned c.in_ok-pair_after.ensures.pair);
+      most = work_follows seq c.args.fresh.value c.args.self.now level c.args.steps.now c.loop-level.steps
           c.pair_after.new.steps c.loop-level.invariant.most c.pair_after.ensures.most;
     }

@@ -7,6 +7,7 @@ use Rattle.close_rules.specs.Images.{state_of}
 use Rattle.ledger_close.specs.Answers.{FaultIs}
 use Rattle.ledger_close.specs.declared.apply.Worked.{Worked}
 use Rattle.ledger_close.specs.Worked.{Leaves}
+use Rattle.ledger_close.specs.States.{LedgerAt}
 use Rattle.ledger_close.proofs.Works.{refused_set, applied_set, applied_done, applied_keyed}
 use Rattle.ledger_close.proofs.Works.{applied_batch, applied_index}
 use Rattle.ledger_close.proofs.ledger.Ledger.apply.Goals as goal
@@ -22,8 +23,8 @@ returns-in-Err c =
     c.in_ok-entries.ensures c.in-Err.ensures.answer in
     let told = subst (λ f. FaultIs f (λ g. set_fault s c.args.closing.now ≡ Rattle.std.proofs.Common.Some g))
     (sym c.fault_of.ensures) here in
-    subst (λ (x : ClosingState). FaultIs c.fault_of.result
-    (λ g. set_fault x c.args.closing.now ≡ Rattle.std.proofs.Common.Some g)) c.self.view_is told
+    subst (λ (x : LedgerAt). FaultIs c.fault_of.result
+    (λ g. set_fault x.state c.args.closing.now ≡ Rattle.std.proofs.Common.Some g)) c.self.view_is told
 
 pub next-requires : goal.next-requires
 next-requires c =
@@ -51,7 +52,7 @@ returns c =
     let batch = applied_batch s closing old new c.in-Ok.done c.in_ok-batch.batch begun answer c.in_ok-batch.ensures in
     let next = c.in_ok-next.ensures.next (applied_in s closing).entries keyed batch in
     let worked : Worked = record { done = c.in-Ok.done; entries = c.in_ok-next.next; batch = c.next.new.batch } in
-    subst (λ (x : ClosingState). (set_fault x closing ≡ None) × Leaves x closing worked) c.self.view_is (
+    subst (λ (x : LedgerAt). (set_fault x.state closing ≡ None) × Leaves x.state closing worked) c.self.view_is (
       applied_set s closing old new c.in-Ok.done begun answer,
       record {
         done = applied_done s closing old new c.in-Ok.done begun answer;

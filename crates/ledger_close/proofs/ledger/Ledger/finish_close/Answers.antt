@@ -3,6 +3,7 @@ use Rattle.entry_changes.specs.Next.{IsExactBatch}
 use Rattle.ledger_close.specs.declared.apply.Worked.{Worked}
 use Rattle.ledger_close.specs.Counted.{AreStepsTo, AreStepsWith}
 use Rattle.ledger_close.specs.Worked.{Leaves}
+use Rattle.ledger_close.specs.States.{LedgerAt}
 use Rattle.ledger_close.proofs.Counting.{steps_with}
 use Rattle.ledger_types.specs.declared.ids.Hash.{Hash}
 use Rattle.ledger_types.specs.declared.header.LedgerHeader.{LedgerHeader}
@@ -27,23 +28,23 @@ keyed_behind law s closing after can closed =
     keyed_by after (law s closing after s.header.bucket_list_hash can closed).keyed
 
 -- the steps of a close are those of its levels
-counted : NextIsLegal → (s : ClosingState) (closing : CloseRecord) (worked : Worked) (old new : ℕ)
-    → IsClosable s closing → Leaves s closing worked
-    → ((after : EntryMap) → IsExactBatch s.entries after worked.batch → IsKeyed after → AreStepsTo s after old new)
-    → AreStepsWith s closing old new
-counted law s closing worked old new can left few =
-    steps_with s closing worked.entries old new can.unrefused left.entries
-    (few worked.entries left.batch (keyed_behind law s closing worked.entries can left.entries))
+counted : NextIsLegal → (l : LedgerAt) (closing : CloseRecord) (worked : Worked) (old new : ℕ)
+    → IsClosable l.state closing → Leaves l.state closing worked
+    → ((after : EntryMap) → IsExactBatch l.state.entries after worked.batch → IsKeyed after → AreStepsTo l after old new)
+    → AreStepsWith l closing old new
+counted law l closing worked old new can left few =
+    steps_with l closing worked.entries old new can.unrefused left.entries
+    (few worked.entries left.batch (keyed_behind law l.state closing worked.entries can left.entries))
 
 pub level-requires-clause-seq : goal.level-requires-clause-seq
 level-requires-clause-seq g c =
-    let state = subst IsClosingState c.self.view_is c.self.invariant.state in
-    seq_below c.args.self.now c.args.closing c.requires.unrefused state.legal.header.seq_high
+    let state = subst (λ (l : LedgerAt). IsClosingState l.state) c.self.view_is c.self.invariant.state in
+    seq_below c.args.self.now.state c.args.closing c.requires.unrefused state.legal.header.seq_high
 
 pub level-requires-clause-spellable : goal.level-requires-clause-spellable
 level-requires-clause-spellable g c =
-    let state = subst IsClosingState c.self.view_is c.self.invariant.state in
-    let can : IsClosable c.args.self.now c.args.closing =
+    let state = subst (λ (l : LedgerAt). IsClosingState l.state) c.self.view_is c.self.invariant.state in
+    let can : IsClosable c.args.self.now.state c.args.closing =
     record {
       state = state;
       spelled = c.requires.spelled;
@@ -52,29 +53,29 @@ level-requires-clause-spellable g c =
     } in (
       c.args.worked.entries,
       c.requires.worked.batch,
-      c.entries_stay_spellable.ensures c.args.self.now c.args.closing c.args.worked.entries can
+      c.entries_stay_spellable.ensures c.args.self.now.state c.args.closing c.args.worked.entries can
           c.requires.worked.entries,
     )
 
 pub file_total-bytes-requires : goal.file_total-bytes-requires
 file_total-bytes-requires g c =
-    let state = subst IsClosingState c.self.view_is c.self.invariant.state in
-    let can : IsClosable c.args.self.now c.args.closing =
+    let state = subst (λ (l : LedgerAt). IsClosingState l.state) c.self.view_is c.self.invariant.state in
+    let can : IsClosable c.args.self.now.state c.args.closing =
     record {
       state = state;
       spelled = c.requires.spelled;
       unrefused = c.requires.unrefused;
       few = c.requires.few;
     } in
-    let keyed = keyed_behind c.next_is_legal.ensures c.args.self.now c.args.closing c.args.worked.entries can
+    let keyed = keyed_behind c.next_is_legal.ensures c.args.self.now.state c.args.closing c.args.worked.entries can
     c.requires.worked.entries in
     let leveled = c.in_ok-step.ensures.levels c.args.worked.entries c.requires.worked.batch keyed in
     omega (arith, leveled.levels.count)
 
 pub returns-then-bytes-gt-MAX_FILE_TOTAL-clause-finished : goal.returns-then-bytes-gt-MAX_FILE_TOTAL-clause-finished
 returns-then-bytes-gt-MAX_FILE_TOTAL-clause-finished g c =
-    let s = c.args.self.now in
-    let state = subst IsClosingState c.self.view_is c.self.invariant.state in
+    let s = c.args.self.now.state in
+    let state = subst (λ (l : LedgerAt). IsClosingState l.state) c.self.view_is c.self.invariant.state in
     let can : IsClosable s c.args.closing =
     record {
       state = state;
@@ -96,29 +97,29 @@ returns-then-bytes-gt-MAX_FILE_TOTAL-clause-finished g c =
 
 pub head-requires-clause-seq : goal.head-requires-clause-seq
 head-requires-clause-seq g c =
-    let state = subst IsClosingState c.self.view_is c.self.invariant.state in
-    seq_below c.args.self.now c.args.closing c.requires.unrefused state.legal.header.seq_high
+    let state = subst (λ (l : LedgerAt). IsClosingState l.state) c.self.view_is c.self.invariant.state in
+    seq_below c.args.self.now.state c.args.closing c.requires.unrefused state.legal.header.seq_high
 
 pub head-requires-clause-results : goal.head-requires-clause-results
 head-requires-clause-results g c =
-    let state = subst IsClosingState c.self.view_is c.self.invariant.state in
-    results_spelled c.results_are_spelled.ensures c.args.self.now c.args.closing c.args.worked.done.results
+    let state = subst (λ (l : LedgerAt). IsClosingState l.state) c.self.view_is c.self.invariant.state in
+    results_spelled c.results_are_spelled.ensures c.args.self.now.state c.args.closing c.args.worked.done.results
     (record { state = state; spelled = c.requires.spelled; unrefused = c.requires.unrefused; few = c.requires.few })
     c.requires.worked.done.results
 
 pub ledger_hash-requires : goal.ledger_hash-requires
 ledger_hash-requires g c =
-    let state = subst IsClosingState c.self.view_is c.self.invariant.state in
-    header_spelled c.next_header_is_spelled.ensures c.args.self.now c.args.closing c.in_ok-step.step
+    let state = subst (λ (l : LedgerAt). IsClosingState l.state) c.self.view_is c.self.invariant.state in
+    header_spelled c.next_header_is_spelled.ensures c.args.self.now.state c.args.closing c.in_ok-step.step
     c.in_ok-header.header
     (record { state = state; spelled = c.requires.spelled; unrefused = c.requires.unrefused; few = c.requires.few })
     (c.in_ok-header.ensures c.args.closing refl c.requires.next c.requires.worked.done)
 
 pub invariant_of-result : goal.invariant_of-result
 invariant_of-result g c =
-    let s = c.args.self.now in
+    let s = c.args.self.now.state in
     let closing = c.args.closing in
-    let state = subst IsClosingState c.self.view_is c.self.invariant.state in
+    let state = subst (λ (l : LedgerAt). IsClosingState l.state) c.self.view_is c.self.invariant.state in
     let can : IsClosable s closing =
     record {
       state = state;
@@ -137,11 +138,11 @@ invariant_of-result g c =
 
 pub returns-clause-finished : goal.returns-clause-finished
 returns-clause-finished g c =
-    let s = c.args.self.now in
+    let s = c.args.self.now.state in
     let closing = c.args.closing in
     let worked = c.args.worked in
     let step = c.in_ok-step.step in
-    let state = subst IsClosingState c.self.view_is c.self.invariant.state in
+    let state = subst (λ (l : LedgerAt). IsClosingState l.state) c.self.view_is c.self.invariant.state in
     let can : IsClosable s closing =
     record {
       state = state;
@@ -160,14 +161,14 @@ returns-clause-finished g c =
       subst (λ (n : Hash).
           IsClosed s closing (closed_with worked.done.results.results n c.in_ok-header.header worked.entries
           step.pairs))
-          (sym (ap (λ (x : ClosingState). x.network) c.self.view_is)) headed,
+          (sym (ap (λ (x : LedgerAt). x.state.network) c.self.view_is)) headed,
       omega (arith, c.file_total-bytes.ensures, c.if-bytes-gt-MAX_FILE_TOTAL.false),
     )
 
 pub returns-in_err-step-clause-steps : goal.returns-in_err-step-clause-steps
 returns-in_err-step-clause-steps g c =
     counted c.next_is_legal.ensures c.args.self.now c.args.closing c.args.worked _ _ (record {
-      state = subst IsClosingState c.self.view_is c.self.invariant.state;
+      state = subst (λ (l : LedgerAt). IsClosingState l.state) c.self.view_is c.self.invariant.state;
       spelled = c.requires.spelled;
       unrefused = c.requires.unrefused;
       few = c.requires.few;
@@ -176,7 +177,7 @@ returns-in_err-step-clause-steps g c =
 pub returns-then-bytes-gt-MAX_FILE_TOTAL-clause-steps : goal.returns-then-bytes-gt-MAX_FILE_TOTAL-clause-steps
 returns-then-bytes-gt-MAX_FILE_TOTAL-clause-steps g c =
     counted c.next_is_legal.ensures c.args.self.now c.args.closing c.args.worked _ _ (record {
-      state = subst IsClosingState c.self.view_is c.self.invariant.state;
+      state = subst (λ (l : LedgerAt). IsClosingState l.state) c.self.view_is c.self.invariant.state;
       spelled = c.requires.spelled;
       unrefused = c.requires.unrefused;
       few = c.requires.few;
@@ -185,7 +186,7 @@ returns-then-bytes-gt-MAX_FILE_TOTAL-clause-steps g c =
 pub returns-in_err-header-clause-steps : goal.returns-in_err-header-clause-steps
 returns-in_err-header-clause-steps g c =
     counted c.next_is_legal.ensures c.args.self.now c.args.closing c.args.worked _ _ (record {
-      state = subst IsClosingState c.self.view_is c.self.invariant.state;
+      state = subst (λ (l : LedgerAt). IsClosingState l.state) c.self.view_is c.self.invariant.state;
       spelled = c.requires.spelled;
       unrefused = c.requires.unrefused;
       few = c.requires.few;
@@ -194,7 +195,7 @@ returns-in_err-header-clause-steps g c =
 pub returns-in_err-digest-clause-steps : goal.returns-in_err-digest-clause-steps
 returns-in_err-digest-clause-steps g c =
     counted c.next_is_legal.ensures c.args.self.now c.args.closing c.args.worked _ _ (record {
-      state = subst IsClosingState c.self.view_is c.self.invariant.state;
+      state = subst (λ (l : LedgerAt). IsClosingState l.state) c.self.view_is c.self.invariant.state;
       spelled = c.requires.spelled;
       unrefused = c.requires.unrefused;
       few = c.requires.few;
@@ -203,7 +204,7 @@ returns-in_err-digest-clause-steps g c =
 pub returns-clause-steps : goal.returns-clause-steps
 returns-clause-steps g c =
     counted c.next_is_legal.ensures c.args.self.now c.args.closing c.args.worked _ _ (record {
-      state = subst IsClosingState c.self.view_is c.self.invariant.state;
+      state = subst (λ (l : LedgerAt). IsClosingState l.state) c.self.view_is c.self.invariant.state;
       spelled = c.requires.spelled;
       unrefused = c.requires.unrefused;
       few = c.requires.few;

@@ -5,8 +5,8 @@ use Rattle.ledger_close.specs.Judging.{DoFilesFit, Stands, AreJudged}
 use Rattle.ledger_close.proofs.Judged.{by_entries, has_levels, is_kept, whole_judged}
 use Rattle.ledger_close.proofs.ledger.Ledger.from_image.Goals as goal
 
-pub returns-in-Err-judge_entries : goal.returns-in-Err-judge_entries
-returns-in-Err-judge_entries c =
+pub returns-in-Err-judge_entries-clause-judges : goal.returns-in-Err-judge_entries-clause-judges
+returns-in-Err-judge_entries-clause-judges c =
     let levels : c.in_ok-levels.levels.pairs ≡ map pair_of c.in-Ok-judge_files.pairs.items = search rules in
     let slice : c.as_slice.result.now ≡ c.in-Ok-judge_files.pairs.items = search rules in
     let files : DoFilesFit c.args.image.files (map pair_of c.in-Ok-judge_files.pairs.items) =
@@ -41,8 +41,8 @@ invariant_of-result c =
       judged = c.in-Ok-judge_entries.ensures;
     }) c.in_ok-digest.ensures number
 
-pub returns : goal.returns
-returns c =
+pub returns-clause-judges : goal.returns-clause-judges
+returns-clause-judges c =
     let levels : c.in_ok-levels.levels.pairs ≡ map pair_of c.in-Ok-judge_files.pairs.items = search rules in
     let slice : c.as_slice.result.now ≡ c.in-Ok-judge_files.pairs.items = search rules in
     let files : DoFilesFit c.args.image.files (map pair_of c.in-Ok-judge_files.pairs.items) =

@@ -5,12 +5,13 @@ use Rattle.header_chain.specs.SkipList.{finished}
 use Rattle.close_rules.specs.State.{ClosingState}
 use Rattle.close_rules.specs.Close.{result_set, upgraded_header}
 use Rattle.ledger_close.specs.declared.heading.Given.{Given}
+use Rattle.ledger_close.specs.States.{LedgerAt}
 use Rattle.ledger_close.proofs.Finishing.{headed}
 use Rattle.ledger_close.proofs.ledger.Ledger.head.Goals as goal
 
 pub returns : goal.returns
 returns c = λ closing is_value is_next done.
-    let s = c.args.self.now in
+    let s = c.args.self.now.state in
     let fee = c.args.done.now.fee_pool in
     let fits : FitsSigned w64 fee = search rules in
     let given : Given = record {
@@ -22,8 +23,8 @@ returns c = λ closing is_value is_next done.
       id_pool = c.args.done.now.id_pool;
     } in
     let whole = headed s closing given c.args.next
-    (c.self.invariant.hashed ∙ ap (λ (x : ClosingState). ledger_hash_of x.header) c.self.view_is) is_value
-    (ap (λ (x : ClosingState). x.header.ledger_seq + 1) c.self.view_is)
+    (c.self.invariant.hashed ∙ ap (λ (x : LedgerAt). ledger_hash_of x.state.header) c.self.view_is) is_value
+    (ap (λ (x : LedgerAt). x.state.header.ledger_seq + 1) c.self.view_is)
     (c.in_ok-results_hash.ensures ∙ ap (λ pairs. results_hash_of (result_set pairs)) done.results)
     (to_z-of_z w64 fee fits ∙ done.fee_pool) done.id_pool is_next in
     c.finish.ensures ∙ ap (λ h. finished h c.hash.result) (c.fill.ensures ∙ whole)

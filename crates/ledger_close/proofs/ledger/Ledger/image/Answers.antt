@@ -2,6 +2,7 @@ use Rattle.std.proofs.Common.{Ok, subst}
 use Rattle.xdr_header.specs.declared.image.StartImage.{StartImage}
 use Rattle.close_rules.specs.State.{ClosingState}
 use Rattle.close_rules.specs.Images.{IsJudged, state_of}
+use Rattle.ledger_close.specs.States.{LedgerAt}
 use Rattle.ledger_close.proofs.ledger.Ledger.image.Goals as goal
 
 pub returns-clause-within : goal.returns-clause-within
@@ -15,6 +16,6 @@ pub returns-clause-judged : goal.returns-clause-judged
 returns-clause-judged c =
     let image : StartImage = record { header = c.in_ok-header.header; files = c.in_ok-files.files } in
     let own = c.self.inside in
-    subst (λ (s : ClosingState). IsJudged s.network image (Ok s)) c.self.view_is
+    subst (λ (s : LedgerAt). IsJudged s.state.network image (Ok s.state)) c.self.view_is
     (c.images_stand_for_states.ensures (state_of own.network own.header own.levels.pairs own.entries) image
     c.self.invariant.state (record { header = c.in_ok-header.ensures; files = c.in_ok-files.ensures })).1

@@ -1,10 +1,10 @@
-use Rattle.std.proofs.Common.{◌≡◌, ℕ, ◌+◌, sym, ap, ◌∙◌, subst}
-use Rattle.bucket_levels.specs.Levels.{LevelsAt}
+use Rattle.std.proofs.Common.{◌≡◌, ℕ, ◌+◌, List, sym, ap, ◌∙◌, subst}
+use Rattle.bucket_levels.specs.Pairs.{Pair}
 use Rattle.bucket_levels.specs.Step.{IsStep}
 use Rattle.close_rules.specs.State.{ClosingState}
 use Rattle.close_rules.specs.Close.{PreparedClose}
 use Rattle.close_rules.specs.Images.{state_of}
-use Rattle.ledger_close.specs.States.{IsKept}
+use Rattle.ledger_close.specs.States.{LedgerAt, IsKept}
 use Rattle.ledger_close.proofs.Installs.{IsMade, installed_number, installed_step, installed_state}
 use Rattle.ledger_close.proofs.ledger.Ledger.install.Goals as goal
 
@@ -22,7 +22,8 @@ take_step-requires-clause-next c =
     let s = state_of l.network l.header l.levels.pairs l.entries in
     let closed : PreparedClose =
     record { results = p.results.results; state = state_of p.network p.header p.step.pairs p.entries } in
-    let by = kept_close s c.args.self.now closed c.args.prepared c.self.view_is c.prepared.view_is c.requires in
+    let by = kept_close s c.args.self.now.state closed c.args.prepared (ap (λ (l : LedgerAt). l.state) c.self.view_is)
+    c.prepared.view_is c.requires in
     c.prepared.invariant.number ∙ installed_number s closed by
     ∙ ap (λ (n : ℕ). n + 1) (sym c.self.invariant.number)
 
@@ -33,7 +34,8 @@ take_step-requires-clause-planned c =
     let s = state_of l.network l.header l.levels.pairs l.entries in
     let closed : PreparedClose =
     record { results = p.results.results; state = state_of p.network p.header p.step.pairs p.entries } in
-    let by = kept_close s c.args.self.now closed c.args.prepared c.self.view_is c.prepared.view_is c.requires in
+    let by = kept_close s c.args.self.now.state closed c.args.prepared (ap (λ (l : LedgerAt). l.state) c.self.view_is)
+    c.prepared.view_is c.requires in
     let step = installed_step s closed by in (
       step.0,
       subst (λ (n : ℕ). IsStep n step.0 l.levels.pairs p.step.pairs)
@@ -47,9 +49,11 @@ invariant_of-self c =
     let s = state_of l.network l.header l.levels.pairs l.entries in
     let closed : PreparedClose =
     record { results = p.results.results; state = state_of p.network p.header p.step.pairs p.entries } in
-    let by = kept_close s c.args.self.now closed c.args.prepared c.self.view_is c.prepared.view_is c.requires in
-    subst (λ (x : LevelsAt). IsKept p.network p.digest p.header p.entries x) (sym c.take_step.ensures) record {
+    let by = kept_close s c.args.self.now.state closed c.args.prepared (ap (λ (l : LedgerAt). l.state) c.self.view_is)
+    c.prepared.view_is c.requires in
+    subst (λ (pairs : List Pair). IsKept p.network p.digest p.header p.entries pairs c.take_step.new.self.seq)
+    (sym c.take_step.ensures.pairs) (record {
       state = installed_state c.taken_is_closable.ensures c.next_is_closing.ensures s closed c.self.invariant.state by;
       hashed = c.prepared.invariant.hashed;
-      number = c.prepared.invariant.number;
-    }
+      number = c.take_step.ensures.seq ∙ c.prepared.invariant.number;
+    })

@@ -1,0 +1,7 @@
+use Rattle.std.proofs.Common.{map}
+use Rattle.bucket_levels.specs.Levels.{pair_of}
+use Rattle.bucket_levels.specs.Held as spec
+use Rattle.bucket_levels.proofs.jobs.pending_merges.Given as goal
+
+abbrev pub invariant-loop-level : goal.invariant-loop-level
+invariant-loop-level l = spec.AreUndrawn (map pair_of l.pairs) l.seq l.level l.merges.items

@@ -1,0 +1,6 @@
+use Rattle.std.proofs.Common.{◌≡◌}
+use Rattle.merge_board.specs.Parts.{IsBoardIn, board_parts}
+use Rattle.board_tests.proofs.beside.post_each.Given as goal
+
+abbrev pub invariant-loop-seq : goal.invariant-loop-seq
+invariant-loop-seq g l = IsBoardIn l.room l.board × (board_parts l.board ≡ board_parts l.initial.board)

@@ -1,0 +1,11 @@
+use Rattle.std.proofs.Common.{◌≡◌, true}
+use Rattle.crossbeam_queue.specs.Passes.{view, IsPassOf}
+use Rattle.merge_board.specs.Settling.{IsDrained}
+use Rattle.merge_board.proofs.parts.Room.drain.Given as goal
+
+abbrev pub invariant-loop : goal.invariant-loop
+invariant-loop g l = record {
+  outs : IsPassOf l.self.outs l.log;
+  collects : (view l.log).collects ≡ true;
+  drained : IsDrained (view l.initial.log) (view l.log) l.queued.items;
+}

@@ -1,0 +1,30 @@
+-- What a pass of the job queue knows, and how a step changes that.
+use Rattle.std.specs.Prelude.{◌≡◌, ℕ, ◌+◌, ◌<◌, ◌^◌, true, false, [], ◌∷◌, ◌++◌, length}
+use Rattle.bucket_merge.specs.Job.{Job}
+use Rattle.merge_board.specs.Lists.{Every}
+use Rattle.merge_board.specs.declared.hand.Hand.{Hand}
+
+-- all parts, and the right to post
+abbrev pub first_hand : Hand
+first_hand = record { parts = 16; posts = true; posted = 0; taken = []; absorbed = 0 }
+
+-- a worker's, before it took any job
+abbrev pub new_hand : Hand
+new_hand = record { parts = 1; posts = false; posted = 0; taken = []; absorbed = 0 }
+
+-- that of a pass that was taken in
+abbrev pub spent_hand : Hand
+spent_hand = record { parts = 0; posts = false; posted = 0; taken = []; absorbed = 0 }
+
+-- how many jobs the pass, and those that it took in, have taken
+abbrev pub drawn : Hand → ℕ
+drawn v = length v.taken + v.absorbed
+
+abbrev pub hand_with : Hand → Hand → Hand
+hand_with v u = record v { parts = v.parts + u.parts; absorbed = v.absorbed + drawn u }
+
+-- The job's number comes behind all numbers that were taken before. The last part lets a worker count what it takes.
+abbrev pub TakesJob : Hand → Job → Hand → Type 0
+TakesJob v job w =
+    (w ≡ record v { taken = v.taken ++ job.number ∷ [] }) × Every (λ n. n < job.number) v.taken
+    × (length v.taken + 1 < 2 ^ 64)

@@ -1,0 +1,71 @@
+//! How jobs are posted, and how the board is closed.
+
+ghost use Rattle.std.specs.Prelude.{◌≡◌, ◌+◌, IfOk, IfErr};
+ghost use Rattle.crossbeam_queue.specs.Fifo.{Held};
+ghost use Rattle.merge_board.specs.JobOrder.{Waiting};
+ghost use Rattle.merge_board.specs.Parts.{IsBoardIn, IsBoardEndIn, board_parts, board_end_parts, posted_by, posted_in_all};
+
+use crate::hand::Posts;
+use crate::parts::{Board, BoardEnd, Room};
+use bucket_merge::MergeJob;
+use std::sync::{OnceToken, Wait};
+
+/// The number behind `posted`. It waits for ever where there is none.
+fn next_number<R: Wait>(rt: &R, posted: u64) -> u64
+    ensures { result ≡ posted + 1 }
+{
+    for _ in rt.forever() {
+        if let Some(next) = posted.checked_add(1) {
+            return next;
+        }
+    }
+    unreachable!()
+}
+
+impl Board {
+    /// Numbers a job, from 1 on, and puts it behind those that wait. It comes back where 64 jobs waited. It takes no
+    /// memory.
+    pub fn post<R: Wait>(&mut self, rt: &R, room: &Room, job: MergeJob) -> Result<u64, MergeJob>
+        requires { IsBoardIn room.now self.old }
+        ensures room { IsBoardIn room.now self.new }
+        ensures parts { board_parts self.new ≡ board_parts self.old }
+        ensures number { IfOk result (λ number. (number ≡ posted_by self.old + 1) × (posted_by self.new ≡ number)) }
+        ensures back { IfErr result (λ back. (back ≡ job) × (posted_by self.new ≡ posted_by self.old)) }
+        ensures full { IfErr result (λ _. Held 64 (Waiting (posted_by self.old))) }
+    {
+        let next = next_number(rt, self.posted);
+        let number = job.number();
+        match room
+            .jobs
+            .push_as::<Posts, R>(rt, &mut self.pass, job.numbered(next))
+        {
+            Ok(()) => {
+                self.posted = next;
+                Ok(next)
+            }
+            Err(back) => Err(back.numbered(number)),
+        }
+    }
+
+    /// Sets the closing mark, and tells what shows that it is set.
+    fn shut<'r, R: Wait>(self, rt: &R, room: &'r Room) -> (BoardEnd, OnceToken<'r, ()>)
+        requires { IsBoardIn room.now self }
+        ensures room { IsBoardEndIn room.now result.0 }
+        ensures parts { board_end_parts result.0 ≡ board_parts self }
+        ensures posted { posted_in_all result.0 ≡ posted_by self }
+        ensures mark { result.1.of ≡ room.now.closed.id }
+    {
+        let Board { pass, posted: _ } = self;
+        (BoardEnd { pass }, room.closed.init(rt, || ()))
+    }
+
+    /// Sets the room's closing mark: no more jobs will be posted. It takes no memory.
+    pub fn close<R: Wait>(self, rt: &R, room: &Room) -> BoardEnd
+        requires { IsBoardIn room.now self }
+        ensures room { IsBoardEndIn room.now result }
+        ensures parts { board_end_parts result ≡ board_parts self }
+        ensures posted { posted_in_all result ≡ posted_by self }
+    {
+        self.shut(rt, room).0
+    }
+}

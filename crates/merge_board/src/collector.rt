@@ -1,0 +1,34 @@
+//! How outcomes are collected.
+
+ghost use Rattle.std.specs.Prelude.{◌≡◌, IfSome, IfNone};
+ghost use Rattle.merge_board.specs.Parts.{IsCollectorIn, IsCollectorEndIn, collector_parts, collector_end_parts, collected_by, collected_in_all, Grew, FoundNoOut};
+
+use crate::log::Collects;
+use crate::parts::{Collector, CollectorEnd, Room};
+use bucket_merge::MergeOut;
+use std::sync::Wait;
+
+impl Collector {
+    /// The outcome that waited longest, or nothing where none waited. It takes no memory.
+    pub fn take<R: Wait>(&mut self, rt: &R, room: &Room) -> Option<MergeOut>
+        requires { IsCollectorIn room.now self.old }
+        ensures room { IsCollectorIn room.now self.new }
+        ensures parts { collector_parts self.new ≡ collector_parts self.old }
+        ensures out { IfSome result (λ out. Grew (collected_by self.old) out (collected_by self.new)) }
+        ensures none { IfNone result (collected_by self.new ≡ collected_by self.old) }
+        ensures empty { IfNone result (FoundNoOut self.old) }
+    {
+        let sent = room.outs.pop_as::<Collects, R>(rt, &mut self.pass)?;
+        Some(sent.out)
+    }
+
+    /// Ends the collector. It waits for nobody.
+    pub fn finish(self) -> CollectorEnd
+        ensures room { (room : Room) → IsCollectorIn room self → IsCollectorEndIn room result }
+        ensures parts { collector_end_parts result ≡ collector_parts self }
+        ensures collected { collected_in_all result ≡ collected_by self }
+    {
+        let Collector { pass } = self;
+        CollectorEnd { pass }
+    }
+}

@@ -1,0 +1,99 @@
+//! How a room and its parts are made.
+
+ghost use Rattle.std.specs.Prelude.{◌≡◌, ◌≤◌, ◌+◌, ◌-◌, IfOk, OnOk, length, true};
+ghost use Rattle.crossbeam_queue.specs.Passes.{view, IsPassOf};
+ghost use Rattle.merge_board.specs.Hired.{AreHired};
+ghost use Rattle.merge_board.specs.Lists.{Every};
+ghost use Rattle.merge_board.specs.Parts.{AreParts, IsWorkerOf};
+
+use crate::hand::{self, Hand, JobQueue};
+use crate::log::{self, Log, OutQueue, Sent};
+use crate::parts::{Board, Collector, Parts, Room, Worker, WorkerPasses};
+use bucket_merge::MergeJob;
+use crossbeam_queue::Pass;
+use std::alloc::{AllocError, Global};
+use std::sync::OnceLock;
+
+/// How many jobs, how many outcomes, and how many outcomes of one worker for which there was no place, may wait.
+const PLACES: usize = 64;
+
+/// One more worker of the room.
+fn hire(
+    alloc: Global,
+    room: &Room,
+    poster: &mut Pass<MergeJob, Hand>,
+    gatherer: &mut Pass<Sent, Log>,
+    number: u64,
+) -> Result<Worker, AllocError>
+    requires jobs { IsPassOf room.now.jobs poster.old }
+    requires outs { IsPassOf room.now.outs gatherer.old }
+    requires poster { ((view poster.old).posts ≡ true) × (2 ≤ (view poster.old).parts) }
+    requires gatherer { ((view gatherer.old).collects ≡ true) × (2 ≤ (view gatherer.old).parts) }
+    requires number { (view gatherer.old).made ≡ number }
+    ensures worker { IfOk result (IsWorkerOf room.now) }
+    ensures jobs { IsPassOf room.now.jobs poster.new }
+    ensures outs { IsPassOf room.now.outs gatherer.new }
+    ensures poster { OnOk result (view poster.new
+        ≡ record (view poster.old) { parts = (view poster.old).parts - 1 }) }
+    ensures gatherer { OnOk result (view gatherer.new
+        ≡ record (view gatherer.old) { parts = (view gatherer.old).parts - 1; made = number + 1 }) }
+{
+    let left = Vec::with_capacity(alloc, PLACES)?;
+    let jobs = room.jobs.another::<hand::Hires>(poster);
+    let outs = room.outs.another::<log::Hires>(gatherer);
+    Ok(Worker {
+        passes: WorkerPasses { number, jobs, outs },
+        left,
+    })
+}
+
+/// All workers of the room.
+fn hire_all(
+    alloc: Global,
+    room: &Room,
+    poster: &mut Pass<MergeJob, Hand>,
+    gatherer: &mut Pass<Sent, Log>,
+    workers: u32,
+) -> Result<Vec<Worker>, AllocError>
+    requires few { workers ≤ 8 }
+    requires jobs { IsPassOf room.now.jobs poster.old }
+    requires outs { IsPassOf room.now.outs gatherer.old }
+    requires none { AreHired 0 (view poster.old) (view gatherer.old) }
+    ensures jobs { IsPassOf room.now.jobs poster.new }
+    ensures outs { IsPassOf room.now.outs gatherer.new }
+    ensures hired { OnOk result (AreHired workers (view poster.new) (view gatherer.new)) }
+    ensures each { IfOk result (λ hired. Every (IsWorkerOf room.now) hired.items) }
+    ensures count { IfOk result (λ hired. length hired.items ≡ workers) }
+{
+    let mut hired = Vec::with_capacity(alloc, workers as usize)?;
+    for number in 0..workers {
+        let worker = hire(alloc, room, poster, gatherer, number as u64)?;
+        hired.push(worker)?;
+    }
+    Ok(hired)
+}
+
+/// A room with 1 to 8 workers. All memory that its calls need is taken here, but for that of the merges themselves.
+pub fn make(alloc: Global, workers: u32) -> Result<Parts, AllocError>
+    requires some { 1 ≤ workers }
+    requires few { workers ≤ 8 }
+    ensures { IfOk result (AreParts workers) }
+{
+    let (jobs, mut poster) = JobQueue::ruled(alloc, PLACES)?;
+    let (outs, mut gatherer) = OutQueue::ruled(alloc, PLACES)?;
+    let room = Room {
+        jobs,
+        outs,
+        closed: OnceLock::new(),
+    };
+    let workers = hire_all(alloc, &room, &mut poster, &mut gatherer, workers)?;
+    Ok(Parts {
+        room,
+        board: Board {
+            pass: poster,
+            posted: 0,
+        },
+        workers,
+        collector: Collector { pass: gatherer },
+    })
+}

@@ -1,6 +1,7 @@
 -- What is known of the places of workers and of the front.
 use Rattle.std.specs.Prelude.{◌≡◌, ℕ, ◌+◌, IfSome}
-use Rattle.merge_board.specs.Parts.{IsBoardIn, IsBoardEndIn, IsCollectorIn, IsWorkerOf, IsWorkerEndOf, board_parts, board_end_parts, collector_parts}
+use Rattle.merge_board.specs.Parts.{IsBoardIn, IsBoardEndIn, IsCollectorIn, IsWorkerOf, IsWorkerEndOf, board_parts}
+use Rattle.merge_board.specs.Parts.{board_end_parts, collector_parts}
 use Rattle.merge_board.specs.declared.parts.Room.{Room}
 use Rattle.board_tests.specs.declared.places.Place.{Place}
 use Rattle.board_tests.specs.declared.places.Front.{Front}

@@ -15,7 +15,8 @@ loop-worker-preserved c =
     let all = every_front (IsWorkerOf room) rest worker (subst (Every (IsWorkerOf room)) is it.invariant.workers) in
     let count = it.invariant.count in record {
       workers = all.0;
-      ends = subst (Every (IsWorkerEndOf room)) (sym more) (every_snoc (IsWorkerEndOf room) it.ends.items c.finish.result
+      ends = subst (Every (IsWorkerEndOf room)) (sym more)
+          (every_snoc (IsWorkerEndOf room) it.ends.items c.finish.result
           it.invariant.ends (c.finish.ensures.room room all.1));
       count = omega (
         arith,

@@ -3,4 +3,5 @@ use Rattle.merge_board.specs.Parts.{IsCollectorIn, collector_parts}
 use Rattle.board_tests.proofs.beside.collect_all.Given as goal
 
 abbrev pub invariant-loop : goal.invariant-loop
-invariant-loop g l = IsCollectorIn l.room l.collector × (collector_parts l.collector ≡ collector_parts l.initial.collector)
+invariant-loop g l =
+    IsCollectorIn l.room l.collector × (collector_parts l.collector ≡ collector_parts l.initial.collector)

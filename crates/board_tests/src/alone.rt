@@ -1,7 +1,7 @@
 //! What one thread sees of a board.
 
 ghost use Rattle.std.specs.Prelude.{◌≡◌, ◌<◌, IfOk, length};
-ghost use Rattle.merge_board.specs.Lists.{Every};
+ghost use Rattle.std.specs.List.{AllByRecursion};
 ghost use Rattle.merge_board.specs.Parts.{IsBoardIn, IsWorkerOf, IsWorkerEndOf, board_parts};
 
 use crate::jobs::job;
@@ -18,8 +18,8 @@ fn finish_all(
     room: &Room,
     mut workers: Vec<Worker>,
 ) -> Result<Vec<WorkerEnd>, AllocError>
-    requires { Every (IsWorkerOf room.now) workers.items }
-    ensures each { IfOk result (λ ends. Every (IsWorkerEndOf room.now) ends.items) }
+    requires { AllByRecursion (IsWorkerOf room.now) workers.items }
+    ensures each { IfOk result (λ ends. AllByRecursion (IsWorkerEndOf room.now) ends.items) }
     ensures count { IfOk result (λ ends. length ends.items ≡ length workers.items) }
 {
     let mut ends = Vec::new(alloc);

@@ -2,7 +2,7 @@
 
 ghost use Rattle.std.specs.Prelude.{◌≡◌, ◌≤◌, ◌<◌, IfOk};
 ghost use denote.Param.Send.{IsSync};
-ghost use Rattle.merge_board.specs.Lists.{Every};
+ghost use Rattle.std.specs.List.{AllByRecursion};
 ghost use Rattle.merge_board.specs.Parts.{IsBoardIn, IsCollectorIn, IsWorkerEndOf, board_parts, collector_parts};
 ghost use Rattle.board_tests.specs.Places.{IsPlaceIn, IsFrontOf};
 
@@ -175,7 +175,7 @@ fn gather(
 ) -> Result<Vec<WorkerEnd>, AllocError>
     requires first { IsPlaceIn room.now first }
     requires second { IsPlaceIn room.now second }
-    ensures { IfOk result (λ ends. Every (IsWorkerEndOf room.now) ends.items) }
+    ensures { IfOk result (λ ends. AllByRecursion (IsWorkerEndOf room.now) ends.items) }
 {
     let Place {
         worker: _,
@@ -204,7 +204,7 @@ fn account<R: Wait>(
     ends: Vec<WorkerEnd>,
 ) -> Result<[u64; 6], AllocError>
     requires front { IsFrontOf room front }
-    requires ends { Every (IsWorkerEndOf room) ends.items }
+    requires ends { AllByRecursion (IsWorkerEndOf room) ends.items }
 {
     let Front {
         workers,

@@ -1,5 +1,6 @@
 -- The first place at which two texts differ.
-use Rattle.std.proofs.Common.{◌≡◌, ℕ, ◌+◌, ◌<◌, ◌≤◌, min, List, Some, None, length, take, get_or, refl, sym, ap, ◌∙◌, arith}
+use Rattle.std.proofs.Common.{◌≡◌, ℕ, ◌+◌, ◌<◌, ◌≤◌, min, List, Some, None, length, take, get_or, refl, sym, ap, ◌∙◌}
+use Rattle.std.proofs.Common.{arith}
 use Rattle.std.proofs.Common.{inl, inr, ◌⊎◌}
 use Rattle.std.specs.Prelude.{slice_get}
 use Rattle.std.proofs.lemmas.Bool.{cases_lt}
@@ -33,7 +34,8 @@ differ_at_end a b at before end other = record {
   before = before;
   apart = λ e. elim (cases_lt (length a) (length b)) [
     | inl lt ↦ other (ap (λ (xs : List ℕ). length xs) (ended a b at (omega (arith, lt, end)) before e))
-    | inr le ↦ other (ap (λ (xs : List ℕ). length xs) (sym (ended b a at (omega (arith, le, end)) (sym before) (sym e))))
+    | inr le ↦ other (ap (λ (xs : List ℕ). length xs)
+        (sym (ended b a at (omega (arith, le, end)) (sym before) (sym e))))
   ];
 }
 
@@ -45,3 +47,5 @@ same_at_end a b at before end same = sym (all at a (omega (arith, end, same))) �
 pub same_so_far : (a b : List ℕ) (at : ℕ) → at < length a → at < length b → take at a ≡ take at b
     → get_or a at 0 ≡ get_or b at 0 → take (at + 1) a ≡ take (at + 1) b
 same_so_far a b at in_a in_b before same = grind (arith, common_steps, in_a, in_b, before, same)
+
+pub ruleset differences = (differ_inside, differ_at_end, same_at_end, same_so_far)

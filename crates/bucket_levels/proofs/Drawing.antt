@@ -89,7 +89,8 @@ draws_first pairs seq merges level job held first is =
       waited = ap (λ (n : ℕ). (pending_at known n).waits) pending.into
           ∙ ap (λ (p : PendingAt). p.waits) (known_at merges level first.within) ∙ first.waits;
       first = λ i lt. let above : i < level = omega (arith, lt, pending.into) in
-          ap (λ (p : PendingAt). p.waits) (known_at merges i (omega (arith, above, first.within))) ∙ first.first i above;
+          ap (λ (p : PendingAt). p.waits) (known_at merges i (omega (arith, above, first.within)))
+          ∙ first.first i above;
       is = subst (λ (n : ℕ). IsPending pairs seq n job) (sym pending.into) pending;
       left = ap (λ (p : List PendingAt). record { pairs = pairs; seq = seq; pending = p })
           (known_without_job merges level first.within

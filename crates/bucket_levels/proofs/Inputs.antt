@@ -1,5 +1,6 @@
 -- What is pending stays so until it is committed, and then it is what the step merges.
-use Rattle.std.proofs.Common.{◌≡◌, ℕ, zero, suc, ◌+◌, ◌-◌, ◌<◌, ◌≤◌, Bool, true, false, List, length, refl, sym, ap, subst}
+use Rattle.std.proofs.Common.{◌≡◌, ℕ, zero, suc, ◌+◌, ◌-◌, ◌<◌, ◌≤◌, Bool, true, false, List, length, refl, sym, ap}
+use Rattle.std.proofs.Common.{subst}
 use Rattle.std.proofs.Common.{◌∙◌, arith, map, Some, None, Option, get_or, is_some}
 use Rattle.std.specs.Prelude.{if◌then◌else◌}
 use Rattle.std.proofs.lemmas.List.{get_or-map, length-map}
@@ -11,7 +12,8 @@ use Rattle.bucket_levels.specs.Pairs.{Pair, pair_at}
 use Rattle.bucket_levels.specs.Step.{base_at, snap_after, IsMergedIf, IsCurrAfter, IsPairAfter, IsStep}
 use Rattle.bucket_levels.specs.Pending.{PendingAt, pending_at, not_pending, begun, undrawn_at, start_of, commit_of}
 use Rattle.bucket_levels.specs.Pending.{IsPending, renews, AreRenewed, AreUndrawnAt}
-use Rattle.bucket_levels.specs.Held.{pending_of, nothing_pending, IsHeld, AreHeld, AreUndrawn, IsJobIf, AreBegun, renewed}
+use Rattle.bucket_levels.specs.Held.{pending_of, nothing_pending, IsHeld, AreHeld, AreUndrawn, IsJobIf, AreBegun}
+use Rattle.bucket_levels.specs.Held.{renewed}
 use Rattle.bucket_levels.specs.Held.{AllRenewed}
 use Rattle.bucket_levels.specs.declared.pending.PendingMerge.{PendingMerge}
 use Rattle.bucket_levels.proofs.Starts.{commit_is_next, start_is_now, start_stays}
@@ -25,8 +27,8 @@ older_is_base above seq pairs job spilled is =
     is.curr ∙ ap (λ (n : ℕ). base_at n pairs (suc above)) (commit_is_next above seq spilled)
 
 -- a merge that is ready is the curr behind the step
-pub merged_above : (above seq : ℕ) (fresh new : Contents) (pairs : List Pair) (out : Job) → spills above (seq + 1) ≡ true
-    → IsPending pairs seq (suc above) out → IsMerge out.level out.curr out.snap new
+pub merged_above : (above seq : ℕ) (fresh new : Contents) (pairs : List Pair) (out : Job)
+    → spills above (seq + 1) ≡ true → IsPending pairs seq (suc above) out → IsMerge out.level out.curr out.snap new
     → IsCurrAfter (seq + 1) fresh pairs (suc above) new
 merged_above above seq fresh new pairs out spilled is merged =
     let older = older_is_base above seq pairs out spilled is in
@@ -62,7 +64,8 @@ stays_pending above seq fresh old new job low stays step is =
       into = is.into;
       start = is.start ∙ sym start;
       curr = is.curr
-          ∙ ap (λ (c : Contents). if spills (suc above) (start_of (suc above) seq + half above) then None else c) (sym curr)
+          ∙ ap (λ (c : Contents). if spills (suc above) (start_of (suc above) seq + half above) then None else c)
+          (sym curr)
           ∙ ap (λ (n : ℕ). base_at (n + half above) new (suc above)) (sym start);
       snap = is.snap ∙ sym snap;
     }

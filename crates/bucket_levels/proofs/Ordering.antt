@@ -1,20 +1,22 @@
 -- The step in order is the step that is said all at once.
-use Rattle.std.proofs.Common.{◌≡◌, ℕ, zero, suc, ◌+◌, ◌<◌, ◌≤◌, Bool, true, false, eqb, List, length, Option, Some, None}
-use Rattle.std.proofs.Common.{[], ◌∷◌, ◌++◌, ◌⊎◌, inl, inr, refl, sym, ap, subst, ◌∙◌, arith, eq-eqb, add-one}
+use Rattle.std.proofs.Common.{◌≡◌, ℕ, zero, suc, ◌+◌, ◌<◌, ◌≤◌, Bool, true, false, eqb, List, length, Option, Some}
+use Rattle.std.proofs.Common.{None}
+use Rattle.std.proofs.Common.{map, zero-add, ◌⊎◌, inl, inr, refl, sym, ap, subst, ◌∙◌, arith, eq-eqb}
 use Rattle.std.specs.Prelude.{if◌then◌else◌}
 use Rattle.std.proofs.lemmas.Bool.{cases_eq, eqb-true}
+use Rattle.std.specs.List.{range_with_len}
+use Rattle.std.proofs.lemmas.List.FromFn.{length-map-range_with_len, get_or-map-range_with_len}
 use Rattle.std.proofs.lemmas.Option.{none-some}
 use Rattle.bucket_core.specs.Bucket.{Contents}
 use Rattle.bucket_merge.specs.Merge.{IsMerge}
 use Rattle.bucket_levels.specs.Spills.{level_count, half, upper, spills}
-use Rattle.bucket_levels.specs.EachLevel.{EachLevel}
 use Rattle.bucket_levels.specs.Pairs.{Pair, empty_pair, pair_at}
 use Rattle.bucket_levels.specs.Step.{IsMergedIf, IsPairAfter, IsStep, base_at, snap_after}
 use Rattle.bucket_levels.specs.Pending.{start_of, commit_of}
-use Rattle.bucket_levels.specs.InOrder.{PendingInputs, InOrder, put_at, IsNext, spilled, begins, committed, IsCommittedIf}
+use Rattle.bucket_levels.specs.InOrder.{PendingInputs, InOrder, put_at, IsNext, spilled, begins, committed}
+use Rattle.bucket_levels.specs.InOrder.{IsCommittedIf}
 use Rattle.bucket_levels.specs.InOrder.{AreCommitted, IsStepInOrder, pending_inputs, IsOfFiles, StepsAreInOrder}
 use Rattle.bucket_levels.proofs.Halves.{none_spills_below}
-use Rattle.bucket_levels.proofs.Planning.{one_more_level}
 use Rattle.bucket_levels.proofs.Inputs.{curr_stays_if}
 use Rattle.bucket_levels.proofs.Starts.{commit_is_next, start_is_now, start_stays}
 
@@ -155,7 +157,8 @@ taken_in s above m next lt e d is =
     λ i other more. put_other over level mine i more ∙ put_other m.pairs above (spilled (m.pairs above)) i other in
     let merged = is_merged s above m next lt e d is in
     record {
-      above = λ i low. same i (λ x. omega (arith, low, x)) (λ x. omega (arith, low, x)) ∙ d.above i (omega (arith, low));
+      above = λ i low. same i (λ x. omega (arith, low, x)) (λ x. omega (arith, low, x))
+          ∙ d.above i (omega (arith, low));
       here = put_other over level mine above (λ x. omega (arith, x))
           ∙ put_same m.pairs above (spilled (m.pairs above)) ∙ ap spilled was
           ∙ sym (ap (λ (b : Bool). if b then spilled (pair_at s.old above) else pair_at s.old above) e);
@@ -224,16 +227,12 @@ none_done s = record {
 
 -- ---- the files behind it
 
--- the first levels' files
-first_pairs : (ℕ → Pair) → ℕ → List Pair
-first_pairs f zero = []
-first_pairs f (suc n) = first_pairs f n ++ f n ∷ []
+-- the files that a function gives, level by level
+abbrev pairs_of : (ℕ → Pair) → List Pair
+pairs_of f = map f (range_with_len 0 level_count)
 
-first_are : (f : ℕ → Pair) (n : ℕ) → EachLevel empty_pair (λ i p. p ≡ f i) n (first_pairs f n)
-unfolding first_pairs
-first_are f zero = record { count = refl; levels = λ i lt. absurd (omega (arith, lt)) }
-first_are f (suc n) = subst (λ (k : ℕ). EachLevel empty_pair (λ i p. p ≡ f i) k (first_pairs f n ++ f n ∷ []))
-    (add-one n) (one_more_level empty_pair (λ i p. p ≡ f i) n (first_pairs f n) (f n) (first_are f n) refl)
+pairs_are : (f : ℕ → Pair) (i : ℕ) → i < level_count → pair_at (pairs_of f) i ≡ f i
+pairs_are f i lt = get_or-map-range_with_len f 0 level_count i i empty_pair lt (zero-add i)
 
 curr_of_spilled : (b : Bool) (p : Pair) → (if b then spilled p else p).curr ≡ (if b then None else p.curr)
 curr_of_spilled true p = refl
@@ -339,22 +338,21 @@ ready_if false s above merge curr outcome lt is e =
     subst (λ (p : PendingInputs). IsMerge (suc above) p.older p.newer outcome) (sym e)
     (s.is.ready (suc above) outcome (omega arith) lt is)
 
-step_of : (s : Start) (m : InOrder) → IsDone s m → IsStep (s.seq + 1) s.fresh s.old (first_pairs m.pairs 11)
+step_of : (s : Start) (m : InOrder) → IsDone s m → IsStep (s.seq + 1) s.fresh s.old (pairs_of m.pairs)
 step_of s m d =
-    let files = first_are m.pairs 11 in
     record {
-      count = files.count;
-      pairs = λ i lt. subst (IsPairAfter (s.seq + 1) s.fresh s.old i) (sym (files.levels i lt)) (d.pairs i lt);
+      count = length-map-range_with_len m.pairs 0 level_count;
+      pairs = λ i lt. subst (IsPairAfter (s.seq + 1) s.fresh s.old i) (sym (pairs_are m.pairs i lt)) (d.pairs i lt);
     }
 
 pending_of_files : (s : Start) (m : InOrder) (level : ℕ) → IsDone s m → 1 ≤ level → level < level_count
-    → m.merges level ≡ pending_inputs (first_pairs m.pairs 11) (s.seq + 1) level
+    → m.merges level ≡ pending_inputs (pairs_of m.pairs) (s.seq + 1) level
 pending_of_files s m zero d low lt = absurd (omega (arith, low))
 pending_of_files s m (suc above) d low lt =
-    let new = first_pairs m.pairs 11 in
+    let new = pairs_of m.pairs in
     d.pending above lt
     ∙ ap (λ (p : Pair). renewed_if (spills above (s.seq + 1)) s (suc above) p.curr)
-    (sym ((first_are m.pairs 11).levels (suc above) lt))
+    (sym (pairs_are m.pairs (suc above) lt))
     ∙ pending_if (spills above (s.seq + 1)) s above new lt refl (step_of s m d)
 
 ready_of_files : (s : Start) (m : InOrder) (level : ℕ) (outcome : Contents) → IsDone s m → 1 ≤ level
@@ -368,11 +366,11 @@ ready_of_files s m (suc above) outcome d low lt is =
 files_of_step : (s : Start) (m : InOrder) → IsDone s m
     → (new : List Pair) × IsStep (s.seq + 1) s.fresh s.old new × IsOfFiles new (s.seq + 1) m
 files_of_step s m d = (
-  first_pairs m.pairs 11,
+  pairs_of m.pairs,
   step_of s m d,
   record {
-    count = (first_are m.pairs 11).count;
-    files = λ level lt. sym ((first_are m.pairs 11).levels level lt);
+    count = length-map-range_with_len m.pairs 0 level_count;
+    files = λ level lt. sym (pairs_are m.pairs level lt);
     merges = λ level low lt. pending_of_files s m level d low lt;
     ready = λ level outcome low lt is. ready_of_files s m level outcome d low lt is;
   },

@@ -1,5 +1,6 @@
 -- What is kept of pending merges behind a step.
-use Rattle.std.proofs.Common.{◌≡◌, ℕ, zero, suc, ◌+◌, ◌<◌, Bool, true, false, List, Option, Some, None, length, map, get_or}
+use Rattle.std.proofs.Common.{◌≡◌, ℕ, zero, suc, ◌+◌, ◌<◌, Bool, true, false, List, Option, Some, None, length, map}
+use Rattle.std.proofs.Common.{get_or}
 use Rattle.std.proofs.Common.{◌≤◌, inl, inr, set, refl, sym, ap, subst, ◌∙◌, arith}
 use Rattle.std.specs.Prelude.{if◌then◌else◌}
 use Rattle.std.proofs.lemmas.Bool.{cases_eq}
@@ -136,9 +137,11 @@ one_more_renewed jobs old level left new lt r =
             ∙ r.done i (omega (arith, below, other))
       ];
       ahead = λ i above.
-          get_or-set_other new level i mine nothing_pending (λ e. omega (arith, above, e)) ∙ r.ahead i (omega (arith, above));
+          get_or-set_other new level i mine nothing_pending (λ e. omega (arith, above, e))
+          ∙ r.ahead i (omega (arith, above));
       jobs_ahead = λ i above.
-          get_or-set_other left level i None None (λ e. omega (arith, above, e)) ∙ r.jobs_ahead i (omega (arith, above));
+          get_or-set_other left level i None None (λ e. omega (arith, above, e))
+          ∙ r.jobs_ahead i (omega (arith, above));
     }
 
 pub all_renewed : (jobs : List (Option Job)) (old : List PendingMerge) (left : List (Option Job))
@@ -148,3 +151,5 @@ all_renewed jobs old left new level le r = record {
   count = r.count;
   levels = λ i lt. r.done i (omega (arith, lt, le));
 }
+
+pub ruleset renewals = (none_renewed, one_more_renewed, all_renewed)

@@ -11,6 +11,7 @@ use Rattle.bucket_levels.specs.Pending.{pending_at, IsPending}
 use Rattle.bucket_levels.specs.Held.{IsReadyFor}
 use Rattle.bucket_levels.specs.Work.{work_at}
 use Rattle.bucket_levels.proofs.Inputs.{merged_above}
+use Rattle.bucket_levels.proofs.Unmerged.{spilled_below, merged_below}
 
 merge_at : (above seq : ℕ) (fresh : Contents) (l : LevelsAt) → spills above seq ≡ true → spills (suc above) seq ≡ false
     → (pending_at l.pending (suc above)).ready ≡ false
@@ -41,5 +42,9 @@ ready_curr level seq fresh bucket l low next over r =
     let is : suc (level - 1) ≡ level = omega (arith, low) in
     subst (λ (n : ℕ). IsCurrAfter n fresh l.pairs level bucket) (sym next)
     (subst (λ (n : ℕ). IsCurrAfter (l.seq + 1) fresh l.pairs n bucket) is
-    (merged_above (level - 1) l.seq fresh bucket l.pairs r.out (subst (λ (n : ℕ). spills (level - 1) n ≡ true) next over)
+    (merged_above (level - 1) l.seq fresh bucket l.pairs r.out
+    (subst (λ (n : ℕ). spills (level - 1) n ≡ true) next over)
     (subst (λ (n : ℕ). IsPending l.pairs l.seq n r.out) (sym is) r.is) r.merge))
+
+-- the curr of a level below the first one behind a step, and what it costs
+pub ruleset currs = (spilled_below, merged_below, work_is_merge, ready_curr)

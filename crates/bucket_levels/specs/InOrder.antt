@@ -1,5 +1,5 @@
--- A close's step, merge by merge in the order in which stellar-core does it (BucketList::addBatch), with the merges that
--- are pending. Each was begun when the level above spilled, and is committed when that one spills again.
+-- A close's step, merge by merge in the order in which stellar-core does it (BucketList::addBatch), with the merges
+-- that are pending. Each was begun when the level above spilled, and is committed when that one spills again.
 use Rattle.std.specs.Prelude.{◌≡◌, ℕ, zero, suc, ◌+◌, ◌<◌, ◌≤◌, Bool, true, false, nat_eq, List, length, Option}
 use Rattle.std.specs.Prelude.{Some, None, if◌then◌else◌}
 use Rattle.bucket_core.specs.Bucket.{Contents}

@@ -1,5 +1,6 @@
 -- The merges that are pending into the levels from 1 to 10 (FutureBucket in stellar-core).
-use Rattle.std.specs.Prelude.{◌≡◌, ℕ, zero, suc, ◌+◌, ◌-◌, ◌%◌, ◌≤◌, Bool, false, true, List, get_or, if◌then◌else◌, refl}
+use Rattle.std.specs.Prelude.{◌≡◌, ℕ, zero, suc, ◌+◌, ◌-◌, ◌%◌, ◌≤◌, Bool, false, true, List, get_or, if◌then◌else◌}
+use Rattle.std.specs.Prelude.{refl}
 use Rattle.std.specs.Coded.{Coded, code_by, coded_bool, coded×}
 use Rattle.bucket_merge.specs.Job.{Job}
 use Rattle.bucket_levels.specs.Spills.{level_count, half, upper, spills}

@@ -1,6 +1,7 @@
 //! Merges that come from elsewhere.
 
-ghost use Rattle.std.specs.Prelude.{◌≡◌, ◌≤◌, ◌<◌, ◌↔◌, false, length, set, get_or, Option, IfErr, IfSome, IfNone, OnOk, None, Some};
+ghost use Rattle.std.specs.Prelude.{◌≡◌, ◌≤◌, ◌<◌, ◌↔◌, false, length, set, get_or, Option, IfErr, IfSome, IfNone};
+ghost use Rattle.std.specs.Prelude.{OnOk, None, Some};
 ghost use Rattle.std.specs.Prelude.{MatchOption};
 ghost use Rattle.bucket_core.specs.File.{file_of};
 ghost use Rattle.bucket_levels.specs.HandIn as spec;
@@ -49,7 +50,7 @@ pub struct HandInBack {
 }
 
 /// The first place at which two texts differ, which is the length of the shorter one where the other goes on.
-#[tactic(auto, using(crate::proofs::Differing::differ_inside, crate::proofs::Differing::differ_at_end, crate::proofs::Differing::same_at_end, crate::proofs::Differing::same_so_far,))]
+#[tactic(auto, using(crate::proofs::Differing::differences))]
 fn difference(a: &[u8], b: &[u8]) -> Option<u64>
     ensures differ { IfSome result (λ at. spec.DifferAt at a.now b.now) }
     ensures same { IfNone result (a.now ≡ b.now) }

@@ -22,8 +22,8 @@ use std::alloc::AllocError;
 use std::marker::Model;
 use std::sync::Arc;
 
-/// The eleven levels behind a ledger. Which merges are pending follows from their files and the ledger's number: what is
-/// kept of them is each job until it is drawn, and each outcome that was handed in.
+/// The eleven levels behind a ledger. Which merges are pending follows from their files and the ledger's number: what
+/// is kept of them is each job until it is drawn, and each outcome that was handed in.
 #[derive(Drop)]
 pub struct Levels {
     pub(crate) pairs: Vec<LevelPair>,
@@ -69,7 +69,7 @@ fn renew_level(merges: &mut Vec<PendingMerge>, jobs: &mut Vec<Option<MergeJob>>,
 }
 
 /// Puts the jobs of the merges that begin in the places of those before them.
-#[tactic(auto, using(crate::proofs::Renewing::none_renewed, crate::proofs::Renewing::one_more_renewed, crate::proofs::Renewing::all_renewed,))]
+#[tactic(auto, using(crate::proofs::Renewing::renewals))]
 fn renew(merges: &mut Vec<PendingMerge>, jobs: &mut Vec<Option<MergeJob>>)
     requires merges { length merges.old.items ≡ level_count }
     requires jobs { length jobs.old.items ≡ level_count }

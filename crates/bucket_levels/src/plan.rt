@@ -110,7 +110,7 @@ impl Levels {
     /// The curr of a level from 1 to 10 behind a step, onto which the snap above is merged where the level above
     /// spills. Where the level spills too, that snap is merged onto nothing, and stays as it is. A merge that is ready
     /// isn't made again.
-    #[tactic(auto, using(crate::proofs::Unmerged::spilled_below, crate::proofs::Unmerged::merged_below, crate::proofs::Working::work_is_merge, crate::proofs::Working::ready_curr,))]
+    #[tactic(auto, using(crate::proofs::Working::currs))]
     fn curr_below<L: Ledger>(
         &self,
         level: u32,

@@ -1,5 +1,6 @@
 -- What a ready outcome spares.
-use Rattle.std.proofs.Common.{◌≡◌, ◌≢◌, ℕ, zero, suc, ◌+◌, ◌<◌, ◌≤◌, List, Bool, true, false, inl, inr, length, refl, sym, ap, subst, ◌∙◌, arith}
+use Rattle.std.proofs.Common.{◌≡◌, ◌≢◌, ℕ, zero, suc, ◌+◌, ◌<◌, ◌≤◌, List, Bool, true, false, inl, inr, length, refl}
+use Rattle.std.proofs.Common.{sym, ap, subst, ◌∙◌, arith}
 use Rattle.std.proofs.lemmas.Bool.{cases_eq}
 use Rattle.std.proofs.lemmas.List.{get_or-set_same, get_or-set_other}
 use Rattle.std.specs.Prelude.{not, ◌&&◌, if◌then◌else◌}
@@ -118,3 +119,5 @@ undrawn_unready pending (suc above) undrawn lt = ap (λ (p : PendingAt). p.ready
 -- the merge into the first level is committed at ledger 6
 pub first_at_sixth : (level : ℕ) → level ≡ 1 → spills (upper level) 6 ≡ true
 first_at_sixth level is = subst (λ (n : ℕ). spills (upper n) 6 ≡ true) (sym is) refl
+
+pub ruleset undrawn_first = (undrawn_count, undrawn_unready, first_at_sixth)

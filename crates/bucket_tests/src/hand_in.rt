@@ -213,7 +213,8 @@ fn is_back(out: &MergeOut, level: u32, seq: u32, curr: &[u8], snap: &[u8]) -> bo
         && out.snap().bytes() == snap
 }
 
-/// Why an outcome comes back, and whether it is as it was, with these inputs, and left the next hash as it is without it.
+/// Why an outcome comes back, and whether it is as it was, with these inputs, and left the next hash as it is
+/// without it.
 fn handed_back(
     alloc: Global,
     mut levels: Levels,
@@ -351,7 +352,7 @@ fn planned_with<L: Ledger>(
 
 /// Whether a close has the hash that it has without the outcome which it commits, and counts its steps in a ledger of
 /// their own.
-#[tactic(auto, using(crate::proofs::Sparing::undrawn_count, crate::proofs::Sparing::undrawn_unready, crate::proofs::Sparing::first_at_sixth,))]
+#[tactic(auto, using(crate::proofs::Sparing::undrawn_first))]
 fn closes_alike_in<L: Ledger>(alloc: Global, blank: Blank) -> Option<bool>
     requires name { blank.name ≡ L.name }
     requires parts { blank.parts ≡ L.parts }

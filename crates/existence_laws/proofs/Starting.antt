@@ -55,8 +55,8 @@ judged_state network image s text (h, levels, m, has, kept, is) =
       judged = (has.hash, kept);
     } in
     subst IsClosingState (sym is)
-    (is_kept network (ledger_hash_of h) image h m (record { pairs = levels; seq = h.ledger_seq; pending = [] }) whole refl
-    refl).state
+    (is_kept network (ledger_hash_of h) image h m (record { pairs = levels; seq = h.ledger_seq; pending = [] })
+    whole refl refl).state
 
 -- ---- an input
 

@@ -44,7 +44,8 @@ abbrev pub levels_at : LedgerAt → LevelsAt
 levels_at l = record { pairs = l.state.levels; seq = l.state.header.ledger_seq; pending = l.pending }
 
 -- what a ledger keeps beside its state: the hash of its header, and levels of its number
-pub record IsKept (network digest : Hash) (h : LedgerHeader) (m : EntryMap) (levels : List Pair) (seq : ℕ) : Type 0 where
+pub record IsKept (network digest : Hash) (h : LedgerHeader) (m : EntryMap) (levels : List Pair) (seq : ℕ)
+    : Type 0 where
   pub state : IsClosingState (state_of network h levels m)
   pub hashed : digest ≡ ledger_hash_of h
   pub number : seq ≡ h.ledger_seq

@@ -56,7 +56,8 @@ impl Ledger {
         ensures { (closing : ARecord) → scp_value ≡ closing.scp_value
             → next ≡ all_upgraded self.now.state.header (map upgrade_in closing.scp_value.upgrades)
             → spec.IsDone self.now.state closing done.now
-            → IfOk result (λ header. header ≡ finished (upgraded_header self.now.state closing) (list_hash step.now.pairs)) }
+            → IfOk result (λ header. header
+            ≡ finished (upgraded_header self.now.state closing) (list_hash step.now.pairs)) }
     {
         let given = Given {
             previous_ledger_hash: self.digest,

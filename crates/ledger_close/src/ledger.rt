@@ -1,7 +1,7 @@
 //! The ledger between two closes.
 
 ghost use Rattle.std.specs.Prelude.{◌≡◌, ◌≤◌, IfOk, ℕ, List, length, Ok};
-ghost use Rattle.std.specs.FinMap.{get};
+ghost use Rattle.std.specs.FinMap.{entries, get};
 ghost use Rattle.value_hashes.specs.Hashes.{ledger_hash_of};
 ghost use Rattle.op_form.specs.Sequences.{last_seq};
 ghost use Rattle.bucket_levels.specs.Pending.{AreRenewed};
@@ -65,6 +65,13 @@ impl Ledger {
         ensures { IfOk result (λ entry. entry ≡ get self.now.state.entries key.now) }
     {
         self.entries.find(key)
+    }
+
+    /// How many entries there are.
+    pub fn entry_count(&self) -> usize
+        ensures { result ≡ length (entries self.now.state.entries) }
+    {
+        self.entries.len()
     }
 
     /// The ledger takes a close that was prepared from it, of a record of at most 16777216 bytes. It takes no memory.

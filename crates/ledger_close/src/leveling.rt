@@ -26,7 +26,8 @@ impl Ledger {
         steps: &mut Steps<L>,
     ) -> Result<LevelStep, AllocError>
         requires seq { self.now.state.header.ledger_seq < last_seq }
-        requires spellable { (after : EntryMap) × IsExactBatch self.now.state.entries after batch.now × AreSpellable after }
+        requires spellable { (after : EntryMap) × IsExactBatch self.now.state.entries after batch.now
+            × AreSpellable after }
         ensures levels { (after : EntryMap) → IsExactBatch self.now.state.entries after batch.now → IsKeyed after
             → IfOk result (IsLeveled self.now.state version after) }
         ensures steps { (after : EntryMap) → IsExactBatch self.now.state.entries after batch.now → IsKeyed after

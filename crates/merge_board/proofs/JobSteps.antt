@@ -1,12 +1,13 @@
 -- Each step keeps the rule of the job queue.
-use Rattle.std.proofs.Common.{◌≡◌, ℕ, zero, suc, ◌+◌, ◌-◌, ◌<◌, ◌≤◌, ◌^◌, true, true≢false, List, [], ◌∷◌, ◌++◌, length, set, sym, refl, ap, ◌∙◌, ⊎_elim, length-append, arith}
+use Rattle.std.proofs.Common.{◌≡◌, ℕ, zero, suc, ◌+◌, ◌-◌, ◌<◌, ◌≤◌, ◌^◌, true, true≢false, List, [], ◌∷◌, ◌++◌}
+use Rattle.std.proofs.Common.{length, set, sym, refl, ap, ◌∙◌, ⊎_elim, length-append, arith}
 use Rattle.std.proofs.lemmas.List.Sums.{sum_by_push}
 use mathlib.Core.Option.{some, some-ne-none}
 use lib.ListN.{get_elem?}
 use Rattle.crossbeam_queue.specs.Fifo.{Pushes, Pops, Forks, Merges, Learns}
 use Rattle.crossbeam_queue.proofs.Lists.{at_set}
 use Rattle.bucket_merge.specs.Job.{Job}
-use Rattle.merge_board.specs.Lists.{Every}
+use Rattle.std.specs.List.{AllByRecursion}
 use Rattle.merge_board.specs.Hands.{first_hand, new_hand, spent_hand, hand_with, drawn, TakesJob}
 use Rattle.merge_board.specs.JobOrder.{NumbersAfter, Waiting, WaitingBehind, FitsHand, JobsInOrder}
 use Rattle.merge_board.specs.declared.hand.Hand.{Hand}
@@ -81,7 +82,7 @@ takes pass v some_part job jobs views h at =
     let countable = h.countable in
     let most = at_le drawn views pass v at in
     let in_all = h.drawn_in_all in
-    let before : Every (λ m. m < n) v.taken =
+    let before : AllByRecursion (λ m. m < n) v.taken =
     every_map (λ m. m ≤ h.t) (λ m. m < n) v.taken (λ m b. omega arith) mine.below in (
       w,
       record {
@@ -136,7 +137,8 @@ joins pass v other u jobs views h at two at' =
     let both : Hand = hand_with v u in
     let mine : FitsHand h.p h.t pass v = h.each pass v at in
     let vs = set views pass both in
-    let was : get_elem? views other ≡ some u = ⊎_elim (λ x. absurd (two x.0)) (λ x. x.1) (at_set views pass other both u at') in
+    let was : get_elem? views other ≡ some u = ⊎_elim (λ x. absurd (two x.0)) (λ x. x.1)
+    (at_set views pass other both u at') in
     let theirs : FitsHand h.p h.t other u = h.each other u was in record {
       p = h.p;
       t = h.t;
@@ -153,7 +155,8 @@ joins pass v other u jobs views h at two at' =
             poster = mine.poster;
             rising = mine.rising;
             below = mine.below;
-            idle = λ e. (let a : drawn v ≡ 0 = mine.idle (omega arith) in let b : drawn u ≡ 0 = theirs.idle (omega arith) in
+            idle = λ e. (let a : drawn v ≡ 0 = mine.idle (omega arith) in
+                let b : drawn u ≡ 0 = theirs.idle (omega arith) in
                 omega arith);
           }) (λ j w other e. h.each j w e) j w e);
     }

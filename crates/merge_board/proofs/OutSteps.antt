@@ -1,6 +1,8 @@
 -- Each step keeps the rule of the done queue.
-use Rattle.std.proofs.Common.{◌≡◌, ◌≢◌, ℕ, zero, suc, ◌+◌, ◌-◌, ◌<◌, ◌≤◌, Bool, true, false, true≢false, cond, eqb, List, [], ◌∷◌, ◌++◌, map, length, set, sym, refl, ap, ◌∙◌, subst, ⊎_elim, append_assoc, length-append, arith}
-use Rattle.std.specs.List.{filter}
+use Rattle.std.proofs.Common.{◌≡◌, ◌≢◌, ℕ, zero, suc, ◌+◌, ◌-◌, ◌<◌, ◌≤◌, Bool, true, false, true≢false, cond, eqb}
+use Rattle.std.proofs.Common.{List, [], ◌∷◌, ◌++◌, map, length, set, sym, refl, ap, ◌∙◌, subst, ⊎_elim, append_assoc}
+use Rattle.std.proofs.Common.{length-append, arith}
+use Rattle.std.specs.List.{AllByRecursion, filter}
 use Rattle.std.proofs.lemmas.Bool.{eq-eqb, ne_eqb}
 use Rattle.std.proofs.lemmas.List.{map-append, append-nil}
 use Rattle.std.proofs.lemmas.List.Elements.{filter-append}
@@ -9,7 +11,6 @@ use mathlib.Core.Option.{some, some-injective, some-ne-none}
 use lib.ListN.{get_elem?}
 use Rattle.crossbeam_queue.specs.Fifo.{Pushes, Pops, Forks, Merges, Learns}
 use Rattle.crossbeam_queue.proofs.Lists.{at_set, at_longer, at_last}
-use Rattle.merge_board.specs.Lists.{Every}
 use Rattle.merge_board.specs.Logs.{first_log, new_log, spent_log, log_with, known_of, pushed_count}
 use Rattle.merge_board.specs.OutOrder.{outs_of, QueuedBehind, Accounts, FitsLog, OutsInOrder}
 use Rattle.merge_board.specs.declared.log.Sent.{Sent}
@@ -113,7 +114,8 @@ pushes n pass v x some_part may is items views room h at =
           collector = theirs.collector;
           worker = λ q. (
             (theirs.worker q).0,
-            outs_same u.worker h.all x (λ same. other (one_owner h.owners u.worker v.worker j pass (theirs.worker q).0 own
+            outs_same u.worker h.all x
+                (λ same. other (one_owner h.owners u.worker v.worker j pass (theirs.worker q).0 own
                 (sym same ∙ is))) ∙ (theirs.worker q).1,
             (theirs.worker q).2,
           );
@@ -215,7 +217,8 @@ joins pass v other u may theirs items views h at two at' =
     let mine : FitsLog h.owners h.known h.got h.all pass v = h.each pass v at in
     let collector = mine.collector may in
     let vs = set views pass both in
-    let was : get_elem? views other ≡ some u = ⊎_elim (λ x. absurd (two x.0)) (λ x. x.1) (at_set views pass other both u at') in
+    let was : get_elem? views other ≡ some u = ⊎_elim (λ x. absurd (two x.0)) (λ x. x.1)
+    (at_set views pass other both u at') in
     let fits : FitsLog h.owners h.known h.got h.all other u = h.each other u was in
     let own = (fits.worker theirs).0 in record {
       owners = h.owners;
@@ -237,7 +240,10 @@ joins pass v other u may theirs items views h at two at' =
             worker = λ q. (
               (mine.worker q).0,
               (mine.worker q).1,
-              ((λ same. two (one_owner h.owners u.worker v.worker other pass own (mine.worker q).0 same)), (mine.worker q).2),
+              (
+                (λ same. two (one_owner h.owners u.worker v.worker other pass own (mine.worker q).0 same)),
+                (mine.worker q).2,
+              ),
             );
             idle = λ none. (let a : pushed_count v ≡ 0 = mine.idle (omega arith) in
                 let b : pushed_count u ≡ 0 = fits.idle (omega arith) in omega arith);
@@ -247,7 +253,10 @@ joins pass v other u may theirs items views h at two at' =
             worker = λ q. (
               (it.worker q).0,
               (it.worker q).1,
-              ((λ same. not_other (one_owner h.owners y.worker u.worker i other (it.worker q).0 own (sym same))), (it.worker q).2),
+              (
+                (λ same. not_other (one_owner h.owners y.worker u.worker i other (it.worker q).0 own (sym same))),
+                (it.worker q).2,
+              ),
             );
             idle = it.idle;
           }) j w e apart);
@@ -255,7 +264,8 @@ joins pass v other u may theirs items views h at two at' =
 
 -- ---- what a pass learns
 
-pub queued : (pass : ℕ) (v : Log) → v.pushes ≡ true → Learns OutsInOrder pass v (λ items. QueuedBehind v.worker v.pushed items)
+pub queued : (pass : ℕ) (v : Log) → v.pushes ≡ true
+    → Learns OutsInOrder pass v (λ items. QueuedBehind v.worker v.pushed items)
 queued pass v may items views h at =
     (h.got, ap (outs_of v.worker) (sym h.whole) ∙ ((h.each pass v at).worker may).1)
 
@@ -263,7 +273,7 @@ pub accounts : (pass : ℕ) (v : Log) → v.collects ≡ true → Learns OutsInO
 accounts pass v may items views h at =
     let collector = (h.each pass v at).collector may in
     let all : h.all ≡ v.got ++ items = h.whole ∙ ap (λ l. l ++ items) (sym collector.1) in record {
-      ended = subst (Every (λ (k : Known). outs_of k.worker (v.got ++ items) ≡ k.pushed)) (sym collector.2)
+      ended = subst (AllByRecursion (λ (k : Known). outs_of k.worker (v.got ++ items) ≡ k.pushed)) (sym collector.2)
           (every_map (λ (k : Known). (k.worker < length h.owners) × (outs_of k.worker h.all ≡ k.pushed))
           (λ (k : Known). outs_of k.worker (v.got ++ items) ≡ k.pushed) h.known
           (λ k old. ap (outs_of k.worker) (sym all) ∙ old.1) h.ended);

@@ -1,11 +1,12 @@
 -- What taking in one worker more keeps, and what is known once all are taken in.
-use Rattle.std.proofs.Common.{◌≡◌, ℕ, ◌+◌, true, List, [], ◌∷◌, ◌++◌, map, length, sym, refl, ap, ◌∙◌, subst, append_assoc, length-append, arith}
+use Rattle.std.proofs.Common.{◌≡◌, ℕ, ◌+◌, true, List, [], ◌∷◌, ◌++◌, map, length, sym, refl, ap, ◌∙◌, subst}
+use Rattle.std.proofs.Common.{append_assoc, length-append, arith}
 use Rattle.std.proofs.lemmas.List.Sums.{sum_by-cons}
 use Rattle.std.proofs.lemmas.List.{append-nil, length-map}
 use Rattle.crossbeam_queue.specs.Fifo.{Held}
 use Rattle.crossbeam_queue.specs.Passes.{view}
 use Rattle.bucket_merge.specs.Job.{Job}
-use Rattle.merge_board.specs.Lists.{Every}
+use Rattle.std.specs.List.{AllByRecursion}
 use Rattle.merge_board.specs.Hands.{hand_with, drawn}
 use Rattle.merge_board.specs.Logs.{log_with, pushed_count}
 use Rattle.merge_board.specs.OutOrder.{outs_of, Accounts}
@@ -79,12 +80,14 @@ one_taken_in all rest old_rest end hand0 hand log0 log taken pushed h is =
 
 -- ---- once all are taken in
 
-every_unmap : {X Y : Type 0} (P : Y → Type 0) (f : X → Y) (xs : List X) → Every P (map f xs) → Every (λ x. P (f x)) xs
+every_unmap : {X Y : Type 0} (P : Y → Type 0) (f : X → Y) (xs : List X) → AllByRecursion P (map f xs)
+    → AllByRecursion (λ x. P (f x)) xs
 every_unmap P f [] h = tt
 every_unmap P f (x ∷ xs) h = (h.0, every_unmap P f xs h.1)
 
 -- what was pushed was collected or is queued
-pub all_counted : (ends : List WorkerEnd) (hand0 hand : Hand) (log0 log end : Log) (taken pushed : ℕ) (queued : List Job)
+pub all_counted : (ends : List WorkerEnd) (hand0 hand : Hand) (log0 log end : Log) (taken pushed : ℕ)
+    (queued : List Job)
     → AreTakenIn ends [] hand0 hand log0 log taken pushed → IsDrained log end queued → Held 0 (Accounts end)
     → length log0.got + length queued ≡ pushed
 all_counted ends hand0 hand log0 log end taken pushed queued h drained empty =
@@ -101,7 +104,8 @@ all_counted ends hand0 hand log0 log end taken pushed queued h drained empty =
     omega (arith, length-append log.got rest, length-map rest (λ (s : Sent). s.out))
 
 -- and stands there in the order in which it was pushed
-pub all_ordered : (ends : List WorkerEnd) (hand0 hand : Hand) (log0 log end : Log) (taken pushed : ℕ) (queued : List Job)
+pub all_ordered : (ends : List WorkerEnd) (hand0 hand : Hand) (log0 log end : Log) (taken pushed : ℕ)
+    (queued : List Job)
     → AreTakenIn ends [] hand0 hand log0 log taken pushed → IsDrained log end queued → Held 0 (Accounts end)
     → KeepsOrder log0.got queued ends
 all_ordered ends hand0 hand log0 log end taken pushed queued h drained empty =
@@ -111,8 +115,8 @@ all_ordered ends hand0 hand log0 log end taken pushed queued h drained empty =
     ∙ ap (λ (v : Log). v.got) drained.log ∙ ap (λ (l : List Sent). l ++ rest) h.got in
     let known : end.known ≡ map end_known ends =
     ap (λ (v : Log). v.known) drained.log ∙ h.known_ends ∙ ap (map end_known) (sym h.split) in
-    let each : Every (λ (k : Known). outs_of k.worker (log0.got ++ rest) ≡ k.pushed) (map end_known ends) =
-    subst (λ (x : List Sent × List Known). Every (λ (k : Known). outs_of k.worker x.0 ≡ k.pushed) x.1)
+    let each : AllByRecursion (λ (k : Known). outs_of k.worker (log0.got ++ rest) ≡ k.pushed) (map end_known ends) =
+    subst (λ (x : List Sent × List Known). AllByRecursion (λ (k : Known). outs_of k.worker x.0 ≡ k.pushed) x.1)
     (λ i. (got i, known i)) empty.2.ended in record {
       rest = rest;
       queue = drained.queue;

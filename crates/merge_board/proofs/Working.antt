@@ -2,7 +2,8 @@
 use Rattle.std.proofs.Common.{◌≡◌, ◌≢◌, ℕ, ◌<◌, List, [], ◌∷◌, ◌++◌, sym, ap, ◌∙◌, subst, arith}
 use Rattle.std.proofs.lemmas.List.{map-append}
 use Rattle.bucket_merge.specs.Job.{Job}
-use Rattle.merge_board.specs.Lists.{Every, IsRising, Has}
+use Rattle.std.specs.List.{AllByRecursion}
+use Rattle.merge_board.specs.Lists.{IsRising, Has}
 use Rattle.merge_board.specs.Hands.{new_hand}
 use Rattle.merge_board.specs.Logs.{new_log}
 use Rattle.merge_board.specs.Work.{numbers_of, FoundFull, MetFull, AreDealt}
@@ -25,8 +26,9 @@ log_grown worker v w out shape grown =
     ∙ ap (λ (x : Log). record (new_log worker) { pushed = x.pushed }) (sym grown)
 
 -- what is above all numbers that were taken is above those of the outcomes
-pub below_all : (n : ℕ) (taken numbers : List ℕ) → Every (λ m. m < n) taken → Every (Has taken) numbers
-    → Every (λ m. m < n) numbers
+pub below_all : (n : ℕ) (taken numbers : List ℕ) → AllByRecursion (λ m. m < n) taken
+    → AllByRecursion (Has taken) numbers
+    → AllByRecursion (λ m. m < n) numbers
 below_all n taken numbers above among =
     every_map (Has taken) (λ m. m < n) numbers (λ m i. every_has (λ k. k < n) taken m above i) among
 
@@ -34,7 +36,7 @@ numbers_snoc : (jobs : List Job) (job : Job) → numbers_of (jobs ++ job ∷ [])
 numbers_snoc jobs job = map-append (λ (j : Job). j.number) jobs (job ∷ [])
 
 pub took : (worker n : ℕ) (taken : List ℕ) (pushed left : List Job) → AreDealt worker taken pushed left
-    → Every (λ m. m < n) taken → AreDealt worker (taken ++ n ∷ []) pushed left
+    → AllByRecursion (λ m. m < n) taken → AreDealt worker (taken ++ n ∷ []) pushed left
 took worker n taken pushed left h above = record {
   rising = rising_snoc taken n h.rising above;
   pushed_rise = h.pushed_rise;
@@ -48,25 +50,26 @@ took worker n taken pushed left h above = record {
 }
 
 pub pushed_one : (worker : ℕ) (out : Job) (taken : List ℕ) (pushed left : List Job) → AreDealt worker taken pushed left
-    → Has taken out.number → Every (λ m. m < out.number) (numbers_of pushed)
-    → Every (λ m. m < out.number) (numbers_of left) → AreDealt worker taken (pushed ++ out ∷ []) left
+    → Has taken out.number → AllByRecursion (λ m. m < out.number) (numbers_of pushed)
+    → AllByRecursion (λ m. m < out.number) (numbers_of left) → AreDealt worker taken (pushed ++ out ∷ []) left
 pushed_one worker out taken pushed left h among above_pushed above_left =
     let n = out.number in
     let more = sym (numbers_snoc pushed out) in record {
       rising = h.rising;
       pushed_rise = subst IsRising more (rising_snoc (numbers_of pushed) n h.pushed_rise above_pushed);
       left_rise = h.left_rise;
-      pushed_taken = subst (Every (Has taken)) more (every_snoc (Has taken) (numbers_of pushed) n h.pushed_taken among);
+      pushed_taken = subst (AllByRecursion (Has taken)) more
+          (every_snoc (Has taken) (numbers_of pushed) n h.pushed_taken among);
       left_taken = h.left_taken;
-      apart = subst (Every (λ p. Every (λ m. p ≢ m) (numbers_of left))) more
-          (every_snoc (λ p. Every (λ m. p ≢ m) (numbers_of left)) (numbers_of pushed) n h.apart
+      apart = subst (AllByRecursion (λ p. AllByRecursion (λ m. p ≢ m) (numbers_of left))) more
+          (every_snoc (λ p. AllByRecursion (λ m. p ≢ m) (numbers_of left)) (numbers_of pushed) n h.apart
           (every_map (λ m. m < n) (λ m. n ≢ m) (numbers_of left) (λ m below e. omega arith) above_left));
       met_full = h.met_full;
     }
 
 pub left_one : (worker : ℕ) (out : Job) (taken : List ℕ) (pushed left : List Job) → AreDealt worker taken pushed left
-    → Has taken out.number → Every (λ m. m < out.number) (numbers_of pushed)
-    → Every (λ m. m < out.number) (numbers_of left) → FoundFull worker pushed
+    → Has taken out.number → AllByRecursion (λ m. m < out.number) (numbers_of pushed)
+    → AllByRecursion (λ m. m < out.number) (numbers_of left) → FoundFull worker pushed
     → AreDealt worker taken pushed (left ++ out ∷ [])
 left_one worker out taken pushed left h among above_pushed above_left full =
     let n = out.number in
@@ -75,10 +78,11 @@ left_one worker out taken pushed left h among above_pushed above_left full =
       pushed_rise = h.pushed_rise;
       left_rise = subst IsRising more (rising_snoc (numbers_of left) n h.left_rise above_left);
       pushed_taken = h.pushed_taken;
-      left_taken = subst (Every (Has taken)) more (every_snoc (Has taken) (numbers_of left) n h.left_taken among);
-      apart = subst (λ (xs : List ℕ). Every (λ p. Every (λ m. p ≢ m) xs) (numbers_of pushed)) more
-          (every_both (λ p. Every (λ m. p ≢ m) (numbers_of left)) (λ p. p < n)
-          (λ p. Every (λ m. p ≢ m) (numbers_of left ++ n ∷ [])) (numbers_of pushed)
+      left_taken = subst (AllByRecursion (Has taken)) more
+          (every_snoc (Has taken) (numbers_of left) n h.left_taken among);
+      apart = subst (λ (xs : List ℕ). AllByRecursion (λ p. AllByRecursion (λ m. p ≢ m) xs) (numbers_of pushed)) more
+          (every_both (λ p. AllByRecursion (λ m. p ≢ m) (numbers_of left)) (λ p. p < n)
+          (λ p. AllByRecursion (λ m. p ≢ m) (numbers_of left ++ n ∷ [])) (numbers_of pushed)
           (λ p old below. every_snoc (λ m. p ≢ m) (numbers_of left) n old (λ e. omega arith)) h.apart above_pushed);
       met_full = every_snoc (MetFull worker) left out h.met_full (pushed, above_pushed, full);
     }

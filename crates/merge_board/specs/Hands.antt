@@ -1,7 +1,7 @@
 -- What a pass of the job queue knows, and how a step changes that.
 use Rattle.std.specs.Prelude.{◌≡◌, ℕ, ◌+◌, ◌<◌, ◌^◌, true, false, [], ◌∷◌, ◌++◌, length}
 use Rattle.bucket_merge.specs.Job.{Job}
-use Rattle.merge_board.specs.Lists.{Every}
+use Rattle.std.specs.List.{AllByRecursion}
 use Rattle.merge_board.specs.declared.hand.Hand.{Hand}
 
 -- all parts, and the right to post
@@ -26,5 +26,5 @@ hand_with v u = record v { parts = v.parts + u.parts; absorbed = v.absorbed + dr
 -- The job's number comes behind all numbers that were taken before. The last part lets a worker count what it takes.
 abbrev pub TakesJob : Hand → Job → Hand → Type 0
 TakesJob v job w =
-    (w ≡ record v { taken = v.taken ++ job.number ∷ [] }) × Every (λ n. n < job.number) v.taken
+    (w ≡ record v { taken = v.taken ++ job.number ∷ [] }) × AllByRecursion (λ n. n < job.number) v.taken
     × (length v.taken + 1 < 2 ^ 64)

@@ -1,10 +1,10 @@
 -- The rule of the job queue: it holds, in order, the jobs that were posted and not taken.
 use Rattle.std.specs.Prelude.{◌≡◌, ℕ, ◌+◌, ◌<◌, ◌≤◌, ◌^◌, true, List, [], ◌∷◌, length}
-use Rattle.std.specs.List.{sum_by}
+use Rattle.std.specs.List.{AllByRecursion, sum_by}
 use mathlib.Core.Option.{some}
 use lib.ListN.{get_elem?}
 use Rattle.bucket_merge.specs.Job.{Job}
-use Rattle.merge_board.specs.Lists.{Every, IsRising}
+use Rattle.merge_board.specs.Lists.{IsRising}
 use Rattle.merge_board.specs.Hands.{drawn}
 use Rattle.merge_board.specs.declared.hand.Hand.{Hand}
 
@@ -20,13 +20,13 @@ Waiting p jobs = (t : ℕ) × (t + length jobs ≡ p) × NumbersAfter t jobs
 -- the jobs behind the first t, among which is each that was taken
 abbrev pub WaitingBehind : List ℕ → List Job → Type 0
 WaitingBehind taken jobs =
-    (t : ℕ) × NumbersAfter t jobs × Every (λ n. n ≤ t) taken × (length taken ≤ t)
+    (t : ℕ) × NumbersAfter t jobs × AllByRecursion (λ n. n ≤ t) taken × (length taken ≤ t)
 
 -- what holds of a pass where p jobs were posted and t were taken
 pub record FitsHand (p t pass : ℕ) (v : Hand) : Type 0 where
   pub poster : v.posts ≡ true → (pass ≡ 0) × (v.posted ≡ p)
   pub rising : IsRising v.taken
-  pub below : Every (λ n. n ≤ t) v.taken
+  pub below : AllByRecursion (λ n. n ≤ t) v.taken
   -- a pass that was taken in knows nothing any more
   pub idle : v.parts ≡ 0 → drawn v ≡ 0
 

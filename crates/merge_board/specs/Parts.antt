@@ -3,7 +3,7 @@ use Rattle.std.specs.Prelude.{◌≡◌, ℕ, ◌+◌, List, [], ◌∷◌, ◌+
 use Rattle.crossbeam_queue.specs.Fifo.{Held}
 use Rattle.crossbeam_queue.specs.Passes.{view, IsPassOf}
 use Rattle.bucket_merge.specs.Job.{Job}
-use Rattle.merge_board.specs.Lists.{Every}
+use Rattle.std.specs.List.{AllByRecursion}
 use Rattle.merge_board.specs.OutOrder.{outs_of, Accounts}
 use Rattle.merge_board.specs.declared.log.Sent.{Sent}
 use Rattle.merge_board.specs.declared.parts.Parts.{Parts}
@@ -89,7 +89,7 @@ pub record AreParts (workers : ℕ) (parts : Parts) : Type 0 where
   pub board : IsBoardIn parts.room parts.board
   pub board_has : board_parts parts.board + workers ≡ 16
   pub count : length parts.workers.items ≡ workers
-  pub each : Every (IsWorkerOf parts.room) parts.workers.items
+  pub each : AllByRecursion (IsWorkerOf parts.room) parts.workers.items
   pub collector : IsCollectorIn parts.room parts.collector
   pub collector_has : collector_parts parts.collector + workers ≡ 16
   pub none_posted : posted_by parts.board ≡ 0
@@ -99,16 +99,16 @@ pub record AreParts (workers : ℕ) (parts : Parts) : Type 0 where
 pub record AreEnds (room : Room) (board : BoardEnd) (workers : List WorkerEnd) (collector : CollectorEnd) : Type 0 where
   pub board_in : IsBoardEndIn room board
   pub board_has : board_end_parts board + length workers ≡ 16
-  pub each : Every (IsWorkerEndOf room) workers
+  pub each : AllByRecursion (IsWorkerEndOf room) workers
   pub collector_in : IsCollectorEndIn room collector
   pub collector_has : collector_end_parts collector + length workers ≡ 16
 
--- Behind what was collected there stand, with their workers, the outcomes that are queued. In all of these each worker's
--- are what it pushed, in its order, each once and unaltered.
+-- Behind what was collected there stand, with their workers, the outcomes that are queued. In all of these each
+-- worker's are what it pushed, in its order, each once and unaltered.
 pub record KeepsOrder (got : List Sent) (queued : List Job) (ends : List WorkerEnd) : Type 0 where
   pub rest : List Sent
   pub queue : map (λ (s : Sent). s.out) rest ≡ queued
-  pub each : Every (λ (end : WorkerEnd). outs_of (end_number end) (got ++ rest) ≡ pushed_by end) ends
+  pub each : AllByRecursion (λ (end : WorkerEnd). outs_of (end_number end) (got ++ rest) ≡ pushed_by end) ends
 
 -- the list has grown by this outcome, of some worker
 abbrev pub Grew : List Sent → Job → List Sent → Type 0

@@ -15,9 +15,10 @@ use Rattle.merge_board.specs.declared.parts.WorkerEnd.{WorkerEnd}
 abbrev pub end_known : WorkerEnd → Known
 end_known end = known_of (view end.passes.outs)
 
--- Of all workers' passes those of `rest` are not yet taken in. The board's pass knows how many jobs the others took, and
--- the collector's what they pushed.
-pub record AreTakenIn (all rest : List WorkerEnd) (old_hand hand : Hand) (old_log log : Log) (taken pushed : ℕ) : Type 0 where
+-- Of all workers' passes those of `rest` are not yet taken in. The board's pass knows how many jobs the others took,
+-- and the collector's what they pushed.
+pub record AreTakenIn (all rest : List WorkerEnd) (old_hand hand : Hand) (old_log log : Log) (taken pushed : ℕ)
+    : Type 0 where
   pub done : List WorkerEnd
   pub split : all ≡ rest ++ done
   pub posts : hand.posts ≡ true

@@ -1,10 +1,12 @@
 -- What is known of a worker, at work and afterwards.
-use Rattle.std.specs.Prelude.{◌≡◌, ◌≢◌, ◌⊎◌, ℕ, ◌+◌, ◌<◌, ◌≤◌, List, [], ◌∷◌, ◌++◌, length, map, vec_len, vec_capacity, Option, MatchOption}
+use Rattle.std.specs.Prelude.{◌≡◌, ◌≢◌, ◌⊎◌, ℕ, ◌+◌, ◌<◌, ◌≤◌, List, [], ◌∷◌, ◌++◌, length, map, vec_len}
+use Rattle.std.specs.Prelude.{vec_capacity, Option, MatchOption}
 use Rattle.std.specs.declared.sync.OnceToken.{OnceToken}
 use Rattle.crossbeam_queue.specs.Fifo.{Held}
 use Rattle.crossbeam_queue.specs.Passes.{view, IsPassOf}
 use Rattle.bucket_merge.specs.Job.{Job}
-use Rattle.merge_board.specs.Lists.{Every, IsRising, Has}
+use Rattle.std.specs.List.{AllByRecursion}
+use Rattle.merge_board.specs.Lists.{IsRising, Has}
 use Rattle.merge_board.specs.Hands.{new_hand}
 use Rattle.merge_board.specs.JobOrder.{WaitingBehind}
 use Rattle.merge_board.specs.Logs.{new_log}
@@ -27,7 +29,8 @@ FoundNone taken = Held 0 (λ (jobs : List Job). WaitingBehind taken jobs)
 
 -- the outcome found no place, when the worker had pushed some of its outcomes with lower numbers
 abbrev pub MetFull : ℕ → Job → Type 0
-MetFull worker out = (pushed : List Job) × Every (λ n. n < out.number) (numbers_of pushed) × FoundFull worker pushed
+MetFull worker out =
+    (pushed : List Job) × AllByRecursion (λ n. n < out.number) (numbers_of pushed) × FoundFull worker pushed
 
 -- How the numbers that a worker took stand to those of the outcomes that it pushed and of those that it has left: they
 -- rise, and no number stands in both.
@@ -35,10 +38,10 @@ pub record AreDealt (worker : ℕ) (taken : List ℕ) (pushed left : List Job) :
   pub rising : IsRising taken
   pub pushed_rise : IsRising (numbers_of pushed)
   pub left_rise : IsRising (numbers_of left)
-  pub pushed_taken : Every (Has taken) (numbers_of pushed)
-  pub left_taken : Every (Has taken) (numbers_of left)
-  pub apart : Every (λ n. Every (λ m. n ≢ m) (numbers_of left)) (numbers_of pushed)
-  pub met_full : Every (MetFull worker) left
+  pub pushed_taken : AllByRecursion (Has taken) (numbers_of pushed)
+  pub left_taken : AllByRecursion (Has taken) (numbers_of left)
+  pub apart : AllByRecursion (λ n. AllByRecursion (λ m. n ≢ m) (numbers_of left)) (numbers_of pushed)
+  pub met_full : AllByRecursion (MetFull worker) left
 
 -- a worker of this room, which has as many jobs in hand as `held`
 pub record IsAtWork (room : Room) (held : ℕ) (desk : Desk) : Type 0 where
@@ -58,8 +61,8 @@ IsDealt desk = AreDealt desk.passes.number (view desk.passes.jobs).taken (view d
 pub record HasInHand (desk : Desk) (job : Job) : Type 0 where
   pub dealt : IsDealt desk
   pub taken : Has (view desk.passes.jobs).taken job.number
-  pub above_pushed : Every (λ n. n < job.number) (numbers_of (view desk.passes.outs).pushed)
-  pub above_left : Every (λ n. n < job.number) (numbers_of desk.left.items)
+  pub above_pushed : AllByRecursion (λ n. n < job.number) (numbers_of (view desk.passes.outs).pushed)
+  pub above_left : AllByRecursion (λ n. n < job.number) (numbers_of desk.left.items)
 
 -- The outcome was pushed, or it is left because there was no place for it.
 abbrev pub IsHandedOut : Desk → Job → Desk → Type 0

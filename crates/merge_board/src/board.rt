@@ -3,7 +3,8 @@
 ghost use Rattle.std.specs.Prelude.{◌≡◌, ◌+◌, IfOk, IfErr};
 ghost use Rattle.crossbeam_queue.specs.Fifo.{Held};
 ghost use Rattle.merge_board.specs.JobOrder.{Waiting};
-ghost use Rattle.merge_board.specs.Parts.{IsBoardIn, IsBoardEndIn, board_parts, board_end_parts, posted_by, posted_in_all};
+ghost use Rattle.merge_board.specs.Parts.{IsBoardIn, IsBoardEndIn, board_parts, board_end_parts, posted_by};
+ghost use Rattle.merge_board.specs.Parts.{posted_in_all};
 
 use crate::hand::Posts;
 use crate::parts::{Board, BoardEnd, Room};

@@ -1,7 +1,8 @@
 //! How outcomes are collected.
 
 ghost use Rattle.std.specs.Prelude.{◌≡◌, IfSome, IfNone};
-ghost use Rattle.merge_board.specs.Parts.{IsCollectorIn, IsCollectorEndIn, collector_parts, collector_end_parts, collected_by, collected_in_all, Grew, FoundNoOut};
+ghost use Rattle.merge_board.specs.Parts.{IsCollectorIn, IsCollectorEndIn, collector_parts, collector_end_parts};
+ghost use Rattle.merge_board.specs.Parts.{collected_by, collected_in_all, Grew, FoundNoOut};
 
 use crate::log::Collects;
 use crate::parts::{Collector, CollectorEnd, Room};

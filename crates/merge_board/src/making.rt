@@ -3,7 +3,7 @@
 ghost use Rattle.std.specs.Prelude.{◌≡◌, ◌≤◌, ◌+◌, ◌-◌, IfOk, OnOk, length, true};
 ghost use Rattle.crossbeam_queue.specs.Passes.{view, IsPassOf};
 ghost use Rattle.merge_board.specs.Hired.{AreHired};
-ghost use Rattle.merge_board.specs.Lists.{Every};
+ghost use Rattle.std.specs.List.{AllByRecursion};
 ghost use Rattle.merge_board.specs.Parts.{AreParts, IsWorkerOf};
 
 use crate::hand::{self, Hand, JobQueue};
@@ -62,7 +62,7 @@ fn hire_all(
     ensures jobs { IsPassOf room.now.jobs poster.new }
     ensures outs { IsPassOf room.now.outs gatherer.new }
     ensures hired { OnOk result (AreHired workers (view poster.new) (view gatherer.new)) }
-    ensures each { IfOk result (λ hired. Every (IsWorkerOf room.now) hired.items) }
+    ensures each { IfOk result (λ hired. AllByRecursion (IsWorkerOf room.now) hired.items) }
     ensures count { IfOk result (λ hired. length hired.items ≡ workers) }
 {
     let mut hired = Vec::with_capacity(alloc, workers as usize)?;

@@ -1,10 +1,9 @@
 //! How a room is settled once all its parts have ended.
 
 ghost use Rattle.std.specs.Prelude.{◌≡◌, ◌+◌, ◌<◌, ◌^◌, [], true, length, vec_len, IfOk};
-ghost use Rattle.std.specs.List.{sum_by};
+ghost use Rattle.std.specs.List.{AllByRecursion, sum_by};
 ghost use Rattle.crossbeam_queue.specs.Fifo.{Held};
 ghost use Rattle.crossbeam_queue.specs.Passes.{view, IsPassOf};
-ghost use Rattle.merge_board.specs.Lists.{Every};
 ghost use Rattle.merge_board.specs.Hands.{drawn, hand_with};
 ghost use Rattle.merge_board.specs.Logs.{pushed_count, log_with};
 ghost use Rattle.merge_board.specs.OutOrder.{Accounts};
@@ -57,8 +56,9 @@ impl Room {
     ) -> (u64, u64)
         requires jobs { IsPassOf self.now.jobs hand.old }
         requires outs { IsPassOf self.now.outs log.old }
-        requires ends { Every (IsWorkerEndOf self.now) ends.items }
-        requires none { AreTakenIn ends.items ends.items (view hand.old) (view hand.old) (view log.old) (view log.old) 0 0 }
+        requires ends { AllByRecursion (IsWorkerEndOf self.now) ends.items }
+        requires none { AreTakenIn ends.items ends.items (view hand.old) (view hand.old) (view log.old) (view log.old)
+            0 0 }
         ensures jobs { IsPassOf self.now.jobs hand.new }
         ensures outs { IsPassOf self.now.outs log.new }
         ensures all { AreTakenIn ends.items [] (view hand.old) (view hand.new) (view log.old) (view log.new)

@@ -1,5 +1,6 @@
 -- What the machine keeps, whatever happens.
-use Rattle.std.proofs.Common.{◌≡◌, ◌⊎◌, inl, inr, ℕ, zero, suc, ◌+◌, ◌≤◌, ◌<◌, List, [], ◌∷◌, ◌++◌, length, Option, Some, None}
+use Rattle.std.proofs.Common.{◌≡◌, ◌⊎◌, inl, inr, ℕ, zero, suc, ◌+◌, ◌≤◌, ◌<◌, List, [], ◌∷◌, ◌++◌, length, Option}
+use Rattle.std.proofs.Common.{Some, None}
 use Rattle.std.proofs.Common.{Ok, Err, IsSome, refl, sym, ap, subst, ◌∙◌, arith, append_assoc}
 use Rattle.std.specs.Prelude.{slice_get}
 use Rattle.std.proofs.lemmas.Bool.{cases_eq, cases_lt}
@@ -215,8 +216,8 @@ reopened s old new r closed count acked = record {
       inl (only (length new.log) place at (subst (λ (l : List ℕ). slice_get l place ≡ Some at) r.may e));
 }
 
-reopening_kept : (s : ClosingState) (old new : Machine) (r : IsReopening old new) → IsLeft r.count old new → IsSound s old
-    → IsSound s new
+reopening_kept : (s : ClosingState) (old new : Machine) (r : IsReopening old new) → IsLeft r.count old new
+    → IsSound s old → IsSound s new
 reopening_kept s old new r (inl (n, bytes, hand, c, closes, state, log)) sound =
     let more = closed_more s old.log sound.closed.0 old.state bytes c sound.closed.1 closes in
     let longer : length old.log ≤ length new.log =

@@ -1,6 +1,7 @@
--- The ledger as a machine, with merges that are made beside it. Records are taken and kept, ledgers close, merges begin,
--- are handed in at any time and are committed; and it may crash at any time and open again.
-use Rattle.std.specs.Prelude.{◌≡◌, ◌⊎◌, ℕ, ◌+◌, ◌≤◌, ◌<◌, List, [], ◌∷◌, ◌++◌, length, slice_get, Option, Some, None, Ok, IsSome}
+-- The ledger as a machine, with merges that are made beside it. Records are taken and kept, ledgers close, merges
+-- begin, are handed in at any time and are committed; and it may crash at any time and open again.
+use Rattle.std.specs.Prelude.{◌≡◌, ◌⊎◌, ℕ, ◌+◌, ◌≤◌, ◌<◌, List, [], ◌∷◌, ◌++◌, length, slice_get, Option, Some, None}
+use Rattle.std.specs.Prelude.{Ok, IsSome}
 use Rattle.bucket_core.specs.Bucket.{Contents}
 use Rattle.bucket_merge.specs.Merge.{IsMerge}
 use Rattle.bucket_levels.specs.Spills.{level_count}

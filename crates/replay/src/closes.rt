@@ -88,9 +88,8 @@ fn take_close<K: Keeper, V: Volume, O: Sink>(
         (DiskFailed K.stores (V.faults vol.old) (V.faults vol.new)) result }
     ensures later { O.faults out.old ≤ O.faults out.new }
     ensures vol_later { V.faults vol.old ≤ V.faults vol.new }
-    ensures kept { K.stores → V.tells → KeptClose ledger.old.state bytes.now ledger.new.state (seen O.taken O.faults out.old
-        out.new)
-        (V.disk vol.old) (V.disk vol.new) result }
+    ensures kept { K.stores → V.tells → KeptClose ledger.old.state bytes.now ledger.new.state
+        (seen O.taken O.faults out.old out.new) (V.disk vol.old) (V.disk vol.new) result }
     ensures works { IsNone result → K.works keeper.new }
     ensures keeps { K.stores → V.tells → IsNone result
         → Ready (K.keeps keeper.new (V.disk vol.new) ledger.new.state) (V.disk vol.new) ledger.new.state }
@@ -139,8 +138,8 @@ fn close_record<K: Keeper, V: Volume, O: Sink, L: Count>(
         (DiskFailed K.stores (V.faults vol.old) (V.faults vol.new)) result }
     ensures later { O.faults out.old ≤ O.faults out.new }
     ensures vol_later { V.faults vol.old ≤ V.faults vol.new }
-    ensures kept { K.stores → V.tells → KeptClose ledger.old.state text.now ledger.new.state (seen O.taken O.faults out.old out.new)
-        (V.disk vol.old) (V.disk vol.new) result }
+    ensures kept { K.stores → V.tells → KeptClose ledger.old.state text.now ledger.new.state
+        (seen O.taken O.faults out.old out.new) (V.disk vol.old) (V.disk vol.new) result }
     ensures works { IsNone result → K.works keeper.new }
     ensures keeps { K.stores → V.tells → IsNone result
         → Ready (K.keeps keeper.new (V.disk vol.new) ledger.new.state) (V.disk vol.new) ledger.new.state }
@@ -166,8 +165,8 @@ fn pass_record<K: Keeper, V: Volume, O: Sink, L: Count>(
     requires works { K.works keeper.old }
     requires ready { K.stores → V.tells → Ready (K.keeps keeper.old (V.disk vol.old) ledger.old.state) (V.disk vol.old)
         ledger.old.state }
-    ensures passes { Passes ledger.old.state ahead.old.items end ledger.new.state (seen O.taken O.faults out.old out.new)
-        (DiskFailed K.stores (V.faults vol.old) (V.faults vol.new)) result }
+    ensures passes { Passes ledger.old.state ahead.old.items end ledger.new.state
+        (seen O.taken O.faults out.old out.new) (DiskFailed K.stores (V.faults vol.old) (V.faults vol.new)) result }
     ensures fits { IsBytes ahead.old.items }
     ensures rest { IsNone result → ahead.new.items ≡ drop end ahead.old.items }
     ensures later { O.faults out.old ≤ O.faults out.new }

@@ -95,8 +95,9 @@ pub fn reopened_volumes_are_sound<V: Volume>(old: &V, new: &V, again: &V)
 
 // ---- with merges beside it
 
-/// Whatever merges are handed in, and wherever it crashes, the ledger is what its records come to with no merge but their
-/// own; at least as many are closed as are acknowledged, and a crash leaves these, or with them the record in hand.
+/// Whatever merges are handed in, and wherever it crashes, the ledger is what its records come to with no merge but
+/// their own; at least as many are closed as are acknowledged, and a crash leaves these, or with them the record in
+/// hand.
 pub fn machines_keep_up()
     ensures { machine.MachinesKeepUp }
 {}

@@ -56,6 +56,30 @@ closed_lines header pairs = flat_map tx_line pairs ++ closed_line header pairs
 unfoldable pub end_line : LedgerHeader → List ℕ
 end_line header = ended_line (codes "end " ++ decimal header.ledger_seq ++ spaced (hash_text (ledger_hash_of header)))
 
+-- ---- a ledger that is shown
+
+-- `ledger <ledger> <hash of its header>`
+unfoldable pub ledger_line : LedgerHeader → List ℕ
+ledger_line header =
+    ended_line (codes "ledger " ++ decimal header.ledger_seq ++ spaced (hash_text (ledger_hash_of header)))
+
+-- `epoch <epoch> records <records behind its image>`
+unfoldable pub epoch_line : (epoch records : ℕ) → List ℕ
+epoch_line epoch records = ended_line (codes "epoch " ++ decimal epoch ++ codes " records " ++ decimal records)
+
+-- `lumens <all that there are> <fees of them>`
+unfoldable pub lumens_line : LedgerHeader → List ℕ
+lumens_line header =
+    ended_line (codes "lumens" ++ spaced (signed_decimal header.total_coins) ++ spaced (signed_decimal header.fee_pool))
+
+-- `entries <entries>`
+unfoldable pub entries_line : (entries : ℕ) → List ℕ
+entries_line entries = ended_line (codes "entries " ++ decimal entries)
+
+unfoldable pub shown_lines : LedgerHeader → (epoch records entries : ℕ) → List ℕ
+shown_lines header epoch records entries =
+    ledger_line header ++ epoch_line epoch records ++ lumens_line header ++ entries_line entries
+
 -- ---- refused records
 
 abbrev pub kind_name : XdrKind → List ℕ

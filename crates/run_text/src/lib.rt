@@ -4,8 +4,10 @@
 mod closed;
 mod pieces;
 mod refused;
+mod shown;
 mod status_line;
 
 pub use closed::{closed_text, end_text};
 pub use refused::refused_text;
+pub use shown::shown_text;
 pub use status_line::{bad_image_line, bad_input_line, bad_store_line};

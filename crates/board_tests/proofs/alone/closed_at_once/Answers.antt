@@ -1,5 +1,5 @@
 use Rattle.std.proofs.Common.{◌≡◌, List, [], ◌∷◌, ◌++◌, length, ap, sym, subst, ◌∙◌, arith}
-use Rattle.merge_board.specs.Lists.{Every}
+use Rattle.std.specs.List.{AllByRecursion}
 use Rattle.merge_board.specs.Parts.{IsWorkerEndOf}
 use Rattle.merge_board.specs.declared.parts.WorkerEnd.{WorkerEnd}
 use Rattle.board_tests.proofs.alone.closed_at_once.Goals as goal
@@ -15,7 +15,7 @@ settle-requires g c =
     ∙ ap (λ (l : List WorkerEnd). l ++ end ∷ []) c.new-ends.ensures.items in record {
       board_in = c.close-board.ensures.room;
       board_has = omega (arith, c.close-board.ensures.parts, ap length items);
-      each = subst (Every (IsWorkerEndOf room)) (sym items) (c.run-end.ensures.room, tt);
+      each = subst (AllByRecursion (IsWorkerEndOf room)) (sym items) (c.run-end.ensures.room, tt);
       collector_in = c.finish.ensures.room room made.collector;
       collector_has = omega (arith, c.finish.ensures.parts, ap length items);
     }

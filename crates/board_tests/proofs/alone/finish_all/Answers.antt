@@ -1,5 +1,5 @@
 use Rattle.std.proofs.Common.{◌+◌, [], ◌∷◌, length, length-append, ap, sym, subst, arith}
-use Rattle.merge_board.specs.Lists.{Every}
+use Rattle.std.specs.List.{AllByRecursion}
 use Rattle.merge_board.specs.Parts.{IsWorkerOf, IsWorkerEndOf}
 use Rattle.merge_board.proofs.Lists.{every_front, every_snoc}
 use Rattle.board_tests.proofs.alone.finish_all.Goals as goal
@@ -12,10 +12,11 @@ loop-worker-preserved c =
     let worker = c.in-Some.worker in
     let is = c.in-Some.ensures.items in
     let more = c.in_ok-push.ensures.items in
-    let all = every_front (IsWorkerOf room) rest worker (subst (Every (IsWorkerOf room)) is it.invariant.workers) in
+    let all = every_front (IsWorkerOf room) rest worker
+    (subst (AllByRecursion (IsWorkerOf room)) is it.invariant.workers) in
     let count = it.invariant.count in record {
       workers = all.0;
-      ends = subst (Every (IsWorkerEndOf room)) (sym more)
+      ends = subst (AllByRecursion (IsWorkerEndOf room)) (sym more)
           (every_snoc (IsWorkerEndOf room) it.ends.items c.finish.result
           it.invariant.ends (c.finish.ensures.room room all.1));
       count = omega (

@@ -1,12 +1,12 @@
 use Rattle.std.proofs.Common.{◌≡◌, ◌+◌, length, vec_len}
-use Rattle.merge_board.specs.Lists.{Every}
+use Rattle.std.specs.List.{AllByRecursion}
 use Rattle.merge_board.specs.Parts.{IsWorkerOf, IsWorkerEndOf}
 use Rattle.board_tests.proofs.alone.finish_all.Given as goal
 
 abbrev pub invariant-loop-worker : goal.invariant-loop-worker
 invariant-loop-worker l = record {
-  workers : Every (IsWorkerOf l.room) l.workers.items;
-  ends : Every (IsWorkerEndOf l.room) l.ends.items;
+  workers : AllByRecursion (IsWorkerOf l.room) l.workers.items;
+  ends : AllByRecursion (IsWorkerEndOf l.room) l.ends.items;
   count : length l.ends.items + length l.workers.items ≡ length l.initial.workers.items;
 }
 

@@ -1,6 +1,6 @@
 use Rattle.std.proofs.Common.{◌≡◌, length}
 use Rattle.crossbeam_queue.specs.Passes.{view, IsPassOf}
-use Rattle.merge_board.specs.Lists.{Every}
+use Rattle.std.specs.List.{AllByRecursion}
 use Rattle.merge_board.specs.Parts.{IsWorkerOf}
 use Rattle.merge_board.specs.Hired.{AreHired}
 use Rattle.merge_board.proofs.making.hire_all.Given as goal
@@ -10,6 +10,6 @@ invariant-loop-number l = record {
   jobs : IsPassOf l.room.jobs l.poster;
   outs : IsPassOf l.room.outs l.gatherer;
   hired : AreHired l.number (view l.poster) (view l.gatherer);
-  each : Every (IsWorkerOf l.room) l.hired.items;
+  each : AllByRecursion (IsWorkerOf l.room) l.hired.items;
   count : length l.hired.items ≡ l.number;
 }

@@ -7,9 +7,11 @@ use Rattle.replay.proofs.again.close_again.Goals as goal
 pub returns-in-Err-Refused : goal.returns-in-Err-Refused
 returns-in-Err-Refused g c =
     let h = rw c.in-Err-Refused.field-0-is at c.in-Err-Refused.ensures in
-    refused_at c.args.ledger.now.state c.loop-i.ledger.state c.args.closes.now c.loop-i.i c.index-closes-i.result c.loop-i.at h.0
+    refused_at c.args.ledger.now.state c.loop-i.ledger.state c.args.closes.now c.loop-i.i c.index-closes-i.result
+    c.loop-i.at h.0
     c.loop-i-test.true c.index-closes-i.is c.loop-i.invariant.closed
-    (subst (λ (b : List ℕ). IsClose c.loop-i.ledger.state b (Err h.0)) c.as_slice-bytes.ensures h.1) c.loop-i.invariant.at
+    (subst (λ (b : List ℕ). IsClose c.loop-i.ledger.state b (Err h.0)) c.as_slice-bytes.ensures h.1)
+    c.loop-i.invariant.at
 
 pub overflow_add-at-in-loop-i : goal.overflow_add-at-in-loop-i
 overflow_add-at-in-loop-i g c =
@@ -27,7 +29,8 @@ loop-i-preserved g c =
     let h = c.in-Ok.ensures in
     record {
       le = omega (arith, test);
-      closed = again_more c.args.ledger.now.state c.loop-i.ledger.state c.close_one.new.ledger.state c.args.closes.now c.loop-i.i
+      closed = again_more c.args.ledger.now.state c.loop-i.ledger.state c.close_one.new.ledger.state
+          c.args.closes.now c.loop-i.i
           c.index-closes-i.result h.0 c.loop-i-test.true c.index-closes-i.is c.loop-i.invariant.closed
           (subst (λ (b : List ℕ). IsClose c.loop-i.ledger.state b (Ok h.0)) c.as_slice-bytes.ensures h.1) h.2;
       at = omega (arith, same, place);

@@ -7,7 +7,8 @@ use Rattle.replay.proofs.closes.close_record.Goals as goal
 
 pub returns-in-Err-clause-closes : goal.returns-in-Err-clause-closes
 returns-in-Err-clause-closes g c =
-    stops_of c.args.ledger.now.state c.args.text.now (seen g.O.Sink.taken g.O.Sink.faults c.args.out.now c.refuse.new.out)
+    stops_of c.args.ledger.now.state c.args.text.now
+    (seen g.O.Sink.taken g.O.Sink.faults c.args.out.now c.refuse.new.out)
     (DiskFailed g.K.Keeper.stores (g.V.Volume.faults c.args.vol.now) (g.V.Volume.faults c.args.vol.now))
     c.in-Err.fault c.refuse.result c.in-Err.ensures.answers c.refuse.ensures.refuses
 

@@ -11,14 +11,16 @@ use Rattle.replay.proofs.closes.follow.Given as goal
 abbrev pub invariant-loop-end : goal.invariant-loop-end
 invariant-loop-end g l = record {
   carries : (now out_now : Option (List ℕ)) (faults out_faults vol_faults : ℕ) (end : Status)
-      → Followed l.ledger.state l.at l.ahead.items (over (g.I.Source.left l.input) now (g.I.Source.faults l.input) faults)
+      → Followed l.ledger.state l.at l.ahead.items
+      (over (g.I.Source.left l.input) now (g.I.Source.faults l.input) faults)
       (over (g.O.Sink.taken l.out) out_now (g.O.Sink.faults l.out) out_faults)
       (DiskFailed g.K.Keeper.stores (g.V.Volume.faults l.vol) vol_faults) end
       → Followed l.initial.ledger.state l.initial.at l.initial.ahead.items
       (over (g.I.Source.left l.initial.input) now (g.I.Source.faults l.initial.input) faults)
       (over (g.O.Sink.taken l.initial.out) out_now (g.O.Sink.faults l.initial.out) out_faults)
       (DiskFailed g.K.Keeper.stores (g.V.Volume.faults l.initial.vol) vol_faults) end;
-  carries_kept : g.K.Keeper.stores → g.V.Volume.tells → CarriesKept g.V.Volume.disk l.ledger.state l.initial.ledger.state
+  carries_kept : g.K.Keeper.stores → g.V.Volume.tells
+      → CarriesKept g.V.Volume.disk l.ledger.state l.initial.ledger.state
       l.at l.initial.at l.ahead.items l.initial.ahead.items
       (seen g.I.Source.left g.I.Source.faults l.input l.input)
       (seen g.I.Source.left g.I.Source.faults l.initial.input l.initial.input)

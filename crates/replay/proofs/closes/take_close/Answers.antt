@@ -30,7 +30,8 @@ returns-clause-closes g c =
     let text : c.as_slice.result.now ≡ lines_of closed = search rules in
     let late : Type 0 = DiskFailed g.K.Keeper.stores mid after in
     let any : Type 0 = DiskFailed g.K.Keeper.stores before after in
-    closed_told c.args.ledger.now.state c.args.bytes.now closed c.install.new.self.state out late any c.tell_close.result
+    closed_told c.args.ledger.now.state c.args.bytes.now closed c.install.new.self.state out late any
+    c.tell_close.result
     c.requires.closes c.install.ensures.state
     (λ failed. (failed.0, rose_before before mid after c.keep.ensures.cause.later failed.1))
     (subst (λ (t : List ℕ). Told t out late c.tell_close.result) text c.tell_close.ensures.told)

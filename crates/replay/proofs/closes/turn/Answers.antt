@@ -25,7 +25,8 @@ pub returns-in-Ok-clause-kept : goal.returns-in-Ok-clause-kept
 returns-in-Ok-clause-kept g c st te =
     let p = c.pass_record-stopped in
     let r = c.requires.ready st te in
-    kept_at c.args.ledger.now.state c.args.at.now c.args.ahead.now.items c.read_piece.new.ahead.items c.in-Ok.end p.new.ledger.state
+    kept_at c.args.ledger.now.state c.args.at.now c.args.ahead.now.items c.read_piece.new.ahead.items c.in-Ok.end
+    p.new.ledger.state
     (seen g.I.Source.left g.I.Source.faults c.args.input.now c.read_piece.new.source)
     (seen g.O.Sink.taken g.O.Sink.faults c.args.out.now p.new.out) (g.V.Volume.disk c.args.vol.now)
     (g.V.Volume.disk p.new.vol) p.result p.ensures.fits c.in-Ok.ensures.piece.0 c.in-Ok.ensures.piece.1 r.safe r.opens

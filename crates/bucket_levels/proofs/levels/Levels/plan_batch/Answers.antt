@@ -27,8 +27,9 @@ loop-level-preserved g c =
     let items = pushed c.loop-level.pairs.items c.push.new.self.items pair c.in_ok-push.ensures.items in
     record {
       planned = subst (λ (pairs : List Pair). ArePlanned seq c.args.fresh.value old (level + 1) pairs) (sym items)
-          (one_more_level empty_pair (IsPairAfter seq c.args.fresh.value old) level (map pair_of c.loop-level.pairs.items)
-          (pair_of pair) c.loop-level.invariant.planned c.in_ok-pair_after.ensures.pair);
+          (one_more_level empty_pair (IsPairAfter seq c.args.fresh.value old) level
+          (map pair_of c.loop-level.pairs.items) (pair_of pair) c.loop-level.invariant.planned
+          c.in_ok-pair_after.ensures.pair);
       most = work_follows seq c.args.fresh.value c.args.self.now level c.args.steps.now c.loop-level.steps
           c.pair_after.new.steps c.loop-level.invariant.most c.pair_after.ensures.most;
     }

@@ -1,4 +1,4 @@
-use Rattle.std.proofs.Common.{ℕ, refl, sym, ap, ◌∙◌, subst, arith}
+use Rattle.std.proofs.Common.{◌≡◌, ◌≤◌, None, length, ℕ, refl, sym, ap, ◌∙◌, subst, arith}
 use Rattle.entry_changes.specs.Next.{IsExactBatch}
 use Rattle.ledger_close.specs.declared.apply.Worked.{Worked}
 use Rattle.ledger_close.specs.Counted.{AreStepsTo, AreStepsWith}
@@ -11,7 +11,9 @@ use Rattle.xdr_header.specs.declared.record.CloseRecord.{CloseRecord}
 use Rattle.entry_map.specs.EntryMap.{EntryMap, IsKeyed}
 use Rattle.bucket_levels.specs.Hash.{list_hash}
 use Rattle.header_chain.specs.SkipList.{finished}
-use Rattle.close_rules.specs.State.{ClosingState, IsClosingState}
+use Rattle.xdr_header.specs.Records.{close_record}
+use Rattle.close_rules.specs.State.{ClosingState, IsClosingState, IsSpelled}
+use Rattle.close_rules.specs.Refusals.{record_fault}
 use Rattle.close_rules.specs.Close.{IsClosed, upgraded_header}
 use Rattle.close_laws.specs.Legal.{IsClosable, AreClosed, NextIsLegal}
 use Rattle.close_laws.proofs.Unrefused.{seq_below}
@@ -27,10 +29,22 @@ keyed_behind : NextIsLegal → (s : ClosingState) (closing : CloseRecord) (after
 keyed_behind law s closing after can closed =
     keyed_by after (law s closing after s.header.bucket_list_hash can closed).keyed
 
+-- the record closes the ledger whose state this is
+closable_by : (own now : LedgerAt) (closing : CloseRecord) → own ≡ now → IsClosingState own.state
+    → IsSpelled close_record closing → record_fault now.state closing ≡ None → length closing.tx_set.txs ≤ 16777216
+    → IsClosable now.state closing
+closable_by own now closing is state spelled unrefused few = record {
+  state = subst (λ (l : LedgerAt). IsClosingState l.state) is state;
+  spelled = spelled;
+  unrefused = unrefused;
+  few = few;
+}
+
 -- the steps of a close are those of its levels
 counted : NextIsLegal → (l : LedgerAt) (closing : CloseRecord) (worked : Worked) (old new : ℕ)
     → IsClosable l.state closing → Leaves l.state closing worked
-    → ((after : EntryMap) → IsExactBatch l.state.entries after worked.batch → IsKeyed after → AreStepsTo l after old new)
+    → ((after : EntryMap) → IsExactBatch l.state.entries after worked.batch → IsKeyed after
+    → AreStepsTo l after old new)
     → AreStepsWith l closing old new
 counted law l closing worked old new can left few =
     steps_with l closing worked.entries old new can.unrefused left.entries
@@ -43,14 +57,8 @@ level-requires-clause-seq g c =
 
 pub level-requires-clause-spellable : goal.level-requires-clause-spellable
 level-requires-clause-spellable g c =
-    let state = subst (λ (l : LedgerAt). IsClosingState l.state) c.self.view_is c.self.invariant.state in
-    let can : IsClosable c.args.self.now.state c.args.closing =
-    record {
-      state = state;
-      spelled = c.requires.spelled;
-      unrefused = c.requires.unrefused;
-      few = c.requires.few;
-    } in (
+    let can = closable_by _ c.args.self.now c.args.closing c.self.view_is c.self.invariant.state
+    c.requires.spelled c.requires.unrefused c.requires.few in (
       c.args.worked.entries,
       c.requires.worked.batch,
       c.entries_stay_spellable.ensures c.args.self.now.state c.args.closing c.args.worked.entries can
@@ -59,14 +67,8 @@ level-requires-clause-spellable g c =
 
 pub file_total-bytes-requires : goal.file_total-bytes-requires
 file_total-bytes-requires g c =
-    let state = subst (λ (l : LedgerAt). IsClosingState l.state) c.self.view_is c.self.invariant.state in
-    let can : IsClosable c.args.self.now.state c.args.closing =
-    record {
-      state = state;
-      spelled = c.requires.spelled;
-      unrefused = c.requires.unrefused;
-      few = c.requires.few;
-    } in
+    let can = closable_by _ c.args.self.now c.args.closing c.self.view_is c.self.invariant.state
+    c.requires.spelled c.requires.unrefused c.requires.few in
     let keyed = keyed_behind c.next_is_legal.ensures c.args.self.now.state c.args.closing c.args.worked.entries can
     c.requires.worked.entries in
     let leveled = c.in_ok-step.ensures.levels c.args.worked.entries c.requires.worked.batch keyed in
@@ -75,14 +77,8 @@ file_total-bytes-requires g c =
 pub returns-then-bytes-gt-MAX_FILE_TOTAL-clause-finished : goal.returns-then-bytes-gt-MAX_FILE_TOTAL-clause-finished
 returns-then-bytes-gt-MAX_FILE_TOTAL-clause-finished g c =
     let s = c.args.self.now.state in
-    let state = subst (λ (l : LedgerAt). IsClosingState l.state) c.self.view_is c.self.invariant.state in
-    let can : IsClosable s c.args.closing =
-    record {
-      state = state;
-      spelled = c.requires.spelled;
-      unrefused = c.requires.unrefused;
-      few = c.requires.few;
-    } in
+    let can = closable_by _ c.args.self.now c.args.closing c.self.view_is c.self.invariant.state
+    c.requires.spelled c.requires.unrefused c.requires.few in
     let keyed = keyed_behind c.next_is_legal.ensures s c.args.closing c.args.worked.entries can
     c.requires.worked.entries in
     let leveled = subst (λ (h : LedgerHeader). IsLeveled s h.ledger_version c.args.worked.entries c.in_ok-step.step)
@@ -102,31 +98,25 @@ head-requires-clause-seq g c =
 
 pub head-requires-clause-results : goal.head-requires-clause-results
 head-requires-clause-results g c =
-    let state = subst (λ (l : LedgerAt). IsClosingState l.state) c.self.view_is c.self.invariant.state in
     results_spelled c.results_are_spelled.ensures c.args.self.now.state c.args.closing c.args.worked.done.results
-    (record { state = state; spelled = c.requires.spelled; unrefused = c.requires.unrefused; few = c.requires.few })
+    (closable_by _ c.args.self.now c.args.closing c.self.view_is c.self.invariant.state
+    c.requires.spelled c.requires.unrefused c.requires.few)
     c.requires.worked.done.results
 
 pub ledger_hash-requires : goal.ledger_hash-requires
 ledger_hash-requires g c =
-    let state = subst (λ (l : LedgerAt). IsClosingState l.state) c.self.view_is c.self.invariant.state in
     header_spelled c.next_header_is_spelled.ensures c.args.self.now.state c.args.closing c.in_ok-step.step
     c.in_ok-header.header
-    (record { state = state; spelled = c.requires.spelled; unrefused = c.requires.unrefused; few = c.requires.few })
+    (closable_by _ c.args.self.now c.args.closing c.self.view_is c.self.invariant.state
+    c.requires.spelled c.requires.unrefused c.requires.few)
     (c.in_ok-header.ensures c.args.closing refl c.requires.next c.requires.worked.done)
 
 pub invariant_of-result : goal.invariant_of-result
 invariant_of-result g c =
     let s = c.args.self.now.state in
     let closing = c.args.closing in
-    let state = subst (λ (l : LedgerAt). IsClosingState l.state) c.self.view_is c.self.invariant.state in
-    let can : IsClosable s closing =
-    record {
-      state = state;
-      spelled = c.requires.spelled;
-      unrefused = c.requires.unrefused;
-      few = c.requires.few;
-    } in
+    let can = closable_by _ c.args.self.now c.args.closing c.self.view_is c.self.invariant.state
+    c.requires.spelled c.requires.unrefused c.requires.few in
     let keyed = keyed_behind c.next_is_legal.ensures s closing c.args.worked.entries can c.requires.worked.entries in
     let leveled = c.in_ok-step.ensures.levels c.args.worked.entries c.requires.worked.batch keyed in
     let header_is = c.in_ok-header.ensures closing refl c.requires.next c.requires.worked.done in
@@ -142,14 +132,8 @@ returns-clause-finished g c =
     let closing = c.args.closing in
     let worked = c.args.worked in
     let step = c.in_ok-step.step in
-    let state = subst (λ (l : LedgerAt). IsClosingState l.state) c.self.view_is c.self.invariant.state in
-    let can : IsClosable s closing =
-    record {
-      state = state;
-      spelled = c.requires.spelled;
-      unrefused = c.requires.unrefused;
-      few = c.requires.few;
-    } in
+    let can = closable_by _ c.args.self.now c.args.closing c.self.view_is c.self.invariant.state
+    c.requires.spelled c.requires.unrefused c.requires.few in
     let keyed = keyed_behind c.next_is_legal.ensures s closing worked.entries can c.requires.worked.entries in
     let leveled = subst (λ (h : LedgerHeader). IsLeveled s h.ledger_version worked.entries step) c.requires.next
     (c.in_ok-step.ensures.levels worked.entries c.requires.worked.batch keyed) in
@@ -167,45 +151,30 @@ returns-clause-finished g c =
 
 pub returns-in_err-step-clause-steps : goal.returns-in_err-step-clause-steps
 returns-in_err-step-clause-steps g c =
-    counted c.next_is_legal.ensures c.args.self.now c.args.closing c.args.worked _ _ (record {
-      state = subst (λ (l : LedgerAt). IsClosingState l.state) c.self.view_is c.self.invariant.state;
-      spelled = c.requires.spelled;
-      unrefused = c.requires.unrefused;
-      few = c.requires.few;
-    }) c.requires.worked c.level.ensures.steps
+    counted c.next_is_legal.ensures c.args.self.now c.args.closing c.args.worked _ _
+    (closable_by _ c.args.self.now c.args.closing c.self.view_is c.self.invariant.state c.requires.spelled
+    c.requires.unrefused c.requires.few) c.requires.worked c.level.ensures.steps
 
 pub returns-then-bytes-gt-MAX_FILE_TOTAL-clause-steps : goal.returns-then-bytes-gt-MAX_FILE_TOTAL-clause-steps
 returns-then-bytes-gt-MAX_FILE_TOTAL-clause-steps g c =
-    counted c.next_is_legal.ensures c.args.self.now c.args.closing c.args.worked _ _ (record {
-      state = subst (λ (l : LedgerAt). IsClosingState l.state) c.self.view_is c.self.invariant.state;
-      spelled = c.requires.spelled;
-      unrefused = c.requires.unrefused;
-      few = c.requires.few;
-    }) c.requires.worked c.level.ensures.steps
+    counted c.next_is_legal.ensures c.args.self.now c.args.closing c.args.worked _ _
+    (closable_by _ c.args.self.now c.args.closing c.self.view_is c.self.invariant.state c.requires.spelled
+    c.requires.unrefused c.requires.few) c.requires.worked c.level.ensures.steps
 
 pub returns-in_err-header-clause-steps : goal.returns-in_err-header-clause-steps
 returns-in_err-header-clause-steps g c =
-    counted c.next_is_legal.ensures c.args.self.now c.args.closing c.args.worked _ _ (record {
-      state = subst (λ (l : LedgerAt). IsClosingState l.state) c.self.view_is c.self.invariant.state;
-      spelled = c.requires.spelled;
-      unrefused = c.requires.unrefused;
-      few = c.requires.few;
-    }) c.requires.worked c.level.ensures.steps
+    counted c.next_is_legal.ensures c.args.self.now c.args.closing c.args.worked _ _
+    (closable_by _ c.args.self.now c.args.closing c.self.view_is c.self.invariant.state c.requires.spelled
+    c.requires.unrefused c.requires.few) c.requires.worked c.level.ensures.steps
 
 pub returns-in_err-digest-clause-steps : goal.returns-in_err-digest-clause-steps
 returns-in_err-digest-clause-steps g c =
-    counted c.next_is_legal.ensures c.args.self.now c.args.closing c.args.worked _ _ (record {
-      state = subst (λ (l : LedgerAt). IsClosingState l.state) c.self.view_is c.self.invariant.state;
-      spelled = c.requires.spelled;
-      unrefused = c.requires.unrefused;
-      few = c.requires.few;
-    }) c.requires.worked c.level.ensures.steps
+    counted c.next_is_legal.ensures c.args.self.now c.args.closing c.args.worked _ _
+    (closable_by _ c.args.self.now c.args.closing c.self.view_is c.self.invariant.state c.requires.spelled
+    c.requires.unrefused c.requires.few) c.requires.worked c.level.ensures.steps
 
 pub returns-clause-steps : goal.returns-clause-steps
 returns-clause-steps g c =
-    counted c.next_is_legal.ensures c.args.self.now c.args.closing c.args.worked _ _ (record {
-      state = subst (λ (l : LedgerAt). IsClosingState l.state) c.self.view_is c.self.invariant.state;
-      spelled = c.requires.spelled;
-      unrefused = c.requires.unrefused;
-      few = c.requires.few;
-    }) c.requires.worked c.level.ensures.steps
+    counted c.next_is_legal.ensures c.args.self.now c.args.closing c.args.worked _ _
+    (closable_by _ c.args.self.now c.args.closing c.self.view_is c.self.invariant.state c.requires.spelled
+    c.requires.unrefused c.requires.few) c.requires.worked c.level.ensures.steps

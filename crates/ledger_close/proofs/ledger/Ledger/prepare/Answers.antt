@@ -10,7 +10,8 @@ close-requires-clause-few g c =
 
 pub returns-clause-answers : goal.returns-clause-answers
 returns-clause-answers g c =
-    answered c.args.self.now.state c.args.bytes.now c.in-Ok.closing c.close.result (λ i. omega (arith, c.type_inv.bytes i))
+    answered c.args.self.now.state c.args.bytes.now c.in-Ok.closing c.close.result
+    (λ i. omega (arith, c.type_inv.bytes i))
     c.in-Ok.ensures.0 c.close.ensures.closed
 
 pub returns-clause-steps : goal.returns-clause-steps

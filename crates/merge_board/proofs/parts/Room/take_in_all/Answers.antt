@@ -1,6 +1,6 @@
 use Rattle.std.proofs.Common.{◌+◌, sym, subst}
 use Rattle.crossbeam_queue.specs.Passes.{view}
-use Rattle.merge_board.specs.Lists.{Every}
+use Rattle.std.specs.List.{AllByRecursion}
 use Rattle.merge_board.specs.Parts.{IsWorkerEndOf}
 use Rattle.merge_board.specs.Settling.{AreTakenIn}
 use Rattle.merge_board.specs.declared.hand.Hand.{Hand}
@@ -18,8 +18,10 @@ loop-end-preserved c =
     let is = c.in-Some.ensures.items in record {
       jobs = c.take_in.ensures.jobs;
       outs = c.take_in.ensures.outs;
-      ends = (every_front (IsWorkerEndOf room) rest end (subst (Every (IsWorkerEndOf room)) is it.invariant.ends)).0;
-      all = subst (λ (x : Hand × Log). AreTakenIn c.args.ends.items rest (view c.args.hand.now) x.0 (view c.args.log.now) x.1
+      ends = (every_front (IsWorkerEndOf room) rest end
+          (subst (AllByRecursion (IsWorkerEndOf room)) is it.invariant.ends)).0;
+      all = subst (λ (x : Hand × Log).
+          AreTakenIn c.args.ends.items rest (view c.args.hand.now) x.0 (view c.args.log.now) x.1
           (it.taken + end.taken) (it.pushed + end.pushed))
           (λ i. (sym c.take_in.ensures.hand i, sym c.take_in.ensures.log i))
           (one_taken_in c.args.ends.items rest it.ends.items end (view c.args.hand.now) (view it.hand)

@@ -1,6 +1,6 @@
 use Rattle.std.proofs.Common.{vec_len}
 use Rattle.crossbeam_queue.specs.Passes.{view, IsPassOf}
-use Rattle.merge_board.specs.Lists.{Every}
+use Rattle.std.specs.List.{AllByRecursion}
 use Rattle.merge_board.specs.Parts.{IsWorkerEndOf}
 use Rattle.merge_board.specs.Settling.{AreTakenIn}
 use Rattle.merge_board.proofs.parts.Room.take_in_all.Given as goal
@@ -9,8 +9,9 @@ abbrev pub invariant-loop-end : goal.invariant-loop-end
 invariant-loop-end l = record {
   jobs : IsPassOf l.self.jobs l.hand;
   outs : IsPassOf l.self.outs l.log;
-  ends : Every (IsWorkerEndOf l.self) l.ends.items;
-  all : AreTakenIn l.initial.ends.items l.ends.items (view l.initial.hand) (view l.hand) (view l.initial.log) (view l.log)
+  ends : AllByRecursion (IsWorkerEndOf l.self) l.ends.items;
+  all : AreTakenIn l.initial.ends.items l.ends.items (view l.initial.hand) (view l.hand) (view l.initial.log)
+      (view l.log)
       l.taken l.pushed;
 }
 

@@ -1,0 +1,8 @@
+pub mod Options
+pub mod Names
+pub mod OneCommand
+pub mod Numbers
+pub mod Judging
+pub mod Forms
+pub mod Shapes
+pub mod Reading

@@ -1,0 +1,85 @@
+-- Words are an option of a name in one way.
+use Rattle.std.proofs.Common.{◌≡◌, ◌∙◌, ℕ, arith, ap, refl, sym, inl, inr, List, [], ◌∷◌, ◌++◌, length, length-append}
+use Rattle.std.proofs.Common.{append-nil, append_assoc, codes, slice_index, false, nat_eq, eq-eqb, true≢false}
+use Rattle.command_words.specs.Words.{IsOption, IsNumberOption, option_word}
+
+-- texts whose third bytes differ
+pub apart : {P : Type 0} (a b : List ℕ) → nat_eq (slice_index a 2) (slice_index b 2) ≡ false → a ≡ b → P
+apart a b differ e =
+    let same = eq-eqb (slice_index a 2) (slice_index b 2) (ap (λ t. slice_index t 2) e) in
+    absurd (true≢false (sym same ∙ differ))
+
+-- the word of an option isn't one that has a value behind an equals sign
+never_joined : (name value : List ℕ) → option_word name ≡ option_word name ++ codes "=" ++ value → ⊥
+never_joined name value e = omega (arith, simp length-append at (ap length e))
+
+joined_one : (front value other : List ℕ) → front ++ codes "=" ++ value ≡ front ++ codes "=" ++ other → value ≡ other
+joined_one [] value other e = cc
+joined_one (x ∷ front) value other e = joined_one front value other cc
+
+-- ---- in front of other words
+
+module _ (name value other : List ℕ) (front front' rest rest' : List (List ℕ)) where
+  pub front_one : IsOption name value front → IsOption name other front' → front ++ rest ≡ front' ++ rest'
+      → (value ≡ other) × (front ≡ front') × (rest ≡ rest')
+  front_one (some, inl (is, plain)) (some', inl (is', plain')) e =
+      let same : option_word name ∷ value ∷ rest ≡ option_word name ∷ other ∷ rest' = cc in (cc, cc, cc)
+  front_one (some, inl (is, plain)) (some', inr is') e =
+      let same : option_word name ∷ value ∷ rest ≡ (option_word name ++ codes "=" ++ other) ∷ rest' = cc in
+      absurd (never_joined name other cc)
+  front_one (some, inr is) (some', inl (is', plain')) e =
+      let same : (option_word name ++ codes "=" ++ value) ∷ rest ≡ option_word name ∷ other ∷ rest' = cc in
+      absurd (never_joined name value cc)
+  front_one (some, inr is) (some', inr is') e =
+      let same : (option_word name ++ codes "=" ++ value) ∷ rest ≡ (option_word name ++ codes "=" ++ other) ∷ rest' =
+      cc in
+      let values : value ≡ other = joined_one (option_word name) value other cc in
+      (values, cc, cc)
+
+pub option_one : (name value other : List ℕ) (words : List (List ℕ)) → IsOption name value words
+    → IsOption name other words → value ≡ other
+option_one name value other words is is' = (front_one name value other words words [] [] is is' refl).0
+
+-- ---- options that are numbers
+
+module _ (name : List ℕ) (n m : ℕ) (front front' rest rest' : List (List ℕ)) where
+  pub numbers_one : IsNumberOption name n front → IsNumberOption name m front' → front ++ rest ≡ front' ++ rest'
+      → (n ≡ m) × (rest ≡ rest')
+  numbers_one is is' e =
+      let one = front_one name is.value is'.value front front' rest rest' is.option is'.option e in
+      let same = one.0 in
+      let number = is.is in
+      let number' = is'.is in
+      (cc, one.2)
+
+pub number_one : (name : List ℕ) (n m : ℕ) (words : List (List ℕ)) → IsNumberOption name n words
+    → IsNumberOption name m words → n ≡ m
+number_one name n m words is is' = (numbers_one name n m words words [] [] is is' refl).0
+
+-- ---- the first word
+
+-- it begins with the option's word
+first_word : (name value : List ℕ) (words : List (List ℕ)) → IsOption name value words
+    → (tail : List ℕ) × (others : List (List ℕ)) × (words ≡ (option_word name ++ tail) ∷ others)
+first_word name value words (some, inl (is, plain)) =
+    ([], value ∷ [], is ∙ ap (λ w. w ∷ value ∷ []) (sym (append-nil (option_word name))))
+first_word name value words (some, inr is) =
+    (codes "=" ++ value, [], is ∙ ap (λ w. w ∷ []) (append_assoc (option_word name) (codes "=") value))
+
+pub never_none : (name : List ℕ) (n : ℕ) (words : List (List ℕ)) → IsNumberOption name n words → words ≡ [] → ⊥
+never_none name n words is none =
+    let first = first_word name is.value words is.option in
+    let starts = first.2 in
+    cc
+
+heads_same : (a b : List ℕ) (more others : List (List ℕ)) → a ∷ more ≡ b ∷ others → a ≡ b
+heads_same a b more others e = cc
+
+-- words that begin with a seed don't begin with a number of ledgers
+pub never_both : (n m : ℕ) (front front' rest rest' : List (List ℕ)) → IsNumberOption (codes "seed") n front
+    → IsNumberOption (codes "ledgers") m front' → front ++ rest ≡ front' ++ rest' → ⊥
+never_both n m front front' rest rest' is is' e =
+    let seed = first_word (codes "seed") is.value front is.option in
+    let ledgers = first_word (codes "ledgers") is'.value front' is'.option in
+    let same = ap (λ ws. ws ++ rest) (sym seed.2) ∙ (e ∙ ap (λ ws. ws ++ rest') ledgers.2) in
+    apart _ _ refl (heads_same _ _ _ _ same)

@@ -1,0 +1,14 @@
+use Rattle.std.proofs.Common.{◌∙◌, ◌||◌, ap₂}
+use Rattle.std.proofs.lemmas.Result.{IfOk-weaker}
+use Rattle.clap.specs.Words.{with_rule}
+use Rattle.command_words.proofs.parser.sample_command.Goals as goal
+
+pub returns : goal.returns
+returns c =
+    let option = c.number_option.ensures in
+    let seed = c.in_ok-number_command.ensures in
+    record {
+      app = IfOk-weaker c.arg.result _ _ (λ command h. h.shape option.local ∙ ap₂ with_rule seed.app option.rule)
+          c.arg.ensures;
+      local = IfOk-weaker c.arg.result _ _ (λ command h. h.globals ∙ ap₂ ◌||◌ seed.local option.local) c.arg.ensures;
+    }

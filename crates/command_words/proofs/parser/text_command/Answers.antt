@@ -1,0 +1,14 @@
+use Rattle.std.proofs.Common.{◌∙◌, ◌||◌, ap₂}
+use Rattle.std.proofs.lemmas.Result.{IfOk-weaker}
+use Rattle.clap.specs.Words.{with_rule}
+use Rattle.command_words.proofs.parser.text_command.Goals as goal
+
+pub returns : goal.returns
+returns c =
+    let option = c.text_option.ensures in
+    let bare = c.new.ensures in
+    record {
+      app = IfOk-weaker c.arg.result _ _ (λ command h. h.shape option.local ∙ ap₂ with_rule bare.app option.rule)
+          c.arg.ensures;
+      local = IfOk-weaker c.arg.result _ _ (λ command h. h.globals ∙ ap₂ ◌||◌ bare.local option.local) c.arg.ensures;
+    }

@@ -1,0 +1,17 @@
+use Rattle.std.proofs.Common.{◌≡◌, ℕ, List, Option, Some, None, MatchOption, IsSomeAnd, sym, subst}
+use Rattle.command_words.specs.Words.{Command, Spells, SpellsNone, words_of}
+use Rattle.command_words.specs.Commands.{command_at}
+use Rattle.command_words.specs.declared.command.Command.{Command as Held}
+use Rattle.command_words.proofs.read.read_command.Goals as goal
+
+spelled : (words : List (List ℕ)) (command : Command) (read : Option Held) → Spells words command
+    → IsSomeAnd read (λ held. command_at held ≡ command)
+    → MatchOption read (SpellsNone words) (λ held. Spells words (command_at held))
+spelled words command None spells is = absurd is
+spelled words command (Some held) spells is = subst (Spells words) (sym is) spells
+
+pub returns-in-Ok-clause-command : goal.returns-in-Ok-clause-command
+returns-in-Ok-clause-command c =
+    let finds = c.in-Ok.ensures.finds in
+    let found = c.found_command in
+    spelled (words_of c.args.words.now) finds.0 found.result finds.1 (found.ensures finds.0 finds.2)

@@ -1,0 +1,5 @@
+pub mod Words
+pub mod Commands
+pub mod Judging
+pub mod Parser
+pub mod Found

@@ -1,0 +1,32 @@
+-- The header of the image keeps the bounds of its lists and texts.
+use Rattle.std.proofs.Common.{◌≡◌, length, refl, arith}
+use Rattle.xdr_core.specs.Leaves.{u32, u64, i64, fixed}
+use Rattle.xdr_core.specs.Combinators.{list, extension, times}
+use Rattle.ledger_types.specs.declared.ids.Hash.{Hash}
+use Rattle.xdr_entries.specs.Basic.{hash}
+use Rattle.xdr_header.specs.Header.{ledger_header, stellar_value, counts, limits}
+use Rattle.sample_ledger.specs.Image.{zero_hash, header_with}
+
+zero_within : hash.within zero_hash
+unfolding hash fixed
+zero_within = refl
+
+pub header_within : (levels : Hash) → length levels.0 ≡ 32 → ledger_header.within (header_with levels)
+unfolding ledger_header stellar_value counts limits hash fixed u32 u64 i64 list extension times
+header_within levels long =
+    let zeros = zero_within in (
+      tt,
+      (
+        zeros,
+        (
+          (zeros, (tt, ((omega arith, tt), tt))),
+          (
+            zeros,
+            (
+              long,
+              (tt, (tt, (tt, (tt, (tt, (tt, (tt, (tt, ((refl, (zeros, (zeros, (zeros, (zeros, tt))))), tt))))))))),
+            ),
+          ),
+        ),
+      ),
+    )

@@ -1,0 +1,10 @@
+pub mod Bodies
+pub mod Entries
+pub mod Envelopes
+pub mod Few
+pub mod Headers
+pub mod Keys
+pub mod Lengths
+pub mod Listed
+pub mod Rows
+pub mod Short

@@ -1,0 +1,14 @@
+use Rattle.std.proofs.Common.{◌≡◌, length, ap, subst, sym, ◌∙◌}
+use Rattle.ledger_types.specs.declared.header.LedgerHeader.{LedgerHeader}
+use Rattle.ledger_types.specs.declared.ids.Hash.{Hash}
+use Rattle.xdr_header.specs.Header.{ledger_header}
+use Rattle.sha2.proofs.Facts256.{length-sha256}
+use Rattle.sample_ledger.proofs.Headers.{header_within}
+use Rattle.sample_ledger.proofs.first_image.image.Goals as goal
+
+pub header_bytes-requires : goal.header_bytes-requires
+header_bytes-requires c =
+    let long : length c.in_ok-list_hash.field-0.0 ≡ 32 =
+    ap (λ (h : Hash). length h.0) c.in_ok-list_hash.ensures ∙ length-sha256 _ in
+    subst (λ (h : LedgerHeader). ledger_header.within h) (sym c.header_with-header.ensures)
+    (header_within c.in_ok-list_hash.field-0 long)

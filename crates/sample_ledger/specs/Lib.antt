@@ -1,0 +1,4 @@
+pub mod Accounts
+pub mod Image
+pub mod Records
+pub mod Rows

@@ -1,0 +1,5 @@
+//! Tests of made-up ledgers.
+#![tactic(auto)]
+
+#[cfg(test)]
+mod samples;

@@ -1,0 +1,9 @@
+//! Tests of which words are a command, and of what is read of those that are one.
+#![tactic(auto)]
+
+#[cfg(test)]
+mod commands;
+#[cfg(test)]
+mod none;
+#[cfg(test)]
+mod reading;

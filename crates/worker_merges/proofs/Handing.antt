@@ -1,0 +1,36 @@
+-- How a ledger is handed in one merge more.
+use Rattle.std.proofs.Common.{◌≡◌, List, [], ◌∷◌, ◌++◌, Result, Ok, Err, refl, sym, subst, ◌∙◌, ap, append_assoc}
+use Rattle.std.proofs.Common.{append-nil, inl, inr}
+use Rattle.std.specs.Prelude.{OnOk, IfErr}
+use Rattle.bucket_merge.specs.Job.{Job}
+use Rattle.bucket_levels.specs.HandIn.{TakesIn, IsRefusedFor}
+use Rattle.bucket_levels.specs.declared.hand_in.HandInBack.{HandInBack}
+use Rattle.ledger_close.specs.States.{LedgerAt, levels_at}
+use Rattle.merge_board.specs.Parts.{Grew}
+use Rattle.merge_board.specs.declared.log.Sent.{Sent}
+use Rattle.worker_merges.specs.Adopting.{IsHandedIn, AreHandedIn, Adopts}
+
+handed_more : (outs : List Sent) (sent : Sent) (a b c : LedgerAt) → AreHandedIn outs a b → IsHandedIn sent.out b c
+    → AreHandedIn (outs ++ sent ∷ []) a c
+handed_more [] sent a b c same one = (c, subst (λ (x : LedgerAt). IsHandedIn sent.out x c) same one, refl)
+handed_more (first ∷ outs) sent a b c (mid, is, more) one = (mid, is, handed_more outs sent mid b c more one)
+
+pub none_adopted : (got : List Sent) (l : LedgerAt) → Adopts got got l l
+none_adopted got l = record { outs = []; grew = sym (append-nil got); handed_in = refl }
+
+pub handed : (result : Result (Unit {0}) HandInBack) (out : Job) (old new : LedgerAt)
+    → OnOk result (TakesIn (levels_at old) out (levels_at new)) → new.state ≡ old.state
+    → IfErr result (λ _. new ≡ old) → IfErr result (λ back. IsRefusedFor (levels_at old) out back.fault)
+    → IsHandedIn out old new
+handed (Ok done) out old new taken state kept refused = inl (taken, state)
+handed (Err back) out old new taken state kept refused = inr (back.fault, refused, kept)
+
+pub one_more : (before mid after : List Sent) (out : Job) (old between new : LedgerAt) → Adopts before mid old between
+    → Grew mid out after → IsHandedIn out between new → Adopts before after old new
+one_more before mid after out old between new a (worker, grew) is =
+    let sent : Sent = record { worker = worker; out = out } in
+    record {
+      outs = a.outs ++ sent ∷ [];
+      grew = grew ∙ ap (λ (xs : List Sent). xs ++ sent ∷ []) a.grew ∙ append_assoc before a.outs (sent ∷ []);
+      handed_in = handed_more a.outs sent old between new a.handed_in is;
+    }

@@ -1,0 +1,29 @@
+use Rattle.std.proofs.Common.{sym, subst, refl, rules}
+use Rattle.std.proofs.lemmas.List.Elements.{All-push}
+use Rattle.std.specs.Prelude.{All}
+use Rattle.std.specs.List.{AllByRecursion}
+use Rattle.merge_board.specs.Parts.{IsWorkerOf}
+use Rattle.merge_board.proofs.Lists.{every_front}
+use Rattle.worker_merges.specs.Places.{IsManned}
+use Rattle.worker_merges.proofs.places.place_all.Goals as goal
+
+pub loop-worker-preserved : goal.loop-worker-preserved
+loop-worker-preserved c =
+    let rest = c.pop.new.self.items in
+    let worker = c.in-Some.worker in
+    let popped = c.in-Some.ensures.items in
+    record {
+      count = search rules;
+      manned = λ room each.
+          let so_far = c.loop-worker.invariant.manned room each in
+          let parted = every_front (IsWorkerOf room) rest worker
+          (subst (AllByRecursion (IsWorkerOf room)) popped so_far.0) in (
+            parted.0,
+            subst (All (IsManned room)) (sym c.in_ok-push.ensures.items)
+                (All-push (IsManned room) c.loop-worker.places.items _ so_far.1
+                (record { worker = worker; stands = refl; of = parted.1 })),
+          );
+    }
+
+pub returns-clause-manned : goal.returns-clause-manned
+returns-clause-manned c = λ room each. (c.loop-worker.invariant.manned room each).1

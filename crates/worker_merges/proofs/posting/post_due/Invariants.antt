@@ -1,0 +1,16 @@
+use Rattle.std.proofs.Common.{◌≡◌}
+use Rattle.merge_board.specs.Parts.{IsBoardIn, board_parts, posted_by}
+use Rattle.worker_merges.specs.Posting.{waiting_in}
+use Rattle.worker_merges.proofs.Drawing.{SoFar}
+use Rattle.worker_merges.proofs.posting.post_due.Given as goal
+
+abbrev pub invariant-loop-job : goal.invariant-loop-job
+invariant-loop-job g l = record {
+  room : IsBoardIn l.room l.board;
+  parts : board_parts l.board ≡ board_parts l.initial.board;
+  state : l.ledger.state ≡ l.initial.ledger.state;
+  so_far : SoFar (posted_by l.initial.board) l.initial.ledger.pending l.ledger.pending (posted_by l.board) l.back;
+}
+
+abbrev pub decreases-loop-job : goal.decreases-loop-job
+decreases-loop-job g l = waiting_in l.ledger.pending

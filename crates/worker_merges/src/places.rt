@@ -1,0 +1,121 @@
+//! The workers at their places, and the closing thread's side of their room.
+
+ghost use Rattle.std.specs.Prelude.{◌≡◌, ◌≤◌, [], All, IfOk, length, vec_len, vec_capacity};
+ghost use Rattle.std.specs.List.{AllByRecursion};
+ghost use Rattle.merge_board.specs.declared.parts.Room.{Room as RoomOf};
+ghost use Rattle.merge_board.specs.Parts.{IsBoardIn, IsWorkerOf, IsWorkerEndOf};
+ghost use Rattle.worker_merges.specs.Places.{IsManned, HasEnded, IsSideOf, IsSideEndOf, IsWorkshop};
+
+use merge_board::{Board, BoardEnd, Collector, CollectorEnd, Parts, Room, Worker, WorkerEnd, make};
+use std::alloc::{AllocError, Global};
+use std::sync::Wait;
+
+/// The place of a worker: the worker, and then what is left of it.
+#[derive(Drop)]
+pub struct Place {
+    pub(crate) worker: Option<Worker>,
+    pub(crate) end: Option<WorkerEnd>,
+}
+
+/// The closing thread's side of a room: the right to post and the right to collect.
+#[derive(Drop)]
+pub struct Side {
+    pub board: Board,
+    pub collector: Collector,
+}
+
+/// A side whose board is closed.
+#[derive(Drop)]
+pub struct SideEnd {
+    pub board: BoardEnd,
+    pub collector: CollectorEnd,
+}
+
+/// A room with its workers at their places, the closing thread's side of it, and the memory for what will be left of
+/// the workers.
+#[derive(Drop)]
+pub struct Workshop {
+    pub room: Room,
+    pub side: Side,
+    pub places: Vec<Place>,
+    pub ends: Vec<WorkerEnd>,
+}
+
+impl Side {
+    /// Closes the board: no more jobs will be posted, and no more outcomes collected. It takes no memory.
+    pub fn close<R: Wait>(self, rt: &R, room: &Room) -> SideEnd
+        requires { IsBoardIn room.now self.board }
+        ensures { (workers : _) → IsSideOf room.now workers self → IsSideEndOf room.now workers result }
+    {
+        let Side { board, collector } = self;
+        SideEnd {
+            board: board.close(rt, room),
+            collector: collector.finish(),
+        }
+    }
+}
+
+/// Gives each worker its place.
+fn place_all(alloc: Global, mut hired: Vec<Worker>) -> Result<Vec<Place>, AllocError>
+    ensures count { IfOk result (λ places. vec_len places ≡ vec_len hired) }
+    ensures manned { (room : RoomOf) → AllByRecursion (IsWorkerOf room) hired.items
+        → IfOk result (λ places. All (IsManned room) places.items) }
+{
+    let mut places = Vec::with_capacity(alloc, hired.len())?;
+    while let Some(worker) = hired.pop() {
+        places.push(Place {
+            worker: Some(worker),
+            end: None,
+        })?;
+    }
+    Ok(places)
+}
+
+/// A room with 1 to 8 workers at their places. All memory that they, their ends and their settling take is taken here,
+/// but for that of the merges and of the account.
+pub fn hire(alloc: Global, workers: u32) -> Result<Workshop, AllocError>
+    requires some { 1 ≤ workers }
+    requires few { workers ≤ 8 }
+    ensures { IfOk result (IsWorkshop workers) }
+{
+    let parts = make(alloc, workers)?;
+    let Parts {
+        room,
+        board,
+        workers: hired,
+        collector,
+    } = parts;
+    let places = place_all(alloc, hired)?;
+    let ends = Vec::with_capacity(alloc, workers as usize)?;
+    Ok(Workshop {
+        room,
+        side: Side { board, collector },
+        places,
+        ends,
+    })
+}
+
+/// What is left of a worker, from its place.
+fn end_of(place: Place) -> WorkerEnd
+    requires { (room : RoomOf) × HasEnded room place }
+    ensures { (room : RoomOf) → HasEnded room place → IsWorkerEndOf room result }
+{
+    let Place { worker: _, end } = place;
+    let Some(end) = end else { unreachable!() };
+    end
+}
+
+/// What is left of workers that have ended. It takes no memory.
+pub fn gather(mut places: Vec<Place>, mut ends: Vec<WorkerEnd>) -> Vec<WorkerEnd>
+    requires none { ends.items ≡ [] }
+    requires memory { vec_len places ≤ vec_capacity ends }
+    requires ended { (room : RoomOf) × All (HasEnded room) places.items }
+    ensures count { vec_len result ≡ vec_len places }
+    ensures each { (room : RoomOf) → All (HasEnded room) places.items
+        → AllByRecursion (IsWorkerEndOf room) result.items }
+{
+    while let Some(place) = places.pop() {
+        ends.push_reserved(end_of(place));
+    }
+    ends
+}

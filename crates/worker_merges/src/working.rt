@@ -1,0 +1,69 @@
+//! How workers run at their places.
+
+ghost use denote.Param.Send.{IsSync};
+ghost use Rattle.std.specs.Prelude.{◌≡◌, ◌<◌, All, length};
+ghost use Rattle.merge_board.specs.Parts.{IsWorkerOf, IsWorkerEndOf};
+ghost use Rattle.worker_merges.specs.Places.{IsManned, HasEnded};
+
+use crate::places::Place;
+use merge_board::{Room, Worker, WorkerEnd};
+use outside::{Gate, Steps};
+use std::marker::Brand;
+use std::sync::Wait;
+use std::sync::ledger::{Blank, Ledger};
+use std::thread::{self, Threads};
+
+/// How many threads the workers take at most.
+const THREADS: usize = 8;
+
+/// A worker runs, with a count of steps of its own.
+fn run_counted<R: Wait, G: Gate, L: Ledger>(
+    rt: &R,
+    room: &Room,
+    gate: &G,
+    worker: Worker,
+    blank: Blank,
+) -> WorkerEnd
+    requires name { blank.name ≡ L.name }
+    requires parts { blank.parts ≡ L.parts }
+    requires some { 0 < L.parts }
+    requires worker { IsWorkerOf room.now worker }
+    ensures { IsWorkerEndOf room.now result }
+{
+    let mut steps: Steps<L> = Steps::new(blank);
+    worker.run(rt, room, gate, &mut steps)
+}
+
+/// The worker of a place runs, and what is left of it stays there.
+fn work<R: Wait, G: Gate>(rt: &R, room: &Room, gate: &G, place: &mut Place)
+    requires { IsManned room.now place.old }
+    ensures { HasEnded room.now place.new }
+{
+    let Some(worker) = place.worker.take() else {
+        unreachable!()
+    };
+    place.end = Some(run_counted::<R, G, Brand>(rt, room, gate, worker, Blank::new(1)));
+}
+
+/// Each worker runs in a thread of its own, until the room's board is closed or it has no more place for its outcomes.
+/// Where a thread can't be started, its worker runs behind another one, or when the closing thread is done.
+pub fn work_all<R: Threads + Wait + Sync, G: Gate>(
+    rt: &R,
+    room: &Room,
+    gate: &G,
+    places: &mut [Place],
+)
+    requires { All (IsManned room.now) places.old }
+    ensures count { length places.new ≡ length places.old }
+    ensures ended { All (HasEnded room.now) places.new }
+{
+    thread::for_each_mut(
+        rt,
+        places,
+        THREADS,
+        &|_: usize, place: &mut Place|
+            requires { IsSync R.row × IsSync G.row × IsManned room.now place.old }
+            ensures { HasEnded room.entry.now place.new }
+        { work(rt, room, gate, place) },
+    );
+}

@@ -1,154 +1,208 @@
--- Each transaction of a record keeps the bounds of its lists and texts.
-use Rattle.std.proofs.Common.{ℕ, zero, suc, ◌+◌, ◌<◌, ◌≤◌, ◌^◌, Bool, true, false, List, [], ◌∷◌, length, map, arith}
-use Rattle.std.proofs.Common.{◌==◌, ◌&&◌, ◌||◌}
-use Rattle.std.specs.Prelude.{if◌then◌else◌, nat_le, ◌%◌}
-use Rattle.std.specs.List.{AllByRecursion, range_with_len}
-use Rattle.xdr_core.specs.Leaves.{u32, u64, i64, fixed, var}
-use Rattle.xdr_core.specs.Combinators.{constant, option, list, extension}
+-- Each transaction of a record is short, and so is the record.
+use Rattle.std.proofs.Common.{ℕ, zero, suc, ◌+◌, ◌*◌, ◌<◌, ◌≤◌, ◌^◌, List, [], ◌∷◌, length, map, pos}
+use Rattle.std.proofs.Common.{arith, ◌==◌, ◌&&◌, ◌||◌}
+use Rattle.std.specs.Prelude.{nat_le, ◌%◌, ◌/◌, codes, drop}
+use Rattle.std.specs.List.{range_with_len}
+use Rattle.sha2.specs.Sha256.{sha256}
+use Rattle.xdr_core.specs.Leaves.{var}
+use Rattle.xdr_core.specs.Xdr.{list_of}
 use Rattle.ledger_types.specs.declared.header.LedgerHeader.{LedgerHeader}
 use Rattle.op_types.specs.declared.operation.Operation.{Operation}
 use Rattle.op_types.specs.declared.operation.OperationBody.{OperationBody}
-use Rattle.xdr_entries.specs.Basic.{hash}
-use Rattle.xdr_tx.specs.Operations.{operation, operation_body, manage_data_op, begin_sponsoring_future_reserves_op}
-use Rattle.xdr_tx.specs.Transactions.{decorated_signature, behind_source, transaction, transaction_v1_envelope, memo}
-use Rattle.xdr_tx.specs.Transactions.{transaction_envelope, transaction_set}
-use Rattle.xdr_header.specs.Header.{stellar_value}
-use Rattle.xdr_header.specs.Records.{close_record}
+use Rattle.op_types.specs.declared.transaction.Memo.TheVariants as memos
+use Rattle.xdr_entries.specs.Basic.{muxed_account}
+use Rattle.xdr_tx.specs.Operations.{operation, operation_fields}
+use Rattle.xdr_tx.specs.Transactions.{decorated_signature, signature_fields, time_bounds, memo, memo_part, memo_arms}
+use Rattle.xdr_tx.specs.Transactions.{memo_none, behind_source, behind_source_fields, transaction}
+use Rattle.xdr_tx.specs.Transactions.{transaction_fields, transaction_v1_envelope, v1_fields, transaction_envelope}
+use Rattle.xdr_tx.specs.Transactions.{envelope_part, envelope_arms, envelope_v1, transaction_set, set_fields}
+use Rattle.xdr_header.specs.Header.{stellar_value, value_fields, ledger_close_value_signature}
+use Rattle.xdr_header.specs.Records.{close_record, record_fields}
 use Rattle.fee_rules.specs.SetHash.{hash_of_set}
-use Rattle.sha2.proofs.Facts256.{length-sha256}
 use Rattle.sample_ledger.specs.Accounts.{secret}
 use Rattle.sample_ledger.specs.Image.{account_count}
 use Rattle.sample_ledger.specs.Records as spec
 use Rattle.sample_ledger.specs.Records.{issuer_turn, drawn_turn, issuer_operations, other_operation, operations_of}
 use Rattle.sample_ledger.specs.Records.{signers_of, envelope_of, is_claim}
 use Rattle.sample_ledger.proofs.Lengths.{hint_len, secret_len}
-use Rattle.sample_ledger.proofs.Few.{few_operations}
+use Rattle.sample_ledger.proofs.Few.{either, few_operations}
+use Rattle.sample_ledger.proofs.Bytes.{bytes_listed, hint_fits, secret_fits}
+use Rattle.sample_ledger.proofs.Parts.{muxed_short, hash_short, usd_short, native_short, amount_short}
 use Rattle.sample_ledger.proofs.Bodies as bodies
-use Rattle.sample_ledger.proofs.Bodies.{Within}
-
--- either of two values that have a property
-either : {X : Type 0} (P : X → Type 0) (b : Bool) (x y : X) → P x → P y → P (if b then x else y)
-either P true x y h k = h
-either P false x y h k = k
+use Rattle.sample_ledger.proofs.Bodies.{IsShortBody}
+use Rattle.sample_ledger.proofs.Short as short
+use Rattle.sample_ledger.proofs.Short.{IsShort, AreShort}
 
 -- ---- operations
 
-abbrev IsWithin : Operation → Type 0
-IsWithin o = operation.within o
+abbrev IsShortOperation : Operation → Type 0
+IsShortOperation o = IsShort operation 243 o
 
-abbrev AreWithin : List Operation → Type 0
-AreWithin os = AllByRecursion operation.within os
+abbrev AreShortOperations : List Operation → Type 0
+AreShortOperations os = AreShort operation 243 os
 
-own_within : (body : OperationBody) → Within body → IsWithin (spec.own body)
-unfolding operation option
-own_within body h = (tt, h)
+own_short : (body : OperationBody) → IsShortBody body → IsShortOperation (spec.own body)
+unfolding operation
+own_short body done =
+    short.longer 243 (short.short_struct operation_fields (short.short_both (short.short_none muxed_account) done))
+    (omega arith)
 
-by_within : (seed account : ℕ) (body : OperationBody) → Within body → IsWithin (spec.by seed account body)
-unfolding operation option
-by_within seed account body h = (bodies.muxed_within seed account, h)
+by_short : (seed account : ℕ) (body : OperationBody) → account < account_count → IsShortBody body
+    → IsShortOperation (spec.by seed account body)
+unfolding operation
+by_short seed account body below done =
+    short.short_struct operation_fields (short.short_both (short.short_some (muxed_short seed account below)) done)
 
-turn_within : (seed k : ℕ) → IsWithin (issuer_turn seed k)
+turn_short : (seed k : ℕ) → IsShortOperation (issuer_turn seed k)
 unfolding issuer_turn
-turn_within seed k =
-    either IsWithin (k % 10 == 0) _ _ (own_within _ (bodies.claw_back_within seed _))
-    (either IsWithin (k % 10 == 5) _ _ (own_within _ (bodies.claimable_within seed))
-    (either IsWithin (is_claim k) _ _ (by_within seed 7 _ (bodies.claim_within seed k))
-    (own_within _ (bodies.payment_within seed _ _ 1000 (bodies.usd_within seed)))))
+turn_short seed k =
+    either IsShortOperation (k % 10 == 0) _ _ (own_short _ (bodies.claw_back_short seed (1 + k / 10 % 8) (omega arith)))
+    (either IsShortOperation (k % 10 == 5) _ _ (own_short _ (bodies.claimable_short seed))
+    (either IsShortOperation (is_claim k) _ _ (by_short seed 7 _ (omega arith) (bodies.claim_short seed k))
+    (own_short _ (bodies.payment_short seed (1 + k % 8) (spec.usd seed) 1000 (omega arith) (omega arith)
+    (usd_short seed)))))
 
-drawn_within : (seed v : ℕ) → Within (drawn_turn seed v)
+drawn_short : (seed v : ℕ) → IsShortBody (drawn_turn seed v)
 unfolding drawn_turn
-drawn_within seed v =
-    either Within (v % 5 == 0) _ _ (bodies.payment_within seed _ _ _ bodies.native_within)
-    (either Within (v % 5 == 1) _ _ (bodies.payment_within seed _ _ _ (bodies.usd_within seed))
-    (either Within (v % 5 == 2) _ _ (bodies.sell_within _ _ _ _ (bodies.usd_within seed) bodies.native_within)
-    (either Within (v % 5 == 3) _ _ (bodies.sell_within _ _ _ _ bodies.native_within (bodies.usd_within seed))
-    (bodies.send_path_within seed _ _))))
+drawn_short seed v =
+    let amount = 1 + v / 8 % 1000 in
+    let fits : amount < 2 ^ 63 = omega arith in
+    let many : 1000 * amount < 2 ^ 63 = omega arith in
+    let other = 1 + v / 8192 % 8 in
+    let below : other < 9 = omega arith in
+    let few : 900 + v / 65536 % 200 < 2 ^ 31 = omega arith in
+    let usd = usd_short seed in
+    either IsShortBody (v % 5 == 0) _ _ (bodies.payment_short seed other _ (1000 * amount) below many native_short)
+    (either IsShortBody (v % 5 == 1) _ _ (bodies.payment_short seed other _ amount below fits usd)
+    (either IsShortBody (v % 5 == 2) _ _ (bodies.sell_short _ _ amount _ fits few usd native_short)
+    (either IsShortBody (v % 5 == 3) _ _ (bodies.sell_short _ _ amount _ fits few native_short usd)
+    (bodies.send_path_short seed other amount below fits))))
 
-gift_within : (seed : ℕ) → AreWithin (spec.gift seed)
-unfolding operation_body begin_sponsoring_future_reserves_op manage_data_op var option
-gift_within seed = (
-  own_within _ (bodies.id_within seed 8),
-  (by_within seed 8 _ (omega arith, omega arith), (by_within seed 8 _ tt, tt)),
+gift_short : (seed : ℕ) → AreShortOperations (spec.gift seed)
+gift_short seed =
+    let name = codes "gift" in
+    let given = bodies.data_short name (1 ∷ []) (omega arith) (bytes_listed name (omega arith)) (omega arith)
+    (bytes_listed (1 ∷ []) (omega arith)) in (
+      own_short _ (bodies.begin_short seed 8 (omega arith)),
+      (by_short seed 8 _ (omega arith) given, (by_short seed 8 _ (omega arith) bodies.end_short, tt)),
+    )
+
+payments_short : (seed from n : ℕ) → from + n ≤ account_count
+    → AreShortOperations
+    (map (λ to. spec.own (spec.payment seed to (spec.usd seed) 1000000000)) (range_with_len from n))
+payments_short seed from zero below = tt
+payments_short seed from (suc n) below = (
+  own_short _ (bodies.payment_short seed from (spec.usd seed) 1000000000 (omega arith) (omega arith) (usd_short seed)),
+  payments_short seed (from + 1) n (omega arith),
 )
 
-payments_within : (seed : ℕ) (tos : List ℕ)
-    → AreWithin (map (λ to. spec.own (spec.payment seed to (spec.usd seed) 1000000000)) tos)
-payments_within seed [] = tt
-payments_within seed (to ∷ tos) =
-    (own_within _ (bodies.payment_within seed to _ _ (bodies.usd_within seed)), payments_within seed tos)
-
-issued_within : (seed k : ℕ) → AreWithin (issuer_operations seed k)
+issued_short : (seed k : ℕ) → AreShortOperations (issuer_operations seed k)
 unfolding issuer_operations
-issued_within seed k =
-    either AreWithin (k == 1) _ _ (own_within _ bodies.domain_within, tt)
-    (either AreWithin (k == 2) _ _ (payments_within seed (range_with_len 1 8))
-    (either AreWithin ((k == 3) || (k == 4)) _ _ (own_within _ (bodies.note_within k), tt)
-    (either AreWithin (k == 5) _ _ (gift_within seed) (turn_within seed k, tt))))
+issued_short seed k =
+    either AreShortOperations (k == 1) _ _ (own_short _ bodies.domain_short, tt)
+    (either AreShortOperations (k == 2) _ _ (payments_short seed 1 8 (omega arith))
+    (either AreShortOperations ((k == 3) || (k == 4)) _ _ (own_short _ (bodies.note_short k), tt)
+    (either AreShortOperations (k == 5) _ _ (gift_short seed) (turn_short seed k, tt))))
 
-other_within : (seed k account : ℕ) → Within (other_operation seed k account)
+other_short : (seed k account : ℕ) → IsShortBody (other_operation seed k account)
 unfolding other_operation
-other_within seed k account =
-    either Within (k == 1) _ _ (bodies.trust_usd_within seed)
-    (either Within (k == 3) _ _ (bodies.trust_pool_within seed)
-    (either Within ((k == 4) && (account == 1)) _ _ (bodies.deposit_within seed)
-    (either Within (nat_le k 5) _ _ (bodies.note_within k) (drawn_within seed _))))
+other_short seed k account =
+    either IsShortBody (k == 1) _ _ (bodies.trust_usd_short seed)
+    (either IsShortBody (k == 3) _ _ (bodies.trust_pool_short seed)
+    (either IsShortBody ((k == 4) && (account == 1)) _ _ (bodies.deposit_short seed)
+    (either IsShortBody (nat_le k 5) _ _ (bodies.note_short k) (drawn_short seed _))))
 
-done_within : (seed k account : ℕ) → AreWithin (operations_of seed k account)
+done_short : (seed k account : ℕ) → AreShortOperations (operations_of seed k account)
 unfolding operations_of
-done_within seed k account =
-    either AreWithin (account == 0) _ _ (issued_within seed k) (own_within _ (other_within seed k account), tt)
+done_short seed k account =
+    either AreShortOperations (account == 0) _ _ (issued_short seed k)
+    (own_short _ (other_short seed k account), tt)
 
 -- ---- signatures
 
-AreSigned : ℕ → List ℕ → Type 0
-AreSigned seed signers = (length (map (spec.signature seed) signers) ≤ 20)
-    × AllByRecursion decorated_signature.within (map (spec.signature seed) signers)
+abbrev AreSigned : ℕ → List ℕ → Type 0
+AreSigned seed signers = IsShort (list_of 20 decorated_signature) 160 (map (spec.signature seed) signers)
 
-signed_within : (seed account : ℕ) → seed < 2 ^ 32 → account < account_count
-    → decorated_signature.within (spec.signature seed account)
-unfolding decorated_signature fixed var
-signed_within seed account fits below = (hint_len (secret seed account), secret_len seed account fits below)
+signature_short : (seed account : ℕ) → seed < 2 ^ 32 → account < account_count
+    → IsShort decorated_signature 78 (spec.signature seed account)
+unfolding decorated_signature
+signature_short seed account fits below =
+    let text = secret seed account in
+    short.short_struct signature_fields (short.short_both
+    (short.short_fixed 4 (drop 28 (sha256 text)) (hint_len text) (hint_fits text))
+    (short.short_var 64 64 text (secret_len seed account fits below) (omega arith)
+    (secret_fits seed account fits below)))
 
-signers_within : (seed k account : ℕ) → seed < 2 ^ 32 → account < account_count → AreSigned seed (signers_of k account)
-unfolding signers_of AreSigned
-signers_within seed k account fits below =
-    let one = λ (i : ℕ) (h : i < account_count). signed_within seed i fits h in
+signed_once : (seed account : ℕ) → seed < 2 ^ 32 → account < account_count → AreSigned seed (account ∷ [])
+signed_once seed account fits below =
+    short.short_list 20 2 decorated_signature 78 _ (omega arith) (omega arith)
+    (signature_short seed account fits below, tt)
+
+signed_twice : (seed a b : ℕ) → seed < 2 ^ 32 → a < account_count → b < account_count → AreSigned seed (a ∷ b ∷ [])
+signed_twice seed a b fits below also =
+    short.short_list 20 2 decorated_signature 78 _ (omega arith) (omega arith)
+    (signature_short seed a fits below, (signature_short seed b fits also, tt))
+
+signers_short : (seed k account : ℕ) → seed < 2 ^ 32 → account < account_count → AreSigned seed (signers_of k account)
+unfolding signers_of
+signers_short seed k account fits below =
     either (AreSigned seed) (account == 0) _ _
-    (either (AreSigned seed) (k == 5) _ _ (omega arith, (one 0 (omega arith), (one 8 (omega arith), tt)))
-    (either (AreSigned seed) (is_claim k) _ _ (omega arith, (one 0 (omega arith), (one 7 (omega arith), tt)))
-    (omega arith, (one 0 (omega arith), tt))))
-    (omega arith, (one account below, tt))
+    (either (AreSigned seed) (k == 5) _ _ (signed_twice seed 0 8 fits (omega arith) (omega arith))
+    (either (AreSigned seed) (is_claim k) _ _ (signed_twice seed 0 7 fits (omega arith) (omega arith))
+    (signed_once seed 0 fits (omega arith))))
+    (signed_once seed account fits below)
 
 -- ---- envelopes
 
-envelope_within : (seed k account : ℕ) → seed < 2 ^ 32 → account < account_count
-    → transaction_envelope.within (envelope_of seed k account)
-unfolding transaction_envelope transaction_v1_envelope transaction behind_source memo u32 i64 list option constant
-    envelope_of AreSigned
-envelope_within seed k account fits below = (
-  (
-    bodies.muxed_within seed account,
-    (tt, (tt, (tt, (tt, ((omega (arith, few_operations seed k account), done_within seed k account), tt))))),
-  ),
-  signers_within seed k account fits below,
-)
+memo_short : IsShort memo 4 memos.None
+unfolding memo
+memo_short = short.short_union memo_part memo_arms (short.short_arm memo_none short.short_empty)
 
-envelopes_within : (seed k from : ℕ) (n : ℕ) → seed < 2 ^ 32 → from + n ≤ account_count
-    → AllByRecursion transaction_envelope.within (map (envelope_of seed k) (range_with_len from n))
-envelopes_within seed k from zero fits below = tt
-envelopes_within seed k from (suc n) fits below =
-    (envelope_within seed k from fits (omega arith), envelopes_within seed k (from + 1) n fits (omega arith))
+transaction_short : (seed k account : ℕ) → k ≤ 20000 → account < account_count
+    → IsShort transaction 2011 (spec.transaction_of seed k account)
+unfolding transaction behind_source
+transaction_short seed k account few below =
+    let done = operations_of seed k account in
+    short.short_struct transaction_fields (short.short_both (muxed_short seed account below)
+    (short.short_struct behind_source_fields
+    (short.short_both (short.short_u32 (100 * length done) (omega (arith, few_operations seed k account)))
+    (short.short_both (amount_short k (omega arith))
+    (short.short_both (short.short_none time_bounds) (short.short_both memo_short
+    (short.short_closed (pos 0)
+    (short.short_list 100 8 operation 243 done (few_operations seed k account) (omega arith)
+    (done_short seed k account)))))))))
 
--- ---- sets
+envelope_short : (seed k account : ℕ) → seed < 2 ^ 32 → k ≤ 20000 → account < account_count
+    → IsShort transaction_envelope 2175 (envelope_of seed k account)
+unfolding transaction_envelope transaction_v1_envelope envelope_of
+envelope_short seed k account fits few below =
+    short.short_union envelope_part envelope_arms (short.short_arm envelope_v1 (short.short_struct v1_fields
+    (short.short_both (short.short_whole (transaction_short seed k account few below))
+    (signers_short seed k account fits below))))
 
-pub set_within : (seed k : ℕ) (header : LedgerHeader) → seed < 2 ^ 32
-    → transaction_set.within (spec.set_of seed k header)
-unfolding transaction_set hash fixed list
-set_within seed k header fits =
-    (length-sha256 _, (omega arith, envelopes_within seed k 0 9 fits (omega arith)))
+envelopes_short : (seed k from n : ℕ) → seed < 2 ^ 32 → k ≤ 20000 → from + n ≤ account_count
+    → AreShort transaction_envelope 2175 (map (envelope_of seed k) (range_with_len from n))
+envelopes_short seed k from zero fits few below = tt
+envelopes_short seed k from (suc n) fits few below =
+    (envelope_short seed k from fits few (omega arith), envelopes_short seed k (from + 1) n fits few (omega arith))
 
-pub record_within : (seed k : ℕ) (header : LedgerHeader) → seed < 2 ^ 32
-    → close_record.within (spec.record_of seed k header)
-unfolding close_record stellar_value hash_of_set hash fixed u32 u64 list extension
-record_within seed k header fits =
-    (tt, (set_within seed k header fits, (length-sha256 _, (tt, ((omega arith, tt), tt)))))
+-- ---- sets and records
+
+pub set_short : (seed k : ℕ) (header : LedgerHeader) → seed < 2 ^ 32 → k ≤ 20000
+    → IsShort transaction_set 19614 (spec.set_of seed k header)
+unfolding transaction_set
+set_short seed k header fits few =
+    short.short_struct set_fields (short.short_both (hash_short _)
+    (short.short_list 4294967295 9 transaction_envelope 2175 _ (omega arith) (omega arith)
+    (envelopes_short seed k 0 9 fits few (omega arith))))
+
+pub record_short : (seed k : ℕ) (header : LedgerHeader) → seed < 2 ^ 32 → k ≤ 20000
+    → IsShort close_record 19669 (spec.record_of seed k header)
+unfolding close_record stellar_value hash_of_set
+record_short seed k header fits few =
+    short.short_struct record_fields (short.short_both (short.short_u32 (k + 1) (omega arith))
+    (short.short_both (short.short_whole (set_short seed k header fits few))
+    (short.short_whole (short.short_struct value_fields (short.short_both (hash_short _)
+    (short.short_both (short.short_u64 (1000 + 5 * k) (omega arith))
+    (short.short_both (short.short_list 6 0 (var 128) 0 [] (omega arith) (omega arith) tt)
+    (short.no_extension (pos 1) ledger_close_value_signature))))))))

@@ -1,11 +1,14 @@
--- The header of the image keeps the bounds of its lists and texts.
-use Rattle.std.proofs.Common.{◌≡◌, length, refl, arith}
+-- The header of the image has a spelling.
+use Rattle.std.proofs.Common.{◌≡◌, length, replicate, pos, refl, arith}
+use Rattle.std.proofs.lemmas.Int.{ints}
+use Rattle.xdr_core.specs.Format.{IsBytes}
 use Rattle.xdr_core.specs.Leaves.{u32, u64, i64, fixed}
 use Rattle.xdr_core.specs.Combinators.{list, extension, times}
 use Rattle.ledger_types.specs.declared.ids.Hash.{Hash}
 use Rattle.xdr_entries.specs.Basic.{hash}
 use Rattle.xdr_header.specs.Header.{ledger_header, stellar_value, counts, limits}
 use Rattle.sample_ledger.specs.Image.{zero_hash, header_with}
+use Rattle.sample_ledger.proofs.Bytes.{bytes_listed}
 
 zero_within : hash.within zero_hash
 unfolding hash fixed
@@ -25,6 +28,47 @@ header_within levels long =
             (
               long,
               (tt, (tt, (tt, (tt, (tt, (tt, (tt, (tt, ((refl, (zeros, (zeros, (zeros, (zeros, tt))))), tt))))))))),
+            ),
+          ),
+        ),
+      ),
+    )
+
+-- ---- bytes and numbers
+
+zeros_sized : hash.sized zero_hash
+unfolding hash fixed
+zeros_sized = bytes_listed (replicate 32 0) (omega arith)
+
+pub header_sized : (levels : Hash) → IsBytes levels.0 → ledger_header.sized (header_with levels)
+unfolding ledger_header stellar_value counts limits hash fixed u32 u64 i64 list extension times
+header_sized levels fits =
+    let zeros = zeros_sized in (
+      omega arith,
+      (
+        zeros,
+        (
+          (zeros, (omega arith, (tt, tt))),
+          (
+            zeros,
+            (
+              fits,
+              (
+                omega arith,
+                (
+                  grind (arith, ints),
+                  (
+                    grind (arith, ints),
+                    (
+                      omega arith,
+                      (
+                        omega arith,
+                        (omega arith, (omega arith, (omega arith, ((zeros, (zeros, (zeros, (zeros, tt)))), tt)))),
+                      ),
+                    ),
+                  ),
+                ),
+              ),
             ),
           ),
         ),

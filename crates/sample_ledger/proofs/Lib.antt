@@ -1,4 +1,5 @@
 pub mod Bodies
+pub mod Bytes
 pub mod Entries
 pub mod Envelopes
 pub mod Few
@@ -6,5 +7,6 @@ pub mod Headers
 pub mod Keys
 pub mod Lengths
 pub mod Listed
+pub mod Parts
 pub mod Rows
 pub mod Short

@@ -28,7 +28,7 @@ use Rattle.sample_ledger.specs.Image.{new_account, changes_of, first_changes, fi
 use Rattle.sample_ledger.specs.Rows.{as_change, AreSpellable}
 use Rattle.sample_ledger.proofs.Entries.{meta_spellable}
 
-abbrev Row : Type 0
+abbrev pub Row : Type 0
 Row = List (AccountId × LedgerEntry)
 
 -- ---- one entry more

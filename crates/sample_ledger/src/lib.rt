@@ -6,6 +6,7 @@ mod entry;
 mod envelope;
 mod first_file;
 mod first_image;
+mod laws;
 mod operation;
 mod operations;
 mod record;
@@ -13,4 +14,5 @@ mod text;
 mod turn;
 
 pub use first_image::image;
+pub use laws::records_are_written;
 pub use record::make_record;

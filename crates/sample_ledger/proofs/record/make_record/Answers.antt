@@ -5,7 +5,7 @@ use Rattle.xdr_tx.specs.Transactions.{transaction_set}
 use Rattle.xdr_header.specs.declared.record.CloseRecord.{CloseRecord}
 use Rattle.xdr_header.specs.Records.{close_record}
 use Rattle.fee_rules.specs.SetHash.{hash_of_set}
-use Rattle.sample_ledger.proofs.Envelopes.{set_within, record_within}
+use Rattle.sample_ledger.proofs.Envelopes.{set_short, record_short}
 use Rattle.sample_ledger.proofs.record.make_record.Goals as goal
 
 abbrev closing : ℕ → ℕ → TransactionSet → Hash → List (List ℕ) → CloseRecord
@@ -18,7 +18,7 @@ closing k wide set digest upgrades = record {
 pub set_hash-requires : goal.set_hash-requires
 set_hash-requires c =
     subst (λ (set : TransactionSet). transaction_set.within set) (sym c.in_ok-tx_set.ensures)
-    (set_within c.args.seed c.args.k c.args.header.now c.ranges.seed.fits)
+    (set_short c.args.seed c.args.k c.args.header.now c.ranges.seed.fits c.requires.few).within
 
 pub returns-clause-made : goal.returns-clause-made
 returns-clause-made c =
@@ -29,4 +29,4 @@ returns-clause-made c =
 pub returns-clause-within : goal.returns-clause-within
 returns-clause-within c =
     subst (λ (made : CloseRecord). close_record.within made) (sym (returns-clause-made c))
-    (record_within c.args.seed c.args.k c.args.header.now c.ranges.seed.fits)
+    (record_short c.args.seed c.args.k c.args.header.now c.ranges.seed.fits c.requires.few).within

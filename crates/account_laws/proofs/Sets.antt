@@ -1,0 +1,231 @@
+-- A set without ACCOUNT_MERGE leaves each account that stood, and so does a close.
+use Rattle.std.proofs.Common.{All, Bool, List, None, Option, Some, [], ap, false, if◌then◌else◌, length, nat_eq, not}
+use Rattle.std.proofs.Common.{sym, true, ℕ, ◌+◌, ◌∙◌, ◌∷◌, ◌≡◌}
+use Rattle.std.proofs.lemmas.List.Elements.{All-head, All-tail}
+use Rattle.std.specs.FinMap.{get}
+use Rattle.std.specs.Prelude.{neg_ℤ, ℤ}
+use Rattle.ledger_types.specs.declared.account.AccountEntry.{AccountEntry}
+use Rattle.ledger_types.specs.declared.entry.LedgerEntry.{LedgerEntry}
+use Rattle.ledger_types.specs.declared.ids.AccountId.{AccountId}
+use Rattle.ledger_types.specs.declared.ids.Hash.{Hash}
+use Rattle.ledger_types.specs.declared.key.LedgerKey.TheVariants as key
+use Rattle.ledger_types.specs.declared.signer.SignerKey.TheVariants.{PreAuthTx}
+use Rattle.op_types.specs.declared.operation.Operation.{Operation}
+use Rattle.op_types.specs.declared.transaction.FeeBumpTransaction.{FeeBumpTransaction}
+use Rattle.op_types.specs.declared.transaction.Transaction.{Transaction}
+use Rattle.op_types.specs.declared.transaction.TransactionEnvelope.{TransactionEnvelope}
+use Rattle.op_types.specs.declared.transaction.TransactionEnvelope.TheVariants as envelope
+use Rattle.op_types.specs.declared.transaction.TransactionSet.{TransactionSet}
+use Rattle.op_types.specs.declared.transaction_result.TransactionOutcome.{TransactionOutcome}
+use Rattle.op_types.specs.declared.transaction_result.TransactionOutcome.TheVariants as outcome
+use Rattle.value_hashes.specs.Hashes.{signed_hash_of, transaction_hash_of}
+use Rattle.entry_map.specs.EntryMap.{EntryMap}
+use Rattle.entry_slots.specs.Accounts.{account_at, account_in, account_of}
+use Rattle.entry_slots.specs.Tests.{first_fault}
+use Rattle.sponsor_rules.specs.declared.context.Ctx.{Ctx}
+use Rattle.sponsor_rules.specs.Signers.{map_after_removing_preauth}
+use Rattle.legal_rules.specs.Payments.{numbered, paid}
+use Rattle.signer_check.specs.declared.held.HeldSignature.{HeldSignature}
+use Rattle.fee_rules.specs.Envelopes.{fee_source_of}
+use Rattle.fee_rules.specs.Fees.{set_base_fee}
+use Rattle.fee_rules.specs.Turns.{apply_order_of}
+use Rattle.op_form.specs.declared.levels.ThresholdLevel.TheVariants.{Low}
+use Rattle.tx_apply.specs.Checks as checks
+use Rattle.tx_apply.specs.FeeBump as bump
+use Rattle.tx_apply.specs.Fees.{fee_of, fees_taken, map_after_fee}
+use Rattle.tx_apply.specs.Operations.{operations_of}
+use Rattle.tx_apply.specs.Running.{Ran, done_at, done_by, placed, run}
+use Rattle.tx_apply.specs.Set.{Setting, all_applied, all_held, ctx_in, envelope_applied, envelopes_in_order}
+use Rattle.tx_apply.specs.Set.{fees_taken_of, set_done}
+use Rattle.tx_apply.specs.Signing.{Auth, are_used, auth_of, source_of}
+use Rattle.tx_apply.specs.Transaction as spec
+use Rattle.tx_apply.proofs.Conserving.{all_at}
+use Rattle.close_rules.specs.Close.{applied_in, setting_in}
+use Rattle.close_laws.proofs.Unmarked.{AreAlike, AreMapsAlike, next_alike}
+use Rattle.account_laws.specs.Standing.{ClosesKeepAccounts, DoAccountsStand, MergesNone, SetsKeepAccounts, is_merge}
+use Rattle.account_laws.proofs.Operations.{any_keeps}
+use Rattle.account_laws.proofs.Sponsored.{removing_signer_keeps}
+use Rattle.account_laws.proofs.Standing.{Keeps, either_way, keeps_itself, with_account_keeps}
+
+-- ---- operations
+
+-- an operation that isn't ACCOUNT_MERGE
+abbrev IsPlain : Operation → Type 0
+IsPlain of = is_merge of.body ≡ false
+
+done_by_keeps : {old m : EntryMap} (ctx : Ctx) (of : Operation) (found : Option AccountEntry)
+    → IsPlain of → Keeps old m → Keeps old (done_by ctx of m found).entries
+done_by_keeps ctx of None plain keeps = keeps
+done_by_keeps ctx of (Some account) plain keeps = any_keeps ctx of.body plain keeps
+
+run_keeps : {old : EntryMap} (ctx : Ctx) (source : AccountId) (place : ℕ) (operations : List Operation)
+    (m : EntryMap) → All IsPlain operations → Keeps old m → Keeps old (run ctx source place operations m).entries
+unfolding run
+run_keeps ctx source place [] m plain keeps = keeps
+run_keeps ctx source place (of ∷ operations) m plain keeps =
+    let first = done_at ctx source place of m in
+    run_keeps first.ctx source (place + 1) operations first.entries
+    (All-tail IsPlain of operations plain)
+    (done_by_keeps (placed ctx place (source_of source of)) of (account_at m (source_of source of))
+    (All-head IsPlain of operations plain) keeps)
+
+-- ---- transactions
+
+without_preauths_keeps : {old : EntryMap} (hash : Hash) (source : AccountId) (operations : List Operation)
+    (m : EntryMap) → Keeps old m → Keeps old (spec.map_without_preauths hash source operations m)
+unfolding spec.map_without_preauths
+without_preauths_keeps hash source [] m keeps = keeps
+without_preauths_keeps hash source (of ∷ operations) m keeps =
+    without_preauths_keeps hash source operations _
+    (removing_signer_keeps (source_of source of) (PreAuthTx hash) keeps)
+
+without_used_keeps : {old m : EntryMap} (hash : Hash) (source : AccountId) (operations : List Operation)
+    → Keeps old m → Keeps old (spec.map_without_used hash source operations m)
+without_used_keeps hash source operations keeps =
+    without_preauths_keeps hash source operations _ (removing_signer_keeps source (PreAuthTx hash) keeps)
+
+judged_keeps : {old m : EntryMap} (pays : Bool) (ctx : Ctx) (hash : Hash) (signatures : List HeldSignature)
+    (tx : Transaction) (fault : Option TransactionOutcome) → Keeps old m
+    → Keeps old (checks.judged_by pays ctx hash signatures tx m fault).entries
+judged_keeps pays ctx hash signatures tx (Some fault) keeps = keeps
+judged_keeps pays ctx hash signatures tx None keeps =
+    with_account_keeps (checks.source_account tx) (numbered tx.seq_num) keeps
+
+-- what a transaction leaves
+abbrev Applies : EntryMap → spec.Applied → Type 0
+Applies old applied = Keeps old applied.entries
+
+settled_keeps : {old m : EntryMap} (ctx : Ctx) (ran : Ran) → Keeps old m → Keeps old ran.entries
+    → Keeps old (spec.settled ctx m ran).entries
+settled_keeps {old = old} {m = m} ctx ran keeps left =
+    either_way (Applies old) ran.succeeds (spec.succeeded ctx m ran)
+    (spec.undone (outcome.Failed ran.results) ctx m ran.steps)
+    (either_way (Applies old) (nat_eq (length ran.ctx.sponsorships) 0) _
+    (spec.undone outcome.BadSponsorship ctx m ran.steps) left keeps) keeps
+
+applied_keeps : {old m : EntryMap} (ctx : Ctx) (tx : Transaction) (end : Option TransactionOutcome)
+    → All IsPlain tx.operations → Keeps old m → Keeps old (spec.applied_or_ended ctx tx m end).entries
+applied_keeps ctx tx (Some end) plain keeps = keeps
+applied_keeps {m = m} ctx tx None plain keeps =
+    settled_keeps ctx (run ctx (checks.source_account tx) 0 tx.operations m) keeps
+    (run_keeps ctx (checks.source_account tx) 0 tx.operations m plain keeps)
+
+transaction_keeps : {old m : EntryMap} (pays : Bool) (base_fee : ℕ) (ctx : Ctx) (hash : Hash)
+    (signatures : List HeldSignature) (tx : Transaction) → All IsPlain tx.operations → Keeps old m
+    → Keeps old (spec.transaction_applied pays base_fee ctx hash signatures tx m).entries
+transaction_keeps {m = m} pays base_fee ctx hash signatures tx plain keeps =
+    applied_keeps ctx tx (checks.judged pays base_fee ctx hash signatures tx m).outcome plain
+    (without_used_keeps hash (checks.source_account tx) tx.operations
+    (judged_keeps pays ctx hash signatures tx (checks.early_fault pays base_fee ctx tx m) keeps))
+
+-- ---- fee bumps
+
+module _ {old : EntryMap} (base_fee : ℕ) (ctx : Ctx) (signed : bump.BumpSigned) (tx : FeeBumpTransaction)
+    (plain : All IsPlain tx.inner_tx.tx.operations) where
+  behind_auth : {m : EntryMap} (after : List HeldSignature) → Keeps old m
+      → Keeps old (bump.applied_behind_auth base_fee ctx signed tx after m).entries
+  behind_auth {m = m} after keeps =
+      either_way (Applies old) (checks.is_poor ctx (account_at m (bump.payer_of tx)))
+      (spec.ended outcome.InsufficientBalance ctx m)
+      (if are_used after then bump.inner_applied base_fee ctx signed tx m else spec.ended outcome.BadAuthExtra ctx m)
+      keeps
+      (either_way (Applies old) (are_used after) (bump.inner_applied base_fee ctx signed tx m)
+      (spec.ended outcome.BadAuthExtra ctx m)
+      (transaction_keeps false base_fee ctx signed.inner_hash signed.inner_signatures tx.inner_tx.tx plain keeps)
+      keeps)
+
+  by_auth : {m : EntryMap} (auth : Auth) → Keeps old m
+      → Keeps old (bump.applied_by_auth base_fee ctx signed tx m auth).entries
+  by_auth {m = m} auth keeps =
+      either_way (Applies old) (not auth.passes) (spec.ended outcome.BadAuth ctx m)
+      (bump.applied_behind_auth base_fee ctx signed tx auth.signatures
+      (map_after_removing_preauth (bump.payer_of tx) signed.hash m)) keeps
+      (behind_auth auth.signatures (removing_signer_keeps (bump.payer_of tx) (PreAuthTx signed.hash) keeps))
+
+  by_fault : {m : EntryMap} (fault : Option TransactionOutcome) → Keeps old m
+      → Keeps old (bump.applied_by_fault base_fee ctx signed tx m fault).entries
+  by_fault (Some fault) keeps = keeps
+  by_fault {m = m} None keeps = by_auth (auth_of signed.hash Low signed.signatures m (bump.payer_of tx)) keeps
+
+  bump_keeps : {m : EntryMap} → Keeps old m → Keeps old (bump.bump_applied base_fee ctx signed tx m).entries
+  bump_keeps {m = m} keeps =
+      by_fault (first_fault (bump.payer_tests base_fee tx (account_at m (bump.payer_of tx)))) keeps
+
+-- ---- envelopes
+
+-- none of its operations is one
+abbrev HasPlain : TransactionEnvelope → Type 0
+HasPlain whole = All IsPlain (operations_of whole)
+
+envelope_keeps : {old m : EntryMap} (setting : Setting) (id_pool : ℕ) (whole : TransactionEnvelope)
+    → HasPlain whole → Keeps old m → Keeps old (envelope_applied setting id_pool whole m).entries
+unfolding envelope_applied
+envelope_keeps setting id_pool (envelope.V0 signed) plain keeps =
+    without_used_keeps (signed_hash_of setting.network (envelope.V0 signed))
+    (record { 0 = signed.tx.source_account_ed25519 }) signed.tx.operations keeps
+envelope_keeps setting id_pool (envelope.V1 signed) plain keeps =
+    transaction_keeps true setting.header.base_fee (ctx_in setting id_pool (envelope.V1 signed))
+    (signed_hash_of setting.network (envelope.V1 signed)) (all_held signed.signatures) signed.tx plain keeps
+envelope_keeps setting id_pool (envelope.FeeBump signed) plain keeps =
+    bump_keeps setting.header.base_fee (ctx_in setting id_pool (envelope.FeeBump signed))
+    (bump.signed_by (signed_hash_of setting.network (envelope.FeeBump signed)) (all_held signed.signatures)
+    (transaction_hash_of setting.network signed.tx.inner_tx.tx) (all_held signed.tx.inner_tx.signatures)) signed.tx
+    plain keeps
+
+all_keep : {old : EntryMap} (setting : Setting) (id_pool : ℕ) (envelopes : List TransactionEnvelope) (fees : List ℤ)
+    (m : EntryMap) → All HasPlain envelopes → Keeps old m
+    → Keeps old (all_applied setting id_pool envelopes fees m).entries
+unfolding all_applied
+all_keep setting id_pool [] fees m plain keeps = keeps
+all_keep setting id_pool (whole ∷ others) [] m plain keeps = keeps
+all_keep setting id_pool (whole ∷ others) (fee ∷ fees) m plain keeps =
+    let first = envelope_applied setting id_pool whole m in
+    all_keep setting first.id_pool others fees first.entries
+    (All-tail HasPlain whole others plain)
+    (envelope_keeps setting id_pool whole (All-head HasPlain whole others plain)
+    keeps)
+
+-- ---- fees
+
+fees_keep : {old : EntryMap} (base_fee : ℕ) (envelopes : List TransactionEnvelope) (m : EntryMap) → Keeps old m
+    → Keeps old (fees_taken base_fee envelopes m).entries
+unfolding fees_taken
+fees_keep base_fee [] m keeps = keeps
+fees_keep base_fee (whole ∷ others) m keeps =
+    fees_keep base_fee others (map_after_fee base_fee whole m)
+    (with_account_keeps (fee_source_of whole) (paid (neg_ℤ (fee_of base_fee whole m))) keeps)
+
+-- ---- sets
+
+pub set_keeps : {old m : EntryMap} (setting : Setting) (set : TransactionSet) → MergesNone set → Keeps old m
+    → Keeps old (set_done setting set m).entries
+set_keeps {m = m} setting set plain keeps =
+    let taken = fees_taken_of setting set m in
+    all_keep setting setting.header.id_pool (envelopes_in_order set) taken.fees taken.entries
+    (all_at HasPlain set.txs (apply_order_of set) plain)
+    (fees_keep (set_base_fee setting.header set.txs) (envelopes_in_order set) m keeps)
+
+pub sets_keep_accounts : SetsKeepAccounts
+sets_keep_accounts setting set m plain = (set_keeps setting set plain (keeps_itself m)).each
+
+-- ---- closes
+
+-- an entry that differs in the ledger of its last change alone is the same account
+still_account : (was now : Option LedgerEntry) (account : AccountEntry) → AreAlike was now
+    → account_of was ≡ Some account → account_of now ≡ Some account
+still_account None None account alike is = is
+still_account (Some a) (Some b) account alike is = sym (ap (λ parts. account_in parts.0) alike) ∙ is
+still_account None (Some b) account alike is = absurd alike
+still_account (Some a) None account alike is = absurd alike
+
+alike_stand : (m after : EntryMap) → AreMapsAlike m after → DoAccountsStand m after
+unfolding account_at
+alike_stand m after alike id stands =
+    let k = key.Account id in
+    (stands.0, still_account (get m k) (get after k) stands.0 (alike k) stands.1)
+
+pub closes_keep_accounts : ClosesKeepAccounts
+closes_keep_accounts s closing after plain closed id stands =
+    let worked = (applied_in s closing).entries in
+    alike_stand worked after (next_alike _ s.entries worked after closed) id
+    ((set_keeps (setting_in s closing) closing.tx_set plain (keeps_itself s.entries)).each id stands)

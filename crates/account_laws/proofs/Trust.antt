@@ -1,0 +1,129 @@
+-- CHANGE_TRUST leaves each account that stood.
+use Rattle.std.proofs.Common.{None, Option, Some, [], is_some, not, pos, ◌+◌, ◌∷◌}
+use Rattle.std.specs.Ordering.{int_eq}
+use Rattle.std.specs.Prelude.{ℤ}
+use Rattle.ledger_types.specs.declared.account.AccountEntry.{AccountEntry}
+use Rattle.ledger_types.specs.declared.asset.Asset.{Asset}
+use Rattle.ledger_types.specs.declared.asset.Asset.TheVariants as asset
+use Rattle.ledger_types.specs.declared.asset.ChangeTrustAsset.{ChangeTrustAsset}
+use Rattle.ledger_types.specs.declared.asset.ChangeTrustAsset.TheVariants as asked
+use Rattle.ledger_types.specs.declared.asset.PoolParams.{PoolParams}
+use Rattle.ledger_types.specs.declared.asset.TrustLineAsset.TheVariants as line
+use Rattle.ledger_types.specs.declared.key.LedgerKey.TheVariants as key
+use Rattle.ledger_types.specs.declared.trust_line.TrustLineEntry.{TrustLineEntry}
+use Rattle.op_types.specs.declared.trust_ops.ChangeTrustOp.{ChangeTrustOp}
+use Rattle.op_types.specs.declared.trust_results.ChangeTrustResult.TheVariants as trust
+use Rattle.entry_map.specs.EntryMap.{EntryMap}
+use Rattle.entry_slots.specs.LineExtensions.{use_count}
+use Rattle.entry_slots.specs.Lines.{line_at}
+use Rattle.entry_slots.specs.Pools.{pool_at}
+use Rattle.sponsor_rules.specs.declared.context.Ctx.{Ctx}
+use Rattle.sponsor_rules.specs.Adding.{map_after_adding}
+use Rattle.legal_rules.specs.PoolShares.{needed_line}
+use Rattle.legal_rules.specs.ShareLaws.{share_line}
+use Rattle.pool_shares.specs.ShareLines.{map_with_pool}
+use Rattle.op_form.specs.Assets.{issuer_at, line_asset_of, line_of_asset}
+use Rattle.op_trust.specs.ChangeTrust as trusting
+use Rattle.op_trust.specs.Operations.{change_trust, trust_in}
+use Rattle.op_trust.specs.ShareTrust as sharing
+use Rattle.account_laws.proofs.Pools.{share_lines_keep, with_new_pool_keeps, without_share_line_keeps}
+use Rattle.account_laws.proofs.Sponsored.{adding_keeps, removing_keeps}
+use Rattle.account_laws.proofs.Standing.{Keeps, either_way, with_line_keeps}
+use Rattle.account_laws.proofs.Steps.{Gives, Leaves, Work, behind, behind_charge, behind_some}
+
+-- ---- lines of assets
+
+line_limited : {old m : EntryMap} (ctx : Ctx) (held : Asset) (limit : ℤ) → Keeps old m
+    → Leaves old (trusting.limited ctx held limit m)
+line_limited {old = old} {m = m} ctx held limit keeps =
+    behind (Work old) ((not (is_some (issuer_at m held)), trusting.answer trust.NoIssuer) ∷ []) _
+    (record { gives = with_line_keeps ctx.op_source (line_asset_of held) (trusting.with_limit limit) keeps })
+
+line_removed : {old m : EntryMap} (ctx : Ctx) (held : Asset) (line : TrustLineEntry) → Keeps old m
+    → Leaves old (trusting.removed ctx held line m)
+line_removed {old = old} ctx held line keeps =
+    behind (Work old) ((not (int_eq (use_count line) (pos 0)), trusting.answer trust.CannotDelete) ∷ []) _
+    (record { gives = removing_keeps (key.TrustLine ctx.op_source (line_asset_of held)) tt keeps })
+
+line_added : {old m : EntryMap} (ctx : Ctx) (held : Asset) (limit : ℤ) (issuer : AccountEntry) → Keeps old m
+    → Leaves old (trusting.added ctx held limit issuer m)
+line_added {old = old} {m = m} ctx held limit issuer keeps =
+    let e = trusting.new_line ctx held limit issuer in
+    behind_charge (Work old) (map_after_adding ctx ctx.op_source e m) (trusting.answer trust.LowReserve) _
+    (adding_keeps ctx ctx.op_source e keeps) (λ added after. record { gives = after })
+
+line_changed : {old m : EntryMap} (ctx : Ctx) (held : Asset) (limit : ℤ) (found : Option TrustLineEntry)
+    → Keeps old m → Leaves old (trusting.changed ctx held limit m found)
+line_changed {old = old} {m = m} ctx held limit (Some line) keeps =
+    behind (Work old) (trusting.limit_tests limit line) _
+    (either_way (Gives (Work old)) (int_eq limit (pos 0)) (trusting.removed ctx held line m)
+    (trusting.limited ctx held limit m) (line_removed ctx held line keeps) (line_limited ctx held limit keeps))
+line_changed {old = old} {m = m} ctx held limit None keeps =
+    behind (Work old) ((int_eq limit (pos 0), trusting.answer trust.InvalidLimit) ∷ []) _
+    (behind_some (Work old) (issuer_at m held) (trusting.answer trust.NoIssuer) _
+    (λ issuer. line_added ctx held limit issuer keeps))
+
+asset_trusted : {old m : EntryMap} (ctx : Ctx) (held : Asset) (limit : ℤ) → Keeps old m
+    → Leaves old (trusting.asset_trust ctx held limit m)
+asset_trusted {old = old} {m = m} ctx held limit keeps =
+    behind (Work old) (trusting.asked_tests ctx held limit) _
+    (line_changed ctx held limit (line_of_asset m ctx.op_source held) keeps)
+
+-- ---- lines of pool shares
+
+share_removed : {old m : EntryMap} (ctx : Ctx) (params : PoolParams) (share : TrustLineEntry) → Keeps old m
+    → Leaves old (sharing.share_removed ctx params share m)
+share_removed {old = old} ctx params share keeps =
+    behind (Work old) ((not (int_eq (use_count share) (pos 0)), trusting.answer trust.CannotDelete) ∷ []) _
+    (record { gives = without_share_line_keeps ctx.op_source (sharing.pool_named_by params) params keeps })
+
+share_added : {old m : EntryMap} (ctx : Ctx) (params : PoolParams) (limit : ℤ) → Keeps old m
+    → Leaves old (sharing.share_added ctx params limit m)
+share_added {old = old} {m = m} ctx params limit keeps =
+    let id = ctx.op_source in
+    let pool = sharing.pool_named_by params in
+    let e = share_line (ctx.seq + 1) None id pool (pos 0) limit in
+    behind_charge (Work old) (map_after_adding ctx id e (map_with_pool (ctx.seq + 1) pool params m))
+    (trusting.answer trust.LowReserve) _
+    (adding_keeps ctx id e (with_new_pool_keeps (ctx.seq + 1) pool params (pool_at m pool) keeps))
+    (λ added after. record { gives = share_lines_keep (pos 1) id pool params after })
+
+share_changed : {old m : EntryMap} (ctx : Ctx) (params : PoolParams) (limit : ℤ) (found : Option TrustLineEntry)
+    → Keeps old m → Leaves old (sharing.share_changed ctx params limit m found)
+share_changed {old = old} {m = m} ctx params limit (Some share) keeps =
+    let pool = sharing.pool_named_by params in
+    behind (Work old) (trusting.limit_tests limit share) _
+    (either_way (Gives (Work old)) (int_eq limit (pos 0)) (sharing.share_removed ctx params share m)
+    (sharing.share_limited ctx pool limit m) (share_removed ctx params share keeps)
+    (record { gives = with_line_keeps ctx.op_source (line.PoolShare pool) (trusting.with_limit limit) keeps }))
+share_changed {old = old} {m = m} ctx params limit None keeps =
+    let a = needed_line ctx.op_source params.asset_a in
+    let b = needed_line ctx.op_source params.asset_b in
+    behind (Work old) (sharing.zero_tests limit) _
+    (behind (Work old) (sharing.needed_tests_at m a) _
+    (behind (Work old) (sharing.needed_tests_at m b) _
+    (behind (Work old) (sharing.count_tests a b (sharing.pool_named_by params) m) _
+    (share_added ctx params limit keeps))))
+
+share_trusted : {old m : EntryMap} (ctx : Ctx) (params : PoolParams) (limit : ℤ) → Keeps old m
+    → Leaves old (sharing.share_trust ctx params limit m)
+share_trusted {old = old} {m = m} ctx params limit keeps =
+    behind (Work old) (sharing.share_tests params limit) _
+    (behind (Work old) (sharing.pool_tests params m) _
+    (share_changed ctx params limit (line_at m ctx.op_source (line.PoolShare (sharing.pool_named_by params))) keeps))
+
+-- ---- the operation
+
+-- by what the line is in
+trusted_in : {old m : EntryMap} (ctx : Ctx) (op : ChangeTrustOp) (of : ChangeTrustAsset) → Keeps old m
+    → Leaves old (trust_in ctx op m of)
+trusted_in ctx op asked.Native keeps = asset_trusted ctx asset.Native op.limit keeps
+trusted_in ctx op (asked.Alphanum4 code issuer) keeps =
+    asset_trusted ctx (asset.Alphanum4 code issuer) op.limit keeps
+trusted_in ctx op (asked.Alphanum12 code issuer) keeps =
+    asset_trusted ctx (asset.Alphanum12 code issuer) op.limit keeps
+trusted_in ctx op (asked.PoolShare params) keeps = share_trusted ctx params op.limit keeps
+
+pub change_trust_keeps : {old m : EntryMap} (ctx : Ctx) (op : ChangeTrustOp) → Keeps old m
+    → Leaves old (change_trust ctx op m)
+change_trust_keeps ctx op keeps = trusted_in ctx op op.line keeps

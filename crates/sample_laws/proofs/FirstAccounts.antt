@@ -1,0 +1,70 @@
+-- The first accounts are plain: nobody sponsors, and their subentries are their signers.
+use Rattle.std.proofs.Common.{◌≡◌, ◌≢◌, ℕ, zero, suc, ◌<◌, ◌≤◌, true, false, [], ◌∷◌, Option, Some, None, pos}
+use Rattle.std.proofs.Common.{refl, arith, ◌==◌}
+use Rattle.std.proofs.lemmas.Int.{ints}
+use Rattle.std.proofs.lemmas.List.Elements.{All-nil, All-cons}
+use Rattle.std.specs.Prelude.{if◌then◌else◌}
+use Rattle.std.specs.List.{AllPairs}
+use Rattle.std.specs.declared.cmp.Ordering.TheVariants.{Less}
+use Rattle.ledger_types.specs.declared.ids.AccountId.{AccountId}
+use Rattle.ledger_types.specs.declared.signer.Signer.{Signer}
+use Rattle.ledger_types.specs.declared.signer.SignerKey.TheVariants as signer
+use Rattle.ledger_types.specs.KeyOrder.{signer_key_cmp}
+use Rattle.valid_values.specs.Texts.{is_valid_text}
+use Rattle.legal_rules.specs.Ranges.{AreAccountFlags, AreSignersInRange, IsAccountInRange}
+use Rattle.legal_rules.specs.FirstStates.{IsPlainAccount}
+use Rattle.sample_ledger.specs.Accounts.{account_id, account_entry, ledger_entry, signer_of, flags_of}
+
+flags_in_range : (account : ℕ) → AreAccountFlags (flags_of account)
+flags_in_range account = elim (account == 0) as (λ b. AreAccountFlags (if b then 10 else 0)) [
+  | true ↦ record { known = omega arith; clawback = λ set. refl }
+  | false ↦ record { known = omega arith; clawback = λ set. absurd (cc set) }
+]
+
+alone : (s : Signer) → AllPairs (λ (x y : Signer). signer_key_cmp x.key y.key ≡ Less) (s ∷ [])
+alone s i zero d before within = absurd (omega (arith, before))
+alone s i (suc j) d before within = absurd (omega (arith, within))
+
+signer_in_range : (seed account : ℕ)
+    → AreSignersInRange (account_id seed account) (signer_of seed account ∷ []) (None ∷ [])
+signer_in_range seed account =
+    let own = signer_of seed account in
+    let weight : (1 ≤ own.weight) × (own.weight ≤ 255) = (omega arith, omega arith) in
+    let other : own.key ≢ signer.Ed25519 (account_id seed account).0 = λ same. absurd cc in
+    let unpaid : None ≢ Some (account_id seed account) = λ same. absurd cc in
+    record {
+      few = omega arith;
+      rising = alone own;
+      weights = All-cons (λ (s : Signer). (1 ≤ s.weight) × (s.weight ≤ 255)) own [] weight (All-nil _);
+      others = All-cons (λ (s : Signer). s.key ≢ signer.Ed25519 (account_id seed account).0) own [] other (All-nil _);
+      items = refl;
+      paid_by_others = All-cons (λ (s : Option AccountId). s ≢ Some (account_id seed account)) None [] unpaid
+          (All-nil _);
+    }
+
+account_in_range : (seed account : ℕ) → IsAccountInRange (account_entry seed account)
+unfolding is_valid_text
+account_in_range seed account = record {
+  range = record {
+    balance = omega (arith, ints);
+    buying = omega (arith, ints);
+    selling = omega (arith, ints);
+    fits = omega (arith, ints);
+  };
+  seq_num = omega (arith, ints);
+  greatest_seq_num = omega (arith, ints);
+  flags = flags_in_range account;
+  home_domain = refl;
+  signers = signer_in_range seed account;
+}
+
+pub plain_account : (seed account : ℕ) → IsPlainAccount (ledger_entry seed account)
+plain_account seed account = record {
+  account = account_entry seed account;
+  is = refl;
+  unsponsored = refl;
+  unbound = refl;
+  subentries = refl;
+  few = omega arith;
+  range = account_in_range seed account;
+}

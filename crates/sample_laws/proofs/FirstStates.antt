@@ -1,0 +1,99 @@
+-- A ledger closes from the first state of a sample, and the image stands for it.
+use Rattle.std.proofs.Common.{◌≡◌, ℕ, List, [], ◌∷◌, length, map, replicate, pos, refl, ap, arith}
+use Rattle.std.proofs.lemmas.Int.{ints}
+use Rattle.std.proofs.lemmas.List.Elements.{All-from_recursion}
+use Rattle.std.specs.Prelude.{None}
+use Rattle.sha2.proofs.Facts256.{length-sha256}
+use Rattle.ledger_types.specs.Keys.{key_of}
+use Rattle.xdr_header.specs.Header.{ledger_header}
+use Rattle.entry_changes.specs.Spellable.{AreSpellable, IsEntrySpellable}
+use Rattle.legal_rules.specs.Headers.{IsHeaderInRange}
+use Rattle.legal_rules.specs.Legal.{IsLegal}
+use Rattle.legal_rules.specs.FirstStates.{IsPlainAccount, PlainStatesAreLegal}
+use Rattle.bucket_core.specs.File.{HasFile, file_of}
+use Rattle.bucket_levels.specs.Pairs.{Pair, empty_pair}
+use Rattle.close_rules.specs.State.{IsSpelled, IsClosingState}
+use Rattle.close_rules.specs.Images.{AreFilesOf}
+use Rattle.close_laws.specs.Images.{IsImageOf, ImagesStandForStates}
+use Rattle.sample_ledger.specs.Accounts.{ledger_entry}
+use Rattle.sample_ledger.specs.Image.{first_bucket, first_header, first_image, levels_with}
+use Rattle.sample_ledger.specs.Samples.{first_entries, first_state, FirstStatesClose}
+use Rattle.sample_ledger.proofs.Bytes.{hash_fits}
+use Rattle.sample_ledger.proofs.Entries.{entry_short}
+use Rattle.sample_ledger.proofs.Headers.{header_within, header_sized}
+use Rattle.sample_laws.proofs.FirstEntries.{each_first, first_lumens}
+use Rattle.sample_laws.proofs.FirstAccounts.{plain_account}
+use Rattle.sample_laws.proofs.FirstLevels.{first_marks, first_standing}
+use Rattle.sample_laws.proofs.FirstFiles.{first_has_file, first_files_len}
+
+header_in_range : (seed : ℕ) → IsHeaderInRange (first_header seed)
+header_in_range seed = record {
+  version = refl;
+  seq_low = omega arith;
+  seq_high = omega arith;
+  base_fee = omega arith;
+  base_reserve = omega arith;
+  total_coins = omega (arith, ints);
+  fee_pool = omega (arith, ints);
+  id_pool = omega arith;
+  flags = omega arith;
+}
+
+header_spelled : (seed : ℕ) → IsSpelled ledger_header (first_header seed)
+header_spelled seed = record {
+  within = header_within _ (length-sha256 _);
+  sized = header_sized _ (hash_fits _);
+}
+
+legal : PlainStatesAreLegal → (seed : ℕ) → IsLegal (first_header seed) (first_entries seed)
+legal plain_states seed =
+    plain_states (first_header seed) (first_entries seed) (header_in_range seed)
+    (each_first (λ k e. key_of e ≡ k) seed (λ a below. refl))
+    (each_first (λ k e. IsPlainAccount e) seed (λ a below. plain_account seed a))
+    (omega (arith, ints, first_lumens seed))
+
+spellable : (seed : ℕ) → AreSpellable (first_entries seed)
+spellable seed =
+    each_first (λ k e. IsEntrySpellable e) seed (λ a below.
+    let entry = entry_short seed a below in
+    record { within = entry.within; sized = entry.sized; short = omega (arith, entry.short) })
+
+closing : PlainStatesAreLegal → (seed : ℕ) → IsClosingState (first_state seed)
+closing plain_states seed = record {
+  legal = legal plain_states seed;
+  count = refl;
+  marked = first_marks seed;
+  standing = first_standing seed;
+  hash = refl;
+  header = header_spelled seed;
+  entries = spellable seed;
+  files = omega (arith, first_files_len seed);
+}
+
+-- ---- the image
+
+none_has_file : HasFile None
+none_has_file = record { keyed = λ k c there. absurd (cc there); spelled = All-from_recursion _ [] tt }
+
+Have : Pair → Type 0
+Have pair = HasFile pair.curr × HasFile pair.snap
+
+files_of_levels : (seed : ℕ) → AreFilesOf (levels_with (first_bucket seed)) (first_image seed).files
+unfolding Have
+files_of_levels seed =
+    let none : Have empty_pair = (none_has_file, none_has_file) in
+    record {
+      count = refl;
+      have = All-from_recursion Have (levels_with (first_bucket seed)) (
+        (first_has_file seed, none_has_file),
+        (none, (none, (none, (none, (none, (none, (none, (none, (none, (none, tt)))))))))),
+      );
+      are = refl;
+    }
+
+pub first_states_close : PlainStatesAreLegal → ImagesStandForStates → FirstStatesClose
+first_states_close plain_states images seed fits = record {
+  closing = closing plain_states seed;
+  judged = (images (first_state seed) (first_image seed) (closing plain_states seed)
+      (record { header = refl; files = files_of_levels seed })).1;
+}

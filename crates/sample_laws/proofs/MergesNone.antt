@@ -1,7 +1,7 @@
 -- No transaction of a sample has an ACCOUNT_MERGE.
-use Rattle.std.proofs.Common.{◌≡◌, ℕ, zero, suc, ◌+◌, Bool, true, false, List, [], ◌∷◌, map, refl, ◌==◌, ◌||◌, ◌&&◌}
+use Rattle.std.proofs.Common.{◌≡◌, ℕ, zero, suc, ◌+◌, false, List, [], ◌∷◌, map, refl, ◌==◌, ◌||◌, ◌&&◌}
 use Rattle.std.proofs.lemmas.List.Elements.{All-from_recursion}
-use Rattle.std.specs.Prelude.{if◌then◌else◌, nat_le, ◌%◌, All}
+use Rattle.std.specs.Prelude.{nat_le, ◌%◌, All}
 use Rattle.std.specs.List.{AllByRecursion, range_with_len}
 use Rattle.ledger_types.specs.declared.header.LedgerHeader.{LedgerHeader}
 use Rattle.op_types.specs.declared.operation.Operation.{Operation}
@@ -12,17 +12,13 @@ use Rattle.account_laws.specs.Standing.{is_merge, MergesNone}
 use Rattle.sample_ledger.specs.Records as spec
 use Rattle.sample_ledger.specs.Records.{issuer_turn, drawn_turn, issuer_operations, other_operation}
 use Rattle.sample_ledger.specs.Records.{envelope_of, is_claim}
+use Rattle.sample_ledger.proofs.Few.{either}
 
 abbrev IsNone : OperationBody → Type 0
 IsNone body = is_merge body ≡ false
 
 abbrev AreNone : List Operation → Type 0
 AreNone operations = AllByRecursion (λ (o : Operation). IsNone o.body) operations
-
--- either of two values that have a property
-either : {X : Type 0} (P : X → Type 0) (b : Bool) (x y : X) → P x → P y → P (if b then x else y)
-either P true x y h k = h
-either P false x y h k = k
 
 abbrev IsNoneOf : Operation → Type 0
 IsNoneOf o = IsNone o.body

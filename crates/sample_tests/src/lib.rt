@@ -1,5 +1,6 @@
 //! Tests of made-up ledgers.
 #![tactic(auto)]
 
+mod record;
 #[cfg(test)]
 mod samples;

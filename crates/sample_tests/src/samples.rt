@@ -1,13 +1,13 @@
 //! Images and records of samples, by the SHA-256 of their spellings as `sample.py` beside this crate spells them, which
 //! shares nothing with the program.
 
+use crate::record::record_digest;
 use hash_ids::hash;
 use item_list::ItemList;
 use ledger_types::Hash;
-use sample_ledger::{image, make_record};
+use sample_ledger::image;
 use std::alloc::{AllocError, Global};
-use xdr_core::{Builder, Cursor};
-use xdr_header::{StartImage, read_ledger_header, write_close_record};
+use xdr_header::StartImage;
 
 /// Seeds, with the digests of the header and of the first file of the image.
 const IMAGES: [(u32, &str, &str); 3] = [
@@ -228,23 +228,6 @@ fn digests_of(image: &StartImage) -> Option<(Hash, Hash)> {
         return None;
     }
     Some((hash(image.header.as_slice()), hash(file.as_slice())))
-}
-
-/// The digest of the record of this number behind the header that bytes spell.
-fn record_digest(alloc: Global, seed: u32, k: u32, header: &[u8]) -> Result<Hash, AllocError> {
-    if k < 1 || k > 20000 {
-        return Err(AllocError);
-    }
-    xdr_header::laws::reading_and_spelling_agree();
-    let mut ahead = Cursor::new(header);
-    let header = match read_ledger_header(alloc, &mut ahead) {
-        Ok(header) => header,
-        Err(_) => return Err(AllocError),
-    };
-    let record = make_record(alloc, seed, k, &header)?;
-    let mut text = Builder::new(alloc);
-    write_close_record(&record, &mut text)?;
-    Ok(hash(text.as_slice()))
 }
 
 /// The lower-case hexadecimal digits of a digest.

@@ -5,5 +5,4 @@
 mod commands;
 #[cfg(test)]
 mod none;
-#[cfg(test)]
 mod reading;

@@ -1,6 +1,6 @@
 use Rattle.std.proofs.Common.{rules}
 use Rattle.xdr_core.specs.Format.{IsBytes}
-use Rattle.sample_tests.proofs.samples.record_digest.Goals as goal
+use Rattle.sample_tests.proofs.record.record_digest.Goals as goal
 
 pub make_record-requires-clause-spelled : goal.make_record-requires-clause-spelled
 make_record-requires-clause-spelled c =

@@ -1,9 +1,10 @@
 #!/usr/bin/env python3
 """Kills runs over a store at random moments, and looks at what each leaves.
 
-    bench/crash.py [PROGRAM]
+    bench/crash.py [PROGRAM [WORKERS]]
 
-PROGRAM is the built program, crates/ledger/out/ledger of this repository where none is given. `init` makes a store at ledger 1 in a folder of
+PROGRAM is the built program, crates/ledger/out/ledger of this repository where none is given. The runs that are killed have so many WORKERS
+beside their closing threads, none where nothing is said. `init` makes a store at ledger 1 in a folder of
 TMPDIR. Over a copy of it `run` closes 300 ledgers, and goes on to another epoch four times. Such runs, over a fresh copy each, are killed
 (SIGKILL) at random moments, until 200 were killed before their end. About half of the moments are on the clock, within the time that a
 whole run takes. The others are told by the output: a little behind the moment at which so many of its bytes have come.
@@ -83,9 +84,9 @@ def run(program, words, folder, data):
 class Watched:
     """A run whose output is taken as it comes."""
 
-    def __init__(self, program, folder, source):
+    def __init__(self, command, folder, source):
         with open(source, "rb") as file:
-            self.process = subprocess.Popen([program, "run"], cwd=folder, stdin=file, stdout=subprocess.PIPE, bufsize=0)
+            self.process = subprocess.Popen(command, cwd=folder, stdin=file, stdout=subprocess.PIPE, bufsize=0)
         self.out, self.reader = bytearray(), threading.Thread(target=self.take)
         self.reader.start()
 
@@ -110,9 +111,9 @@ class Watched:
         return self.out.decode(), self.process.wait() == 0
 
 
-def killed(program, folder, source, moments, length, took):
+def killed(command, folder, source, moments, length, took):
     """What a run printed until a random moment, and whether it had ended by itself."""
-    it = Watched(program, folder, source)
+    it = Watched(command, folder, source)
     if moments.random() < 0.5:
         time.sleep(moments.uniform(0, 1.1 * took))
     else:
@@ -157,6 +158,7 @@ def tell(seen, whole):
 
 def main():
     program = os.path.abspath(sys.argv[1] if len(sys.argv) > 1 else built("ledger"))
+    command = [program, "run", *(["--workers", sys.argv[2]] if len(sys.argv) > 2 else [])]
     data, records, lines = story()
     told = Told(model.ledger_of(model.sha(NETWORK.encode()), *model.cut_image(model.Text(data))).hash.hex(), lines)
     moments, seen, whole, wrong = random.Random(SEED), [], 0, 0
@@ -175,7 +177,7 @@ def main():
         while len(seen) - whole + wrong < KILLS:
             shutil.rmtree(fresh)
             shutil.copytree(made, fresh)
-            out, ended = killed(program, fresh, source, moments, len(told.text(0)), took)
+            out, ended = killed(command, fresh, source, moments, len(told.text(0)), took)
             found = judged(program, fresh, told, records, out)
             if isinstance(found, str):
                 print(found)

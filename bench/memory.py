@@ -5,12 +5,14 @@
 
 PROGRAM is the built program, crates/ledger/out/ledger of this repository where none is given.
 
-It runs `catchup`, `init` and `run` over an image and three records, those in examples/, once for each call for memory that the run makes
+It runs `catchup`, `init`, `run`, and `run` beside two workers, over an image and three records, those in examples/, once for each call for memory that the run makes
 of the C library. A library that is loaded in front of that one counts the calls and refuses one of them. Each run has to answer 8, tell
 `no memory`, and write a front of the text that the ledger in Python beside `close_cases` gives; or, where the directory of the store
 is refused memory, 6 with `disk fault`; or it passes over the refusal, and answers 0 with all of the text. Behind `init` and `run` the
 store is opened again, by a `run` without input: behind 8 and 0 at the last ledger whose `closed` line was written, behind 6 there or one
 further on. An `init` that answered 8 has made no store, and one that answered 6 may have.
+
+Beside workers the calls of all threads count, so which of them is refused differs from run to run.
 
 The script prints how many calls each command makes, and what the runs answered.
 
@@ -39,7 +41,7 @@ COUNTER = r"""
 #include <stdio.h>
 #include <stdlib.h>
 
-static unsigned long calls;
+static volatile unsigned long calls;
 
 static int is_refused(void) {
     static long refused = -1;
@@ -47,7 +49,7 @@ static int is_refused(void) {
         const char *text = getenv("REFUSED");
         refused = text ? atol(text) : 0;
     }
-    return ++calls == (unsigned long)refused;
+    return __sync_add_and_fetch(&calls, 1) == (unsigned long)refused;
 }
 
 #define REAL(type, name, list) type (*real) list = (type (*) list)dlsym(RTLD_NEXT, name)
@@ -141,16 +143,16 @@ def tried(command, library, folder):
     counted = f"{folder}/counted"
     at, end = command.ran(folder, LD_PRELOAD=library, REFUSED="0", COUNTED=counted)
     if command.judged(at, end) != "passed":
-        stop(f"{command.words[1]} without a refusal does something else")
+        stop(f"{' '.join(command.words[1:])} without a refusal does something else")
     calls, found = int(content(counted)), dict.fromkeys(["passed", "front", "nothing", "device", None], 0)
     for number in range(1, calls + 1):
         at, end = command.ran(folder, LD_PRELOAD=library, REFUSED=str(number), COUNTED=counted)
         came = command.judged(at, end)
         found[came] += 1
         if came is None:
-            print(f"{command.words[1]}, call {number}: status {end.returncode}, {end.stderr!r}, {end.stdout[:80]!r}")
+            print(f"{' '.join(command.words[1:])}, call {number}: status {end.returncode}, {end.stderr!r}, {end.stdout[:80]!r}")
         shutil.rmtree(at)
-    print(f"{command.words[1]}: {calls} calls for memory, each refused in turn; {found['front'] + found['nothing']} runs answer 8,"
+    print(f"{' '.join(command.words[1:])}: {calls} calls for memory, each refused in turn; {found['front'] + found['nothing']} runs answer 8,"
           f" {found['front']} of them behind some of the text, {found['device']} answer 6, {found['passed']} pass it over, and"
           f" {found[None]} do otherwise")
     return found[None]
@@ -170,6 +172,7 @@ def commands(program, folder):
         Command(program, ["catchup", "--network", NETWORK], image + records, text.encode(), None, None),
         Command(program, ["init", "--network", NETWORK], image, b"", None, [b"", ends[0]]),
         Command(program, ["run"], records, text.encode(), f"{made}/ledger-store", ends),
+        Command(program, ["run", "--workers", "2"], records, text.encode(), f"{made}/ledger-store", ends),
     ]
 
 

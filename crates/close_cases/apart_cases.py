@@ -4,9 +4,8 @@
     apart_cases.py FOLDER NAME      writes data/apart-NAME.case, and names it as the last of those that came from elsewhere
 
 FOLDER has a run: `args`, a word a line; `input.bin`; what must be written and answered, `expected_out`, `expected_err` and
-`expected_status`; and, where they are there, `before` and `after` with the files of the volume as the run begins and as it ends. Words
-behind `run` are left out: how many workers help a run changes neither its text nor its files. Python 3.9 or later and its standard
-library.
+`expected_status`; and, where they are there, `before` and `after` with the files of the volume as the run begins and as it ends. Python
+3.9 or later and its standard library.
 """
 
 import os
@@ -32,7 +31,6 @@ def read_apart(folder):
     out, err, status = (content(f"{folder}/expected_{kind}").decode() for kind in ("out", "err", "status"))
     before, after = ([content(f"{folder}/{when}/{name}") for name in FILES] for when in ("before", "after"))
     words = content(f"{folder}/args").decode().splitlines()
-    words = words[:1] if words[0] == "run" else words
     return words, content(f"{folder}/input.bin"), (out, err, int(status)), before, after
 
 

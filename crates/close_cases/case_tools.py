@@ -250,10 +250,18 @@ def write(path, data):
         file.write(data if isinstance(data, bytes) else data.encode())
 
 
+def words_in(path):
+    """The words of a case in a file."""
+    with open(path, "rb") as file:
+        head = file.read().split(b"\n\n", 1)[0].decode()
+    return [line[len("word "):] for line in head.split("\n") if line.startswith("word ")]
+
+
 def write_names(folder, names):
-    """The list of the cases in a folder, and what the program prints beside it where each is as expected."""
+    """The list of the cases in a folder, and what the program prints beside it where each is as expected: `run` alone is run beside workers."""
     write(f"{folder}/data/names", "".join(f"{name}\n" for name in names))
-    write(f"{folder}/stdout", "".join(f"{name}: as expected, also byte by byte\n" for name in names))
+    ends = {name: " and beside workers" if words_in(f"{folder}/data/{name}.case") == ["run"] else "" for name in names}
+    write(f"{folder}/stdout", "".join(f"{name}: as expected, also byte by byte{ends[name]}\n" for name in names))
 
 
 A, B, C = (entry(Account(name, 100 * LUMEN)) for name in "abc")

@@ -56,11 +56,12 @@ def over(name, words, data, before, came, left):
     return after
 
 
-def makes(name, data, before, end, left=None, passphrase=NETWORK):
-    """A case of `init`. `end` is by hand: what is told on standard error behind the status, or nothing."""
+def makes(name, data, before, end, left=None, passphrase=NETWORK, joined=False):
+    """A case of `init`. `end` is by hand: what is told on standard error behind the status, or nothing. The option may be one word."""
     came, after = init(passphrase, data, before)
     assert end == (f"{came[2]} {came[1].strip()}" if came[1] else ""), (name, came)
-    return over(f"init: {name}", ["init", "--network", passphrase], data, before, (came, after), left)
+    words = ["init", f"--network={passphrase}"] if joined else ["init", "--network", passphrase]
+    return over(f"init: {name}", words, data, before, (came, after), left)
 
 
 def runs(name, data, before, end, left=None, closes=None):
@@ -156,6 +157,8 @@ def making_over():
     makes("where a head is open", LEGAL, files(image0=head), "12 already there")
     makes("where the head of the other file is open", LEGAL, files(image1=head), "12 already there")
     makes("where an image of another length is open", LEGAL, files(image0=made[:-1]), "12 already there")
+    makes("with a passphrase that begins with a hyphen", LEGAL, files(), "", (0, 0), "-a", joined=True)
+    makes("with a passphrase of an option's form", LEGAL, files(), "", (0, 0), "--network=a", joined=True)
     shut = image_file(0, ON_TEST, OLD, 0)
     makes("where an image is open behind one that isn't", LEGAL, files(image0=shut, image1=head), "12 already there")
 
@@ -168,7 +171,10 @@ def words():
         ("init without an option", ["init", NETWORK]), ("init of two passphrases", [*MAKE, NETWORK]),
         ("init of another option", ["init", "--networks", NETWORK]), ("init with a capital", ["Init", *MAKE[1:]]),
         ("the option first", [*MAKE[1:], "init"]), ("run and a word", ["run", "x"]), ("run and an option of init", ["run", *MAKE[1:]]),
-        ("run with a capital", ["Run"]), ("run and nothing", ["run", ""]),
+        ("run with a capital", ["Run"]), ("run and nothing", ["run", ""]), ("run beside nine workers", ["run", "--workers", "9"]),
+        ("run with workers twice", ["run", "--workers", "1", "--workers=1"]), ("run with no number of workers", ["run", "--workers"]),
+        ("run with an empty number of workers", ["run", "--workers="]), ("run with eleven digits", ["run", "--workers", "0" * 10 + "1"]),
+        ("run with a sign", ["run", "--workers", "+1"]), ("init of a hyphen as a word", ["init", "--network", "-a"]), ("help", ["--help"]),
     ]:
         over(f"words: {name}", listed, LEGAL, before, (("", "usage\n", 2), before), None)
 

@@ -11,8 +11,9 @@
 //! FILE is `image0`, `image1`, `journal0` or `journal1`; a file without a line is empty. Behind the empty line stand
 //! the bytes of the last three kinds, in the order of their lines, and then the input.
 //!
-//! Each is run twice, over a volume of its own: in pieces, and at one byte a read and a write. Nothing may be pending
-//! on the volume behind it: a crash must leave the same files. Prints a line for each case.
+//! Each is run twice, over a volume of its own: in pieces, and at one byte a read and a write; a case of `run` is also
+//! run beside 1, 2, 4 and 8 workers. Nothing may be pending on the volume behind it: a crash must leave the same files.
+//! Prints a line for each case.
 //!
 //! The folder is the program's one argument, or `data` where there is none.
 #![tactic(auto)]
@@ -22,12 +23,14 @@ ghost use Rattle.std.specs.Prelude.{◌≡◌, ◌<◌};
 mod case;
 
 use case::{Case, read_case};
-use outside::{MemSink, MemSource, MemVolume, Steps, Volume};
+use outside::{MemSink, MemSource, MemVolume, OpenGate, Steps, Volume};
 use replay::run_program;
 use std::alloc::{AllocError, Global};
 use std::marker::Brand;
 use std::rt::Files;
+use std::sync::Wait;
 use std::sync::ledger::{Blank, Ledger};
+use std::thread::Threads;
 use std::{env, fs, io};
 
 /// The most bytes that a read or a write moves in the first run of a case.
@@ -98,7 +101,13 @@ fn compared(case: &Case, status: u8, devices: &Devices) -> Option<&'static str> 
 }
 
 /// Runs the program, and counts the steps of its merges in a book of their own.
-fn run<L: Ledger>(alloc: Global, words: &[String], devices: &mut Devices, blank: Blank) -> u8
+fn run<R: Threads + Wait + Sync, L: Ledger>(
+    rt: &R,
+    alloc: Global,
+    words: &[String],
+    devices: &mut Devices,
+    blank: Blank,
+) -> u8
     requires name { blank.name ≡ L.name }
     requires parts { blank.parts ≡ L.parts }
     requires some { 0 < L.parts }
@@ -110,20 +119,34 @@ fn run<L: Ledger>(alloc: Global, words: &[String], devices: &mut Devices, blank:
         err,
         vol,
     } = devices;
-    run_program(alloc, words, input, out, err, vol, &mut steps)
+    run_program(
+        rt, alloc, words, input, out, err, vol, &OpenGate, &mut steps,
+    )
 }
 
 /// The status of the program over these words and devices.
-fn status_of(alloc: Global, words: &[String], devices: &mut Devices) -> u8 {
-    run::<Brand>(alloc, words, devices, Blank::new(1))
+fn status_of<R: Threads + Wait + Sync>(
+    rt: &R,
+    alloc: Global,
+    words: &[String],
+    devices: &mut Devices,
+) -> u8 {
+    run::<R, Brand>(rt, alloc, words, devices, Blank::new(1))
 }
 
-/// What differs first where a read and a write of a case move at most so many bytes, if something does.
-fn difference(alloc: Global, case: &Case, most: usize) -> Result<Option<&'static str>, AllocError>
+/// What differs first where a read and a write of a case move at most so many bytes, if something does. The words are
+/// the case's, perhaps with a number of workers.
+fn difference<R: Threads + Wait + Sync>(
+    rt: &R,
+    alloc: Global,
+    case: &Case,
+    words: &[String],
+    most: usize,
+) -> Result<Option<&'static str>, AllocError>
     requires { 0 < most }
 {
     let mut devices = devices_of(alloc, case, most)?;
-    let status = status_of(alloc, case.words.as_slice(), &mut devices);
+    let status = status_of(rt, alloc, words, &mut devices);
     if let Some(difference) = compared(case, status, &devices) {
         return Ok(Some(difference));
     }
@@ -135,23 +158,65 @@ fn difference(alloc: Global, case: &Case, most: usize) -> Result<Option<&'static
     }
 }
 
+/// Whether the words are `run` alone.
+fn is_run(words: &[String]) -> bool {
+    match words {
+        [command] => command.as_str() == "run",
+        _ => false,
+    }
+}
+
+/// Whether a case of `run` comes to the same beside workers, of each of these numbers.
+fn is_same_beside<R: Threads + Wait + Sync>(
+    rt: &R,
+    alloc: Global,
+    case: &Case,
+) -> Result<bool, AllocError> {
+    for workers in ["1", "2", "4", "8"] {
+        let mut words = Vec::new(alloc);
+        for word in ["run", "--workers", workers] {
+            words.push(word.to_string(alloc)?)?;
+        }
+        if difference(rt, alloc, case, words.as_slice(), PIECE)?.is_some() {
+            return Ok(false);
+        }
+    }
+    Ok(true)
+}
+
 /// What a case shows.
-fn outcome(alloc: Global, case: &Case) -> Result<&'static str, AllocError> {
-    if let Some(difference) = difference(alloc, case, PIECE)? {
+fn outcome<R: Threads + Wait + Sync>(
+    rt: &R,
+    alloc: Global,
+    case: &Case,
+) -> Result<&'static str, AllocError> {
+    let words = case.words.as_slice();
+    if let Some(difference) = difference(rt, alloc, case, words, PIECE)? {
         return Ok(difference);
     }
-    match difference(alloc, case, 1)? {
-        Some(_) => Ok("something else byte by byte"),
-        None => Ok("as expected, also byte by byte"),
+    if difference(rt, alloc, case, words, 1)?.is_some() {
+        return Ok("something else byte by byte");
+    }
+    if !is_run(words) {
+        return Ok("as expected, also byte by byte");
+    }
+    if is_same_beside(rt, alloc, case)? {
+        Ok("as expected, also byte by byte and beside workers")
+    } else {
+        Ok("something else beside workers")
     }
 }
 
 /// What the case of a name shows.
-fn tried<R: Files + AllocGlobal>(rt: &R, folder: &str, name: &str) -> io::Result<&'static str> {
+fn tried<R: Files + AllocGlobal + Threads + Wait + Sync>(
+    rt: &R,
+    folder: &str,
+    name: &str,
+) -> io::Result<&'static str> {
     let path = format!(in rt.alloc(); "{folder}/{name}.case")?;
     let text = fs::read(rt, path.as_str())?;
     match read_case(rt.alloc(), text.as_slice())? {
-        Some(case) => Ok(outcome(rt.alloc(), &case)?),
+        Some(case) => Ok(outcome(rt, rt.alloc(), &case)?),
         None => Ok("no case"),
     }
 }

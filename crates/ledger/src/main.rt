@@ -6,12 +6,14 @@ ghost use Rattle.std.specs.Prelude.{◌≡◌, ◌<◌};
 #[cfg(test)]
 mod tests;
 
-use outside::{DirVolume, StdSink, StdSource, Steps};
+use outside::{DirVolume, OpenGate, Sink, Source, StdSink, StdSource, Steps, Volume};
 use replay::{end_without_memory, run_program};
 use std::marker::Brand;
 use std::process::ExitCode;
 use std::rt::Env;
+use std::sync::Wait;
 use std::sync::ledger::{Blank, Ledger};
+use std::thread::Threads;
 use std::{env, io};
 
 /// The words behind the program's name.
@@ -20,43 +22,51 @@ fn words<R: Env + AllocGlobal>(rt: &R) -> io::Result<Vec<String>> {
     Ok(words)
 }
 
-/// Runs the command of the words over the streams of the process and the store `ledger-store`. The steps of merges are
-/// counted in a book of their own.
-fn run<L: Ledger>(rt: &HostRuntime, blank: Blank) -> u8
+/// Runs the command of the words over these streams and this volume. The steps of merges are counted in a book of their
+/// own.
+fn run<
+    R: Threads + Wait + Sync + Env + AllocGlobal,
+    I: Source,
+    O: Sink,
+    E: Sink,
+    V: Volume,
+    L: Ledger,
+>(rt: &R, input: &mut I, out: &mut O, err: &mut E, vol: &mut V, blank: Blank) -> u8
     requires name { blank.name ≡ L.name }
     requires parts { blank.parts ≡ L.parts }
     requires some { 0 < L.parts }
 {
     let alloc = rt.alloc();
-    let mut input = StdSource::new(rt.stdin());
-    let mut out = StdSink::new(rt.stdout());
-    let mut err = StdSink::new(rt.stderr());
-    let mut vol = DirVolume::new(rt);
     let mut steps: Steps<L> = Steps::new(blank);
     match words(rt) {
-        Ok(words) => run_program(
-            alloc,
-            words.as_slice(),
-            &mut input,
-            &mut out,
-            &mut err,
-            &mut vol,
-            &mut steps,
-        ),
-        Err(fault) if fault.kind() == io::ErrorKind::OutOfMemory => end_without_memory(&mut err),
+        Ok(words) => {
+            let words = words.as_slice();
+            run_program(
+                rt, alloc, words, input, out, err, vol, &OpenGate, &mut steps,
+            )
+        }
+        Err(fault) if fault.kind() == io::ErrorKind::OutOfMemory => end_without_memory(err),
         // A word that isn't UTF-8 makes the words no command.
-        Err(_) => run_program(
-            alloc,
-            &[],
-            &mut input,
-            &mut out,
-            &mut err,
-            &mut vol,
-            &mut steps,
-        ),
+        Err(_) => run_program(rt, alloc, &[], input, out, err, vol, &OpenGate, &mut steps),
     }
 }
 
+/// The exit status of the command of the words.
+fn status_of<R: Threads + Wait + Sync + Env + AllocGlobal, I: Source, O: Sink, E: Sink, V: Volume>(
+    rt: &R,
+    input: &mut I,
+    out: &mut O,
+    err: &mut E,
+    vol: &mut V,
+) -> u8 {
+    run::<R, I, O, E, V, Brand>(rt, input, out, err, vol, Blank::new(1))
+}
+
+/// The streams are those of the process, and the volume is the directory `ledger-store`.
 fn main(rt: HostRuntime) -> ExitCode {
-    ExitCode::from(run::<Brand>(&rt, Blank::new(1)))
+    let mut input = StdSource::new(rt.stdin());
+    let mut out = StdSink::new(rt.stdout());
+    let mut err = StdSink::new(rt.stderr());
+    let mut vol = DirVolume::new(&rt);
+    ExitCode::from(status_of(&rt, &mut input, &mut out, &mut err, &mut vol))
 }

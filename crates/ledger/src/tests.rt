@@ -1,10 +1,12 @@
 ghost use Rattle.std.specs.Prelude.{◌≡◌, ◌<◌, Some};
 
-use outside::{Failed, MemSink, MemSource, MemVolume, Sink, Steps, read_all};
+use outside::{Failed, MemSink, MemSource, MemVolume, OpenGate, Sink, Steps, read_all};
 use replay::{end_without_memory, run_program};
 use std::alloc::{AllocError, Global};
 use std::marker::Brand;
+use std::sync::Wait;
 use std::sync::ledger::{Blank, Ledger};
+use std::thread::Threads;
 
 const NETWORK: &str = "Test SDF Network ; September 2015";
 
@@ -43,8 +45,8 @@ fn words_of(alloc: Global, texts: &[&str]) -> Result<Vec<String>, AllocError> {
 }
 
 /// Runs the program, and counts the steps of its merges in a book of their own.
-fn run<O: Sink, L: Ledger>(
-    alloc: Global,
+fn run<R: Threads + Wait + Sync + AllocGlobal, O: Sink, L: Ledger>(
+    rt: &R,
     words: &[&str],
     input: &mut MemSource,
     out: &mut O,
@@ -55,48 +57,52 @@ fn run<O: Sink, L: Ledger>(
     requires parts { blank.parts ≡ L.parts }
     requires some { 0 < L.parts }
 {
+    let alloc = rt.alloc();
     let words = words_of(alloc, words)?;
     let mut steps: Steps<L> = Steps::new(blank);
     let mut vol = MemVolume::new(alloc);
     Ok(run_program(
+        rt,
         alloc,
         words.as_slice(),
         input,
         out,
         err,
         &mut vol,
+        &OpenGate,
         &mut steps,
     ))
 }
 
 /// The status of the program over these words and streams.
-fn status_of<O: Sink>(
-    alloc: Global,
+fn status_of<R: Threads + Wait + Sync + AllocGlobal, O: Sink>(
+    rt: &R,
     words: &[&str],
     input: &mut MemSource,
     out: &mut O,
     err: &mut MemSink,
 ) -> Result<u8, AllocError> {
-    run::<O, Brand>(alloc, words, input, out, err, Blank::new(1))
+    run::<R, O, Brand>(rt, words, input, out, err, Blank::new(1))
 }
 
 /// Whether the program ends with this status over these words and this input, writes nothing and tells this line.
-fn ends(
-    alloc: Global,
+fn ends<R: Threads + Wait + Sync + AllocGlobal>(
+    rt: &R,
     words: &[&str],
     input: &mut MemSource,
     tells: Calls,
     end: (u8, &str),
 ) -> Result<bool, AllocError> {
+    let alloc = rt.alloc();
     let mut out = sink(alloc, pieces_of(100))?;
     let mut err = sink(alloc, tells)?;
-    let status = status_of(alloc, words, input, &mut out, &mut err)?;
+    let status = status_of(rt, words, input, &mut out, &mut err)?;
     Ok(status == end.0 && out.bytes().is_empty() && err.bytes() == end.1.as_bytes())
 }
 
 /// Whether `catchup` ends so over an input.
-fn catchup_ends(
-    alloc: Global,
+fn catchup_ends<R: Threads + Wait + Sync + AllocGlobal>(
+    rt: &R,
     bytes: &[u8],
     reads: Calls,
     tells: Calls,
@@ -104,9 +110,10 @@ fn catchup_ends(
 ) -> Result<bool, AllocError>
     requires { 0 < reads.most }
 {
+    let alloc = rt.alloc();
     let mut input = source(alloc, bytes, reads)?;
     let words = ["catchup", "--network", NETWORK];
-    ends(alloc, words.as_slice(), &mut input, tells, end)
+    ends(rt, words.as_slice(), &mut input, tells, end)
 }
 
 #[test]
@@ -116,7 +123,7 @@ fn answers_9_to_an_input_that_ends_in_its_image(rt: HostRuntime) {
         (b"".as_slice(), "bad input at 0\n"),
         (b"\0\0\0".as_slice(), "bad input at 3\n"),
     ] {
-        let said = catchup_ends(rt.alloc(), bytes, calls, calls, (9, line));
+        let said = catchup_ends(&rt, bytes, calls, calls, (9, line));
         assert!(rt; said == Ok(true));
     }
 }
@@ -125,13 +132,7 @@ fn answers_9_to_an_input_that_ends_in_its_image(rt: HostRuntime) {
 fn answers_4_where_a_read_fails(rt: HostRuntime) {
     for failing in 1..4 {
         let reads = Calls { most: 2, failing };
-        let said = catchup_ends(
-            rt.alloc(),
-            b"\0\0\0",
-            reads,
-            pieces_of(100),
-            (4, "read fault\n"),
-        );
+        let said = catchup_ends(&rt, b"\0\0\0", reads, pieces_of(100), (4, "read fault\n"));
         assert!(rt; said == Ok(true));
     }
 }
@@ -139,15 +140,19 @@ fn answers_4_where_a_read_fails(rt: HostRuntime) {
 /// Where standard error takes nothing, the end can't be told, and is 5 too.
 #[test]
 fn answers_5_where_an_end_can_not_be_told(rt: HostRuntime) {
-    let said = catchup_ends(rt.alloc(), b"", pieces_of(2), pieces_of(0), (5, ""));
+    let said = catchup_ends(&rt, b"", pieces_of(2), pieces_of(0), (5, ""));
     assert!(rt; said == Ok(true));
 }
 
 /// Whether words are no command, and the input is left as it is.
-fn is_no_command(alloc: Global, words: &[&str]) -> Result<bool, AllocError> {
+fn is_no_command<R: Threads + Wait + Sync + AllocGlobal>(
+    rt: &R,
+    words: &[&str],
+) -> Result<bool, AllocError> {
+    let alloc = rt.alloc();
     let bytes = b"any input";
     let mut input = source(alloc, bytes, pieces_of(100))?;
-    let is_refused = ends(alloc, words, &mut input, pieces_of(100), (2, "usage\n"))?;
+    let is_refused = ends(rt, words, &mut input, pieces_of(100), (2, "usage\n"))?;
     Ok(is_refused && is_left(alloc, &mut input, bytes))
 }
 
@@ -171,7 +176,7 @@ fn reads_nothing_where_the_words_are_no_command(rt: HostRuntime) {
         ["Catchup", "--network", NETWORK].as_slice(),
         ["set", "--network", NETWORK].as_slice(),
     ] {
-        assert!(rt; is_no_command(rt.alloc(), words) == Ok(true));
+        assert!(rt; is_no_command(&rt, words) == Ok(true));
     }
 }
 
@@ -247,21 +252,22 @@ impl Sink for Filling {
 type End = (u8, usize, &'static str);
 
 /// The status of `catchup` over it and these streams, and whether the line that is told is that of its end.
-fn two_closes<O: Sink>(
-    alloc: Global,
+fn two_closes<R: Threads + Wait + Sync + AllocGlobal, O: Sink>(
+    rt: &R,
     reads: Calls,
     out: &mut O,
     line: &str,
 ) -> Result<(u8, bool), AllocError>
     requires { 0 < reads.most }
 {
+    let alloc = rt.alloc();
     let Ok(bytes) = hex::decode(alloc, INPUT) else {
         return Err(AllocError);
     };
     let mut input = source(alloc, bytes.as_slice(), reads)?;
     let mut err = sink(alloc, pieces_of(100))?;
     let words = ["catchup", "--network", NETWORK];
-    let status = status_of(alloc, words.as_slice(), &mut input, out, &mut err)?;
+    let status = status_of(rt, words.as_slice(), &mut input, out, &mut err)?;
     Ok((status, err.bytes() == line.as_bytes()))
 }
 
@@ -271,22 +277,33 @@ fn is_front(written: &[u8], count: usize) -> bool {
 }
 
 /// Whether `catchup` over it ends so, where calls fail so.
-fn two_closes_end(alloc: Global, reads: Calls, writes: Calls, end: End) -> Result<bool, AllocError>
+fn two_closes_end<R: Threads + Wait + Sync + AllocGlobal>(
+    rt: &R,
+    reads: Calls,
+    writes: Calls,
+    end: End,
+) -> Result<bool, AllocError>
     requires { 0 < reads.most }
 {
+    let alloc = rt.alloc();
     let mut out = sink(alloc, writes)?;
-    let told = two_closes(alloc, reads, &mut out, end.2)?;
+    let told = two_closes(rt, reads, &mut out, end.2)?;
     Ok(told == (end.0, true) && is_front(out.bytes(), end.1))
 }
 
 /// Whether `catchup` over it ends so, with a sink that takes so many writes.
-fn filling_ends(alloc: Global, left: usize, end: End) -> Result<bool, AllocError> {
+fn filling_ends<R: Threads + Wait + Sync + AllocGlobal>(
+    rt: &R,
+    left: usize,
+    end: End,
+) -> Result<bool, AllocError> {
+    let alloc = rt.alloc();
     let mut out = Filling {
         bytes: Vec::new(alloc),
         left,
         faults: 0,
     };
-    let told = two_closes(alloc, pieces_of(100), &mut out, end.2)?;
+    let told = two_closes(rt, pieces_of(100), &mut out, end.2)?;
     Ok(told == (end.0, true) && is_front(out.bytes.as_slice(), end.1))
 }
 
@@ -300,7 +317,7 @@ fn a_read_that_fails_leaves_the_lines_of_the_records_before(rt: HostRuntime) {
             11 => (4, 230, "read fault\n"),
             _ => (0, 301, ""),
         };
-        assert!(rt; two_closes_end(rt.alloc(), reads, pieces_of(100), end) == Ok(true));
+        assert!(rt; two_closes_end(&rt, reads, pieces_of(100), end) == Ok(true));
     }
 }
 
@@ -309,7 +326,7 @@ fn a_write_that_fails_leaves_a_front_of_the_text(rt: HostRuntime) {
     for (failing, written) in [(1, 0), (2, 78), (3, 178), (4, 230)] {
         let writes = Calls { most: 100, failing };
         let end = (5, written, "write fault\n");
-        assert!(rt; two_closes_end(rt.alloc(), pieces_of(100), writes, end) == Ok(true));
+        assert!(rt; two_closes_end(&rt, pieces_of(100), writes, end) == Ok(true));
     }
 }
 
@@ -317,7 +334,7 @@ fn a_write_that_fails_leaves_a_front_of_the_text(rt: HostRuntime) {
 fn a_write_that_takes_nothing_leaves_a_front_of_the_text(rt: HostRuntime) {
     for (left, written) in [(0, 0), (1, 78), (2, 230)] {
         let end = (5, written, "write fault\n");
-        assert!(rt; filling_ends(rt.alloc(), left, end) == Ok(true));
+        assert!(rt; filling_ends(&rt, left, end) == Ok(true));
     }
-    assert!(rt; filling_ends(rt.alloc(), 3, (0, 301, "")) == Ok(true));
+    assert!(rt; filling_ends(&rt, 3, (0, 301, "")) == Ok(true));
 }

@@ -1,5 +1,6 @@
 -- What a worker's steps keep.
-use Rattle.std.proofs.Common.{◌≡◌, ◌≢◌, ℕ, ◌<◌, List, [], ◌∷◌, ◌++◌, sym, ap, ◌∙◌, subst, arith}
+use Rattle.std.proofs.Common.{◌≡◌, ◌≢◌, ℕ, ◌<◌, List, [], ◌∷◌, ◌++◌, sym, ap}
+use Rattle.std.proofs.Common.{◌∙◌, subst, arith, append-nil, append_assoc}
 use Rattle.std.proofs.lemmas.List.{map-append}
 use Rattle.bucket_merge.specs.Job.{Job}
 use Rattle.std.specs.List.{AllByRecursion}
@@ -49,6 +50,26 @@ took worker n taken pushed left h above = record {
   met_full = h.met_full;
 }
 
+-- an outcome more is pushed, behind all that found no place
+met_later : (worker : ℕ) (out : Job) (pushed left : List Job) → AllByRecursion (MetFull worker pushed) left
+    → AllByRecursion (λ m. m < out.number) (numbers_of left)
+    → AllByRecursion (MetFull worker (pushed ++ out ∷ [])) left
+met_later worker out pushed [] met above = tt
+met_later worker out pushed (first ∷ others) met above =
+    let was = met.0 in (
+      record {
+        before = was.before;
+        behind = was.behind ++ out ∷ [];
+        pushed_is = ap (λ (xs : List Job). xs ++ out ∷ []) was.pushed_is
+            ∙ append_assoc was.before was.behind (out ∷ []);
+        lower = was.lower;
+        higher = subst (AllByRecursion (λ n. first.number < n)) (sym (numbers_snoc was.behind out))
+            (every_snoc (λ n. first.number < n) (numbers_of was.behind) out.number was.higher above.0);
+        full = was.full;
+      },
+      met_later worker out pushed others met.1 above.1,
+    )
+
 pub pushed_one : (worker : ℕ) (out : Job) (taken : List ℕ) (pushed left : List Job) → AreDealt worker taken pushed left
     → Has taken out.number → AllByRecursion (λ m. m < out.number) (numbers_of pushed)
     → AllByRecursion (λ m. m < out.number) (numbers_of left) → AreDealt worker taken (pushed ++ out ∷ []) left
@@ -64,7 +85,7 @@ pushed_one worker out taken pushed left h among above_pushed above_left =
       apart = subst (AllByRecursion (λ p. AllByRecursion (λ m. p ≢ m) (numbers_of left))) more
           (every_snoc (λ p. AllByRecursion (λ m. p ≢ m) (numbers_of left)) (numbers_of pushed) n h.apart
           (every_map (λ m. m < n) (λ m. n ≢ m) (numbers_of left) (λ m below e. omega arith) above_left));
-      met_full = h.met_full;
+      met_full = met_later worker out pushed left h.met_full above_left;
     }
 
 pub left_one : (worker : ℕ) (out : Job) (taken : List ℕ) (pushed left : List Job) → AreDealt worker taken pushed left
@@ -84,5 +105,12 @@ left_one worker out taken pushed left h among above_pushed above_left full =
           (every_both (λ p. AllByRecursion (λ m. p ≢ m) (numbers_of left)) (λ p. p < n)
           (λ p. AllByRecursion (λ m. p ≢ m) (numbers_of left ++ n ∷ [])) (numbers_of pushed)
           (λ p old below. every_snoc (λ m. p ≢ m) (numbers_of left) n old (λ e. omega arith)) h.apart above_pushed);
-      met_full = every_snoc (MetFull worker) left out h.met_full (pushed, above_pushed, full);
+      met_full = every_snoc (MetFull worker pushed) left out h.met_full (record {
+        before = pushed;
+        behind = [];
+        pushed_is = sym (append-nil pushed);
+        lower = above_pushed;
+        higher = tt;
+        full = full;
+      });
     }

@@ -1,5 +1,5 @@
 -- What is known of the parts of a room.
-use Rattle.std.specs.Prelude.{◌≡◌, ℕ, ◌+◌, List, [], ◌∷◌, ◌++◌, length, map}
+use Rattle.std.specs.Prelude.{◌≡◌, ℕ, ◌+◌, ◌%◌, ◌^◌, List, [], ◌∷◌, ◌++◌, length, map}
 use Rattle.crossbeam_queue.specs.Fifo.{Held}
 use Rattle.crossbeam_queue.specs.Passes.{view, IsPassOf}
 use Rattle.bucket_merge.specs.Job.{Job}
@@ -23,6 +23,18 @@ posted_by board = (view board.pass).posted
 
 abbrev pub posted_in_all : BoardEnd → ℕ
 posted_in_all end = (view end.pass).posted
+
+-- how many jobs came back to it, as 64 bits tell it
+abbrev pub returned_to : Board → ℕ
+returned_to board = board.returned
+
+-- how often the collector found no outcome, as 64 bits tell it
+abbrev pub empty_looks_of : Collector → ℕ
+empty_looks_of collector = collector.empty_looks
+
+-- a count that has risen by n, as 64 bits tell it
+abbrev pub RoseBy : (n was now : ℕ) → Type 0
+RoseBy n was now = now % 2 ^ 64 ≡ (was + n) % 2 ^ 64
 
 -- a worker's number among the workers of its room
 abbrev pub number_of : Worker → ℕ
@@ -84,12 +96,18 @@ collector_end_parts end = (view end.pass).parts
 
 -- ---- what is made and what is settled
 
+-- the numbers of workers are from, from + 1 and so on
+abbrev pub AreNumbered : (from : ℕ) → List Worker → Type 0
+AreNumbered from [] = Unit {0}
+AreNumbered from (worker ∷ others) = (number_of worker ≡ from) × AreNumbered (from + 1) others
+
 -- Nothing was posted and nothing was collected.
 pub record AreParts (workers : ℕ) (parts : Parts) : Type 0 where
   pub board : IsBoardIn parts.room parts.board
   pub board_has : board_parts parts.board + workers ≡ 16
   pub count : length parts.workers.items ≡ workers
   pub each : AllByRecursion (IsWorkerOf parts.room) parts.workers.items
+  pub numbers : AreNumbered 0 parts.workers.items
   pub collector : IsCollectorIn parts.room parts.collector
   pub collector_has : collector_parts parts.collector + workers ≡ 16
   pub none_posted : posted_by parts.board ≡ 0

@@ -27,10 +27,14 @@ FoundFull worker pushed = Held 64 (λ (items : List Sent). QueuedBehind worker p
 abbrev pub FoundNone : List ℕ → Type 0
 FoundNone taken = Held 0 (λ (jobs : List Job). WaitingBehind taken jobs)
 
--- the outcome found no place, when the worker had pushed some of its outcomes with lower numbers
-abbrev pub MetFull : ℕ → Job → Type 0
-MetFull worker out =
-    (pushed : List Job) × AllByRecursion (λ n. n < out.number) (numbers_of pushed) × FoundFull worker pushed
+-- the outcome found no place, when the worker had pushed just those of its outcomes that have lower numbers
+pub record MetFull (worker : ℕ) (pushed : List Job) (out : Job) : Type 0 where
+  pub before : List Job
+  pub behind : List Job
+  pub pushed_is : pushed ≡ before ++ behind
+  pub lower : AllByRecursion (λ n. n < out.number) (numbers_of before)
+  pub higher : AllByRecursion (λ n. out.number < n) (numbers_of behind)
+  pub full : FoundFull worker before
 
 -- How the numbers that a worker took stand to those of the outcomes that it pushed and of those that it has left: they
 -- rise, and no number stands in both.
@@ -41,7 +45,7 @@ pub record AreDealt (worker : ℕ) (taken : List ℕ) (pushed left : List Job) :
   pub pushed_taken : AllByRecursion (Has taken) (numbers_of pushed)
   pub left_taken : AllByRecursion (Has taken) (numbers_of left)
   pub apart : AllByRecursion (λ n. AllByRecursion (λ m. n ≢ m) (numbers_of left)) (numbers_of pushed)
-  pub met_full : AllByRecursion (MetFull worker) left
+  pub met_full : AllByRecursion (MetFull worker pushed) left
 
 -- a worker of this room, which has as many jobs in hand as `held`
 pub record IsAtWork (room : Room) (held : ℕ) (desk : Desk) : Type 0 where

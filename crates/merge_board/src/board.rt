@@ -4,7 +4,7 @@ ghost use Rattle.std.specs.Prelude.{◌≡◌, ◌+◌, IfOk, IfErr};
 ghost use Rattle.crossbeam_queue.specs.Fifo.{Held};
 ghost use Rattle.merge_board.specs.JobOrder.{Waiting};
 ghost use Rattle.merge_board.specs.Parts.{IsBoardIn, IsBoardEndIn, board_parts, board_end_parts, posted_by};
-ghost use Rattle.merge_board.specs.Parts.{posted_in_all};
+ghost use Rattle.merge_board.specs.Parts.{posted_in_all, returned_to, RoseBy};
 
 use crate::hand::Posts;
 use crate::parts::{Board, BoardEnd, Room};
@@ -32,6 +32,8 @@ impl Board {
         ensures parts { board_parts self.new ≡ board_parts self.old }
         ensures number { IfOk result (λ number. (number ≡ posted_by self.old + 1) × (posted_by self.new ≡ number)) }
         ensures back { IfErr result (λ back. (back ≡ job) × (posted_by self.new ≡ posted_by self.old)) }
+        ensures kept { IfOk result (λ _. returned_to self.new ≡ returned_to self.old) }
+        ensures returned { IfErr result (λ _. RoseBy 1 (returned_to self.old) (returned_to self.new)) }
         ensures full { IfErr result (λ _. Held 64 (Waiting (posted_by self.old))) }
     {
         let next = next_number(rt, self.posted);
@@ -44,19 +46,27 @@ impl Board {
                 self.posted = next;
                 Ok(next)
             }
-            Err(back) => Err(back.numbered(number)),
+            Err(back) => {
+                self.returned = self.returned.wrapping_add(1);
+                Err(back.numbered(number))
+            }
         }
     }
 
-    /// Sets the closing mark, and tells what shows that it is set.
-    fn shut<'r, R: Wait>(self, rt: &R, room: &'r Room) -> (BoardEnd, OnceToken<'r, ()>)
+    /// Sets the room's closing mark, and tells what shows that it is set: no more jobs will be posted. It takes no
+    /// memory.
+    pub fn shut<'r, R: Wait>(self, rt: &R, room: &'r Room) -> (BoardEnd, OnceToken<'r, ()>)
         requires { IsBoardIn room.now self }
         ensures room { IsBoardEndIn room.now result.0 }
         ensures parts { board_end_parts result.0 ≡ board_parts self }
         ensures posted { posted_in_all result.0 ≡ posted_by self }
         ensures mark { result.1.of ≡ room.now.closed.id }
     {
-        let Board { pass, posted: _ } = self;
+        let Board {
+            pass,
+            posted: _,
+            returned: _,
+        } = self;
         (BoardEnd { pass }, room.closed.init(rt, || ()))
     }
 

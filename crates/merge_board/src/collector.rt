@@ -2,7 +2,7 @@
 
 ghost use Rattle.std.specs.Prelude.{◌≡◌, IfSome, IfNone};
 ghost use Rattle.merge_board.specs.Parts.{IsCollectorIn, IsCollectorEndIn, collector_parts, collector_end_parts};
-ghost use Rattle.merge_board.specs.Parts.{collected_by, collected_in_all, Grew, FoundNoOut};
+ghost use Rattle.merge_board.specs.Parts.{collected_by, collected_in_all, empty_looks_of, RoseBy, Grew, FoundNoOut};
 
 use crate::log::Collects;
 use crate::parts::{Collector, CollectorEnd, Room};
@@ -17,10 +17,17 @@ impl Collector {
         ensures parts { collector_parts self.new ≡ collector_parts self.old }
         ensures out { IfSome result (λ out. Grew (collected_by self.old) out (collected_by self.new)) }
         ensures none { IfNone result (collected_by self.new ≡ collected_by self.old) }
-        ensures empty { IfNone result (FoundNoOut self.old) }
+        ensures empty { IfNone result (FoundNoOut self.new) }
+        ensures kept { IfSome result (λ _. empty_looks_of self.new ≡ empty_looks_of self.old) }
+        ensures looked { IfNone result (RoseBy 1 (empty_looks_of self.old) (empty_looks_of self.new)) }
     {
-        let sent = room.outs.pop_as::<Collects, R>(rt, &mut self.pass)?;
-        Some(sent.out)
+        match room.outs.pop_as::<Collects, R>(rt, &mut self.pass) {
+            Some(sent) => Some(sent.out),
+            None => {
+                self.empty_looks = self.empty_looks.wrapping_add(1);
+                None
+            }
+        }
     }
 
     /// Ends the collector. It waits for nobody.
@@ -29,7 +36,10 @@ impl Collector {
         ensures parts { collector_end_parts result ≡ collector_parts self }
         ensures collected { collected_in_all result ≡ collected_by self }
     {
-        let Collector { pass } = self;
+        let Collector {
+            pass,
+            empty_looks: _,
+        } = self;
         CollectorEnd { pass }
     }
 }

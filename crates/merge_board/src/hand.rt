@@ -92,9 +92,9 @@ impl Lesson<MergeJob, Hand> for Counts {
 }
 
 /// What became of all jobs.
-pub struct Drains;
+pub struct CountsWaiting;
 
-impl Lesson<MergeJob, Hand> for Drains {
+impl Lesson<MergeJob, Hand> for CountsWaiting {
     ghost use Rattle.std.specs.Prelude.{◌≡◌, ◌+◌, ◌<◌, ◌^◌, length};
     ghost use Rattle.merge_board.specs.Hands.{drawn};
 

@@ -4,7 +4,7 @@ ghost use Rattle.std.specs.Prelude.{◌≡◌, ◌≤◌, ◌+◌, ◌-◌, IfOk
 ghost use Rattle.crossbeam_queue.specs.Passes.{view, IsPassOf};
 ghost use Rattle.merge_board.specs.Hired.{AreHired};
 ghost use Rattle.std.specs.List.{AllByRecursion};
-ghost use Rattle.merge_board.specs.Parts.{AreParts, IsWorkerOf};
+ghost use Rattle.merge_board.specs.Parts.{AreParts, AreNumbered, IsWorkerOf, number_of};
 
 use crate::hand::{self, Hand, JobQueue};
 use crate::log::{self, Log, OutQueue, Sent};
@@ -31,6 +31,7 @@ fn hire(
     requires gatherer { ((view gatherer.old).collects ≡ true) × (2 ≤ (view gatherer.old).parts) }
     requires number { (view gatherer.old).made ≡ number }
     ensures worker { IfOk result (IsWorkerOf room.now) }
+    ensures numbered { IfOk result (λ worker. number_of worker ≡ number) }
     ensures jobs { IsPassOf room.now.jobs poster.new }
     ensures outs { IsPassOf room.now.outs gatherer.new }
     ensures poster { OnOk result (view poster.new
@@ -63,6 +64,7 @@ fn hire_all(
     ensures outs { IsPassOf room.now.outs gatherer.new }
     ensures hired { OnOk result (AreHired workers (view poster.new) (view gatherer.new)) }
     ensures each { IfOk result (λ hired. AllByRecursion (IsWorkerOf room.now) hired.items) }
+    ensures numbers { IfOk result (λ hired. AreNumbered 0 hired.items) }
     ensures count { IfOk result (λ hired. length hired.items ≡ workers) }
 {
     let mut hired = Vec::with_capacity(alloc, workers as usize)?;
@@ -73,7 +75,8 @@ fn hire_all(
     Ok(hired)
 }
 
-/// A room with 1 to 8 workers. All memory that its calls need is taken here, but for that of the merges themselves.
+/// A room with 1 to 8 workers. All memory that its calls need is taken here, but for that of the merges themselves and
+/// of the account.
 pub fn make(alloc: Global, workers: u32) -> Result<Parts, AllocError>
     requires some { 1 ≤ workers }
     requires few { workers ≤ 8 }
@@ -92,8 +95,12 @@ pub fn make(alloc: Global, workers: u32) -> Result<Parts, AllocError>
         board: Board {
             pass: poster,
             posted: 0,
+            returned: 0,
         },
         workers,
-        collector: Collector { pass: gatherer },
+        collector: Collector {
+            pass: gatherer,
+            empty_looks: 0,
+        },
     })
 }

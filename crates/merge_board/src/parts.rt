@@ -35,6 +35,8 @@ pub struct Room {
 pub struct Board {
     pub(crate) pass: Pass<MergeJob, Hand>,
     pub(crate) posted: u64,
+    // How many jobs came back. Only a job that does raises it.
+    pub(crate) returned: u64,
     ghost poster: { (view pass).posts ≡ true },
     ghost count: { (view pass).posted ≡ posted },
     ghost took_none: { drawn (view pass) ≡ 0 },
@@ -89,6 +91,8 @@ pub struct WorkerEnd {
 #[derive(Drop)]
 pub struct Collector {
     pub(crate) pass: Pass<Sent, Log>,
+    // How often no outcome waited. Only a look that finds none raises it.
+    pub(crate) empty_looks: u64,
     ghost collects: { (view pass).collects ≡ true },
     ghost pushed_none: { pushed_count (view pass) ≡ 0 },
     ghost none_taken_in: { length (view pass).known ≡ 0 },

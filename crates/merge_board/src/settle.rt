@@ -10,7 +10,7 @@ ghost use Rattle.merge_board.specs.OutOrder.{Accounts};
 ghost use Rattle.merge_board.specs.Parts.{AreEnds, IsWorkerEndOf, posted_in_all, collected_in_all, KeepsOrder};
 ghost use Rattle.merge_board.specs.Settling.{AreTakenIn, IsDrained};
 
-use crate::hand::{self, Counts, Drains, Hand};
+use crate::hand::{self, Counts, CountsWaiting, Hand};
 use crate::log::{self, Collects, Log, Sent};
 use crate::parts::{BoardEnd, CollectorEnd, Room, Settled, WorkerEnd, WorkerPasses};
 use bucket_merge::{MergeJob, MergeOut};
@@ -122,7 +122,7 @@ impl Room {
         let BoardEnd { pass: mut hand } = board;
         let CollectorEnd { pass: mut log } = collector;
         let (taken, pushed) = self.take_in_all(&mut hand, &mut log, workers);
-        let waiting = self.jobs.len_as::<Drains, R>(rt, &mut hand) as u64;
+        let waiting = self.jobs.len_as::<CountsWaiting, R>(rt, &mut hand) as u64;
         let queued = self.drain(rt, alloc, &mut log)?;
         Ok(Settled {
             posted: taken + waiting,

@@ -13,7 +13,7 @@ use std::sync::{OnceToken, Wait};
 impl Worker {
     /// Works until the board is closed and no job waits, or until 64 outcomes found no place. It tells what shows that
     /// the closing mark was set, if that is why it ended.
-    fn run_to_end<'r, R: Wait, G: Gate, L: Ledger>(
+    pub fn run_to_end<'r, R: Wait, G: Gate, L: Ledger>(
         self,
         rt: &R,
         room: &'r Room,

@@ -14,23 +14,30 @@ use Rattle.run_outcome.specs.Lines.{end_line}
 use Rattle.run_outcome.specs.Outcome.{Outcome, frames, IsOutcomeOf, IsOutcome}
 use Rattle.run_outcome.specs.Run.{AnsweredTo, DidCatchUp}
 use Rattle.run_streams.specs.SeenVolume.{SeenVolume}
-use Rattle.stored_outcome.specs.Command.{Command, CatchUp, command_of}
-use Rattle.stored_outcome.specs.Program.{RanAs, Ran}
+use Rattle.command_words.specs.Words.{Command, CatchUp, Spells}
+use Rattle.command_words.proofs.OneCommand.{commands_are_one}
+use Rattle.stored_outcome.specs.Program.{DidNothing, RanAs, Ran}
 use Rattle.replay.specs.Completeness.{NoneFailed, Catchups, Runs, IsComplete, AreAccepted, IsDone, IsAnswered}
 use Rattle.replay.proofs.OneOutcome.{outcomes_are_one}
 
 -- the run that the words ask for
 catchup_of : (words : List (List ℕ)) (passphrase : List ℕ) (input out err : Seen) (vol : SeenVolume) (end : Status)
-    → Ran words input out err vol end → command_of words ≡ Some (CatchUp passphrase)
-    → DidCatchUp passphrase input out err end
-catchup_of words passphrase input out err vol end ran command =
-    (subst (λ (c : Option Command). RanAs c input out err vol end) command ran).0
+    → Ran words input out err vol end → Spells words (CatchUp passphrase)
+    → DidCatchUp passphrase input out err end ⊎ DidNothing status.NoMemory input out err vol end
+catchup_of words passphrase input out err vol end (inl (command, spelled, ran)) is =
+    inl (subst (λ (c : Command). RanAs c input out err vol end)
+    (commands_are_one words command (CatchUp passphrase) spelled is) ran).0
+catchup_of words passphrase input out err vol end (inr (inl (none, did))) is = absurd (none (CatchUp passphrase) is)
+catchup_of words passphrase input out err vol end (inr (inr (command, spelled, did))) is = inr did
 
 -- what is claimed of each run of `catchup` is of those that words ask for
 runs_of : (vol : SeenVolume) (P : (passphrase input : List ℕ) → (Seen → Seen → Seen → Status → Type 0)) → Catchups P
     → Runs vol P
 runs_of vol P h words passphrase bytes input out err end ran command told =
-    h passphrase bytes input out err end (catchup_of words passphrase input out err vol end ran command) told
+    elim (catchup_of words passphrase input out err vol end ran command) [
+      | inl did ↦ inl (h passphrase bytes input out err end did told)
+      | inr nothing ↦ inr nothing
+    ]
 
 answered_to : (passphrase bytes : List ℕ) (input out err : Seen) (end : Status)
     → DidCatchUp passphrase input out err end → input.before ≡ Some bytes → AnsweredTo passphrase bytes out end

@@ -537,6 +537,13 @@ kept_off s at ahead mid input out d piece.NoMemory end safe opens h e =
     still s at ahead input out d end h.0 [] safe opens h.1 e.1
     (memory_answers s (record { at = at; rest = ahead ++ h.0 }) end e.0) (λ un. refl) (inr refl)
 
+-- memory was refused before anything was read
+pub nothing_kept : (s : ClosingState) (at : ℕ) (ahead : List ℕ) (input out : Seen) (d : Disk) → IsSafe d
+    → OpensTo d.reads s → Gave input [] → Received out [] → KeptOn s at ahead input out d d status.NoMemory
+nothing_kept s at ahead input out d safe opens gave received =
+    still s at ahead input out d status.NoMemory [] [] safe opens gave received
+    (memory_answers s (record { at = at; rest = ahead ++ [] }) status.NoMemory refl) (λ un. refl) (inr refl)
+
 -- ---- a record, and then the rest of the run
 
 within_more : (s : ClosingState) (bytes : List ℕ) (c : PreparedClose) (others : List ℕ) (e : Image)

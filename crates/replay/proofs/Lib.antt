@@ -19,9 +19,9 @@ pub mod Initing
 pub mod Starts
 pub mod Tellings
 pub mod StoredTellings
-pub mod Programs
 pub mod LineEnds
 pub mod Counting
 pub mod Acknowledging
 pub mod GoingOn
 pub mod Machining
+pub mod Showing

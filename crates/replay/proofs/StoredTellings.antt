@@ -19,7 +19,7 @@ use Rattle.stored_outcome.specs.StoredRun.{IsOpenedEnd, IsUnopenedEnd, IsRunEnd,
 use Rattle.replay.proofs.Fronts.{whole_front}
 use Rattle.replay.proofs.Keeping.{failed_cut}
 use Rattle.replay.specs.Telling.{IsToldOrRefused, IsToldSo}
-use Rattle.replay.specs.StoredRuns.{RanSo, RanOrNot}
+use Rattle.replay.specs.StoredRuns.{RanSo, RanOrNot, RanStored}
 use Rattle.replay.proofs.Opening.{OnlyBefore, NowLeaves, cut_is_end, ran_opened, ran_missing, ran_bad, only_missing}
 use Rattle.replay.proofs.Opening.{only_bad, only_opened}
 
@@ -128,7 +128,7 @@ module _ (input out err : Seen) (vol : SeenVolume) (end : Status) (b : RunBefore
     read_fault = λ e. absurd cc;
     write_fault = λ e. inr failed;
     disk_fault = λ e. absurd cc;
-    is_end = tt;
+    is_end = inl tt;
   }
 
   -- memory was refused for the line
@@ -146,7 +146,7 @@ module _ (input out err : Seen) (vol : SeenVolume) (end : Status) (b : RunBefore
     read_fault = λ e. absurd cc;
     write_fault = λ e. absurd cc;
     disk_fault = λ e. absurd cc;
-    is_end = tt;
+    is_end = inl tt;
   }
 
   with_line : IsLineTold err end → DidRun input out err vol end
@@ -203,31 +203,23 @@ told_so input out err vol status.Missing after b told = told_as input out err vo
 told_so input out err vol status.AlreadyThere after b told =
     told_as input out err vol status.AlreadyThere after b told
 
--- the clock of the volume, beside what the run came to
-abbrev pub RanTimed : (input out : Seen) (vol : SeenVolume) → Status → Type 0
-RanTimed input out vol end = OnlyBefore vol × NowLeaves vol × RanSo input out vol end
-
-pub did_run : (input out err : Seen) (vol : SeenVolume) (end after : Status)
-    → (vol.tells → RanTimed input out vol end)
-    → (end ≡ status.Done → IsAtEnd input.now) → (end ≡ status.ReadFault → Failed input)
-    → (end ≡ status.WriteFault → Failed out) → (end ≡ status.DiskFault → VolumeFailed vol) → IsRunEnd end
-    → (IsUnopenedEnd end → DidNotRun input out vol) → RanOrNot input out vol end
-    → IsToldSo end err after → DidRun input out err vol after
-did_run input out err vol end after ran ended read write disk is_end unopened any told =
+pub did_run : (input out err : Seen) (vol : SeenVolume) (end after : Status) → OnlyBefore vol
+    → (vol.tells → NowLeaves vol) → RanStored input out vol end → IsToldSo end err after → DidRun input out err vol after
+did_run input out err vol end after only now r told =
     told_so input out err vol end after
     (record {
-      opened = λ te s o. let r = ran te in ran_opened s input out vol end o r.0 r.1 r.2;
-      missing = λ te none. ran_missing input out err vol end none (ran te).2;
-      bad_store = λ te file place bad. ran_bad input out err vol file place end bad (ran te).2;
-      only_opened = λ te opened. only_opened input out vol end opened (ran te).2;
-      only_missing = λ te e. only_missing input out vol (subst (RanSo input out vol) e (ran te).2);
-      only_bad = λ te file place e. only_bad input out vol file place (subst (RanSo input out vol) e (ran te).2);
-      unopened = unopened;
-      ran = any;
-      ended = ended;
-      read_fault = read;
-      write_fault = λ e. inl (write e);
-      disk_fault = disk;
-      is_end = is_end;
+      opened = λ te s o. ran_opened s input out vol end o only (now te) (r.ran te);
+      missing = λ te none. ran_missing input out err vol end none (r.ran te);
+      bad_store = λ te file place bad. ran_bad input out err vol file place end bad (r.ran te);
+      only_opened = λ te opened. only_opened input out vol end opened (r.ran te);
+      only_missing = λ te e. only_missing input out vol (subst (RanSo input out vol) e (r.ran te));
+      only_bad = λ te file place e. only_bad input out vol file place (subst (RanSo input out vol) e (r.ran te));
+      unopened = r.unbegun;
+      ran = r.printed;
+      ended = r.ended;
+      read_fault = r.read_fault;
+      write_fault = λ e. inl (r.write_fault e);
+      disk_fault = r.disk_fault;
+      is_end = r.is_end;
     })
     told

@@ -1,5 +1,5 @@
 -- A whole run.
-use Rattle.std.proofs.Common.{◌≡◌, ℕ, List, [], subst, ◌⊎◌, inl, inr}
+use Rattle.std.proofs.Common.{◌≡◌, ◌≤◌, ℕ, List, [], refl, subst, ◌⊎◌, inl, inr}
 use Rattle.run_streams.specs.Seen.{Seen, IsUntouched}
 use Rattle.close_rules.specs.State.{ClosingState}
 use Rattle.run_outcome.specs.declared.status.Status.{Status}
@@ -8,14 +8,15 @@ use Rattle.outside.specs.Disk.{Image, Disk, Runs, Same}
 use Rattle.run_streams.specs.SeenVolume.{SeenVolume, VolumeFailed}
 use Rattle.stored_outcome.specs.Opening.{OpensTo}
 use Rattle.replay.specs.Following.{Followed}
-use Rattle.replay.specs.Keeping.{Ready, KeptOn}
+use Rattle.replay.specs.Keeping.{Ready, DiskFailed, KeptOn}
 use Rattle.replay.proofs.Surviving.{ran_from}
-use Rattle.stored_outcome.specs.StoredRun.{DidNotRun, IsUnopenedEnd}
+use Rattle.stored_outcome.specs.StoredRun.{DidNotRun, IsUnopenedEnd, IsRunEnd}
 use Rattle.run_outcome.specs.Statuses.{IsRecordsEnd}
 use Rattle.replay.proofs.Opening.{not_of_records}
-use Rattle.replay.specs.StoredRuns.{OpensNot, IsUnbegun, Unopened, RanSo, RanOrNot}
+use Rattle.replay.proofs.Turning.{rose_before}
+use Rattle.replay.specs.StoredRuns.{OpensNot, IsUnbegun, Unopened, RanSo, RanStored}
 
-pub ran_on : (s : ClosingState) (ahead : List ℕ) (input out : Seen) (vol : SeenVolume) (mid : Disk) (F K : Type 0)
+ran_on : (s : ClosingState) (ahead : List ℕ) (input out : Seen) (vol : SeenVolume) (mid : Disk) (F K : Type 0)
     (end : Status) → ((c : Image) → vol.before.left_since vol.before.moment c → vol.before.may_leave c)
     → vol.now.may_leave vol.now.reads → Runs Same vol.before mid → Ready K mid s → mid.reads ≡ vol.before.reads
     → ahead ≡ [] → Followed s 0 ahead input out F end → KeptOn s 0 ahead input out mid vol.now end
@@ -59,7 +60,7 @@ reads_so vol (status.BadImage rule) u = absurd u
 reads_so vol status.AlreadyThere u = absurd u
 
 -- nothing but that the volume was read
-pub not_run : (input out : Seen) (vol : SeenVolume) (end : Status)
+not_run : (input out : Seen) (vol : SeenVolume) (end : Status)
     → IsUntouched input → IsUntouched out → Runs Same vol.before vol.now
     → (vol.tells → OpensNot vol.before.reads vol.now.reads end) → IsUnbegun (VolumeFailed vol) end
     → DidNotRun input out vol
@@ -70,16 +71,60 @@ not_run input out vol end unread unwritten runs h b = record {
   reads = λ te. reads_so vol end (unopened vol end (h te) b);
 }
 
-pub ran_off : (input out : Seen) (vol : SeenVolume) (end : Status) → DidNotRun input out vol
+ran_off : (input out : Seen) (vol : SeenVolume) (end : Status) → DidNotRun input out vol
     → OpensNot vol.before.reads vol.now.reads end → IsUnbegun (VolumeFailed vol) end → RanSo input out vol end
 ran_off input out vol end none h b = inr (none, unopened vol end h b)
 
--- the text of a run from the state to which a store opened
-pub printed : (s : ClosingState) (ahead : List ℕ) (input out : Seen) (vol : SeenVolume) (F : Type 0) (end : Status)
-    → ahead ≡ [] → Followed s 0 ahead input out F end → RanOrNot input out vol end
-printed s ahead input out vol F end empty f =
-    inr (s, (subst (λ (t : List ℕ). Followed s 0 t input out F end) empty f).answered)
-
 -- a run over records doesn't end as one that doesn't begin
-pub did_begin : (end : Status) (P : Type 0) → IsRecordsEnd end → IsUnopenedEnd end → P
+did_begin : (end : Status) (P : Type 0) → IsRecordsEnd end → IsUnopenedEnd end → P
 did_begin end P records unopened = absurd (not_of_records end unopened records)
+
+-- the ends of a run that doesn't begin are ends of a run
+unbegun_end : (failed : Type 0) (end : Status) → IsUnbegun failed end → IsRunEnd end
+unbegun_end failed status.DiskFault b = inl tt
+unbegun_end failed status.NoMemory b = inl tt
+unbegun_end failed status.Missing b = inr tt
+unbegun_end failed (status.BadStore file place) b = inr tt
+unbegun_end failed status.Done b = absurd b
+unbegun_end failed status.Usage b = absurd b
+unbegun_end failed status.Refused b = absurd b
+unbegun_end failed status.ReadFault b = absurd b
+unbegun_end failed status.WriteFault b = absurd b
+unbegun_end failed (status.BadInput at) b = absurd b
+unbegun_end failed (status.BadImage rule) b = absurd b
+unbegun_end failed status.AlreadyThere b = absurd b
+
+-- a run over the records behind an opened store
+pub stored_on : (s : ClosingState) (input out : Seen) (vol : SeenVolume) (mid : Disk) (mid_faults : ℕ) (K : Type 0)
+    (end : Status) → ((c : Image) → vol.before.left_since vol.before.moment c → vol.before.may_leave c)
+    → (vol.tells → vol.now.may_leave vol.now.reads) → Runs Same vol.before mid
+    → (vol.tells → Ready K mid s × (mid.reads ≡ vol.before.reads)) → vol.faults_before ≤ mid_faults
+    → Followed s 0 [] input out (DiskFailed (Unit {0}) mid_faults vol.faults_now) end
+    → (vol.tells → KeptOn s 0 [] input out mid vol.now end) → RanStored input out vol end
+stored_on s input out vol mid mid_faults K end only now first ready later f k = record {
+  ran = λ te. let r = ready te in ran_on s [] input out vol mid _ K end only (now te) first r.0 r.1 refl f (k te);
+  printed = inr (s, f.answered);
+  unbegun = λ un. did_begin end _ f.is_end un;
+  ended = f.ended;
+  read_fault = λ e. (f.read_fault e).0;
+  write_fault = f.write_fault;
+  disk_fault = λ e. rose_before vol.faults_before mid_faults vol.faults_now later (f.disk_fault e).1;
+  is_end = inl f.is_end;
+}
+
+-- a store that isn't opened
+pub stored_off : (input out : Seen) (vol : SeenVolume) (end : Status) → IsUntouched input → IsUntouched out
+    → Runs Same vol.before vol.now → (vol.tells → OpensNot vol.before.reads vol.now.reads end)
+    → IsUnbegun (VolumeFailed vol) end → RanStored input out vol end
+stored_off input out vol end unread unwritten runs opens cause =
+    let none = not_run input out vol end unread unwritten runs opens cause in
+    record {
+      ran = λ te. ran_off input out vol end none (opens te) cause;
+      printed = inl none;
+      unbegun = λ un. none;
+      ended = λ e. absurd (subst (IsUnbegun (VolumeFailed vol)) e cause);
+      read_fault = λ e. absurd (subst (IsUnbegun (VolumeFailed vol)) e cause);
+      write_fault = λ e. absurd (subst (IsUnbegun (VolumeFailed vol)) e cause);
+      disk_fault = λ e. subst (IsUnbegun (VolumeFailed vol)) e cause;
+      is_end = unbegun_end (VolumeFailed vol) end cause;
+    }

@@ -14,8 +14,8 @@ use Rattle.run_outcome.specs.Lines.{end_line}
 use Rattle.run_outcome.specs.Outcome.{Outcome, IsOutcome, max_record_len, frames, AreClosed}
 use Rattle.run_outcome.specs.Run.{DidCatchUp}
 use Rattle.run_streams.specs.SeenVolume.{SeenVolume}
-use Rattle.stored_outcome.specs.Command.{CatchUp, command_of}
-use Rattle.stored_outcome.specs.Program.{Ran}
+use Rattle.command_words.specs.Words.{CatchUp, Spells}
+use Rattle.stored_outcome.specs.Program.{DidNothing, Ran}
 
 -- no stream's count of faults rose
 pub record NoneFailed (input out err : Seen) : Type 0 where
@@ -28,11 +28,11 @@ abbrev pub Catchups : ((passphrase input : List ℕ) → (Seen → Seen → Seen
 Catchups P = (passphrase bytes : List ℕ) (input out err : Seen) (end : Status)
     → DidCatchUp passphrase input out err end → input.before ≡ Some bytes → P passphrase bytes input out err end
 
--- the same, of the runs beside this volume that the words ask for
+-- the same, of the runs beside this volume that the words ask for, but where memory was refused as they were read
 abbrev pub Runs : SeenVolume → ((passphrase input : List ℕ) → (Seen → Seen → Seen → Status → Type 0)) → Type 0
 Runs vol P = (words : List (List ℕ)) (passphrase bytes : List ℕ) (input out err : Seen) (end : Status)
-    → Ran words input out err vol end → command_of words ≡ Some (CatchUp passphrase) → input.before ≡ Some bytes
-    → P passphrase bytes input out err end
+    → Ran words input out err vol end → Spells words (CatchUp passphrase) → input.before ≡ Some bytes
+    → P passphrase bytes input out err end ⊎ DidNothing status.NoMemory input out err vol end
 
 -- ---- where nothing failed
 

@@ -12,9 +12,11 @@ use Rattle.run_outcome.specs.Lines.{refused_line}
 use Rattle.run_outcome.specs.Outcome.{framed, max_record_len, lines_of, IsFront, IsRun, AreWhole, IsRunFront}
 use Rattle.run_outcome.specs.Run.{IsAnswer}
 use Rattle.outside.specs.Disk.{Image, Disk, Runs, Same, IsSafe}
+use Rattle.run_streams.specs.SeenVolume.{SeenVolume}
 use Rattle.stored_outcome.specs.Opening.{OpensTo}
 use Rattle.stored_outcome.specs.Behind.{OpensWithin, AreAcknowledged}
 use Rattle.stored_outcome.specs.StoredRun.{IsFailedEnd, IsUnbrokenEnd, OpensAcknowledged}
+use Rattle.replay.specs.Following.{Followed}
 use Rattle.replay.specs.declared.keeper.KeepFault.{KeepFault}
 use Rattle.replay.specs.declared.keeper.KeepFault.TheVariants as fault
 
@@ -71,6 +73,13 @@ pub record KeptOn (s : ClosingState) (at : ℕ) (ahead : List ℕ) (input out : 
   pub received : Received out front
   pub answers : Answers s (record { at = at; rest = ahead ++ given }) front end
   pub keeps : Keeps s (ahead ++ given) front old new end
+
+-- what closing the records ahead and in the source leaves, whatever the volume tells
+pub record DidFollow (stores : Type 0) (s : ClosingState) (at : ℕ) (ahead : List ℕ) (input out : Seen)
+    (vol : SeenVolume) (end : Status) : Type 0 where
+  pub followed : Followed s at ahead input out (DiskFailed stores vol.faults_before vol.faults_now) end
+  pub vol_later : vol.faults_before ≤ vol.faults_now
+  pub kept : stores → vol.tells → KeptOn s at ahead input out vol.before vol.now end
 
 -- ---- one record
 

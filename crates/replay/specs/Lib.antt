@@ -10,3 +10,5 @@ pub mod Completeness
 pub mod Initing
 pub mod StoredLaws
 pub mod Machine
+pub mod Beside
+pub mod Showing

@@ -2,14 +2,18 @@
 use Rattle.std.specs.Prelude.{◌≡◌, ℕ, ◌%◌, ◌≤◌, List, length, All, Result, Ok, Err, ◌⊎◌, IfSome}
 use Rattle.ledger_types.specs.declared.ids.Hash.{Hash}
 use Rattle.xdr_header.specs.declared.image.StartImage.{StartImage}
-use Rattle.run_streams.specs.Seen.{Seen}
+use Rattle.std.specs.Io.KnownBytes.{IsAtEnd}
+use Rattle.run_streams.specs.Seen.{Seen, Failed}
 use Rattle.close_rules.specs.declared.image_fault.ImageFault.{ImageFault}
 use Rattle.close_rules.specs.declared.image_fault.ImageFault.TheVariants as image
 use Rattle.close_rules.specs.State.{ClosingState}
 use Rattle.ledger_close.specs.States.{LedgerAt}
 use Rattle.run_outcome.specs.declared.status.Status.{Status}
 use Rattle.run_outcome.specs.declared.status.Status.TheVariants as status
-use Rattle.outside.specs.Disk.{Image}
+use Rattle.outside.specs.Disk.{Image, Disk}
+use Rattle.image_store.specs.State.{StoreState}
+use Rattle.replay.specs.Keeping.{Ready}
+use Rattle.replay.specs.Stored.{IsStored}
 use Rattle.run_streams.specs.SeenVolume.{SeenVolume, VolumeFailed}
 use Rattle.gate_journal.specs.Records.{max_record}
 use Rattle.image_store.specs.ImageFiles.{head_len}
@@ -17,7 +21,7 @@ use Rattle.image_store.specs.Opening.{Kept, HoldsNothing}
 use Rattle.gate_journal.specs.declared.fault.StoreFault.{StoreFault}
 use Rattle.gate_journal.specs.declared.fault.StoreFault.TheVariants as fault
 use Rattle.stored_outcome.specs.Opening.{OpensTo, ComesTo, BreaksRule, RefusesRecord, IsBadStore}
-use Rattle.stored_outcome.specs.StoredRun.{AnsweredBehind, RanFrom, DidNotRun}
+use Rattle.stored_outcome.specs.StoredRun.{AnsweredBehind, RanFrom, DidNotRun, IsUnopenedEnd, IsRunEnd}
 
 -- the end of a run whose store isn't mounted
 abbrev pub status_of : StoreFault → Status
@@ -59,6 +63,11 @@ abbrev pub OpensSo : {O : Type 0} → (O → Type 0) → (old new : Image) → R
 OpensSo ready old new (Ok o) = ready o × (new ≡ old)
 OpensSo ready old new (Err end) = OpensNot old new end
 
+-- what is open: a state, the store that keeps it, and how many records it has
+pub record IsOpened (records : ℕ) (s : ClosingState) (store : StoreState) (disk : Disk) : Type 0 where
+  pub ready : Ready (IsStored store disk s) disk s
+  pub count : records ≡ length ready.kept.kept.records
+
 -- the ends of a run that doesn't begin
 abbrev pub IsUnbegun : (failed : Type 0) → Status → Type 0
 IsUnbegun failed status.DiskFault = failed
@@ -85,3 +94,14 @@ abbrev pub RanSo : (input out : Seen) (vol : SeenVolume) → Status → Type 0
 RanSo input out vol end =
     ((s : ClosingState) × OpensTo vol.before.reads s × RanFrom s input out vol end)
     ⊎ (DidNotRun input out vol × Unopened vol end)
+
+-- what is known of a run before its end is told
+pub record RanStored (input out : Seen) (vol : SeenVolume) (end : Status) : Type 0 where
+  pub ran : vol.tells → RanSo input out vol end
+  pub printed : RanOrNot input out vol end
+  pub unbegun : IsUnopenedEnd end → DidNotRun input out vol
+  pub ended : end ≡ status.Done → IsAtEnd input.now
+  pub read_fault : end ≡ status.ReadFault → Failed input
+  pub write_fault : end ≡ status.WriteFault → Failed out
+  pub disk_fault : end ≡ status.DiskFault → VolumeFailed vol
+  pub is_end : IsRunEnd end

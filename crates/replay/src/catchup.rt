@@ -4,6 +4,7 @@ ghost use Rattle.run_streams.specs.Seen.{seen};
 ghost use Rattle.replay.specs.Starting.{CaughtUp};
 
 use crate::closes::follow;
+use crate::crew::Nobody;
 use crate::nowhere::Nowhere;
 use crate::start::{Started, start};
 use outside::{MemVolume, Sink, Source, Steps};
@@ -27,6 +28,8 @@ pub(crate) fn catch_up<I: Source, O: Sink, L: Count>(
         Ok(Started { mut ledger, at }) => {
             follow(
                 alloc,
+                &Nobody,
+                &mut (),
                 &mut ledger,
                 &mut Nowhere,
                 &mut MemVolume::new(alloc),

@@ -9,6 +9,7 @@ ghost use Rattle.run_outcome.specs.Outcome.{framed, lines_of};
 ghost use Rattle.replay.specs.Following.{Told, Turned, Refuses, Closes, Passes, EndsAt, Followed};
 ghost use Rattle.replay.specs.Keeping.{DiskFailed, Ready, KeptTelling, KeptClose, KeptPass, KeptTurn, KeptOn};
 
+use crate::crew::Crew;
 use crate::ends::{write_end, write_refusal};
 use crate::keeper::{KeepFault, Keeper};
 use close_rules::LAST_SEQ;
@@ -70,8 +71,10 @@ fn tell_close<K: Keeper, V: Volume, O: Sink>(
 
 /// A close is kept, the ledger takes it, and its lines are written. All memory that the record takes is taken before it
 /// is kept.
-fn take_close<K: Keeper, V: Volume, O: Sink>(
+fn take_close<C: Crew, K: Keeper, V: Volume, O: Sink>(
     alloc: Global,
+    crew: &C,
+    side: &mut C::Side,
     ledger: &mut Ledger,
     keeper: &mut K,
     vol: &mut V,
@@ -81,6 +84,7 @@ fn take_close<K: Keeper, V: Volume, O: Sink>(
 ) -> Option<Status>
     requires short { length bytes.now ≤ 16777216 }
     requires closes { IsClose ledger.old.state bytes.now (Ok prepared) }
+    requires crew { C.has crew.now side.old }
     requires works { K.works keeper.old }
     requires ready { K.stores → V.tells → Ready (K.keeps keeper.old (V.disk vol.old) ledger.old.state) (V.disk vol.old)
         ledger.old.state }
@@ -93,6 +97,7 @@ fn take_close<K: Keeper, V: Volume, O: Sink>(
     ensures works { IsNone result → K.works keeper.new }
     ensures keeps { K.stores → V.tells → IsNone result
         → Ready (K.keeps keeper.new (V.disk vol.new) ledger.new.state) (V.disk vol.new) ledger.new.state }
+    ensures crew { C.has crew.now side.new }
 {
     let pairs = prepared.results().results.as_slice();
     let Ok(text) = closed_text(alloc, prepared.header(), &prepared.header_hash(), pairs) else {
@@ -106,6 +111,7 @@ fn take_close<K: Keeper, V: Volume, O: Sink>(
         Err(_) => return Some(Status::DiskFault),
     }
     ledger.install(prepared);
+    crew.post_due(side, ledger);
     tell_close(alloc, ledger, keeper, vol, text.as_slice(), out)
 }
 
@@ -121,8 +127,10 @@ fn refuse<O: Sink>(alloc: Global, ledger: &Ledger, fault: CloseFault, out: &mut 
 }
 
 /// A record closes the ledger, or ends the run.
-fn close_record<K: Keeper, V: Volume, O: Sink, L: Count>(
+fn close_record<C: Crew, K: Keeper, V: Volume, O: Sink, L: Count>(
     alloc: Global,
+    crew: &C,
+    side: &mut C::Side,
     ledger: &mut Ledger,
     keeper: &mut K,
     vol: &mut V,
@@ -131,6 +139,7 @@ fn close_record<K: Keeper, V: Volume, O: Sink, L: Count>(
     steps: &mut Steps<L>,
 ) -> Option<Status>
     requires short { length text.now ≤ 16777216 }
+    requires crew { C.has crew.now side.old }
     requires works { K.works keeper.old }
     requires ready { K.stores → V.tells → Ready (K.keeps keeper.old (V.disk vol.old) ledger.old.state) (V.disk vol.old)
         ledger.old.state }
@@ -143,16 +152,20 @@ fn close_record<K: Keeper, V: Volume, O: Sink, L: Count>(
     ensures works { IsNone result → K.works keeper.new }
     ensures keeps { K.stores → V.tells → IsNone result
         → Ready (K.keeps keeper.new (V.disk vol.new) ledger.new.state) (V.disk vol.new) ledger.new.state }
+    ensures crew { C.has crew.now side.new }
 {
+    crew.adopt(side, ledger);
     match ledger.prepare(text, steps) {
-        Ok(prepared) => take_close(alloc, ledger, keeper, vol, text, prepared, out),
+        Ok(prepared) => take_close(alloc, crew, side, ledger, keeper, vol, text, prepared, out),
         Err(fault) => Some(refuse(alloc, ledger, fault, out)),
     }
 }
 
 /// The record at the front of what is ahead closes the ledger and is taken away, or ends the run.
-fn pass_record<K: Keeper, V: Volume, O: Sink, L: Count>(
+fn pass_record<C: Crew, K: Keeper, V: Volume, O: Sink, L: Count>(
     alloc: Global,
+    crew: &C,
+    side: &mut C::Side,
     ledger: &mut Ledger,
     keeper: &mut K,
     vol: &mut V,
@@ -162,6 +175,7 @@ fn pass_record<K: Keeper, V: Volume, O: Sink, L: Count>(
     steps: &mut Steps<L>,
 ) -> Option<Status>
     requires ends { record_end ahead.old.items ≡ Ok end }
+    requires crew { C.has crew.now side.old }
     requires works { K.works keeper.old }
     requires ready { K.stores → V.tells → Ready (K.keeps keeper.old (V.disk vol.old) ledger.old.state) (V.disk vol.old)
         ledger.old.state }
@@ -176,12 +190,13 @@ fn pass_record<K: Keeper, V: Volume, O: Sink, L: Count>(
     ensures works { IsNone result → K.works keeper.new }
     ensures keeps { K.stores → V.tells → IsNone result
         → Ready (K.keeps keeper.new (V.disk vol.new) ledger.new.state) (V.disk vol.new) ledger.new.state }
+    ensures crew { C.has crew.now side.new }
 {
     let record = front_record(ahead.as_slice(), end);
     let Ok(rest) = without_front(alloc, ahead.as_slice(), end) else {
         return Some(Status::NoMemory);
     };
-    if let Some(end) = close_record(alloc, ledger, keeper, vol, record, out, steps) {
+    if let Some(end) = close_record(alloc, crew, side, ledger, keeper, vol, record, out, steps) {
         return Some(end);
     }
     *ahead = rest;
@@ -212,8 +227,10 @@ fn stop<O: Sink>(
 }
 
 /// The next record closes the ledger, or ends the run.
-fn turn<K: Keeper, V: Volume, I: Source, O: Sink, L: Count>(
+fn turn<C: Crew, K: Keeper, V: Volume, I: Source, O: Sink, L: Count>(
     alloc: Global,
+    crew: &C,
+    side: &mut C::Side,
     ledger: &mut Ledger,
     keeper: &mut K,
     vol: &mut V,
@@ -224,6 +241,7 @@ fn turn<K: Keeper, V: Volume, I: Source, O: Sink, L: Count>(
     steps: &mut Steps<L>,
 ) -> Option<Status>
     requires place { at.old ≤ (ledger.old.state.header.ledger_seq + 1) * 2 ^ 64 }
+    requires crew { C.has crew.now side.old }
     requires works { K.works keeper.old }
     requires ready { K.stores → V.tells → Ready (K.keeps keeper.old (V.disk vol.old) ledger.old.state) (V.disk vol.old)
         ledger.old.state }
@@ -238,12 +256,15 @@ fn turn<K: Keeper, V: Volume, I: Source, O: Sink, L: Count>(
     ensures works { IsNone result → K.works keeper.new }
     ensures keeps { K.stores → V.tells → IsNone result
         → Ready (K.keeps keeper.new (V.disk vol.new) ledger.new.state) (V.disk vol.new) ledger.new.state }
+    ensures crew { C.has crew.now side.new }
 {
     let is_low = ledger.header().ledger_seq <= LAST_SEQ;
     prove!(is_low);
     match read_piece::<RecordLength, I>(input, ahead) {
         Ok(end) => {
-            let stopped = pass_record(alloc, ledger, keeper, vol, end, ahead, out, steps);
+            let stopped = pass_record(
+                alloc, crew, side, ledger, keeper, vol, end, ahead, out, steps,
+            );
             *at += end as u128;
             stopped
         }
@@ -252,8 +273,10 @@ fn turn<K: Keeper, V: Volume, I: Source, O: Sink, L: Count>(
 }
 
 /// Closes a ledger for each record behind it and has it kept, up to the end of the input or of the run.
-pub(crate) fn follow<K: Keeper, V: Volume, I: Source, O: Sink, L: Count>(
+pub(crate) fn follow<C: Crew, K: Keeper, V: Volume, I: Source, O: Sink, L: Count>(
     alloc: Global,
+    crew: &C,
+    side: &mut C::Side,
     ledger: &mut Ledger,
     keeper: &mut K,
     vol: &mut V,
@@ -264,6 +287,7 @@ pub(crate) fn follow<K: Keeper, V: Volume, I: Source, O: Sink, L: Count>(
     steps: &mut Steps<L>,
 ) -> Status
     requires place { start ≤ 2 ^ 64 }
+    requires crew { C.has crew.now side.old }
     requires works { K.works keeper.old }
     requires ready { K.stores → V.tells → Ready (K.keeps keeper.old (V.disk vol.old) ledger.old.state) (V.disk vol.old)
         ledger.old.state }
@@ -273,11 +297,12 @@ pub(crate) fn follow<K: Keeper, V: Volume, I: Source, O: Sink, L: Count>(
     ensures kept { K.stores → V.tells → KeptOn ledger.old.state start ahead.old.items
         (seen I.left I.faults input.old input.new)
         (seen O.taken O.faults out.old out.new) (V.disk vol.old) (V.disk vol.new) result }
+    ensures crew { C.has crew.now side.new }
 {
     let mut at = start;
     loop {
         match turn(
-            alloc, ledger, keeper, vol, &mut at, input, ahead, out, steps,
+            alloc, crew, side, ledger, keeper, vol, &mut at, input, ahead, out, steps,
         ) {
             Some(end) => return end,
             None => {}

@@ -16,7 +16,7 @@ use run_text::{bad_image_line, bad_input_line, bad_store_line, end_text, refused
 use std::alloc::{AllocError, Global};
 
 /// Writes the last text of a run that ends with `whole`, where the sink takes it.
-fn write_last<O: Sink>(text: &[u8], whole: Status, out: &mut O) -> Status
+pub(crate) fn write_last<O: Sink>(text: &[u8], whole: Status, out: &mut O) -> Status
     ensures wrote { Wrote (seen O.taken O.faults out.old out.new) text.now whole result }
     ensures later { O.faults out.old ≤ O.faults out.new }
 {

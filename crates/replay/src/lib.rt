@@ -1,17 +1,24 @@
-//! The program: its commands over sources and sinks of bytes and a volume.
+//! The program: its commands over sources and sinks of bytes, a volume, and worker threads.
 #![tactic(auto)]
 
 mod again;
+mod beside;
 mod catchup;
+mod closer;
 mod closes;
+mod crew;
 mod ends;
 mod init;
 mod keeper;
 pub mod laws;
 mod nowhere;
 mod run;
+mod show;
 mod start;
 mod stored;
 mod stored_run;
 
-pub use run::{do_catchup, do_init, do_run_alone, end_without_memory, run_program};
+pub use run::{
+    do_catchup, do_init, do_run_alone, do_run_with, do_show, end_without_memory, run_program,
+};
+pub use worker_merges::{adopt, post_due};

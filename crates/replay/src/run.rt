@@ -1,54 +1,32 @@
 //! The top call: one command over the words, the input, the outputs and the volume of the process.
 
-ghost use Rattle.std.specs.Prelude.{◌≡◌, None, Some, MatchOption};
+ghost use Rattle.std.specs.Prelude.{◌≡◌, ◌≤◌, ℕ, List};
 ghost use Rattle.run_streams.specs.Seen.{seen};
 ghost use Rattle.run_streams.specs.SeenVolume.{seen_volume};
 ghost use Rattle.run_outcome.specs.Run.{IsTold, DidCatchUp};
 ghost use Rattle.run_outcome.specs.Statuses.{status_code};
 ghost use Rattle.run_outcome.specs.declared.status.Status.{Status};
 ghost use Rattle.run_outcome.specs.declared.status.Status.TheVariants as status;
-ghost use Rattle.stored_outcome.specs.Command as command;
-ghost use Rattle.stored_outcome.specs.Command.{words_of};
+ghost use Rattle.command_words.specs.Words.{words_of, Spells};
+ghost use Rattle.command_words.specs.Commands.{command_at};
 ghost use Rattle.stored_outcome.specs.StoredRun.{DidRun};
 ghost use Rattle.stored_outcome.specs.Init.{DidInit};
-ghost use Rattle.stored_outcome.specs.Program.{Ran};
+ghost use Rattle.stored_outcome.specs.Show.{DidShow};
+ghost use Rattle.stored_outcome.specs.Program.{Ran, RanAs};
 
+use crate::beside::run_beside;
 use crate::catchup::catch_up;
 use crate::ends::{tell, tell_no_memory, tell_usage};
 use crate::init::make;
+use crate::show::show;
 use crate::stored_run::run_stored;
-use outside::{Sink, Source, Steps, Volume};
+use command_words::{Command, read_command};
+use outside::{Gate, Sink, Source, Steps, Volume};
 use run_outcome::Status;
 use std::alloc::Global;
+use std::sync::Wait;
 use std::sync::ledger::Ledger as Count;
-
-/// The passphrase of `NAME --network PASSPHRASE`, where the words are the command of this name.
-fn passphrase_of<'a>(name: &str, words: &'a [String]) -> Option<&'a str>
-    ensures { MatchOption result (command.passphrase_of name.now (words_of words.now) ≡ None) (
-        λ network. command.passphrase_of name.now (words_of words.now) ≡ Some network.now) }
-{
-    match words {
-        [command, option, network] => {
-            let is_command = command.as_str() == name && option.as_str() == "--network";
-            if is_command && !network.is_empty() {
-                Some(network.as_str())
-            } else {
-                None
-            }
-        }
-        _ => None,
-    }
-}
-
-/// Whether the words are `run`.
-fn is_run(words: &[String]) -> bool
-    ensures { result ≡ command.is_run (words_of words.now) }
-{
-    match words {
-        [command] => command.as_str() == "run",
-        _ => false,
-    }
-}
+use std::thread::Threads;
 
 /// Runs `catchup`, with its line on standard error.
 fn catch_up_told<I: Source, O: Sink, E: Sink, L: Count>(
@@ -81,6 +59,21 @@ fn init_told<I: Source, E: Sink, V: Volume>(
     tell(alloc, end, err)
 }
 
+/// Runs `show`, with its line on standard error.
+fn show_told<O: Sink, E: Sink, V: Volume, L: Count>(
+    alloc: Global,
+    out: &mut O,
+    err: &mut E,
+    vol: &mut V,
+    steps: &mut Steps<L>,
+) -> Status
+    ensures { DidShow (seen O.taken O.faults out.old out.new) (seen E.taken E.faults err.old err.new)
+        (seen_volume V.tells V.disk V.faults vol.old vol.new) result }
+{
+    let end = show(alloc, out, vol, steps);
+    tell(alloc, end, err)
+}
+
 /// Runs `run` without workers, with its line on standard error.
 fn run_told<I: Source, O: Sink, E: Sink, V: Volume, L: Count>(
     alloc: Global,
@@ -97,43 +90,113 @@ fn run_told<I: Source, O: Sink, E: Sink, V: Volume, L: Count>(
     tell(alloc, end, err)
 }
 
+/// Runs `run` with 1 to 8 workers, with its line on standard error.
+fn run_with_told<
+    R: Threads + Wait + Sync,
+    I: Source,
+    O: Sink,
+    E: Sink,
+    V: Volume,
+    G: Gate,
+    L: Count,
+>(
+    rt: &R,
+    alloc: Global,
+    workers: u32,
+    input: &mut I,
+    out: &mut O,
+    err: &mut E,
+    vol: &mut V,
+    gate: &G,
+    steps: &mut Steps<L>,
+) -> Status
+    requires some { 1 ≤ workers }
+    requires few { workers ≤ 8 }
+    ensures { DidRun (seen I.left I.faults input.old input.new) (seen O.taken O.faults out.old out.new)
+        (seen E.taken E.faults err.old err.new) (seen_volume V.tells V.disk V.faults vol.old vol.new) result }
+{
+    let end = run_beside(rt, alloc, gate, workers, input, out, vol, steps);
+    tell(alloc, end, err)
+}
+
+/// Runs a command, with its line on standard error.
+fn run_command<R: Threads + Wait + Sync, I: Source, O: Sink, E: Sink, V: Volume, G: Gate, L: Count>(
+    rt: &R,
+    alloc: Global,
+    command: Command,
+    input: &mut I,
+    out: &mut O,
+    err: &mut E,
+    vol: &mut V,
+    gate: &G,
+    steps: &mut Steps<L>,
+) -> Status
+    requires { (words : List (List ℕ)) × Spells words (command_at command) }
+    ensures { RanAs (command_at command.entry) (seen I.left I.faults input.old input.new)
+        (seen O.taken O.faults out.old out.new) (seen E.taken E.faults err.old err.new)
+        (seen_volume V.tells V.disk V.faults vol.old vol.new) result }
+{
+    match command {
+        Command::Init { passphrase } => init_told(alloc, passphrase, input, err, vol),
+        Command::Run { workers: 0 } => run_told(alloc, input, out, err, vol, steps),
+        Command::Run { workers } => {
+            run_with_told(rt, alloc, workers, input, out, err, vol, gate, steps)
+        }
+        Command::CatchUp { passphrase } => {
+            catch_up_told(alloc, passphrase, input, out, err, steps)
+        }
+        Command::Show => show_told(alloc, out, err, vol, steps),
+        Command::Sample {
+            seed: _,
+            ledgers: _,
+        } => tell_usage(err),
+    }
+}
+
 /// Runs the command of the words, with its line on standard error.
-fn run<I: Source, O: Sink, E: Sink, V: Volume, L: Count>(
+fn run<R: Threads + Wait + Sync, I: Source, O: Sink, E: Sink, V: Volume, G: Gate, L: Count>(
+    rt: &R,
     alloc: Global,
     words: &[String],
     input: &mut I,
     out: &mut O,
     err: &mut E,
     vol: &mut V,
+    gate: &G,
     steps: &mut Steps<L>,
 ) -> Status
     ensures { Ran (words_of words.now) (seen I.left I.faults input.old input.new)
         (seen O.taken O.faults out.old out.new) (seen E.taken E.faults err.old err.new)
         (seen_volume V.tells V.disk V.faults vol.old vol.new) result }
 {
-    if let Some(network) = passphrase_of("catchup", words) {
-        return catch_up_told(alloc, network, input, out, err, steps);
+    match read_command(alloc, words) {
+        Ok(Some(command)) => run_command(rt, alloc, command, input, out, err, vol, gate, steps),
+        Ok(None) => tell_usage(err),
+        Err(_) => tell_no_memory(err),
     }
-    if let Some(network) = passphrase_of("init", words) {
-        return init_told(alloc, network, input, err, vol);
-    }
-    if is_run(words) {
-        return run_told(alloc, input, out, err, vol, steps);
-    }
-    tell_usage(err)
 }
 
-/// Runs the command of the words and answers the exit status of the process. `init --network PASSPHRASE` reads a start
-/// image, and makes a store of it on the volume. `run` opens that store, closes a ledger for each record of the input,
-/// keeps the record, and prints what it came to. `catchup --network PASSPHRASE` does so for the records behind a start
-/// image, in memory alone.
-pub fn run_program<I: Source, O: Sink, E: Sink, V: Volume, L: Count>(
+/// Runs the command of the words and answers the exit status of the process. `init` reads a start image, and makes a
+/// store of it on the volume. `run` opens that store, closes a ledger for each record of the input, keeps the record,
+/// and prints what it came to; with workers, they make merges in threads of their own, and each passes the gate before
+/// each merge. `catchup` does so for the records behind a start image, in memory alone. It waits for its workers.
+pub fn run_program<
+    R: Threads + Wait + Sync,
+    I: Source,
+    O: Sink,
+    E: Sink,
+    V: Volume,
+    G: Gate,
+    L: Count,
+>(
+    rt: &R,
     alloc: Global,
     words: &[String],
     input: &mut I,
     out: &mut O,
     err: &mut E,
     vol: &mut V,
+    gate: &G,
     steps: &mut Steps<L>,
 ) -> u8
     ensures { (end : Status) × ((result ≡ status_code end)
@@ -141,7 +204,7 @@ pub fn run_program<I: Source, O: Sink, E: Sink, V: Volume, L: Count>(
         (seen O.taken O.faults out.old out.new) (seen E.taken E.faults err.old err.new)
         (seen_volume V.tells V.disk V.faults vol.old vol.new) end) }
 {
-    run(alloc, words, input, out, err, vol, steps).code()
+    run(rt, alloc, words, input, out, err, vol, gate, steps).code()
 }
 
 /// Runs `catchup` on the network with this passphrase. It answers the exit status of the process.
@@ -177,6 +240,37 @@ pub fn do_run_alone<I: Source, O: Sink, E: Sink, V: Volume, L: Count>(
     run_told(alloc, input, out, err, vol, steps).code()
 }
 
+/// Runs `run` with 1 to 8 workers. What it prints and keeps is what `do_run_alone` does, whatever merges the workers
+/// give. Where memory for them is refused, it ends before it reads. It waits for its workers, and answers the
+/// exit status of the process.
+pub fn do_run_with<
+    R: Threads + Wait + Sync,
+    I: Source,
+    O: Sink,
+    E: Sink,
+    V: Volume,
+    G: Gate,
+    L: Count,
+>(
+    rt: &R,
+    alloc: Global,
+    workers: u32,
+    input: &mut I,
+    out: &mut O,
+    err: &mut E,
+    vol: &mut V,
+    gate: &G,
+    steps: &mut Steps<L>,
+) -> u8
+    requires some { 1 ≤ workers }
+    requires few { workers ≤ 8 }
+    ensures { (end : Status) × ((result ≡ status_code end)
+        × DidRun (seen I.left I.faults input.old input.new) (seen O.taken O.faults out.old out.new)
+        (seen E.taken E.faults err.old err.new) (seen_volume V.tells V.disk V.faults vol.old vol.new) end) }
+{
+    run_with_told(rt, alloc, workers, input, out, err, vol, gate, steps).code()
+}
+
 /// Runs `init` on the network with this passphrase: it reads a start image, which is the whole input, and makes a store
 /// of it on a volume that has none. It answers the exit status of the process.
 pub fn do_init<I: Source, E: Sink, V: Volume>(
@@ -191,6 +285,22 @@ pub fn do_init<I: Source, E: Sink, V: Volume>(
         (seen E.taken E.faults err.old err.new) (seen_volume V.tells V.disk V.faults vol.old vol.new) end) }
 {
     init_told(alloc, network, input, err, vol).code()
+}
+
+/// Runs `show`: it opens the store that the volume keeps, and prints its ledger, its epoch and records, its lumens and
+/// how many entries it has. The volume stays as it is. It answers the exit status of the process.
+pub fn do_show<O: Sink, E: Sink, V: Volume, L: Count>(
+    alloc: Global,
+    out: &mut O,
+    err: &mut E,
+    vol: &mut V,
+    steps: &mut Steps<L>,
+) -> u8
+    ensures { (end : Status) × ((result ≡ status_code end)
+        × DidShow (seen O.taken O.faults out.old out.new) (seen E.taken E.faults err.old err.new)
+        (seen_volume V.tells V.disk V.faults vol.old vol.new) end) }
+{
+    show_told(alloc, out, err, vol, steps).code()
 }
 
 /// Ends the program where memory was refused before its words were read: nothing else is read or written. It answers

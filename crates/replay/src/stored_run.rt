@@ -14,7 +14,8 @@ ghost use Rattle.replay.specs.Keeping.{Ready};
 ghost use Rattle.replay.specs.StoredRuns as spec;
 
 use crate::again::{AgainFault, close_again};
-use crate::closes::follow;
+use crate::closer::{Opened, follow_with};
+use crate::crew::Nobody;
 use crate::stored::Stored;
 use image_store::{Mounted, Store, StoreFault};
 use item_list::ItemList;
@@ -25,13 +26,6 @@ use run_outcome::Status;
 use std::alloc::Global;
 use std::sync::ledger::Ledger as Count;
 use xdr_header::StartImage;
-
-/// A ledger, and the store that keeps it.
-#[derive(Drop)]
-struct Opened {
-    ledger: Ledger,
-    keeper: Stored,
-}
 
 /// The end of a run whose store isn't mounted.
 fn status_of(fault: StoreFault) -> Status
@@ -87,14 +81,14 @@ fn restore<L: Count>(
 }
 
 /// Mounts a store, and closes its records again.
-fn open<V: Volume, L: Count>(
+pub(crate) fn open<V: Volume, L: Count>(
     alloc: Global,
     vol: &mut V,
     steps: &mut Steps<L>,
 ) -> Result<Opened, Status>
     ensures works { IfOk result (λ o. o.keeper.store.failed ≡ false) }
-    ensures opens { V.tells → spec.OpensSo (λ o. Ready (IsStored o.keeper.store (V.disk vol.new) o.ledger.state)
-        (V.disk vol.new) o.ledger.state) (V.disk vol.old).reads (V.disk vol.new).reads result }
+    ensures opens { V.tells → spec.OpensSo (λ o. spec.IsOpened o.records o.ledger.state o.keeper.store (V.disk vol.new))
+        (V.disk vol.old).reads (V.disk vol.new).reads result }
     ensures runs { Runs Same (V.disk vol.old) (V.disk vol.new) }
     ensures later { V.faults vol.old ≤ V.faults vol.new }
     ensures cause { IfErr result (λ end. spec.IsUnbegun (Rose (V.faults vol.old) (V.faults vol.new)) end) }
@@ -113,6 +107,7 @@ fn open<V: Volume, L: Count>(
         Ok(ledger) => Ok(Opened {
             ledger,
             keeper: Stored { store },
+            records: closes.len(),
         }),
         Err(end) => Err(end),
     }
@@ -126,38 +121,12 @@ pub(crate) fn run_stored<I: Source, O: Sink, V: Volume, L: Count>(
     vol: &mut V,
     steps: &mut Steps<L>,
 ) -> Status
-    ensures ran { V.tells → spec.RanSo (seen I.left I.faults input.old input.new)
-        (seen O.taken O.faults out.old out.new)
+    ensures { spec.RanStored (seen I.left I.faults input.old input.new) (seen O.taken O.faults out.old out.new)
         (seen_volume V.tells V.disk V.faults vol.old vol.new) result }
-    ensures disk_fault { result ≡ status.DiskFault → Rose (V.faults vol.old) (V.faults vol.new) }
-    ensures read_fault { result ≡ status.ReadFault → Rose (I.faults input.old) (I.faults input.new) }
-    ensures write_fault { result ≡ status.WriteFault → Rose (O.faults out.old) (O.faults out.new) }
-    ensures is_end { IsRunEnd result }
-    ensures unbegun { IsUnopenedEnd result → DidNotRun (seen I.left I.faults input.old input.new)
-        (seen O.taken O.faults out.old out.new) (seen_volume V.tells V.disk V.faults vol.old vol.new) }
-    ensures printed { spec.RanOrNot (seen I.left I.faults input.old input.new)
-        (seen O.taken O.faults out.old out.new) (seen_volume V.tells V.disk V.faults vol.old vol.new) result }
-    ensures ended { result ≡ status.Done → IsAtEnd (I.left input.new) }
 {
     match open(alloc, vol, steps) {
-        Ok(
-            Opened {
-                mut ledger,
-                mut keeper,
-            },
-        ) => {
-            let mut ahead = Vec::new(alloc);
-            follow(
-                alloc,
-                &mut ledger,
-                &mut keeper,
-                vol,
-                0,
-                input,
-                &mut ahead,
-                out,
-                steps,
-            )
+        Ok(mut opened) => {
+            follow_with(alloc, &Nobody, &mut (), &mut opened, vol, input, out, steps)
         }
         Err(end) => end,
     }

@@ -4,7 +4,7 @@ ghost use Rattle.std.specs.Prelude.{◌≡◌, ◌<◌};
 
 use crate::story::Story;
 use outside::{MemSink, MemSource, MemVolume, Sink, Steps};
-use replay::run_program;
+use replay::{do_init, do_run_alone};
 use std::alloc::{AllocError, Global};
 use std::marker::Brand;
 use std::sync::ledger::{Blank, Ledger};
@@ -66,24 +66,10 @@ impl Ran {
     }
 }
 
-/// The words of a command line.
-fn words_of(alloc: Global, command: Command) -> Result<Vec<String>, AllocError> {
-    let mut words = Vec::new(alloc);
-    match command {
-        Command::Run => words.push("run".to_string(alloc)?)?,
-        Command::Init => {
-            for word in ["init", "--network", NETWORK] {
-                words.push(word.to_string(alloc)?)?;
-            }
-        }
-    }
-    Ok(words)
-}
-
-/// Runs the program, and counts the steps of its merges in a book of their own.
+/// Runs a command, and counts the steps of its merges in a book of their own.
 fn run<O: Sink, L: Ledger>(
     alloc: Global,
-    words: &[String],
+    command: Command,
     input: &mut MemSource,
     out: &mut O,
     err: &mut MemSink,
@@ -95,7 +81,10 @@ fn run<O: Sink, L: Ledger>(
     requires some { 0 < L.parts }
 {
     let mut steps: Steps<L> = Steps::new(blank);
-    run_program(alloc, words, input, out, err, vol, &mut steps)
+    match command {
+        Command::Run => do_run_alone(alloc, input, out, err, vol, &mut steps),
+        Command::Init => do_init(alloc, NETWORK, input, err, vol),
+    }
 }
 
 /// The status of a command over these streams and this volume.
@@ -106,9 +95,8 @@ pub(crate) fn status_of<O: Sink>(
     out: &mut O,
     err: &mut MemSink,
     vol: &mut MemVolume,
-) -> Result<u8, AllocError> {
-    let words = words_of(alloc, command)?;
-    Ok(run::<O, Brand>(alloc, words.as_slice(), input, out, err, vol, Blank::new(1)))
+) -> u8 {
+    run::<O, Brand>(alloc, command, input, out, err, vol, Blank::new(1))
 }
 
 /// A source that gives pieces of some bytes.
@@ -135,7 +123,7 @@ pub(crate) fn ran_over(
 ) -> Result<Ran, AllocError> {
     let mut out = sink(alloc);
     let mut err = sink(alloc);
-    let status = status_of(alloc, command, input, &mut out, &mut err, vol)?;
+    let status = status_of(alloc, command, input, &mut out, &mut err, vol);
     Ok(Ran { status, out, err })
 }
 

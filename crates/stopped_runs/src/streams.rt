@@ -87,7 +87,7 @@ fn run_into<O: Sink>(
     let records = story.records(alloc, 0, CLOSES)?;
     let mut input = source(alloc, records.as_slice())?;
     let mut err = sink(alloc);
-    let status = status_of(alloc, Command::Run, &mut input, out, &mut err, vol)?;
+    let status = status_of(alloc, Command::Run, &mut input, out, &mut err, vol);
     Ok(end_of(status, err.bytes()))
 }
 

@@ -1,27 +1,34 @@
 -- What a run of the program leaves, by its words, over what was seen of its streams and its volume before and after.
-use Rattle.std.specs.Prelude.{ℕ, List, Option, Some, None}
+use Rattle.std.specs.Prelude.{ℕ, List, ◌⊎◌}
 use Rattle.run_streams.specs.Seen.{Seen, IsUntouched}
 use Rattle.run_streams.specs.SeenVolume.{SeenVolume}
 use Rattle.run_outcome.specs.declared.status.Status.{Status}
 use Rattle.run_outcome.specs.declared.status.Status.TheVariants as status
 use Rattle.run_outcome.specs.Run.{IsTold, DidCatchUp}
-use Rattle.stored_outcome.specs.Command.{Command, CatchUp, Init, Run, command_of}
+use Rattle.command_words.specs.Words.{Command, CatchUp, Init, Run, Show, Sample, Spells, SpellsNone}
 use Rattle.stored_outcome.specs.StoredRun.{DidRun}
 use Rattle.stored_outcome.specs.Init.{DidInit}
+use Rattle.stored_outcome.specs.Show.{DidShow}
 
--- no command: nothing is read, nothing is written to the output, and the volume stays the value that it was
-pub record DidNothing (input out err : Seen) (vol : SeenVolume) (end : Status) : Type 0 where
-  pub told : IsTold status.Usage err end
+-- Nothing is read, nothing is written to the output, and the volume stays the value that it was. This end is told.
+pub record DidNothing (cause : Status) (input out err : Seen) (vol : SeenVolume) (end : Status) : Type 0 where
+  pub told : IsTold cause err end
   pub unread : IsUntouched input
   pub unwritten : IsUntouched out
   pub same : vol.same
 
-abbrev pub RanAs : Option Command → (input out err : Seen) (vol : SeenVolume) → (end : Status) → Type 0
-RanAs None input out err vol end = DidNothing input out err vol end
-RanAs (Some (CatchUp passphrase)) input out err vol end = DidCatchUp passphrase input out err end × vol.same
-RanAs (Some (Init passphrase)) input out err vol end = DidInit passphrase input err vol end × IsUntouched out
-RanAs (Some Run) input out err vol end = DidRun input out err vol end
+-- No sample is made yet: its words are none of a command.
+abbrev pub RanAs : Command → (input out err : Seen) (vol : SeenVolume) → (end : Status) → Type 0
+RanAs (CatchUp passphrase) input out err vol end = DidCatchUp passphrase input out err end × vol.same
+RanAs (Init passphrase) input out err vol end = DidInit passphrase input err vol end × IsUntouched out
+RanAs (Run workers) input out err vol end = DidRun input out err vol end
+RanAs Show input out err vol end = DidShow out err vol end × IsUntouched input
+RanAs (Sample seed ledgers) input out err vol end = DidNothing status.Usage input out err vol end
 
--- The words were run as a command, over these streams and this volume, with this end.
+-- The words were run as a command, over these streams and this volume, with this end; or they are none; or memory was
+-- refused while they were read.
 abbrev pub Ran : (words : List (List ℕ)) → (input out err : Seen) (vol : SeenVolume) → (end : Status) → Type 0
-Ran words input out err vol end = RanAs (command_of words) input out err vol end
+Ran words input out err vol end =
+    ((command : Command) × Spells words command × RanAs command input out err vol end)
+    ⊎ (SpellsNone words × DidNothing status.Usage input out err vol end)
+    ⊎ ((command : Command) × Spells words command × DidNothing status.NoMemory input out err vol end)

@@ -128,16 +128,7 @@ IsUnopenedEnd other = ⊥
 
 -- all its ends
 abbrev pub IsRunEnd : Status → Type 0
-IsRunEnd status.Done = Unit {0}
-IsRunEnd status.Refused = Unit {0}
-IsRunEnd status.ReadFault = Unit {0}
-IsRunEnd status.WriteFault = Unit {0}
-IsRunEnd status.DiskFault = Unit {0}
-IsRunEnd (status.BadStore file place) = Unit {0}
-IsRunEnd status.NoMemory = Unit {0}
-IsRunEnd (status.BadInput at) = Unit {0}
-IsRunEnd status.Missing = Unit {0}
-IsRunEnd other = ⊥
+IsRunEnd end = IsRecordsEnd end ⊎ IsUnopenedEnd end
 
 -- `run`, over these streams and this volume, with this end and its line on standard error
 pub record DidRun (input out err : Seen) (vol : SeenVolume) (end : Status) : Type 0 where

@@ -7,6 +7,7 @@ use Rattle.bucket_merge.specs.Job.{Job}
 use Rattle.bucket_levels.specs.Pending.{PendingAt, pending_at}
 use Rattle.bucket_levels.specs.HandIn.{drawn, Draws}
 use Rattle.bucket_levels.specs.Levels.{LevelsAt}
+use Rattle.merge_board.specs.Parts.{RoseBy}
 use Rattle.worker_merges.specs.Posting.{waiting_in, FoundNoPlace, Became}
 
 -- ---- the merges that are pending
@@ -63,6 +64,11 @@ none_below (first ∷ others) zero (suc place) none below = absurd (omega arith)
 none_below (first ∷ others) (suc level) zero none below = none 0 (omega arith)
 none_below (first ∷ others) (suc level) (suc place) none below =
     none_below others level place (λ at lt. none (suc at) (omega arith)) (omega arith)
+
+-- ---- what came back
+
+pub rose_again : (was mid now a b : ℕ) → RoseBy a was mid → RoseBy b mid now → RoseBy (a + b) was now
+rose_again was mid now a b one two = omega (arith, one, two)
 
 -- ---- so far
 

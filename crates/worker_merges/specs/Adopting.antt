@@ -4,9 +4,7 @@ use Rattle.bucket_merge.specs.Job.{Job}
 use Rattle.bucket_levels.specs.HandIn.{TakesIn, IsRefusedFor}
 use Rattle.bucket_levels.specs.declared.hand_in.HandInFault.{HandInFault}
 use Rattle.ledger_close.specs.States.{LedgerAt, levels_at}
-use Rattle.merge_board.specs.Parts.{FoundNoOut, collected_by}
 use Rattle.merge_board.specs.declared.log.Sent.{Sent}
-use Rattle.merge_board.specs.declared.parts.Collector.{Collector}
 
 -- A merge is handed in: it is ready now, or there is a reason for which it is refused, and nothing changed.
 abbrev pub IsHandedIn : (out : Job) → (old new : LedgerAt) → Type 0
@@ -24,7 +22,3 @@ pub record Adopts (before after : List Sent) (old new : LedgerAt) : Type 0 where
   pub outs : List Sent
   pub grew : after ≡ before ++ outs
   pub handed_in : AreHandedIn outs old new
-
--- At one moment no outcome waited, behind those that were collected.
-abbrev pub FoundNoMore : (collected : List Sent) → Type 0
-FoundNoMore collected = (collector : Collector) × (collected_by collector ≡ collected) × FoundNoOut collector

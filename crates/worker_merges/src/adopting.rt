@@ -1,8 +1,9 @@
 //! How merges that workers have finished are handed in.
 
 ghost use Rattle.std.specs.Prelude.{◌≡◌};
-ghost use Rattle.merge_board.specs.Parts.{IsCollectorIn, collector_parts, collected_by};
-ghost use Rattle.worker_merges.specs.Adopting.{IsHandedIn, Adopts, FoundNoMore};
+ghost use Rattle.merge_board.specs.Parts.{IsCollectorIn, collector_parts, collected_by, empty_looks_of, RoseBy};
+ghost use Rattle.merge_board.specs.Parts.{FoundNoOut};
+ghost use Rattle.worker_merges.specs.Adopting.{IsHandedIn, Adopts};
 
 use bucket_merge::MergeOut;
 use ledger_close::Ledger;
@@ -25,7 +26,8 @@ pub fn adopt<R: Wait>(rt: &R, ledger: &mut Ledger, room: &Room, collector: &mut 
     ensures parts { collector_parts collector.new ≡ collector_parts collector.old }
     ensures state { ledger.new.state ≡ ledger.old.state }
     ensures adopts { Adopts (collected_by collector.old) (collected_by collector.new) ledger.old ledger.new }
-    ensures empty { FoundNoMore (collected_by collector.new) }
+    ensures looked { RoseBy 1 (empty_looks_of collector.old) (empty_looks_of collector.new) }
+    ensures empty { FoundNoOut collector.new }
 {
     for _ in rt.forever() {
         match collector.take(rt, room) {

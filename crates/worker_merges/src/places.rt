@@ -8,7 +8,7 @@ ghost use Rattle.worker_merges.specs.Places.{IsManned, HasEnded, IsSideOf, IsSid
 
 use merge_board::{Board, BoardEnd, Collector, CollectorEnd, Parts, Room, Worker, WorkerEnd, make};
 use std::alloc::{AllocError, Global};
-use std::sync::Wait;
+use std::sync::{OnceToken, Wait};
 
 /// The place of a worker: the worker, and then what is left of it.
 #[derive(Drop)]
@@ -42,16 +42,20 @@ pub struct Workshop {
 }
 
 impl Side {
-    /// Closes the board: no more jobs will be posted, and no more outcomes collected. It takes no memory.
-    pub fn close<R: Wait>(self, rt: &R, room: &Room) -> SideEnd
+    /// Closes the board, and tells what shows that it is closed: no more jobs will be posted, and no more outcomes
+    /// collected. It takes no memory.
+    pub fn close<'r, R: Wait>(self, rt: &R, room: &'r Room) -> (SideEnd, OnceToken<'r, ()>)
         requires { IsBoardIn room.now self.board }
-        ensures { (workers : _) → IsSideOf room.now workers self → IsSideEndOf room.now workers result }
+        ensures ends { (workers : _) → IsSideOf room.now workers self → IsSideEndOf room.now workers result.0 }
+        ensures mark { result.1.of ≡ room.now.closed.id }
     {
         let Side { board, collector } = self;
-        SideEnd {
-            board: board.close(rt, room),
+        let (board, mark) = board.shut(rt, room);
+        let end = SideEnd {
+            board,
             collector: collector.finish(),
-        }
+        };
+        (end, mark)
     }
 }
 

@@ -2,7 +2,7 @@
 
 ghost use Rattle.std.specs.Prelude.{◌≡◌, ◌+◌, ◌<◌, map};
 ghost use Rattle.bucket_levels.specs.HandIn.{drawn};
-ghost use Rattle.merge_board.specs.Parts.{IsBoardIn, board_parts, posted_by};
+ghost use Rattle.merge_board.specs.Parts.{IsBoardIn, board_parts, posted_by, returned_to, RoseBy};
 ghost use Rattle.worker_merges.specs.Posting.{waiting_in, Became, FoundNoPlace};
 
 use bucket_merge::MergeJob;
@@ -16,6 +16,7 @@ fn post_one<R: Wait>(rt: &R, room: &Room, board: &mut Board, job: MergeJob) -> u
     ensures room { IsBoardIn room.now board.new }
     ensures parts { board_parts board.new ≡ board_parts board.old }
     ensures became { Became (posted_by board.old) (posted_by board.new) result }
+    ensures returned { RoseBy result (returned_to board.old) (returned_to board.new) }
 {
     match board.post(rt, room, job) {
         Ok(_) => 0,
@@ -32,6 +33,7 @@ pub fn post_due<R: Wait>(rt: &R, ledger: &mut Ledger, room: &Room, board: &mut B
     ensures state { ledger.new.state ≡ ledger.old.state }
     ensures drawn { ledger.new.pending ≡ map drawn ledger.old.pending }
     ensures count { posted_by board.old + waiting_in ledger.old.pending ≡ posted_by board.new + result }
+    ensures returned { RoseBy result (returned_to board.old) (returned_to board.new) }
     ensures full { 0 < result → FoundNoPlace (posted_by board.old) (posted_by board.new) }
 {
     let mut back = 0;

@@ -1,7 +1,7 @@
 use Rattle.std.proofs.Common.{◌≡◌, length}
 use Rattle.crossbeam_queue.specs.Passes.{view, IsPassOf}
 use Rattle.std.specs.List.{AllByRecursion}
-use Rattle.merge_board.specs.Parts.{IsWorkerOf}
+use Rattle.merge_board.specs.Parts.{AreNumbered, IsWorkerOf}
 use Rattle.merge_board.specs.Hired.{AreHired}
 use Rattle.merge_board.proofs.making.hire_all.Given as goal
 
@@ -11,5 +11,6 @@ invariant-loop-number l = record {
   outs : IsPassOf l.room.outs l.gatherer;
   hired : AreHired l.number (view l.poster) (view l.gatherer);
   each : AllByRecursion (IsWorkerOf l.room) l.hired.items;
+  numbers : AreNumbered 0 l.hired.items;
   count : length l.hired.items ≡ l.number;
 }

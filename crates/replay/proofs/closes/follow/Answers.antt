@@ -36,6 +36,7 @@ loop-end-preserved g c =
           (c.in-None.ensures.kept st te) k);
       ready = λ st te. c.in-None.ensures.keeps st te refl;
       works = c.in-None.ensures.works refl;
+      crew = c.in-None.ensures.crew;
       vol_later = omega (arith, first, second);
       low = goes_low _ _ _ _ c.in-None.ensures.turned c.loop-end.invariant.low;
     }

@@ -30,6 +30,7 @@ invariant-loop-end g l = record {
   ready : g.K.Keeper.stores → g.V.Volume.tells
       → Ready (g.K.Keeper.keeps l.keeper (g.V.Volume.disk l.vol) l.ledger.state) (g.V.Volume.disk l.vol) l.ledger.state;
   works : g.K.Keeper.works l.keeper;
+  crew : g.C.Crew.has l.crew l.side;
   vol_later : g.V.Volume.faults l.initial.vol ≤ g.V.Volume.faults l.vol;
   low : l.at ≤ (l.ledger.state.header.ledger_seq + 1) * 2 ^ 64;
 }

@@ -1,4 +1,4 @@
-use Rattle.std.proofs.Common.{◌≡◌, ℕ, List, Ok, sym, subst, inl, inr, arith, rules}
+use Rattle.std.proofs.Common.{◌≡◌, ◌∙◌, ℕ, List, Ok, sym, subst, inl, inr, arith, rules}
 use Rattle.std.proofs.KnownBytes.{Appends-nil}
 use Rattle.run_streams.specs.Seen.{Seen, seen}
 use Rattle.close_rules.specs.State.{ClosingState}
@@ -8,7 +8,7 @@ use Rattle.outside.specs.Disk.{Disk}
 use Rattle.replay.specs.Following.{Told}
 use Rattle.replay.specs.Keeping.{DiskFailed, KeptTelling}
 use Rattle.replay.proofs.Turning.{closed_told, rose_before}
-use Rattle.replay.proofs.Keeping.{keep_failed, kept_told}
+use Rattle.replay.proofs.Keeping.{keep_failed, kept_told, unkept_nothing}
 use Rattle.replay.proofs.closes.take_close.Goals as goal
 
 pub keep-requires-clause-ready : goal.keep-requires-clause-ready
@@ -30,9 +30,9 @@ returns-clause-closes g c =
     let text : c.as_slice.result.now ≡ lines_of closed = search rules in
     let late : Type 0 = DiskFailed g.K.Keeper.stores mid after in
     let any : Type 0 = DiskFailed g.K.Keeper.stores before after in
-    closed_told c.args.ledger.now.state c.args.bytes.now closed c.install.new.self.state out late any
+    closed_told c.args.ledger.now.state c.args.bytes.now closed c.post_due.new.ledger.state out late any
     c.tell_close.result
-    c.requires.closes c.install.ensures.state
+    c.requires.closes (c.post_due.ensures.state ∙ c.install.ensures.state)
     (λ failed. (failed.0, rose_before before mid after c.keep.ensures.cause.later failed.1))
     (subst (λ (t : List ℕ). Told t out late c.tell_close.result) text c.tell_close.ensures.told)
 
@@ -70,8 +70,21 @@ returns-clause-kept g c st te =
     let new : Disk = g.V.Volume.disk c.tell_close.new.vol in
     let k = c.in-Ok-keep.ensures.kept st te s closed r closes in
     let text : c.as_slice.result.now ≡ lines_of closed = search rules in
+    let state : c.post_due.new.ledger.state ≡ closed.state = c.post_due.ensures.state ∙ c.install.ensures.state in
     let first = subst (λ (x : ClosingState). KeptTelling x c.as_slice.result.now out mid new c.tell_close.result)
-    c.install.ensures.state (c.tell_close.ensures.kept st te) in
+    state (c.tell_close.ensures.kept st te) in
     let second = subst (λ (t : List ℕ). KeptTelling closed.state t out mid new c.tell_close.result) text first in
-    kept_told s c.args.bytes.now closed c.install.new.self.state out old mid new c.tell_close.result c.requires.closes
-    c.install.ensures.state k.safe k.opens (c.keep.ensures.runs st te s closed r closes) second
+    kept_told s c.args.bytes.now closed c.post_due.new.ledger.state out old mid new c.tell_close.result c.requires.closes
+    state k.safe k.opens (c.keep.ensures.runs st te s closed r closes) second
+
+pub returns-in_default-clause-kept : goal.returns-in_default-clause-kept
+returns-in_default-clause-kept g c st te =
+    inl (unkept_nothing c.args.ledger.now.state c.args.bytes.now
+    (seen g.O.Sink.taken g.O.Sink.faults c.args.out.now c.args.out.now) (g.V.Volume.disk c.args.vol.now)
+    (Appends-nil (g.O.Sink.taken c.args.out.now)))
+
+pub returns-in_default-hold-clause-kept : goal.returns-in_default-hold-clause-kept
+returns-in_default-hold-clause-kept g c st te =
+    inl (unkept_nothing c.args.ledger.now.state c.args.bytes.now
+    (seen g.O.Sink.taken g.O.Sink.faults c.args.out.now c.args.out.now) (g.V.Volume.disk c.args.vol.now)
+    (Appends-nil (g.O.Sink.taken c.args.out.now)))

@@ -1,44 +1,41 @@
-use Rattle.std.proofs.Common.{refl, sym}
-use Rattle.run_streams.specs.Seen.{seen}
-use Rattle.run_streams.specs.SeenVolume.{seen_volume}
-use Rattle.stored_outcome.specs.Command.{words_of}
-use Rattle.replay.proofs.Programs.{ran_catchup, ran_init, ran_run, ran_usage}
+use Rattle.std.proofs.Common.{Option, refl, subst, inl, inr}
+use Rattle.std.specs.Prelude.{MatchOption}
+use Rattle.command_words.specs.Words.{words_of, Spells, SpellsNone}
+use Rattle.command_words.specs.Commands.{command_at}
+use Rattle.command_words.specs.declared.command.Command.{Command}
 use Rattle.replay.proofs.run.run.Goals as goal
 
-pub returns-in-Some : goal.returns-in-Some
-returns-in-Some g c =
-    ran_catchup (words_of c.args.words.now) c.in-Some.network.now
-    (seen g.I.Source.left g.I.Source.faults c.args.input.now c.catch_up_told.new.input)
-    (seen g.O.Sink.taken g.O.Sink.faults c.args.out.now c.catch_up_told.new.out)
-    (seen g.E.Sink.taken g.E.Sink.faults c.args.err.now c.catch_up_told.new.err)
-    (seen_volume g.V.Volume.tells g.V.Volume.disk g.V.Volume.faults c.args.vol.now c.args.vol.now)
-    c.catch_up_told.result c.in-Some.ensures c.catch_up_told.ensures refl
+pub run_command-requires-after_bounds : goal.run_command-requires-after_bounds
+run_command-requires-after_bounds g c = λ κs within. (
+  words_of c.args.words.now,
+  subst (λ (o : Option Command). MatchOption o (SpellsNone (words_of c.args.words.now))
+      (λ command. Spells (words_of c.args.words.now) (command_at command))) c.in-Ok-Some.field-0-is
+      c.in-Ok-Some.ensures.command,
+)
 
-pub returns-in-Some-passphrase_of : goal.returns-in-Some-passphrase_of
-returns-in-Some-passphrase_of g c =
-    ran_init (words_of c.args.words.now) c.in-Some-passphrase_of.network.now
-    (seen g.I.Source.left g.I.Source.faults c.args.input.now c.init_told.new.input)
-    (seen g.O.Sink.taken g.O.Sink.faults c.args.out.now c.args.out.now)
-    (seen g.E.Sink.taken g.E.Sink.faults c.args.err.now c.init_told.new.err)
-    (seen_volume g.V.Volume.tells g.V.Volume.disk g.V.Volume.faults c.args.vol.now c.init_told.new.vol)
-    c.init_told.result c.in_default.ensures c.in-Some-passphrase_of.ensures c.init_told.ensures (refl, refl)
+pub returns-in-Ok-Some : goal.returns-in-Ok-Some
+returns-in-Ok-Some g c =
+    inl (
+      command_at c.in-Ok-Some.command,
+      subst (λ (o : Option Command). MatchOption o (SpellsNone (words_of c.args.words.now))
+          (λ command. Spells (words_of c.args.words.now) (command_at command))) c.in-Ok-Some.field-0-is
+          c.in-Ok-Some.ensures.command,
+      c.run_command.ensures,
+    )
 
-pub returns-then-is_run : goal.returns-then-is_run
-returns-then-is_run g c =
-    ran_run (words_of c.args.words.now)
-    (seen g.I.Source.left g.I.Source.faults c.args.input.now c.run_told.new.input)
-    (seen g.O.Sink.taken g.O.Sink.faults c.args.out.now c.run_told.new.out)
-    (seen g.E.Sink.taken g.E.Sink.faults c.args.err.now c.run_told.new.err)
-    (seen_volume g.V.Volume.tells g.V.Volume.disk g.V.Volume.faults c.args.vol.now c.run_told.new.vol)
-    c.run_told.result c.in_default.ensures c.in_default-passphrase_of.ensures (sym c.if-is_run.ensures)
-    c.run_told.ensures
+pub returns-in-Ok-None : goal.returns-in-Ok-None
+returns-in-Ok-None g c = inr (inl (
+  subst (λ (o : Option Command). MatchOption o (SpellsNone (words_of c.args.words.now))
+      (λ command. Spells (words_of c.args.words.now) (command_at command))) c.in-Ok-None.field-0-is
+      c.in-Ok-None.ensures.command,
+  record { told = c.tell_usage.ensures; unread = (refl, refl); unwritten = (refl, refl); same = refl },
+))
 
-pub returns : goal.returns
-returns g c =
-    ran_usage (words_of c.args.words.now)
-    (seen g.I.Source.left g.I.Source.faults c.args.input.now c.args.input.now)
-    (seen g.O.Sink.taken g.O.Sink.faults c.args.out.now c.args.out.now)
-    (seen g.E.Sink.taken g.E.Sink.faults c.args.err.now c.tell_usage.new.err)
-    (seen_volume g.V.Volume.tells g.V.Volume.disk g.V.Volume.faults c.args.vol.now c.args.vol.now)
-    c.tell_usage.result c.in_default.ensures c.in_default-passphrase_of.ensures (sym c.if-is_run.ensures)
-    (refl, refl) (refl, refl) refl c.tell_usage.ensures
+pub returns-in-Err : goal.returns-in-Err
+returns-in-Err g c =
+    let spelled = c.in-Err.ensures.no_memory in
+    inr (inr (
+      spelled.0,
+      spelled.1,
+      record { told = c.tell_no_memory.ensures; unread = (refl, refl); unwritten = (refl, refl); same = refl },
+    ))

@@ -1,5 +1,5 @@
 use Rattle.std.proofs.Common.{◌≡◌}
-use Rattle.merge_board.specs.Parts.{IsCollectorIn, collector_parts, collected_by}
+use Rattle.merge_board.specs.Parts.{IsCollectorIn, collector_parts, collected_by, empty_looks_of}
 use Rattle.worker_merges.specs.Adopting.{Adopts}
 use Rattle.worker_merges.proofs.adopting.adopt.Given as goal
 
@@ -7,6 +7,7 @@ abbrev pub invariant-loop : goal.invariant-loop
 invariant-loop g l = record {
   room : IsCollectorIn l.room l.collector;
   parts : collector_parts l.collector ≡ collector_parts l.initial.collector;
+  looks : empty_looks_of l.collector ≡ empty_looks_of l.initial.collector;
   state : l.ledger.state ≡ l.initial.ledger.state;
   adopts : Adopts (collected_by l.initial.collector) (collected_by l.collector) l.initial.ledger l.ledger;
 }

@@ -1,8 +1,8 @@
 use Rattle.std.proofs.Common.{◌≡◌, ◌≤◌, ◌∙◌, sym, subst, arith, map}
 use Rattle.bucket_levels.specs.HandIn.{drawn}
 use Rattle.ledger_close.specs.States.{LedgerAt, levels_at}
-use Rattle.merge_board.specs.Parts.{posted_by}
-use Rattle.worker_merges.proofs.Drawing.{none_left, one_more}
+use Rattle.merge_board.specs.Parts.{posted_by, returned_to}
+use Rattle.worker_merges.proofs.Drawing.{none_left, one_more, rose_again}
 use Rattle.worker_merges.proofs.posting.post_due.Goals as goal
 
 pub loop-job-preserved : goal.loop-job-preserved
@@ -13,6 +13,8 @@ loop-job-preserved g c =
       room = posted.ensures.room;
       parts = posted.ensures.parts ∙ it.parts;
       state = c.next_job.ensures.state ∙ it.state;
+      returned = rose_again (returned_to c.args.board.now) (returned_to c.loop-job.board)
+          (returned_to posted.new.board) c.loop-job.back posted.result it.returned posted.ensures.returned;
       so_far = one_more (posted_by c.args.board.now) c.args.ledger.now.pending (levels_at c.loop-job.ledger)
           c.in-Some.job (levels_at c.next_job.new.self) (posted_by c.loop-job.board) (posted_by posted.new.board)
           c.loop-job.back posted.result it.so_far c.in-Some.ensures.drawn

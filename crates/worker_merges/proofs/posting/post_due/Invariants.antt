@@ -1,5 +1,5 @@
 use Rattle.std.proofs.Common.{◌≡◌}
-use Rattle.merge_board.specs.Parts.{IsBoardIn, board_parts, posted_by}
+use Rattle.merge_board.specs.Parts.{IsBoardIn, board_parts, posted_by, returned_to, RoseBy}
 use Rattle.worker_merges.specs.Posting.{waiting_in}
 use Rattle.worker_merges.proofs.Drawing.{SoFar}
 use Rattle.worker_merges.proofs.posting.post_due.Given as goal
@@ -9,6 +9,7 @@ invariant-loop-job g l = record {
   room : IsBoardIn l.room l.board;
   parts : board_parts l.board ≡ board_parts l.initial.board;
   state : l.ledger.state ≡ l.initial.ledger.state;
+  returned : RoseBy l.back (returned_to l.initial.board) (returned_to l.board);
   so_far : SoFar (posted_by l.initial.board) l.initial.ledger.pending l.ledger.pending (posted_by l.board) l.back;
 }
 

@@ -1,0 +1,26 @@
+use Rattle.std.proofs.Common.{[], sym, subst}
+use Rattle.run_streams.specs.Seen.{Seen, seen}
+use Rattle.run_streams.specs.SeenVolume.{SeenVolume, seen_volume}
+use Rattle.close_rules.specs.State.{ClosingState}
+use Rattle.outside.specs.Disk.{Disk}
+use Rattle.replay.specs.Stored.{IsStored}
+use Rattle.replay.specs.Keeping.{Ready, DidFollow}
+use Rattle.replay.proofs.beside.serve.Goals as goal
+
+pub follow_with-end-requires-clause-ready : goal.follow_with-end-requires-clause-ready
+follow_with-end-requires-clause-ready g c te =
+    let disk : Disk = g.V.Volume.disk c.args.vol.now in
+    subst (λ (s : ClosingState). Ready (IsStored c.args.opened.now.keeper.store disk s) disk s)
+    (sym c.post_due.ensures.state) (c.requires.ready te)
+
+pub returns-clause-followed : goal.returns-clause-followed
+returns-clause-followed g c =
+    let it = c.follow_with-end in
+    let input : Seen = seen g.I.Source.left g.I.Source.faults c.args.input.now it.new.input in
+    let out : Seen = seen g.O.Sink.taken g.O.Sink.faults c.args.out.now it.new.out in
+    let vol : SeenVolume = seen_volume g.V.Volume.tells g.V.Volume.disk g.V.Volume.faults c.args.vol.now it.new.vol in
+    subst (λ (s : ClosingState). DidFollow (Unit {0}) s 0 [] input out vol it.result) c.post_due.ensures.state
+    it.ensures.followed
+
+pub returns-clause-side : goal.returns-clause-side
+returns-clause-side g c = c.close.ensures.ends c.args.workers c.follow_with-end.ensures.crew

@@ -1,0 +1,8 @@
+use Rattle.std.proofs.Common.{rules}
+use Rattle.std.proofs.lemmas.List.Elements.{All-same}
+use Rattle.worker_merges.specs.Places.{HasEnded}
+use Rattle.replay.proofs.beside.serve_beside.Goals as goal
+
+pub returns-clause-ended : goal.returns-clause-ended
+returns-clause-ended g c =
+    All-same (HasEnded c.args.room.now) _ c.join_mut.new.f.3.now (search rules) c.join_mut.ensures.0.met.1.1

@@ -1,0 +1,12 @@
+use Rattle.run_streams.specs.Seen.{seen}
+use Rattle.run_streams.specs.SeenVolume.{seen_volume}
+use Rattle.replay.proofs.Showing.{did_show}
+use Rattle.replay.proofs.run.show_told.Goals as goal
+
+pub returns : goal.returns
+returns g c =
+    let it = c.show-end in
+    did_show (seen g.O.Sink.taken g.O.Sink.faults c.args.out.now it.new.out)
+    (seen g.E.Sink.taken g.E.Sink.faults c.args.err.now c.tell.new.err)
+    (seen_volume g.V.Volume.tells g.V.Volume.disk g.V.Volume.faults c.args.vol.now it.new.vol) it.result c.tell.result
+    it.ensures c.tell.ensures

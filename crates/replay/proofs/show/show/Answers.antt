@@ -1,0 +1,43 @@
+use Rattle.std.proofs.Common.{ℕ, length, refl, subst, inl, inr}
+use Rattle.std.specs.FinMap.{entries}
+use Rattle.run_streams.specs.Seen.{Seen, seen}
+use Rattle.close_rules.specs.State.{ClosingState}
+use Rattle.run_outcome.specs.Lines.{shown_lines}
+use Rattle.run_outcome.specs.declared.status.Status.TheVariants as status
+use Rattle.outside.specs.Disk.{Image}
+use Rattle.image_store.specs.Opening.{Holds}
+use Rattle.replay.specs.Following.{Wrote}
+use Rattle.replay.proofs.show.show.Goals as goal
+
+pub returns-in-Ok : goal.returns-in-Ok
+returns-in-Ok g c =
+    let out : Seen = seen g.O.Sink.taken g.O.Sink.faults c.args.out.now c.show_opened.new.out in
+    let s : ClosingState = c.in-Ok.opened.ledger.state in
+    let count : ℕ = length (entries s.entries) in
+    let end = c.show_opened.result in
+    record {
+      runs = c.open.ensures.runs;
+      told = λ te.
+          let opens = c.in-Ok.ensures.opens te in
+          let stored = opens.0.ready.kept in
+          inl (
+            (
+              stored.kept,
+              s,
+              subst (λ (x : Image). Holds x stored.kept) opens.1 stored.settled.holds,
+              stored.comes,
+              subst (λ (n : ℕ). Wrote out (shown_lines s.header stored.kept.epoch n count) status.Done end) opens.0.count
+                  (subst (λ (e : ℕ). Wrote out (shown_lines s.header e c.in-Ok.opened.records count) status.Done end)
+                  stored.settled.epoch c.show_opened.ensures),
+            ),
+            opens.1,
+          );
+      any = inl (_, c.show_opened.ensures);
+    }
+
+pub returns-in-Err : goal.returns-in-Err
+returns-in-Err g c = record {
+  runs = c.open.ensures.runs;
+  told = λ te. inr ((refl, refl), c.in-Err.ensures.opens te);
+  any = inr ((refl, refl), c.in-Err.ensures.cause);
+}

@@ -1,0 +1,5 @@
+use Rattle.std.proofs.Common.{rules}
+use Rattle.replay.proofs.stored_run.open.Goals as goal
+
+pub returns-in-Ok-restore-clause-opens : goal.returns-in-Ok-restore-clause-opens
+returns-in-Ok-restore-clause-opens g c te = (record { ready = search rules; count = search rules }, search rules)

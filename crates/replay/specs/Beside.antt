@@ -1,0 +1,11 @@
+-- What is known of a run beside workers.
+use Rattle.std.specs.Prelude.{◌≡◌, ℕ, Option, Some}
+use Rattle.merge_board.specs.declared.parts.Room.{Room}
+use Rattle.worker_merges.specs.Places.{IsSideOf}
+use Rattle.worker_merges.specs.declared.places.Side.{Side}
+
+-- the closing thread's side of this room is there
+pub record HasSide (room : Room) (workers : ℕ) (there : Option Side) : Type 0 where
+  pub side : Side
+  pub is : there ≡ Some side
+  pub of : IsSideOf room workers side

@@ -1,0 +1,59 @@
+//! How the records of a run over an opened store are closed.
+
+ghost use Rattle.std.specs.Prelude.{◌≡◌, [], false};
+ghost use Rattle.run_streams.specs.Seen.{seen};
+ghost use Rattle.run_streams.specs.SeenVolume.{seen_volume};
+ghost use Rattle.replay.specs.Stored.{IsStored};
+ghost use Rattle.replay.specs.Keeping.{Ready, DidFollow};
+
+use crate::closes::follow;
+use crate::crew::Crew;
+use crate::stored::Stored;
+use ledger_close::Ledger;
+use outside::{Sink, Source, Steps, Volume};
+use run_outcome::Status;
+use std::alloc::Global;
+use std::sync::ledger::Ledger as Count;
+
+/// A ledger, the store that keeps it, and how many records stood behind the store's image as it was opened.
+#[derive(Drop)]
+pub(crate) struct Opened {
+    pub(crate) ledger: Ledger,
+    pub(crate) keeper: Stored,
+    pub(crate) records: usize,
+}
+
+/// Closes a ledger for each record of the input, with the help of a crew.
+pub(crate) fn follow_with<C: Crew, V: Volume, I: Source, O: Sink, L: Count>(
+    alloc: Global,
+    crew: &C,
+    side: &mut C::Side,
+    opened: &mut Opened,
+    vol: &mut V,
+    input: &mut I,
+    out: &mut O,
+    steps: &mut Steps<L>,
+) -> Status
+    requires crew { C.has crew.now side.old }
+    requires works { opened.old.keeper.store.failed ≡ false }
+    requires ready { V.tells → Ready (IsStored opened.old.keeper.store (V.disk vol.old) opened.old.ledger.state)
+        (V.disk vol.old) opened.old.ledger.state }
+    ensures crew { C.has crew.now side.new }
+    ensures followed { DidFollow (Unit {0}) opened.old.ledger.state 0 [] (seen I.left I.faults input.old input.new)
+        (seen O.taken O.faults out.old out.new) (seen_volume V.tells V.disk V.faults vol.old vol.new) result }
+{
+    let mut ahead = Vec::new(alloc);
+    follow(
+        alloc,
+        crew,
+        side,
+        &mut opened.ledger,
+        &mut opened.keeper,
+        vol,
+        0,
+        input,
+        &mut ahead,
+        out,
+        steps,
+    )
+}

@@ -1,0 +1,46 @@
+//! Who makes merges beside the thread that closes ledgers.
+
+ghost use Rattle.std.specs.Prelude.{◌≡◌};
+
+use ledger_close::Ledger;
+
+/// Makes merges beside the closing thread, or nobody does.
+pub(crate) trait Crew {
+    /// What the closing thread has of it.
+    type Side: Drop;
+
+    // The side is of this crew.
+    ghost has: { Self → Self.Side → Type 0 };
+
+    /// Hands in the merges that are finished. What the ledger's state is stays.
+    fn adopt(&self, side: &mut Self::Side, ledger: &mut Ledger)
+        requires { has self.now side.old }
+        ensures has { has self.now side.new }
+        ensures state { ledger.new.state ≡ ledger.old.state };
+
+    /// Posts the merges that have begun. What the ledger's state is stays.
+    fn post_due(&self, side: &mut Self::Side, ledger: &mut Ledger)
+        requires { has self.now side.old }
+        ensures has { has self.now side.new }
+        ensures state { ledger.new.state ≡ ledger.old.state };
+}
+
+/// Nobody: the closing thread makes each merge as it is due.
+#[derive(Drop)]
+pub(crate) struct Nobody;
+
+impl Crew for Nobody {
+    type Side = ();
+
+    ghost has = { λ crew side. Unit {0} };
+
+    fn adopt(&self, side: &mut (), ledger: &mut Ledger) {
+        let _ = side;
+        let _ = ledger;
+    }
+
+    fn post_due(&self, side: &mut (), ledger: &mut Ledger) {
+        let _ = side;
+        let _ = ledger;
+    }
+}

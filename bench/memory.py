@@ -5,14 +5,15 @@
 
 PROGRAM is the built program, crates/ledger/out/ledger of this repository where none is given.
 
-It runs `catchup`, `init`, `run`, and `run` beside two workers, over an image and three records, those in examples/, once for each call for memory that the run makes
-of the C library. A library that is loaded in front of that one counts the calls and refuses one of them. Each run has to answer 8, tell
+It runs `catchup`, `init`, `run`, and `run` beside two workers, over an image and three records, those in examples/, once for each call for
+memory that the run makes of the C library. A library that is loaded in front of that one counts the calls and refuses one of them. Each run has to answer 8, tell
 `no memory`, and write a front of the text that the ledger in Python beside `close_cases` gives; or, where the directory of the store
 is refused memory, 6 with `disk fault`; or it passes over the refusal, and answers 0 with all of the text. Behind `init` and `run` the
 store is opened again, by a `run` without input: behind 8 and 0 at the last ledger whose `closed` line was written, behind 6 there or one
 further on. An `init` that answered 8 has made no store, and one that answered 6 may have.
 
-Beside workers the calls of all threads count, so which of them is refused differs from run to run.
+Beside workers the calls of all threads count, so which of them is refused differs from run to run. Then the calls of the workers alone
+count: a job whose merge is refused memory is given back, so each of these runs has to answer 0 with all of the text.
 
 The script prints how many calls each command makes, and what the runs answered.
 
@@ -33,13 +34,16 @@ from ledger_model import catchup  # noqa: E402
 
 NETWORK = "Test SDF Network ; September 2015"
 
-# Refuses the call whose number is in REFUSED, counted from 1, and leaves the number of calls in the file COUNTED.
+# Refuses the call whose number is in REFUSED, counted from 1, and leaves the number of calls in the file COUNTED. Where there is
+# WORKERS_ALONE, the calls of the first thread don't count.
 COUNTER = r"""
 #define _GNU_SOURCE
 #include <dlfcn.h>
 #include <errno.h>
 #include <stdio.h>
 #include <stdlib.h>
+#include <sys/syscall.h>
+#include <unistd.h>
 
 static volatile unsigned long calls;
 
@@ -49,6 +53,8 @@ static int is_refused(void) {
         const char *text = getenv("REFUSED");
         refused = text ? atol(text) : 0;
     }
+    if (getenv("WORKERS_ALONE") && syscall(SYS_gettid) == getpid())
+        return 0;
     return __sync_add_and_fetch(&calls, 1) == (unsigned long)refused;
 }
 
@@ -74,13 +80,21 @@ int posix_memalign(void **at, size_t to, size_t size) {
     return is_refused() ? ENOMEM : real(at, to, size);
 }
 
-__attribute__((destructor)) static void tell(void) {
+static void tell(void) {
     unsigned long count = calls;
     FILE *file = fopen(getenv("COUNTED"), "w");
     if (file) {
         fprintf(file, "%lu", count);
         fclose(file);
     }
+}
+
+/* The program ends by this call. */
+void _exit(int status) {
+    REAL(void, "_exit", (int));
+    tell();
+    real(status);
+    __builtin_unreachable();
 }
 """
 
@@ -103,9 +117,11 @@ def compiled(folder):
 class Command:
     """A command that is run behind a store, and what it has to come to."""
 
-    def __init__(self, program, words, data, text, store, ends):
+    def __init__(self, program, words, data, text, store, ends, of_workers=False):
         # `ends` are the `end` lines of the ledgers that a `run` without input may open to, by how many were closed; None is no store
         self.words, self.data, self.text, self.store, self.ends = [program, *words], data, text, store, ends
+        # whether the calls of the workers alone are refused
+        self.of_workers = of_workers
 
     def ran(self, folder, **environment):
         """One run in a folder of its own."""
@@ -113,6 +129,8 @@ class Command:
         if self.store:
             shutil.copytree(self.store, f"{at}/ledger-store")
         how = {"input": self.data, "capture_output": True, "check": False, "cwd": at}
+        if self.of_workers:
+            environment["WORKERS_ALONE"] = "1"
         return at, subprocess.run(self.words, env={**os.environ, **environment}, **how)
 
     def is_opened(self, at, end):
@@ -133,6 +151,8 @@ class Command:
         whole = end.returncode != 0 or end.stdout == self.text
         if end.stderr != said or not whole or not self.text.startswith(end.stdout) or not self.is_opened(at, end):
             return None
+        if self.of_workers and end.returncode != 0:
+            return None
         if end.returncode == 8:
             return "front" if end.stdout else "nothing"
         return {0: "passed", 6: "device"}[end.returncode]
@@ -152,7 +172,8 @@ def tried(command, library, folder):
         if came is None:
             print(f"{' '.join(command.words[1:])}, call {number}: status {end.returncode}, {end.stderr!r}, {end.stdout[:80]!r}")
         shutil.rmtree(at)
-    print(f"{' '.join(command.words[1:])}: {calls} calls for memory, each refused in turn; {found['front'] + found['nothing']} runs answer 8,"
+    by = " by its workers" if command.of_workers else ""
+    print(f"{' '.join(command.words[1:])}: {calls} calls for memory{by}, each refused in turn; {found['front'] + found['nothing']} runs answer 8,"
           f" {found['front']} of them behind some of the text, {found['device']} answer 6, {found['passed']} pass it over, and"
           f" {found[None]} do otherwise")
     return found[None]
@@ -173,6 +194,7 @@ def commands(program, folder):
         Command(program, ["init", "--network", NETWORK], image, b"", None, [b"", ends[0]]),
         Command(program, ["run"], records, text.encode(), f"{made}/ledger-store", ends),
         Command(program, ["run", "--workers", "2"], records, text.encode(), f"{made}/ledger-store", ends),
+        Command(program, ["run", "--workers", "2"], records, text.encode(), f"{made}/ledger-store", ends, True),
     ]
 
 

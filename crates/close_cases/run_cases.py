@@ -1,6 +1,6 @@
 #!/usr/bin/env python3
-"""Writes cases of `catchup`, `init` and `run`, with what the program has to answer: of accounts and data, of assets, and of stores; the
-stored run of the program `ledger`; and the image and records in examples/. The cases whose names begin with `apart` came from elsewhere
+"""Writes cases of the program's commands, with what it has to answer: of accounts and data, of assets, of stores, and of samples; and
+the image and records in examples/. The cases whose names begin with `apart` came from elsewhere
 (`apart_cases.py`), and stay as they are.
 
 What is wanted comes from `ledger_model.py` and `store_model.py`, and each case says its end by hand as well, so that the models are held
@@ -22,10 +22,11 @@ from path_cases import PARTS as PATH_PARTS
 from pool_cases import PARTS as POOL_PARTS
 from pool_image_cases import PARTS as POOL_IMAGE_PARTS
 from revocation_cases import PARTS as REVOCATION_PARTS
+from sample_cases import PARTS as SAMPLE_PARTS
 from share_line_cases import PARTS as SHARE_LINE_PARTS
 from store_cases import PARTS as STORE_PARTS
-from store_cases import files, input_of, kept, records_in, start_of
-from store_model import FILES, init, run
+from store_cases import input_of, start_of
+from store_model import init, run, show
 from case_tools import (
     A_WITH_D, CASES, LUMEN, META_18, NETWORK, NO_RESULTS, A, Account, B, C, D, Data, Story, bucket, case, entry, header_of, image,
     image_bytes, items, key, offer, pool, predicate, raw, sent, slug, spelled, sponsored, upgrade, var, with_counts, with_liabilities,
@@ -377,12 +378,13 @@ def closes():
 # ---- examples
 
 
-def stored_run():
+def bumped():
     """One account, an empty set and a bump of its sequence number."""
     signer = sets.hash_x(b"secret")
     assert signer[1].hex() == "2bb80d537b1da3e38bd30361aa855686bde0eacd7162fef6a25fe97bf527a25b"
     account = entry(Account("a", 1_000_000_000, seq=7, signers=[signer]))
-    return Story(image([account], seq=2)).close().close(sent("a", 8, sets.bump_sequence(9), signatures=[sets.by_secret(b"secret")]))
+    story = Story(image([account], seq=2)).close().close(sent("a", 8, sets.bump_sequence(9), signatures=[sets.by_secret(b"secret")]))
+    case("an empty set, and a bump of a sequence number", story.data, "end 4", 2)
 
 
 def example():
@@ -400,24 +402,12 @@ def example():
 # ---- files
 
 
-def write_run(story, folder):
-    """Writes the run of a program over a store that keeps the first record of a story: the others close ledgers."""
-    before, data = files(**kept(story, 1)), b"".join(map(marked, records_in(input_of(story))[1:]))
-    (out, err, status), _ = run(data, before)
-    assert (err, status) == ("", 0)
-    os.makedirs(f"{folder}/data/ledger-store", exist_ok=True)
-    for name, file in zip(FILES, before):
-        if file:
-            write(f"{folder}/data/ledger-store/{name}", file)
-    write(f"{folder}/stdin", data)
-    write(f"{folder}/stdout", out)
-    write(f"{folder}/args", "run\n")
-
-
 def came_to(words, data, before):
     """What a command comes to by the model, and the files behind it."""
     if words[0] == "catchup":
         return catchup(words[2], data), before
+    if words[0] == "show":
+        return show(before), before
     return init(words[2], data, before) if words[0] == "init" else run(data, before)
 
 
@@ -426,7 +416,7 @@ def compare(folder):
     wrong = 0
     for name in sorted(os.listdir(folder)):
         words, data, came, before, after = read_apart(f"{folder}/{name}")
-        if words[0] not in ("catchup", "init", "run"):
+        if words[0] not in ("catchup", "init", "run", "show"):
             print(f"{name}: passed by, since the model has no {words[0]}")
         elif came_to(words, data, before) != (came, after):
             print(f"{name}: the model answers otherwise")
@@ -436,9 +426,9 @@ def compare(folder):
 
 # what makes cases, with what their names begin with
 PARTS = [
-    ("", [forms, header_rules, file_rules, entry_rules, rules_at_once, bad_records, terms, upgrades, set_faults, faults_at_once, closes]),
+    ("", [forms, header_rules, file_rules, entry_rules, rules_at_once, bad_records, terms, upgrades, set_faults, faults_at_once, closes, bumped]),
     ("assets ", ASSET_PARTS), ("trades ", OFFER_PARTS), ("pools ", POOL_IMAGE_PARTS + SHARE_LINE_PARTS + POOL_PARTS + REVOCATION_PARTS),
-    ("paths ", PATH_PARTS + PATH_BOUND_PARTS), ("stores ", STORE_PARTS),
+    ("paths ", PATH_PARTS + PATH_BOUND_PARTS), ("stores ", STORE_PARTS), ("samples ", SAMPLE_PARTS),
 ]
 
 
@@ -458,7 +448,6 @@ def main():
             write(f"{folder}/{name}.case", spelled(*made))
             print(name)
     write_names(HERE, names)
-    write_run(stored_run(), f"{TOP}/crates/ledger")
     write(f"{TOP}/examples/accounts.image", start_of(example()))
     write(f"{TOP}/examples/accounts.records", input_of(example()))
     print(catchup(NETWORK, example().data)[0], end="")

@@ -5,7 +5,7 @@ how it ends, and to which epoch and how many records the files open behind it.
 from ledger_model import Text, catchup, marked, sha, take_mark, u32, u64
 import set_cases as sets  # ledger_model puts its folder first
 from case_tools import A, CASES, LUMEN, NETWORK, A_WITH_D, B, C, D, Story, image, sent, test_end
-from store_model import FILES, MOST, Store, image_file, init, journal_file, records_of, run
+from store_model import FILES, MOST, Store, image_file, init, journal_file, records_of, run, show
 
 ON_TEST = sha(NETWORK.encode())
 MAKE = ["init", "--network", NETWORK]
@@ -69,6 +69,13 @@ def runs(name, data, before, end, left=None, closes=None):
     came, after = run(data, before)
     test_end(name, came, end, closes)
     return over(f"run: {name}", ["run"], data, before, (came, after), left)
+
+
+def shows(name, before, end):
+    """A case of `show`: `end` is by hand, the status and what is told on standard error, or what the lines say of the store."""
+    came = show(before)
+    assert end == (f"{came[2]} {came[1].strip()}" if came[1] else [line.split(" ", 1)[1] for line in came[0].splitlines()[1:]]), (name, came)
+    over(f"show: {name}", ["show"], b"not read", before, (came, before), None)
 
 
 # ---- images and stories
@@ -174,7 +181,10 @@ def words():
         ("run with a capital", ["Run"]), ("run and nothing", ["run", ""]), ("run beside nine workers", ["run", "--workers", "9"]),
         ("run with workers twice", ["run", "--workers", "1", "--workers=1"]), ("run with no number of workers", ["run", "--workers"]),
         ("run with an empty number of workers", ["run", "--workers="]), ("run with eleven digits", ["run", "--workers", "0" * 10 + "1"]),
-        ("run with a sign", ["run", "--workers", "+1"]), ("init of a hyphen as a word", ["init", "--network", "-a"]), ("help", ["--help"]),
+        ("run with a sign", ["run", "--workers", "+1"]), ("init of a hyphen as a word", ["init", "--network", "-a"]), ("help", ["--help"]), ("a bare double hyphen", ["--", "show"]),
+        ("show and a word", ["show", "x"]), ("show and an option of run", ["show", "--workers=1"]), ("show with a capital", ["Show"]),
+        ("catchup without a passphrase", ["catchup"]), ("catchup of a hyphen as a word", ["catchup", "--network", "-a"]),
+        ("workers as a bare number", ["run", "1"]), ("workers below 0", ["run", "--workers=-1"]),
     ]:
         over(f"words: {name}", listed, LEGAL, before, (("", "usage\n", 2), before), None)
 
@@ -436,7 +446,37 @@ def bad_journals():
     bad("a refused record, and no gate", journal_file([first, third], b""), f"2 {len(first) + len(third) + 10}")
 
 
+def showing():
+    """What `show` tells of stores, and of volumes that have none; it never goes on to another epoch."""
+    story, two = paid(5, 3), 200 * LUMEN
+    good = kept(story)
+    shows("no files", files(), "11 missing")
+    shows("journals alone", files(journal0=b"\0", journal1=b"\0"), "11 missing")
+    shows("a store without records", files(**good), ["0 records 0", f"{two} 0", "2"])
+    shows("a store with three records", files(**kept(story, 3)), ["0 records 3", f"{two} 300", "2"])
+    shows("a store of an odd epoch", files(**kept(story, 1, epoch=7)), ["7 records 1", f"{two} 100", "2"])
+    shows("a closed gate ahead of a record", files(**{**good, "journal0": b"\0" + journal_file(records_in(input_of(story)))}), ["0 records 0", f"{two} 0", "2"])
+    long = mixed(1, 63)
+    before = run(b"".join(map(marked, records_in(input_of(long))[:61])), files(**kept(long)))[1]
+    behind = run(input_of(long), files(**kept(long)))[1]
+    assert opened(before) == (0, 61) and opened(behind) == (1, 0)
+    shows("ahead of a new epoch", before, ["0 records 61", *show_of(before)])
+    shows("a new epoch", behind, ["1 records 0", *show_of(behind)])
+    # a ledger behind which an epoch was due, where a run stopped ahead of it
+    due = kept(long, 62)
+    shows("where an epoch is due", files(**due), ["0 records 62", *show_of(behind)])
+    shows("bad store: an odd epoch in the first file", files(**{**good, "image0": image_file(1, ON_TEST, start_of(story))}), "7 bad store at 0 1")
+    shows("bad store: an image that breaks a rule", files(image0=image_file(0, ON_TEST, BROKEN), journal0=b"\0"), "7 bad store at 0 49")
+    shows("bad store: a journal of no bytes", files(**{**good, "journal0": b""}), "7 bad store at 2 0")
+
+
+def show_of(volume):
+    """The lumens, the fees and the entries of a store, as the ledger has them."""
+    ledger = Store(volume).ledger
+    return f"{ledger.header['coins']} {ledger.header['pool']}", f"{len(ledger.entries)}"
+
+
 PARTS = [
-    making, making_over, words, going_on, endings, gates, rolls, rolls_that_are_not_due, rolls_over, last_epochs, openings, missing,
+    making, making_over, words, showing, going_on, endings, gates, rolls, rolls_that_are_not_due, rolls_over, last_epochs, openings, missing,
     bad_heads, bad_images, bad_journals,
 ]

@@ -159,3 +159,19 @@ def run(data, files):
     except BadRecord as wrong:
         return ("".join(out) + f"refused {store.ledger.header['seq'] + 1} {wrong}\n", "", 3), store.files
     return ("".join(out) + f"end {store.ledger.header['seq']} {store.ledger.hash.hex()}\n", "", 0), store.files
+
+
+def show(files):
+    """What `show` comes to over the files of a volume, which stay."""
+    try:
+        store = Store(files)
+    except Missing:
+        return "", "missing\n", 11
+    except BadStore as wrong:
+        return "", f"bad store at {wrong.args[0]} {wrong.args[1]}\n", 7
+    header, records = store.ledger.header, len(records_of(2, store.files[2 + store.epoch % 2])[0])
+    lines = [
+        f"ledger {header['seq']} {store.ledger.hash.hex()}", f"epoch {store.epoch} records {records}",
+        f"lumens {header['coins']} {header['pool']}", f"entries {len(store.ledger.entries)}",
+    ]
+    return "".join(f"{line}\n" for line in lines), "", 0

@@ -25,3 +25,9 @@ pub mod Acknowledging
 pub mod GoingOn
 pub mod Machining
 pub mod Showing
+pub mod ShowCompleting
+pub mod Commands
+pub mod Agreeing
+pub mod Sampling
+pub mod SampleSteps
+pub mod SampleTelling

@@ -1,7 +1,7 @@
 -- What the machine keeps, whatever happens.
-use Rattle.std.proofs.Common.{◌≡◌, ◌⊎◌, inl, inr, ℕ, zero, suc, ◌+◌, ◌≤◌, ◌<◌, List, [], ◌∷◌, ◌++◌, length, Option}
-use Rattle.std.proofs.Common.{Some, None}
-use Rattle.std.proofs.Common.{Ok, Err, IsSome, refl, sym, ap, subst, ◌∙◌, arith, append_assoc}
+use Rattle.std.proofs.Common.{◌≡◌, ◌⊎◌, inl, inr, ℕ, zero, suc, ◌+◌, ◌≤◌, ◌<◌, List, [], ◌∷◌, ◌++◌, length}
+use Rattle.std.proofs.Common.{Some}
+use Rattle.std.proofs.Common.{Ok, IsSome, refl, sym, ap, subst, ◌∙◌, arith, append_assoc}
 use Rattle.std.specs.Prelude.{slice_get}
 use Rattle.std.proofs.lemmas.Bool.{cases_eq, cases_lt}
 use Rattle.std.proofs.lemmas.List.{append-nil, ext_get_or, length-append}
@@ -12,17 +12,17 @@ use Rattle.bucket_levels.specs.Spills.{level_count}
 use Rattle.bucket_levels.specs.Pairs.{Pair, empty_pair, pair_at}
 use Rattle.bucket_levels.specs.Step.{IsStep}
 use Rattle.bucket_levels.specs.Size.{file_total}
-use Rattle.bucket_levels.specs.InOrder.{PendingInputs, InOrder, put_at, pending_inputs, IsStepInOrder, IsOfFiles}
+use Rattle.bucket_levels.specs.InOrder.{PendingInputs, InOrder, put_at, IsOfFiles}
 use Rattle.bucket_levels.proofs.Ordering.{put_same, put_other, steps_are_in_order}
 use Rattle.close_rules.specs.State.{ClosingState, max_file_total}
-use Rattle.close_rules.specs.Close.{PreparedClose, IsTaken, IsClosedOver, IsClosed, ClosesWith, IsClose}
+use Rattle.close_rules.specs.Close.{PreparedClose, IsTaken, IsClosed, ClosesWith, IsClose}
 use Rattle.close_rules.specs.declared.close_fault.CloseFault.TheVariants as fault
 use Rattle.replay.specs.ClosingAgain.{AreClosedTo}
 use Rattle.replay.specs.Machine.{Machine, MadeMerge, IsTake, MayGo, IsWrite, StepsInOrder, IsInstall, IsDue, IsHandIn}
 use Rattle.replay.specs.Machine.{IsLeft, IsReopening, Event, Take, Write, Install, HandIn, Reopen, Happens, AllHappen}
-use Rattle.replay.specs.Machine.{IsFirst, MayLeave, IsKeptUp, MachinesKeepUp, LogsGrow}
+use Rattle.replay.specs.Machine.{IsFirst, MayLeave, MachinesKeepUp, LogsGrow}
 use Rattle.replay.proofs.Comes.{closed_more}
-use Rattle.replay.proofs.Runs.{same_close, not_both, next_seq}
+use Rattle.replay.proofs.Runs.{not_both, next_seq}
 
 abbrev in_order : Machine → InOrder
 in_order m = record { pairs = pair_at m.state.levels; merges = m.merges; ready = m.ready }

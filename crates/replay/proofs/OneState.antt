@@ -21,7 +21,7 @@ use Rattle.replay.proofs.Runs.{same_close, not_both}
 abbrev opening : Result Kept StoreFault → Result Kept StoreFault
 opening r = r
 
-one_kept : (c : Image) (k other : Kept) → Holds c k → Holds c other → k ≡ other
+pub one_kept : (c : Image) (k other : Kept) → Holds c k → Holds c other → k ≡ other
 one_kept c k other holds holds_other =
     let same : opening (Ok k) ≡ Ok other = openings_are_one c (Ok k) (Ok other) holds holds_other in cc
 
@@ -38,7 +38,7 @@ one_end s (bytes ∷ records) lines others now end a b =
 abbrev judged : Result ClosingState ImageFault → Result ClosingState ImageFault
 judged r = r
 
-comes_to_one : (k : Kept) (s t : ClosingState) → ComesTo k s → ComesTo k t → s ≡ t
+pub comes_to_one : (k : Kept) (s t : ClosingState) → ComesTo k s → ComesTo k t → s ≡ t
 comes_to_one k s t a b =
     let same : judged (Ok b.start) ≡ Ok a.start =
     images_are_one k.network k.image (Ok b.start) (Ok a.start) b.judged a.judged in

@@ -1,5 +1,5 @@
 -- What showing a ledger leaves, once its end is told.
-use Rattle.std.proofs.Common.{◌≡◌, ℕ, List, [], take, length, refl, sym, subst, ◌∙◌, arith, inl, inr, ◌⊎◌}
+use Rattle.std.proofs.Common.{◌≡◌, ℕ, List, [], length, refl, sym, subst, ◌∙◌, arith, inl, inr, ◌⊎◌}
 use Rattle.std.proofs.lemmas.List.{take_all}
 use Rattle.run_streams.specs.Seen.{Seen, Failed, Received, ReceivedPrefix, IsUntouched}
 use Rattle.run_streams.specs.SeenVolume.{SeenVolume, VolumeFailed}
@@ -8,10 +8,10 @@ use Rattle.run_outcome.specs.declared.status.Status.TheVariants as status
 use Rattle.run_outcome.specs.Statuses.{status_line}
 use Rattle.run_outcome.specs.Run.{IsTold}
 use Rattle.stored_outcome.specs.StoredRun.{IsFailedEnd, IsUnopenedEnd}
-use Rattle.stored_outcome.specs.Show.{lines_shown, IsShown, IsUnshown, DidShow}
+use Rattle.stored_outcome.specs.Show.{lines_shown, ReadsStay, IsShown, IsUnshown, DidShow}
 use Rattle.replay.specs.Following.{Wrote}
 use Rattle.replay.specs.StoredRuns.{IsUnbegun, OpensNot}
-use Rattle.replay.specs.Showing.{WroteShown, WroteOrNot, Shows}
+use Rattle.replay.specs.Showing.{WroteOrNot, Shows}
 use Rattle.replay.specs.Telling.{IsToldOrRefused, IsToldSo}
 
 -- ---- the text
@@ -93,9 +93,9 @@ none_written out vol end (inr (same, b)) un = same
 
 unshown : (err : Seen) (vol : SeenVolume) (end : Status) → OpensNot vol.before.reads vol.now.reads end
     → (end ≡ status.DiskFault → VolumeFailed vol) → IsUnshown err vol end
-unshown err vol status.Missing o d = o.0
-unshown err vol (status.BadStore file place) o d = o.0
-unshown err vol status.NoMemory o d = tt
+unshown err vol status.Missing o d = o
+unshown err vol (status.BadStore file place) o d = o
+unshown err vol status.NoMemory o d = o
 unshown err vol status.DiskFault o d = d refl
 unshown err vol status.Done o d = absurd o
 unshown err vol status.Usage o d = absurd o
@@ -107,7 +107,7 @@ unshown err vol (status.BadImage rule) o d = absurd o
 unshown err vol status.AlreadyThere o d = absurd o
 
 reads_stay : (vol : SeenVolume) (end : Status) → OpensNot vol.before.reads vol.now.reads end
-    → (end ≡ status.DiskFault → VolumeFailed vol) → VolumeFailed vol ⊎ (vol.now.reads ≡ vol.before.reads)
+    → (end ≡ status.DiskFault → VolumeFailed vol) → VolumeFailed vol ⊎ ReadsStay vol
 reads_stay vol status.Missing o d = inr o.1
 reads_stay vol (status.BadStore file place) o d = inr o.1
 reads_stay vol status.NoMemory o d = inr o
@@ -122,7 +122,7 @@ reads_stay vol (status.BadImage rule) o d = absurd o
 reads_stay vol status.AlreadyThere o d = absurd o
 
 module _ (out err : Seen) (vol : SeenVolume) (end : Status) (s : Shows out vol end) where
-  stays : vol.tells → VolumeFailed vol ⊎ (vol.now.reads ≡ vol.before.reads)
+  stays : vol.tells → VolumeFailed vol ⊎ ReadsStay vol
   stays te = elim (s.told te) [
     | inl wrote ↦ inr wrote.1
     | inr none ↦ reads_stay vol end none.1 (disk_failed out vol end s.any)
@@ -133,7 +133,7 @@ module _ (out err : Seen) (vol : SeenVolume) (end : Status) (s : Shows out vol e
   as_told line = record {
     shown = λ te. elim (s.told te) [
       | inl wrote ↦ let w = wrote.0 in
-          inl (w.0, w.1, w.2, w.3, shown_as (lines_shown w.0 w.1) out err end w.4)
+          inl (w.0, w.1, w.2, w.3, shown_as (lines_shown w.0 w.1) out err end w.4, wrote.1)
       | inr none ↦ inr (none.0, unshown err vol end none.1 (disk_failed out vol end s.any))
     ];
     runs = s.runs;
@@ -150,7 +150,7 @@ module _ (out err : Seen) (vol : SeenVolume) (end : Status) (s : Shows out vol e
   as_untold failed = record {
     shown = λ te. elim (s.told te) [
       | inl wrote ↦ let w = wrote.0 in
-          inl (w.0, w.1, w.2, w.3, inr (inl (refl, inr failed, front_of out (lines_shown w.0 w.1) end w.4)))
+          inl (w.0, w.1, w.2, w.3, inr (inl (refl, inr failed, front_of out (lines_shown w.0 w.1) end w.4)), wrote.1)
       | inr none ↦ inr (none.0, failed)
     ];
     runs = s.runs;
@@ -162,13 +162,14 @@ module _ (out err : Seen) (vol : SeenVolume) (end : Status) (s : Shows out vol e
     told = inr (refl, failed);
   }
 
-  -- memory was refused for its line, which is the end then
-  as_refused : Received err (status_line status.NoMemory) → DidShow out err vol status.NoMemory
-  as_refused line = record {
+  -- memory was refused for its line, which is the end then; the volume failed at no such end
+  as_refused : (OpensNot vol.before.reads vol.now.reads end → ReadsStay vol)
+      → Received err (status_line status.NoMemory) → DidShow out err vol status.NoMemory
+  as_refused still line = record {
     shown = λ te. elim (s.told te) [
       | inl wrote ↦ let w = wrote.0 in
-          inl (w.0, w.1, w.2, w.3, inr (inr (refl, front_of out (lines_shown w.0 w.1) end w.4)))
-      | inr none ↦ inr (none.0, tt)
+          inl (w.0, w.1, w.2, w.3, inr (inr (refl, front_of out (lines_shown w.0 w.1) end w.4)), wrote.1)
+      | inr none ↦ inr (none.0, still none.1)
     ];
     runs = s.runs;
     reads = stays;
@@ -183,18 +184,20 @@ module _ (out err : Seen) (vol : SeenVolume) (end : Status) (s : Shows out vol e
   told_as after (inl (e, line)) = subst (DidShow out err vol) (sym e) (as_told line)
   told_as after (inr (e, failed)) = subst (DidShow out err vol) (sym e) (as_untold failed)
 
-  told_or_refused : (after : Status) → IsToldOrRefused end err after → DidShow out err vol after
-  told_or_refused after (inl told) = told_as after told
-  told_or_refused after (inr (inl (e, line))) = subst (DidShow out err vol) (sym e) (as_refused line)
-  told_or_refused after (inr (inr (e, failed))) = subst (DidShow out err vol) (sym e) (as_untold failed)
+  told_or_refused : (OpensNot vol.before.reads vol.now.reads end → ReadsStay vol) → (after : Status)
+      → IsToldOrRefused end err after → DidShow out err vol after
+  told_or_refused still after (inl told) = told_as after told
+  told_or_refused still after (inr (inl (e, line))) = subst (DidShow out err vol) (sym e) (as_refused still line)
+  told_or_refused still after (inr (inr (e, failed))) = subst (DidShow out err vol) (sym e) (as_untold failed)
 
 pub did_show : (out err : Seen) (vol : SeenVolume) (end after : Status) → Shows out vol end → IsToldSo end err after
     → DidShow out err vol after
 did_show out err vol (status.BadStore file place) after s told =
-    told_or_refused out err vol (status.BadStore file place) s after told
-did_show out err vol (status.BadInput at) after s told = told_or_refused out err vol (status.BadInput at) s after told
+    told_or_refused out err vol (status.BadStore file place) s (λ o. o.1) after told
+did_show out err vol (status.BadInput at) after s told =
+    told_or_refused out err vol (status.BadInput at) s (λ o. absurd o) after told
 did_show out err vol (status.BadImage rule) after s told =
-    told_or_refused out err vol (status.BadImage rule) s after told
+    told_or_refused out err vol (status.BadImage rule) s (λ o. absurd o) after told
 did_show out err vol status.Done after s told = told_as out err vol status.Done s after told
 did_show out err vol status.Usage after s told = told_as out err vol status.Usage s after told
 did_show out err vol status.Refused after s told = told_as out err vol status.Refused s after told

@@ -204,7 +204,8 @@ told_so input out err vol status.AlreadyThere after b told =
     told_as input out err vol status.AlreadyThere after b told
 
 pub did_run : (input out err : Seen) (vol : SeenVolume) (end after : Status) → OnlyBefore vol
-    → (vol.tells → NowLeaves vol) → RanStored input out vol end → IsToldSo end err after → DidRun input out err vol after
+    → (vol.tells → NowLeaves vol) → RanStored input out vol end → IsToldSo end err after
+    → DidRun input out err vol after
 did_run input out err vol end after only now r told =
     told_so input out err vol end after
     (record {

@@ -12,3 +12,5 @@ pub mod StoredLaws
 pub mod Machine
 pub mod Beside
 pub mod Showing
+pub mod Sampling
+pub mod CommandLaws

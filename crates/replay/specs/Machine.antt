@@ -6,7 +6,7 @@ use Rattle.bucket_core.specs.Bucket.{Contents}
 use Rattle.bucket_merge.specs.Merge.{IsMerge}
 use Rattle.bucket_levels.specs.Spills.{level_count}
 use Rattle.bucket_levels.specs.Pairs.{Pair, pair_at}
-use Rattle.bucket_levels.specs.InOrder.{PendingInputs, InOrder, put_at, pending_inputs, IsStepInOrder}
+use Rattle.bucket_levels.specs.InOrder.{PendingInputs, put_at, pending_inputs, IsStepInOrder}
 use Rattle.close_rules.specs.State.{ClosingState}
 use Rattle.close_rules.specs.Close.{PreparedClose, IsTaken, IsClosedOver, IsClose}
 use Rattle.replay.specs.ClosingAgain.{AreClosedTo}

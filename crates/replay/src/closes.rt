@@ -116,7 +116,12 @@ fn take_close<C: Crew, K: Keeper, V: Volume, O: Sink>(
 }
 
 /// Ends a run with a record that is refused, or where memory was.
-fn refuse<O: Sink>(alloc: Global, ledger: &Ledger, fault: CloseFault, out: &mut O) -> Status
+pub(crate) fn refuse<O: Sink>(
+    alloc: Global,
+    ledger: &Ledger,
+    fault: CloseFault,
+    out: &mut O,
+) -> Status
     ensures refuses { Refuses ledger.now.state.header (seen O.taken O.faults out.old out.new) fault result }
     ensures later { O.faults out.old ≤ O.faults out.new }
 {

@@ -4,9 +4,11 @@ ghost use Rattle.replay.specs.Outcomes as outcome;
 ghost use Rattle.replay.specs.Completeness as whole;
 ghost use Rattle.replay.specs.Machine as machine;
 ghost use Rattle.replay.specs.StoredLaws as stored;
+ghost use Rattle.replay.specs.CommandLaws as command;
 ghost use Rattle.run_streams.specs.SeenVolume.{seen_volume};
 
 use outside::Volume;
+use sample_laws::samples_go_on;
 
 /// What the records behind a state come to is one thing.
 pub fn runs_are_one()
@@ -91,6 +93,40 @@ pub fn acknowledged_are_counted()
 pub fn reopened_volumes_are_sound<V: Volume>(old: &V, new: &V, again: &V)
     ensures now { stored.IsSoundAgain (V.disk old.now) (V.disk again.now) }
     ensures moments { stored.IsSoundInRun (seen_volume V.tells V.disk V.faults old.now new.now) (V.disk again.now) }
+{}
+
+// ---- by words
+
+/// What words leave that spell a command is what the command leaves, unless memory was refused as they were read; and
+/// words that spell none are told so.
+pub fn words_are_commands<V: Volume>(old: &V, new: &V)
+    ensures commands { command.IsByCommand (seen_volume V.tells V.disk V.faults old.now new.now) }
+    ensures usage { command.IsUsageTold (seen_volume V.tells V.disk V.faults old.now new.now) }
+{}
+
+/// What `show` answers on a volume that opens: its four lines, unless a count of faults rose or memory was refused. On
+/// one that doesn't open it answers why.
+pub fn shows_are_answered<V: Volume>(old: &V, new: &V)
+    ensures complete { command.Showings (seen_volume V.tells V.disk V.faults old.now new.now)
+        (command.IsShowComplete (seen_volume V.tells V.disk V.faults old.now new.now)) }
+    ensures answered { command.Showings (seen_volume V.tells V.disk V.faults old.now new.now)
+        (command.IsShowAnswered (seen_volume V.tells V.disk V.faults old.now new.now)) }
+    ensures unopened { command.IsUnopenedShown (seen_volume V.tells V.disk V.faults old.now new.now) }
+{}
+
+/// What a sample comes to is one thing, and `sample` answers it unless a count of faults rose or memory was refused:
+/// all ledgers close, or the files of one would be too long.
+pub fn samples_are_answered()
+    ensures full { command.SamplesAreWholeOrFull }
+    ensures one { command.SamplesAreOne }
+    ensures complete { command.SamplesAreComplete }
+{
+    samples_go_on();
+}
+
+/// `catchup` behind the image of a ledger writes what `run` writes of the same records on a store of it.
+pub fn catchups_agree()
+    ensures { command.CatchupsAgree }
 {}
 
 // ---- with merges beside it

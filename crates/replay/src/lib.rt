@@ -13,12 +13,14 @@ mod keeper;
 pub mod laws;
 mod nowhere;
 mod run;
+mod sample;
 mod show;
 mod start;
 mod stored;
 mod stored_run;
 
 pub use run::{
-    do_catchup, do_init, do_run_alone, do_run_with, do_show, end_without_memory, run_program,
+    do_catchup, do_init, do_run_alone, do_run_with, do_sample, do_show, end_without_memory,
+    run_program,
 };
 pub use worker_merges::{adopt, post_due};

@@ -12,12 +12,14 @@ ghost use Rattle.command_words.specs.Commands.{command_at};
 ghost use Rattle.stored_outcome.specs.StoredRun.{DidRun};
 ghost use Rattle.stored_outcome.specs.Init.{DidInit};
 ghost use Rattle.stored_outcome.specs.Show.{DidShow};
+ghost use Rattle.stored_outcome.specs.Sample.{DidSample};
 ghost use Rattle.stored_outcome.specs.Program.{Ran, RanAs};
 
 use crate::beside::run_beside;
 use crate::catchup::catch_up;
 use crate::ends::{tell, tell_no_memory, tell_usage};
 use crate::init::make;
+use crate::sample::sample;
 use crate::show::show;
 use crate::stored_run::run_stored;
 use command_words::{Command, read_command};
@@ -71,6 +73,23 @@ fn show_told<O: Sink, E: Sink, V: Volume, L: Count>(
         (seen_volume V.tells V.disk V.faults vol.old vol.new) result }
 {
     let end = show(alloc, out, vol, steps);
+    tell(alloc, end, err)
+}
+
+/// Runs `sample`, with its line on standard error.
+fn sample_told<O: Sink, E: Sink, L: Count>(
+    alloc: Global,
+    seed: u32,
+    ledgers: u32,
+    out: &mut O,
+    err: &mut E,
+    steps: &mut Steps<L>,
+) -> Status
+    requires { ledgers ≤ 20000 }
+    ensures { DidSample seed ledgers (seen O.taken O.faults out.old out.new)
+        (seen E.taken E.faults err.old err.new) result }
+{
+    let end = sample(alloc, seed, ledgers, out, steps);
     tell(alloc, end, err)
 }
 
@@ -146,10 +165,7 @@ fn run_command<R: Threads + Wait + Sync, I: Source, O: Sink, E: Sink, V: Volume,
             catch_up_told(alloc, passphrase, input, out, err, steps)
         }
         Command::Show => show_told(alloc, out, err, vol, steps),
-        Command::Sample {
-            seed: _,
-            ledgers: _,
-        } => tell_usage(err),
+        Command::Sample { seed, ledgers } => sample_told(alloc, seed, ledgers, out, err, steps),
     }
 }
 
@@ -178,8 +194,9 @@ fn run<R: Threads + Wait + Sync, I: Source, O: Sink, E: Sink, V: Volume, G: Gate
 
 /// Runs the command of the words and answers the exit status of the process. `init` reads a start image, and makes a
 /// store of it on the volume. `run` opens that store, closes a ledger for each record of the input, keeps the record,
-/// and prints what it came to; with workers, they make merges in threads of their own, and each passes the gate before
-/// each merge. `catchup` does so for the records behind a start image, in memory alone. It waits for its workers.
+/// and prints what it came to; with workers, merges are made beside it, each behind the gate. `catchup` does so for the
+/// records behind a start image, in memory alone. `show` prints the ledger of the store, and `sample` closes ledgers
+/// that are made from a number. It waits for its workers.
 pub fn run_program<
     R: Threads + Wait + Sync,
     I: Source,
@@ -240,7 +257,7 @@ pub fn do_run_alone<I: Source, O: Sink, E: Sink, V: Volume, L: Count>(
     run_told(alloc, input, out, err, vol, steps).code()
 }
 
-/// Runs `run` with 1 to 8 workers. What it prints and keeps is what `do_run_alone` does, whatever merges the workers
+/// Runs `run` with 1 to 8 workers. What is known of it is what is known of `do_run_alone`, whatever merges the workers
 /// give. Where memory for them is refused, it ends before it reads. It waits for its workers, and answers the
 /// exit status of the process.
 pub fn do_run_with<
@@ -301,6 +318,25 @@ pub fn do_show<O: Sink, E: Sink, V: Volume, L: Count>(
         (seen_volume V.tells V.disk V.faults vol.old vol.new) end) }
 {
     show_told(alloc, out, err, vol, steps).code()
+}
+
+/// Runs `sample`: it makes an image and 1 to 20000 records from a seed, closes their ledgers in memory alone, and
+/// prints what they come to as one line. It answers the exit status of the process.
+pub fn do_sample<O: Sink, E: Sink, L: Count>(
+    alloc: Global,
+    seed: u32,
+    ledgers: u32,
+    out: &mut O,
+    err: &mut E,
+    steps: &mut Steps<L>,
+) -> u8
+    requires some { 1 ≤ ledgers }
+    requires few { ledgers ≤ 20000 }
+    ensures { (end : Status) × ((result ≡ status_code end)
+        × DidSample seed ledgers (seen O.taken O.faults out.old out.new)
+        (seen E.taken E.faults err.old err.new) end) }
+{
+    sample_told(alloc, seed, ledgers, out, err, steps).code()
 }
 
 /// Ends the program where memory was refused before its words were read: nothing else is read or written. It answers

@@ -1,4 +1,4 @@
--- The lines that the program prints for transactions, closed ledgers and refused records.
+-- The lines that the program prints for transactions, closed ledgers, refused records and samples.
 use Rattle.std.specs.Prelude.{ℕ, ◌+◌, List, [], ◌∷◌, ◌++◌, length, count_by, codes, Bool, true, false}
 use Rattle.std.specs.List.{flat_map}
 use Rattle.std.specs.Fmt.{decimal, signed_decimal}
@@ -79,6 +79,15 @@ entries_line entries = ended_line (codes "entries " ++ decimal entries)
 unfoldable pub shown_lines : LedgerHeader → (epoch records entries : ℕ) → List ℕ
 shown_lines header epoch records entries =
     ledger_line header ++ epoch_line epoch records ++ lumens_line header ++ entries_line entries
+
+-- ---- a sample
+
+-- `sample <seed> <ledgers> <hash of the last header> <transactions> <those that succeeded>`
+unfoldable pub sample_line : (seed ledgers : ℕ) → LedgerHeader → (transactions successes : ℕ) → List ℕ
+sample_line seed ledgers header transactions successes =
+    ended_line
+    (codes "sample" ++ spaced (decimal seed) ++ spaced (decimal ledgers) ++ spaced (hash_text (ledger_hash_of header))
+    ++ spaced (decimal transactions) ++ spaced (decimal successes))
 
 -- ---- refused records
 

@@ -70,7 +70,7 @@ fn is_success(outcome: &TransactionOutcome) -> bool
 }
 
 /// How many transactions succeeded.
-fn success_count(pairs: &[TransactionResultPair]) -> usize
+pub fn success_count(pairs: &[TransactionResultPair]) -> usize
     ensures { result ≡ spec.success_count pairs.now }
 {
     let mut count = 0;

@@ -4,10 +4,12 @@
 mod closed;
 mod pieces;
 mod refused;
+mod sampled;
 mod shown;
 mod status_line;
 
-pub use closed::{closed_text, end_text};
+pub use closed::{closed_text, end_text, success_count};
 pub use refused::refused_text;
+pub use sampled::sample_text;
 pub use shown::shown_text;
 pub use status_line::{bad_image_line, bad_input_line, bad_store_line};

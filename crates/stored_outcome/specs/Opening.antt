@@ -1,5 +1,5 @@
 -- What a volume's content opens to: the state behind its image and all records of its journal.
-use Rattle.std.specs.Prelude.{◌≡◌, ℕ, ◌+◌, ◌%◌, List, [], ◌∷◌, ◌++◌, length, Ok, Err, ◌⊎◌}
+use Rattle.std.specs.Prelude.{◌≡◌, ℕ, ◌+◌, ◌%◌, List, ◌∷◌, ◌++◌, length, Ok, Err, ◌⊎◌}
 use Rattle.ledger_types.specs.declared.ids.Hash.{Hash}
 use Rattle.close_rules.specs.declared.close_fault.CloseFault.{CloseFault}
 use Rattle.close_rules.specs.declared.image_fault.ImageFault.{ImageFault}

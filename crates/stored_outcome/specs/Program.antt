@@ -9,6 +9,7 @@ use Rattle.command_words.specs.Words.{Command, CatchUp, Init, Run, Show, Sample,
 use Rattle.stored_outcome.specs.StoredRun.{DidRun}
 use Rattle.stored_outcome.specs.Init.{DidInit}
 use Rattle.stored_outcome.specs.Show.{DidShow}
+use Rattle.stored_outcome.specs.Sample.{DidSample}
 
 -- Nothing is read, nothing is written to the output, and the volume stays the value that it was. This end is told.
 pub record DidNothing (cause : Status) (input out err : Seen) (vol : SeenVolume) (end : Status) : Type 0 where
@@ -17,13 +18,13 @@ pub record DidNothing (cause : Status) (input out err : Seen) (vol : SeenVolume)
   pub unwritten : IsUntouched out
   pub same : vol.same
 
--- No sample is made yet: its words are none of a command.
 abbrev pub RanAs : Command → (input out err : Seen) (vol : SeenVolume) → (end : Status) → Type 0
 RanAs (CatchUp passphrase) input out err vol end = DidCatchUp passphrase input out err end × vol.same
 RanAs (Init passphrase) input out err vol end = DidInit passphrase input err vol end × IsUntouched out
 RanAs (Run workers) input out err vol end = DidRun input out err vol end
 RanAs Show input out err vol end = DidShow out err vol end × IsUntouched input
-RanAs (Sample seed ledgers) input out err vol end = DidNothing status.Usage input out err vol end
+RanAs (Sample seed ledgers) input out err vol end =
+    DidSample seed ledgers out err end × IsUntouched input × vol.same
 
 -- The words were run as a command, over these streams and this volume, with this end; or they are none; or memory was
 -- refused while they were read.

@@ -24,13 +24,17 @@ IsShown text out err end =
     ⊎ ((end ≡ status.WriteFault) × (Failed out ⊎ Failed err) × ReceivedPrefix out text)
     ⊎ ((end ≡ status.NoMemory) × ReceivedPrefix out text)
 
+-- the volume reads as before
+abbrev pub ReadsStay : SeenVolume → Type 0
+ReadsStay vol = vol.now.reads ≡ vol.before.reads
+
 -- why nothing was written
 abbrev pub IsUnshown : (err : Seen) → SeenVolume → (end : Status) → Type 0
-IsUnshown err vol status.Missing = HoldsNothing vol.before.reads
-IsUnshown err vol (status.BadStore file place) = IsBadStore vol.before.reads file place
+IsUnshown err vol status.Missing = HoldsNothing vol.before.reads × ReadsStay vol
+IsUnshown err vol (status.BadStore file place) = IsBadStore vol.before.reads file place × ReadsStay vol
 IsUnshown err vol status.DiskFault = VolumeFailed vol
 IsUnshown err vol status.WriteFault = Failed err
-IsUnshown err vol status.NoMemory = Unit {0}
+IsUnshown err vol status.NoMemory = ReadsStay vol
 IsUnshown err vol other = ⊥
 
 -- `show`, over these streams and this volume, with this end and its line on standard error
@@ -38,11 +42,11 @@ pub record DidShow (out err : Seen) (vol : SeenVolume) (end : Status) : Type 0 w
   -- what the volume keeps was shown, or nothing was
   pub shown : vol.tells
       → ((k : Kept) × (s : ClosingState) × Holds vol.before.reads k × ComesTo k s
-      × IsShown (lines_shown k s) out err end)
+      × IsShown (lines_shown k s) out err end × ReadsStay vol)
       ⊎ (IsUntouched out × IsUnshown err vol end)
   -- the volume stays
   pub runs : Runs Same vol.before vol.now
-  pub reads : vol.tells → VolumeFailed vol ⊎ (vol.now.reads ≡ vol.before.reads)
+  pub reads : vol.tells → VolumeFailed vol ⊎ ReadsStay vol
   -- whatever the volume tells
   pub unopened : IsUnopenedEnd end → IsUntouched out
   pub write_fault : end ≡ status.WriteFault → Failed out ⊎ Failed err

@@ -1,0 +1,140 @@
+-- What a sample leaves, once its end is told.
+use Rattle.std.proofs.Common.{◌≡◌, ℕ, List, [], take, length, refl, sym, subst, ◌∙◌, arith, inl, inr}
+use Rattle.std.proofs.lemmas.List.{take_all}
+use Rattle.run_streams.specs.Seen.{Seen, Failed, Received}
+use Rattle.run_outcome.specs.declared.status.Status.{Status}
+use Rattle.run_outcome.specs.declared.status.Status.TheVariants as status
+use Rattle.run_outcome.specs.Statuses.{status_line, IsCutShort}
+use Rattle.run_outcome.specs.Outcome.{Outcome}
+use Rattle.run_outcome.specs.Run.{IsTold, Answered}
+use Rattle.stored_outcome.specs.Sample.{IsSampled, IsSampleFront, IsSampleEnd, DidSample}
+use Rattle.replay.specs.Following.{Wrote}
+use Rattle.replay.specs.Sampling.{Samples}
+use Rattle.replay.specs.Telling.{IsToldOrRefused, IsToldSo}
+
+abbrev Answers : (seed ledgers : ℕ) → Seen → Status → Type 0
+Answers seed ledgers out end = Answered (IsSampled seed ledgers) (IsSampleFront seed ledgers) out end
+
+-- ---- the text
+
+cut_short : (seed ledgers : ℕ) (out : Seen) (front : List ℕ) (end : Status) → IsCutShort end → Received out front
+    → IsSampleFront seed ledgers front → Answers seed ledgers out end
+cut_short seed ledgers out front end short received is = (front, received, inr (short, is))
+
+wrote_answer : (seed ledgers : ℕ) (out : Seen) (end : Status) (o : Outcome) → IsSampled seed ledgers o
+    → Wrote out o.text o.status end → Answers seed ledgers out end
+wrote_answer seed ledgers out end o is (inl (e, received)) = (o.text, received, inl (o, is, e, refl))
+wrote_answer seed ledgers out end o is (inr (inl (e, failed, (n, low, received)))) =
+    cut_short seed ledgers out (take n o.text) end (subst IsCutShort (sym e) tt) received
+    (inr (o, is, (n, low, refl)))
+wrote_answer seed ledgers out end o is (inr (inr (e, received))) =
+    cut_short seed ledgers out [] end (subst IsCutShort (sym e) tt) received (inl refl)
+
+answers : (seed ledgers : ℕ) (out : Seen) (end : Status) → Samples seed ledgers out end → Answers seed ledgers out end
+answers seed ledgers out end (inl (o, is, wrote)) = wrote_answer seed ledgers out end o is wrote
+answers seed ledgers out end (inr (e, received)) =
+    cut_short seed ledgers out [] end (subst IsCutShort (sym e) tt) received (inl refl)
+
+-- what was received is a front, whatever comes of the line
+front_at : (seed ledgers : ℕ) (out : Seen) (end after : Status) → IsCutShort after → Answers seed ledgers out end
+    → Answers seed ledgers out after
+front_at seed ledgers out end after short (text, received, inl (o, is, e, text_is)) =
+    cut_short seed ledgers out text after short received
+    (inr (o, is, (length o.text, omega arith, text_is ∙ sym (take_all (length o.text) o.text (omega arith)))))
+front_at seed ledgers out end after short (text, received, inr (was, front)) =
+    cut_short seed ledgers out text after short received front
+
+-- ---- the end
+
+whole_end : (seed ledgers : ℕ) (o : Outcome) → IsSampled seed ledgers o → IsSampleEnd o.status
+whole_end seed ledgers o (inl (now, closed, is)) = subst (λ (x : Outcome). IsSampleEnd x.status) (sym is) tt
+whole_end seed ledgers o (inr (k, below, (now, closed, wrong, refused, is))) =
+    subst (λ (x : Outcome). IsSampleEnd x.status) (sym is) tt
+
+wrote_end : (out : Seen) (text : List ℕ) (whole end : Status) → IsSampleEnd whole → Wrote out text whole end
+    → IsSampleEnd end
+wrote_end out text whole end is (inl (e, received)) = subst IsSampleEnd (sym e) is
+wrote_end out text whole end is (inr (inl (e, failed, front))) = subst IsSampleEnd (sym e) tt
+wrote_end out text whole end is (inr (inr (e, received))) = subst IsSampleEnd (sym e) tt
+
+sample_end : (seed ledgers : ℕ) (out : Seen) (end : Status) → Samples seed ledgers out end → IsSampleEnd end
+sample_end seed ledgers out end (inl (o, is, wrote)) =
+    wrote_end out o.text o.status end (whole_end seed ledgers o is) wrote
+sample_end seed ledgers out end (inr (e, received)) = subst IsSampleEnd (sym e) tt
+
+whole_is_taken : (seed ledgers : ℕ) (o : Outcome) → IsSampled seed ledgers o → o.status ≡ status.WriteFault → ⊥
+whole_is_taken seed ledgers o (inl (now, closed, is)) same =
+    let no : status.Done ≡ status.WriteFault = sym (λ i. (is i).status) ∙ same in absurd cc
+whole_is_taken seed ledgers o (inr (k, below, (now, closed, wrong, refused, is))) same =
+    let no : status.Refused ≡ status.WriteFault = sym (λ i. (is i).status) ∙ same in absurd cc
+
+write_failed : (seed ledgers : ℕ) (out : Seen) (end : Status) → Samples seed ledgers out end
+    → end ≡ status.WriteFault → Failed out
+write_failed seed ledgers out end (inl (o, is, inl (e, received))) same =
+    absurd (whole_is_taken seed ledgers o is (sym e ∙ same))
+write_failed seed ledgers out end (inl (o, is, inr (inl (e, failed, front)))) same = failed
+write_failed seed ledgers out end (inl (o, is, inr (inr (e, received)))) same =
+    let no : status.NoMemory ≡ status.WriteFault = sym e ∙ same in absurd cc
+write_failed seed ledgers out end (inr (e, received)) same =
+    let no : status.NoMemory ≡ status.WriteFault = sym e ∙ same in absurd cc
+
+-- ---- the line
+
+module _ (seed ledgers : ℕ) (out err : Seen) (end : Status) (s : Samples seed ledgers out end) where
+  as_told : Received err (status_line end) → DidSample seed ledgers out err end
+  as_told line = record {
+    answered = answers seed ledgers out end s;
+    write_fault = λ e. inl (write_failed seed ledgers out end s e);
+    is_end = sample_end seed ledgers out end s;
+    told = inl line;
+  }
+
+  -- its line wasn't taken
+  as_untold : Failed err → DidSample seed ledgers out err status.WriteFault
+  as_untold failed = record {
+    answered = front_at seed ledgers out end status.WriteFault tt (answers seed ledgers out end s);
+    write_fault = λ e. inr failed;
+    is_end = tt;
+    told = inr (refl, failed);
+  }
+
+  -- memory was refused for its line, which is the end then
+  as_refused : Received err (status_line status.NoMemory) → DidSample seed ledgers out err status.NoMemory
+  as_refused line = record {
+    answered = front_at seed ledgers out end status.NoMemory tt (answers seed ledgers out end s);
+    write_fault = λ e. absurd cc;
+    is_end = tt;
+    told = inl line;
+  }
+
+  told_as : (after : Status) → IsTold end err after → DidSample seed ledgers out err after
+  told_as after (inl (e, line)) = subst (DidSample seed ledgers out err) (sym e) (as_told line)
+  told_as after (inr (e, failed)) = subst (DidSample seed ledgers out err) (sym e) (as_untold failed)
+
+  told_or_refused : (after : Status) → IsToldOrRefused end err after → DidSample seed ledgers out err after
+  told_or_refused after (inl told) = told_as after told
+  told_or_refused after (inr (inl (e, line))) = subst (DidSample seed ledgers out err) (sym e) (as_refused line)
+  told_or_refused after (inr (inr (e, failed))) = subst (DidSample seed ledgers out err) (sym e) (as_untold failed)
+
+pub did_sample : (seed ledgers : ℕ) (out err : Seen) (end after : Status) → Samples seed ledgers out end
+    → IsToldSo end err after → DidSample seed ledgers out err after
+did_sample seed ledgers out err (status.BadStore file place) after s told =
+    told_or_refused seed ledgers out err (status.BadStore file place) s after told
+did_sample seed ledgers out err (status.BadInput at) after s told =
+    told_or_refused seed ledgers out err (status.BadInput at) s after told
+did_sample seed ledgers out err (status.BadImage rule) after s told =
+    told_or_refused seed ledgers out err (status.BadImage rule) s after told
+did_sample seed ledgers out err status.Done after s told = told_as seed ledgers out err status.Done s after told
+did_sample seed ledgers out err status.Usage after s told = told_as seed ledgers out err status.Usage s after told
+did_sample seed ledgers out err status.Refused after s told = told_as seed ledgers out err status.Refused s after told
+did_sample seed ledgers out err status.ReadFault after s told =
+    told_as seed ledgers out err status.ReadFault s after told
+did_sample seed ledgers out err status.WriteFault after s told =
+    told_as seed ledgers out err status.WriteFault s after told
+did_sample seed ledgers out err status.DiskFault after s told =
+    told_as seed ledgers out err status.DiskFault s after told
+did_sample seed ledgers out err status.NoMemory after s told =
+    told_as seed ledgers out err status.NoMemory s after told
+did_sample seed ledgers out err status.Missing after s told = told_as seed ledgers out err status.Missing s after told
+did_sample seed ledgers out err status.AlreadyThere after s told =
+    told_as seed ledgers out err status.AlreadyThere s after told

@@ -1,0 +1,44 @@
+use Rattle.std.proofs.Common.{ℕ, ◌≡◌, subst, arith}
+use Rattle.run_streams.specs.Seen.{Seen, seen}
+use Rattle.close_rules.specs.State.{ClosingState}
+use Rattle.replay.specs.Following.{Refuses}
+use Rattle.replay.specs.Sampling.{HasCome, Samples}
+use Rattle.replay.proofs.SampleSteps.{refused_behind, all_closed, come_next}
+use Rattle.replay.proofs.sample.sample.Goals as goal
+
+pub returns-in-Err-close_next : goal.returns-in-Err-close_next
+returns-in-Err-close_next g c =
+    let was = c.loop-closed.sampled in
+    let out : Seen = seen g.O.Sink.taken g.O.Sink.faults c.loop-closed.out c.refuse.new.out in
+    let same : out ≡ seen g.O.Sink.taken g.O.Sink.faults c.args.out.now c.refuse.new.out =
+    λ i. seen g.O.Sink.taken g.O.Sink.faults (c.loop-closed.invariant.out i) c.refuse.new.out in
+    let fault = c.in-Err-close_next.fault in
+    let why = c.in-Err-close_next.ensures in
+    let refuses = subst (λ (s : ClosingState). Refuses s.header out fault c.refuse.result) why.0
+    c.refuse.ensures.refuses in
+    subst (λ (o : Seen). Samples c.args.seed c.args.ledgers o c.refuse.result) same
+    (refused_behind c.args.seed c.loop-closed.closed c.args.ledgers was.ledger.state was.transactions was.successes fault
+    out c.refuse.result c.loop-closed-test.true c.loop-closed.invariant.come why.1 refuses)
+
+pub loop-closed-preserved : goal.loop-closed-preserved
+loop-closed-preserved g c =
+    let now = c.close_next.new.sampled in
+    record {
+      come = come_next c.args.seed c.loop-closed.closed now.ledger.state now.transactions now.successes
+          c.in-Ok-close_next.ensures;
+      out = c.loop-closed.invariant.out;
+    }
+
+pub returns : goal.returns
+returns g c =
+    let last = c.loop-closed.sampled in
+    let out : Seen = seen g.O.Sink.taken g.O.Sink.faults c.loop-closed.out c.write_sample.new.out in
+    let same : out ≡ seen g.O.Sink.taken g.O.Sink.faults c.args.out.now c.write_sample.new.out =
+    λ i. seen g.O.Sink.taken g.O.Sink.faults (c.loop-closed.invariant.out i) c.write_sample.new.out in
+    let all : c.loop-closed.closed ≡ c.args.ledgers =
+    omega (arith, c.loop-closed-test.false, c.loop-closed.auto.closed-end) in
+    let come = subst (λ (k : ℕ). HasCome c.args.seed k last.ledger.state last.transactions last.successes) all
+    c.loop-closed.invariant.come in
+    subst (λ (o : Seen). Samples c.args.seed c.args.ledgers o c.write_sample.result) same
+    (all_closed c.args.seed c.args.ledgers last.ledger.state last.transactions last.successes out c.write_sample.result
+    come c.write_sample.ensures)

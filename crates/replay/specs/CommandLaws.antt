@@ -1,0 +1,116 @@
+-- What the words of the program come to, what `show` and `sample` answer, and that `catchup` agrees with `run`.
+use Rattle.std.specs.Prelude.{◌≡◌, ◌<◌, ◌≤◌, ◌^◌, ℕ, ◌+◌, suc, List, Ok, Err, ◌⊎◌}
+use Rattle.run_streams.specs.Seen.{Seen, Failed, Received}
+use Rattle.run_streams.specs.SeenVolume.{SeenVolume, VolumeFailed}
+use Rattle.xdr_core.specs.Place.{Place, start_of}
+use Rattle.xdr_header.specs.declared.image.StartImage.{StartImage}
+use Rattle.xdr_header.specs.Image.{start_image}
+use Rattle.hash_ids.specs.Ids.{network_id_of}
+use Rattle.close_rules.specs.declared.close_fault.CloseFault.TheVariants as fault
+use Rattle.close_rules.specs.State.{ClosingState}
+use Rattle.close_rules.specs.Close.{IsClose}
+use Rattle.close_rules.specs.Images.{IsJudged}
+use Rattle.run_outcome.specs.declared.status.Status.{Status}
+use Rattle.run_outcome.specs.declared.status.Status.TheVariants as status
+use Rattle.run_outcome.specs.Lines.{refused_line}
+use Rattle.run_outcome.specs.Outcome.{Outcome, IsRun, IsOutcome}
+use Rattle.image_store.specs.Opening.{Kept, Holds, HoldsNothing}
+use Rattle.command_words.specs.Words.{Command, Spells, SpellsNone}
+use Rattle.sample_ledger.specs.Samples.{Progress, HaveClosed, record_bytes}
+use Rattle.stored_outcome.specs.Opening.{ComesTo, IsBadStore}
+use Rattle.stored_outcome.specs.Show.{lines_shown, DidShow}
+use Rattle.stored_outcome.specs.Sample.{IsSampled, IsWhole, DidSample}
+use Rattle.stored_outcome.specs.Program.{DidNothing, RanAs, Ran}
+
+-- ---- words
+
+-- What words leave that spell a command is what the command leaves, but where memory was refused as they were read. So
+-- all that is known of runs of a command holds of its words.
+abbrev pub IsByCommand : SeenVolume → Type 0
+IsByCommand vol = (words : List (List ℕ)) (command : Command) (input out err : Seen) (end : Status)
+    → Ran words input out err vol end → Spells words command
+    → RanAs command input out err vol end ⊎ DidNothing status.NoMemory input out err vol end
+
+-- words that spell none are answered so
+abbrev pub IsUsageTold : SeenVolume → Type 0
+IsUsageTold vol = (words : List (List ℕ)) (input out err : Seen) (end : Status) → Ran words input out err vol end
+    → SpellsNone words → DidNothing status.Usage input out err vol end
+
+-- ---- `show`
+
+-- a claim of each `show` over this volume, which keeps this and comes to that
+abbrev pub Showings : SeenVolume → (Kept → ClosingState → (out err : Seen) → Status → Type 0) → Type 0
+Showings vol P = (k : Kept) (s : ClosingState) (out err : Seen) (end : Status) → DidShow out err vol end → vol.tells
+    → Holds vol.before.reads k → ComesTo k s → P k s out err end
+
+-- the lines are written, unless a device failed or memory was refused
+abbrev pub IsShowAnswered : SeenVolume → Kept → ClosingState → (out err : Seen) → Status → Type 0
+IsShowAnswered vol k s out err end =
+    ((end ≡ status.Done) × Received out (lines_shown k s))
+    ⊎ ((end ≡ status.WriteFault) × (Failed out ⊎ Failed err))
+    ⊎ ((end ≡ status.DiskFault) × VolumeFailed vol)
+    ⊎ (end ≡ status.NoMemory)
+
+-- where nothing failed they are written, or memory was refused
+abbrev pub IsShowComplete : SeenVolume → Kept → ClosingState → (out err : Seen) → Status → Type 0
+IsShowComplete vol k s out err end = (Failed out → ⊥) → (Failed err → ⊥) → (VolumeFailed vol → ⊥)
+    → ((end ≡ status.Done) × Received out (lines_shown k s)) ⊎ (end ≡ status.NoMemory)
+
+-- what failed where nothing is shown
+abbrev pub IsShowFault : SeenVolume → (err : Seen) → Status → Type 0
+IsShowFault vol err end =
+    ((end ≡ status.WriteFault) × Failed err) ⊎ ((end ≡ status.DiskFault) × VolumeFailed vol)
+    ⊎ (end ≡ status.NoMemory)
+
+-- where a volume has no store, or a bad one, that is answered
+abbrev pub IsUnopenedShown : SeenVolume → Type 0
+IsUnopenedShown vol = (out err : Seen) (end : Status) → DidShow out err vol end → vol.tells
+    → (HoldsNothing vol.before.reads → (end ≡ status.Missing) ⊎ IsShowFault vol err end)
+    × ((file place : ℕ) → IsBadStore vol.before.reads file place
+    → (end ≡ status.BadStore file place) ⊎ IsShowFault vol err end)
+
+-- ---- `sample`
+
+-- at one record of the sample's the files of the ledger would be too long, and its line says so
+pub record IsFullAt (seed k : ℕ) (o : Outcome) : Type 0 where
+  pub now : Progress
+  pub closed : HaveClosed seed k now
+  pub bytes : ℕ
+  pub full : IsClose now.state (record_bytes seed (suc k) now.state) (Err (fault.LedgerFull bytes))
+  pub is : o ≡ record { status = status.Refused; text = refused_line now.state.header (fault.LedgerFull bytes) }
+
+-- what a sample comes to: all of its ledgers close, or one would be too long
+abbrev pub IsWholeOrFull : (seed ledgers : ℕ) → Outcome → Type 0
+IsWholeOrFull seed ledgers o = IsWhole seed ledgers o ⊎ ((k : ℕ) × (k < ledgers) × IsFullAt seed k o)
+
+abbrev pub SamplesAreWholeOrFull : Type 0
+SamplesAreWholeOrFull = (seed ledgers : ℕ) (o : Outcome) → seed < 2 ^ 32 → ledgers ≤ 20000 → IsSampled seed ledgers o
+    → IsWholeOrFull seed ledgers o
+
+-- it is one thing
+abbrev pub SamplesAreOne : Type 0
+SamplesAreOne = (seed ledgers : ℕ) (a b : Outcome) → seed < 2 ^ 32 → ledgers ≤ 20000 → IsSampled seed ledgers a
+    → IsSampled seed ledgers b → a ≡ b
+
+-- where no stream failed it is answered, or memory was refused
+abbrev pub SamplesAreComplete : Type 0
+SamplesAreComplete = (seed ledgers : ℕ) (out err : Seen) (end : Status) → DidSample seed ledgers out err end
+    → (Failed out → ⊥) → (Failed err → ⊥)
+    → ((o : Outcome) × IsSampled seed ledgers o × (end ≡ o.status) × Received out o.text) ⊎ (end ≡ status.NoMemory)
+
+-- ---- `catchup` and `run`
+
+-- the end of the same records, of which the input has n bytes more in front
+abbrev pub status_behind : ℕ → Status → Status
+status_behind n (status.BadInput at) = status.BadInput (n + at)
+status_behind n other = other
+
+abbrev pub outcome_behind : ℕ → Outcome → Outcome
+outcome_behind n o = record { status = status_behind n o.status; text = o.text }
+
+-- Behind an image of a state, an input comes to what its records come to behind the state, as `run` closes them, but
+-- that places count from the front of the image. An image that a ledger gave is one of its state.
+abbrev pub CatchupsAgree : Type 0
+CatchupsAgree = (passphrase input : List ℕ) (image : StartImage) (p : Place) (s : ClosingState) (o own : Outcome)
+    → start_image.read (start_of input) ≡ Ok (image, p) → IsJudged (network_id_of passphrase) image (Ok s)
+    → IsOutcome passphrase input o → IsRun s (start_of p.rest) own → o ≡ outcome_behind p.at own

@@ -1,0 +1,38 @@
+-- What closing the ledgers of a sample comes to, before its end is told.
+use Rattle.std.specs.Prelude.{◌≡◌, ◌≤◌, ◌*◌, ◌^◌, ℕ, suc, [], length, Result, Ok, Err, ◌⊎◌}
+use Rattle.run_streams.specs.Seen.{Seen, Received}
+use Rattle.close_rules.specs.declared.close_fault.CloseFault.{CloseFault}
+use Rattle.close_rules.specs.State.{ClosingState}
+use Rattle.close_rules.specs.Close.{IsClose}
+use Rattle.run_outcome.specs.declared.status.Status.{Status}
+use Rattle.run_outcome.specs.declared.status.Status.TheVariants as status
+use Rattle.run_outcome.specs.Lines.{success_count}
+use Rattle.run_outcome.specs.Outcome.{Outcome}
+use Rattle.ledger_close.specs.Answers.{FaultIs}
+use Rattle.sample_ledger.specs.Samples.{Progress, HaveClosed, record_bytes}
+use Rattle.stored_outcome.specs.Sample.{IsSampled}
+use Rattle.replay.specs.Following.{Wrote}
+
+-- the first k records have closed ledgers: the state, how many transactions these have, and how many succeeded
+pub record HasCome (seed k : ℕ) (state : ClosingState) (transactions successes : ℕ) : Type 0 where
+  pub now : Progress
+  pub closed : HaveClosed seed k now
+  pub state_is : state ≡ now.state
+  pub transactions_are : transactions ≡ length now.results
+  pub successes_are : successes ≡ success_count now.results
+  -- each ledger has no more of them than a slice has items
+  pub few : transactions ≤ k * 2 ^ 64
+  pub few_successes : successes ≤ k * 2 ^ 64
+
+-- the next record closes its ledger, or it doesn't, and all is as it was
+abbrev pub Advances : (seed k : ℕ) (was : ClosingState) (state : ClosingState) (transactions successes : ℕ)
+    → Result (Unit {0}) CloseFault → Type 0
+Advances seed k was state transactions successes (Ok done) = HasCome seed (suc k) state transactions successes
+Advances seed k was state transactions successes (Err wrong) =
+    (state ≡ was) × FaultIs wrong (λ fault. IsClose was (record_bytes seed (suc k) was) (Err fault))
+
+-- the text of what a sample comes to was written, or nothing was, where memory was refused
+abbrev pub Samples : (seed ledgers : ℕ) (out : Seen) (end : Status) → Type 0
+Samples seed ledgers out end =
+    ((o : Outcome) × IsSampled seed ledgers o × Wrote out o.text o.status end)
+    ⊎ ((end ≡ status.NoMemory) × Received out [])

@@ -1,0 +1,50 @@
+-- What `sample` leaves, over what was seen of its output and of standard error.
+use Rattle.std.specs.Prelude.{◌≡◌, ◌<◌, ℕ, suc, List, [], length, Err, ◌⊎◌}
+use Rattle.run_streams.specs.Seen.{Seen, Failed}
+use Rattle.close_rules.specs.declared.close_fault.CloseFault.{CloseFault}
+use Rattle.close_rules.specs.Close.{IsClose}
+use Rattle.run_outcome.specs.declared.status.Status.{Status}
+use Rattle.run_outcome.specs.declared.status.Status.TheVariants as status
+use Rattle.run_outcome.specs.Lines.{sample_line, refused_line, success_count}
+use Rattle.run_outcome.specs.Outcome.{Outcome, IsFront}
+use Rattle.run_outcome.specs.Run.{Answered, IsLineTold}
+use Rattle.sample_ledger.specs.Samples.{Progress, HaveClosed, record_bytes}
+
+-- so many records close ledgers: the line of the last one
+abbrev pub IsWhole : (seed ledgers : ℕ) → Outcome → Type 0
+IsWhole seed ledgers o =
+    (now : Progress) × HaveClosed seed ledgers now
+    × (o ≡ record {
+      status = status.Done;
+      text = sample_line seed ledgers now.state.header (length now.results) (success_count now.results);
+    })
+
+-- k records close ledgers, and the next one is refused
+abbrev pub IsRefusedBehind : (seed k : ℕ) → Outcome → Type 0
+IsRefusedBehind seed k o =
+    (now : Progress) × HaveClosed seed k now
+    × (wrong : CloseFault) × IsClose now.state (record_bytes seed (suc k) now.state) (Err wrong)
+    × (o ≡ record { status = status.Refused; text = refused_line now.state.header wrong })
+
+-- what a sample of so many ledgers comes to
+abbrev pub IsSampled : (seed ledgers : ℕ) → Outcome → Type 0
+IsSampled seed ledgers o = IsWhole seed ledgers o ⊎ ((k : ℕ) × (k < ledgers) × IsRefusedBehind seed k o)
+
+abbrev pub IsSampleFront : (seed ledgers : ℕ) → (front : List ℕ) → Type 0
+IsSampleFront seed ledgers front =
+    (front ≡ []) ⊎ ((o : Outcome) × IsSampled seed ledgers o × IsFront front o.text)
+
+-- all is done, a record is refused, or a stream or memory failed
+abbrev pub IsSampleEnd : Status → Type 0
+IsSampleEnd status.Done = Unit {0}
+IsSampleEnd status.Refused = Unit {0}
+IsSampleEnd status.WriteFault = Unit {0}
+IsSampleEnd status.NoMemory = Unit {0}
+IsSampleEnd other = ⊥
+
+-- `sample`, over these streams, with this end and its line on standard error
+pub record DidSample (seed ledgers : ℕ) (out err : Seen) (end : Status) : Type 0 where
+  pub answered : Answered (IsSampled seed ledgers) (IsSampleFront seed ledgers) out end
+  pub write_fault : end ≡ status.WriteFault → Failed out ⊎ Failed err
+  pub is_end : IsSampleEnd end
+  pub told : IsLineTold err end

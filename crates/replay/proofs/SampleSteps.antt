@@ -65,7 +65,8 @@ one_more seed k state next transactions successes more_transactions more_success
         refl,
       );
       state_is = next_is;
-      transactions_are = omega (arith, transactions_are, h.transactions_are, length-append h.now.results closed.results);
+      transactions_are =
+          omega (arith, transactions_are, h.transactions_are, length-append h.now.results closed.results);
       successes_are = omega (arith, successes_are, h.successes_are, successes_more h.now.results closed.results);
       few = omega (arith, transactions_are, h.few, fits);
       few_successes = omega (arith, successes_are, h.few_successes, success_fits);

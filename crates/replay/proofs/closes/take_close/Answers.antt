@@ -74,8 +74,8 @@ returns-clause-kept g c st te =
     let first = subst (λ (x : ClosingState). KeptTelling x c.as_slice.result.now out mid new c.tell_close.result)
     state (c.tell_close.ensures.kept st te) in
     let second = subst (λ (t : List ℕ). KeptTelling closed.state t out mid new c.tell_close.result) text first in
-    kept_told s c.args.bytes.now closed c.post_due.new.ledger.state out old mid new c.tell_close.result c.requires.closes
-    state k.safe k.opens (c.keep.ensures.runs st te s closed r closes) second
+    kept_told s c.args.bytes.now closed c.post_due.new.ledger.state out old mid new c.tell_close.result
+    c.requires.closes state k.safe k.opens (c.keep.ensures.runs st te s closed r closes) second
 
 pub returns-in_default-clause-kept : goal.returns-in_default-clause-kept
 returns-in_default-clause-kept g c st te =

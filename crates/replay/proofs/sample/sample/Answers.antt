@@ -17,8 +17,8 @@ returns-in-Err-close_next g c =
     let refuses = subst (λ (s : ClosingState). Refuses s.header out fault c.refuse.result) why.0
     c.refuse.ensures.refuses in
     subst (λ (o : Seen). Samples c.args.seed c.args.ledgers o c.refuse.result) same
-    (refused_behind c.args.seed c.loop-closed.closed c.args.ledgers was.ledger.state was.transactions was.successes fault
-    out c.refuse.result c.loop-closed-test.true c.loop-closed.invariant.come why.1 refuses)
+    (refused_behind c.args.seed c.loop-closed.closed c.args.ledgers was.ledger.state was.transactions was.successes
+    fault out c.refuse.result c.loop-closed-test.true c.loop-closed.invariant.come why.1 refuses)
 
 pub loop-closed-preserved : goal.loop-closed-preserved
 loop-closed-preserved g c =

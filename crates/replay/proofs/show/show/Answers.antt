@@ -26,7 +26,8 @@ returns-in-Ok g c =
               s,
               subst (λ (x : Image). Holds x stored.kept) opens.1 stored.settled.holds,
               stored.comes,
-              subst (λ (n : ℕ). Wrote out (shown_lines s.header stored.kept.epoch n count) status.Done end) opens.0.count
+              subst (λ (n : ℕ). Wrote out (shown_lines s.header stored.kept.epoch n count) status.Done end)
+                  opens.0.count
                   (subst (λ (e : ℕ). Wrote out (shown_lines s.header e c.in-Ok.opened.records count) status.Done end)
                   stored.settled.epoch c.show_opened.ensures),
             ),

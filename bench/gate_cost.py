@@ -1,23 +1,33 @@
 #!/usr/bin/env python3
-"""What the gate checks, by crate: lines, edits, and MB of checked files.
+"""What the gate checks and what that takes, by crate.
 
-    bench/gate_cost.py [NAME..]
+    bench/gate_cost.py tell [NOTES]
+    bench/gate_cost.py watch NOTES
 
-Prints a row a crate, in the order of crates.txt, in the form of docs/GATE.md: lines of code, of definitions and of proofs, how many
-edits stand in must-fail/, and how many MB of checked files (*.oantt) `rt check` left in the crate's out/incremental. What an earlier
-version of a crate left there counts too, so that column is right in a clone in which each crate was checked once, by `rt all check` say.
-The last row adds up. A crate that wasn't checked has no MB.
+`tell` prints a row a crate, in the order of crates.txt, in the form of docs/GATE.md: lines of code, of definitions and of proofs, and how
+many edits stand in must-fail/. Where NOTES are given, two columns follow: seconds of processor time, of the crate's proof, its tests and
+all its builds, but not of its edits; and MB of checked files (*.oantt) that its proof wrote. The last row adds up, and a line behind it
+tells what all edits took.
 
-MB tell what a proof costs, and no load of the machine changes them: a MB takes 0.55 to 0.8 seconds of processor time.
+`watch` makes NOTES. It runs beside the gate, in the checkout that the gate runs in, until it is killed: every two seconds it looks which
+provers and compilers run, and keeps what each used so far. So it misses up to two seconds of each, and what a machine kept from an
+earlier run, which is not proved again.
 
-Python 3.9 or later and its standard library.
+MB tell what a proof costs, and no load of the machine changes them; the seconds rise with what else the machine does.
+
+Linux (it reads /proc, and the folders that provers keep their checked files in), Python 3.10 or later, its standard library.
 """
 
 import glob
+import json
 import os
 import sys
+import tempfile
+import time
 
-from measuring import TOP
+from measuring import TOP, stop
+
+TICKS = os.sysconf("SC_CLK_TCK")
 
 
 def crates():
@@ -36,32 +46,99 @@ def lines(pattern):
     return total
 
 
-def checked(folder):
-    """How many bytes of checked files a crate has, without those of checks that passed over holes; none where it has no such folder."""
-    kept = [it for it in glob.glob(f"{folder}/out/incremental/*") if "-with-holes" not in it]
-    if not kept:
+def purpose(words, folder):
+    """What a prover or compiler runs for: an edit is tried on a copy of its crate, elsewhere."""
+    if not f"{folder}/".startswith(f"{TOP}/crates/"):
+        return "edit"
+    if "--test" in words:
+        return "tests"
+    return "build" if "--crate-checked" in words else "proof"
+
+
+def checked(process):
+    """How many bytes of checked files a prover wrote so far."""
+    total = 0
+    for path in glob.glob(f"{tempfile.gettempdir()}/rattle-logic-built-locked-{process}-*/*.oantt"):
+        try:
+            total += os.path.getsize(path)
+        except OSError:
+            pass
+    return total
+
+
+def used(process):
+    """What a process is, if it is a prover or compiler: when it started, its crate, what for, seconds and bytes so far."""
+    with open(f"/proc/{process}/cmdline") as file:
+        words = file.read().split("\0")
+    if not words[0].endswith("/rattle") or "--crate-name" not in words:
         return None
-    return sum(os.path.getsize(path) for it in kept for path in glob.glob(f"{it}/**/*.oantt", recursive=True))
+    with open(f"/proc/{process}/stat") as file:
+        state = file.read().rsplit(")", 1)[1].split()
+    # its own time and that of the children that it waited for, of the program and of the system
+    seconds = sum(map(int, state[11:15])) / TICKS
+    name = words[words.index("--crate-name") + 1]
+    return state[19], name, purpose(words, os.readlink(f"/proc/{process}/cwd")), seconds, checked(process)
 
 
-def row(name):
+def watch(path):
+    notes = {}
+    while True:
+        for process in filter(str.isdigit, os.listdir("/proc")):
+            try:
+                told = used(process)
+            except (OSError, ValueError):
+                # it ended meanwhile
+                continue
+            if told:
+                start, name, what, seconds, size = told
+                known = notes.get((process, start), (name, what, 0, 0))
+                notes[process, start] = (name, what, seconds, max(size, known[3]))
+        with open(f"{path}.new", "w") as file:
+            json.dump(list(notes.values()), file)
+        os.replace(f"{path}.new", path)
+        time.sleep(2)
+
+
+def figures(notes, name):
+    """The seconds of a crate without its edits, and the bytes of its proof; none where it wasn't proved."""
+    seconds = [it[2] for it in notes if it[0] == name and it[1] != "edit"]
+    sizes = [it[3] for it in notes if it[0] == name and it[1] == "proof"]
+    return (sum(seconds), max(sizes, default=0)) if seconds else (None, None)
+
+
+def row(name, notes):
     folder = f"{TOP}/crates/{name}"
     counts = [lines(f"{folder}/src/**/*.rt"), lines(f"{folder}/specs/**/*.antt"), lines(f"{folder}/proofs/**/*.antt")]
-    return [*counts, len(glob.glob(f"{folder}/must-fail/*.edit")), checked(folder)]
+    return [*counts, len(glob.glob(f"{folder}/must-fail/*.edit")), *figures(notes, name)]
 
 
-def tell(name, counts):
-    *numbers, edits, size = counts
+def say(name, counts):
+    *numbers, edits, seconds, size = counts
+    seconds = "" if seconds is None else f"{seconds:.0f}"
     size = "" if size is None else f"{size / 1e6:.0f}"
-    print(f"| {name} | {' | '.join(map(str, numbers))} | {edits or ''} | {size} |")
+    print(f"| {name} | {' | '.join(map(str, numbers))} | {edits or ''} | {seconds} | {size} |")
+
+
+def tell(notes):
+    print("| crate | code | definitions | proofs | edits | seconds | MB |\n|---|---|---|---|---|---|---|")
+    rows = [(name, row(name, notes)) for name in crates()]
+    for name, counts in rows:
+        say(name, counts)
+    say("all", [sum(it or 0 for it in column) for column in zip(*(counts for _, counts in rows))])
+    print(f"\nedits: {sum(it[2] for it in notes if it[1] == 'edit'):.0f} seconds")
 
 
 def main():
-    print("| crate | code | definitions | proofs | edits | MB |\n|---|---|---|---|---|---|")
-    rows = [(name, row(name)) for name in sys.argv[1:] or crates()]
-    for name, counts in rows:
-        tell(name, counts)
-    tell("all", [sum(it or 0 for it in column) for column in zip(*(counts for _, counts in rows))])
+    match sys.argv[1:]:
+        case ["watch", path]:
+            watch(path)
+        case ["tell"]:
+            tell([])
+        case ["tell", path]:
+            with open(path) as file:
+                tell(json.load(file))
+        case _:
+            stop("expected `tell [NOTES]` or `watch NOTES`")
 
 
 if __name__ == "__main__":

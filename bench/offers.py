@@ -6,14 +6,15 @@
 PROGRAM is the built program, crates/speed/out/speed of this repository where none is given.
 
 `PROGRAM book COUNT` makes a map of COUNT offers of one pair, a layer with 1,000 changed ones over it, and goes through the whole book
-by `offer_after`. It is run at 10, 1,000 and 100,000 offers; of the first book the layer makes one of 1,000.
-`PROGRAM head COUNT` makes a map of 20,000 offers of one pair, erases the COUNT best in a layer, and asks 10,000 times for the best in
-the layer above. It is run at 100 and at 10,000.
-`PROGRAM index COUNT PAIRS` makes the index of COUNT offers, and 100 times the index behind a batch of 100 changed ones. It is run at
+by `offer_after`, again and again for a million answers. It is run at 10, 1,000 and 100,000 offers; of the first book the layer makes
+one of 1,000.
+`PROGRAM head COUNT` makes a map of 20,000 offers of one pair, erases the COUNT best in a layer, and asks a million times for the best
+in the layer above. It is run at 100 and at 10,000.
+`PROGRAM index COUNT PAIRS` makes the index of COUNT offers, and 1,000 times the index behind a batch of 100 changed ones. It is run at
 1,000 and at 100,000 offers, in 50 pairs and in one.
 
 Each is run with `-base` behind its command too, which does all but what is timed, and that time is taken off. A line of the program
-must tell as many offers as there are.
+must tell as many answers as were asked for.
 
 The script prints the processor time of an answer, and the ratios.
 
@@ -51,10 +52,10 @@ def ratio(what, many, few, greatest):
 def main():
     program = sys.argv[1] if len(sys.argv) > 1 else built("speed")
     with tempfile.TemporaryDirectory() as folder:
-        walks = [timed(program, folder, ["book", str(count)], max(count, 1_000)) for count in (10, 1_000, 100_000)]
-        heads = [timed(program, folder, ["head", str(erased)], 10_000) for erased in (100, 10_000)]
-        spread = [timed(program, folder, ["index", str(count), "50"], 100) for count in (1_000, 100_000)]
-        one = [timed(program, folder, ["index", str(count), "1"], 100) for count in (1_000, 100_000)]
+        walks = [timed(program, folder, ["book", str(count)], 1_000_000) for count in (10, 1_000, 100_000)]
+        heads = [timed(program, folder, ["head", str(erased)], 1_000_000) for erased in (100, 10_000)]
+        spread = [timed(program, folder, ["index", str(count), "50"], 1_000) for count in (1_000, 100_000)]
+        one = [timed(program, folder, ["index", str(count), "1"], 1_000) for count in (1_000, 100_000)]
     within = [
         ratio("an offer of 100,000 and one of 1,000", walks[2], walks[0], 2.5),
         ratio("a head behind 10,000 erased offers and behind 100", heads[1], heads[0], 2.5),

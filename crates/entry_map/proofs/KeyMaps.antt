@@ -80,9 +80,13 @@ next_seen m k r t (Some p) range first =
 
 -- ---- one map put over another
 
-or_none : {V : Type 0} (o : Option V) → option_or o None ≡ o
+pub or_none : {V : Type 0} (o : Option V) → option_or o None ≡ o
 or_none None = refl
 or_none (Some v) = refl
+
+pub or_or : {V : Type 0} (l i o : Option V) → option_or l (option_or i o) ≡ option_or (option_or l i) o
+or_or None i o = refl
+or_or (Some v) i o = refl
 
 inserts_distinct : {V : Type 0} (m n : BTreeMap LedgerKey V) (es : List (LedgerKey × V))
     → tree.InsertsAll key_cmp m es n → IsDistinct (eq_by_cmp key_cmp) (keys_of es) → (q : LedgerKey)

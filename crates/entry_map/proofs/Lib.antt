@@ -6,7 +6,7 @@ pub mod KnownKeys
 pub mod Batches
 pub mod NumberedOffers
 pub mod Places
-pub mod Sets
+pub mod PlaceMaps
 pub mod Pairs
 pub mod Ranks
 pub mod Ranking

@@ -8,7 +8,8 @@ use Rattle.ledger_types.specs.declared.asset.Asset.{Asset}
 use Rattle.ledger_types.specs.KeyOrder.{asset_cmp}
 use Rattle.ledger_types.proofs.KeyOrdering.{assets_compared, assets_total, assets_exact}
 use Rattle.entry_map.specs.declared.place.Place.{Place}
-use Rattle.entry_map.specs.Indexes.{PlaceSet, has, IsLeastPlace, IsLastOfPair}
+use Rattle.entry_map.specs.Indexes.{PlaceMap, has, IsLeastPlace, IsLastOfPair}
+use Rattle.entry_map.specs.declared.place.OfferTerms.{OfferTerms}
 use Rattle.entry_map.specs.Order.{order}
 
 not_greater_first : (x y : Ordering) → ordering_then x y ≢ Greater → x ≢ Greater
@@ -67,10 +68,10 @@ pub tie : (a b : Asset) → a ≡ b → is_eq (asset_cmp a b) ≡ true
 tie a b e = ap is_eq (tied a b e)
 
 -- no place of the pair is above, where the least one above is of another pair
-pub other_pair : (places : PlaceSet) (start next : Place) → IsLeastPlace places start next
+pub other_pair : (places : PlaceMap) (start next : Place) (terms : OfferTerms) → IsLeastPlace places start next terms
     → (is_eq (asset_cmp next.selling start.selling) ≡ true → is_eq (asset_cmp next.buying start.buying) ≡ true → ⊥)
     → IsLastOfPair places start
-other_pair places start next least other q selling buying lt =
+other_pair places start next terms least other q selling buying lt =
     elim (has places q) as (λ b. has places q ≡ b → b ≡ false) [
       | true ↦ λ here. let upto = least.least q lt here in absurd (other
           (tie next.selling start.selling (sym (same_selling start next q selling buying least.above upto)))

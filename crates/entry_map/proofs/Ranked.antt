@@ -3,6 +3,8 @@ use Rattle.std.proofs.Common.{◌≡◌, ◌≢◌, refl, sym, ap, subst, ◌∙
 use Rattle.std.proofs.Common.{◌∷◌}
 use Rattle.std.proofs.Common.{All, Option, Some, None, IfSome, option_map}
 use Rattle.std.specs.Prelude.{if◌then◌else◌}
+use Rattle.std.specs.Option.{is_some, option_or}
+use Rattle.std.specs.FinMap.{get}
 use Rattle.std.specs.List.{filter, list_any}
 use Rattle.std.specs.declared.cmp.Ordering.{Ordering}
 use Rattle.std.specs.declared.cmp.Ordering.TheVariants.{Less, Equal, Greater}
@@ -14,12 +16,14 @@ use Rattle.ledger_types.specs.declared.asset.Asset.{Asset}
 use Rattle.ledger_types.specs.declared.price.Price.{Price}
 use Rattle.ledger_types.specs.declared.offer.OfferEntry.{OfferEntry}
 use Rattle.entry_map.specs.declared.place.Place.{Place}
+use Rattle.entry_map.specs.declared.place.OfferTerms.{OfferTerms}
 use Rattle.ledger_types.specs.Prices.{IsPriced}
 use Rattle.entry_map.specs.Book.{AreApart, AreSound, goes_before, placed, ranked, is_of_pair, book_in, head}
 use Rattle.entry_map.specs.Book.{left_behind, next_in}
-use Rattle.entry_map.specs.Places.{IsNarrow, place_of, start_of, name_at}
-use Rattle.entry_map.specs.Indexes.{PlaceSet, has, is_at, is_taken, AreNarrow, IsNextOfPair, IsLastOfPair, name_of}
+use Rattle.entry_map.specs.Places.{IsNarrow, place_of, terms_of, offer_with, start_of}
+use Rattle.entry_map.specs.Indexes.{PlaceMap, has, is_at, is_taken, AreNarrow, IsNextOfPair, IsLastOfPair}
 use Rattle.entry_map.proofs.Places.{order, order_total, same_place}
+use Rattle.entry_map.proofs.PlaceMaps.{terms_in, some_terms}
 use Rattle.entry_map.proofs.Pairs.{same_asset, tie}
 use Rattle.entry_map.proofs.Ranking.{IsRanked, IsTold, IsPlaceRanked, ranked_price, told, behind, behind_start}
 use Rattle.entry_map.proofs.Ranking.{start_selling, start_buying}
@@ -210,9 +214,12 @@ each_taken (o ∷ os) = All-cons (λ x. is_taken (o ∷ os) (place_of x) ≡ tru
     (All-weaker (λ x. is_taken os (place_of x) ≡ true) (λ x. is_taken (o ∷ os) (place_of x) ≡ true)
     (λ x h. ap (λ b. is_at (place_of x) o || b) h ∙ or_true (is_at (place_of x) o)) os (each_taken os))
 
-module _ (places : PlaceSet) (os : List OfferEntry) (each : (p : Place) → has places p ≡ is_taken os p)
+module _ (places : PlaceMap) (os : List OfferEntry) (each : (p : Place) → get places p ≡ terms_in os p)
     (sound : AreSound os) (narrow : AreNarrow os) (selling buying : Asset) (after : Option (Price × ℤ))
     (placed_after : IsPlaceRanked after) where
+  taken : (p : Place) → has places p ≡ is_taken os p
+  taken p = ap is_some (each p) ∙ some_terms os p
+
   abbrev start : Place
   start = start_of selling buying after
 
@@ -255,7 +262,7 @@ module _ (places : PlaceSet) (os : List OfferEntry) (each : (p : Place) → has 
 
   ahead : (o : OfferEntry) → (is_taken os (place_of o) ≡ true) × (IsOne o × (behind after o ≡ true)) → IsAhead o
   ahead o h = (
-    each (place_of o) ∙ h.0,
+    taken (place_of o) ∙ h.0,
     less _ (behind_start selling buying after o h.1.0.of_selling h.1.0.of_buying placed_after h.1.0.price ∙ h.1.1),
   )
 
@@ -276,7 +283,7 @@ module _ (places : PlaceSet) (os : List OfferEntry) (each : (p : Place) → has 
       ))) left
       (both_all IsAhead IsOne left left_ahead left_of_book))
 
-  module _ (next : Place) (is_next : IsNextOfPair places start next) where
+  module _ (next : Place) (terms : OfferTerms) (is_next : IsNextOfPair places start next terms) where
     of_selling : (o : OfferEntry) → next ≡ place_of o → o.selling ≡ selling
     of_selling o same = sym (ap (λ (p : Place). p.selling) same) ∙ is_next.selling ∙ start_selling selling buying after
 
@@ -299,7 +306,7 @@ module _ (places : PlaceSet) (os : List OfferEntry) (each : (p : Place) → has 
         ∙ any_ranked (is_at next) of_pair
         ∙ any_filter (is_at next) pair os (All-weaker (λ o. IsRanked o.price) (λ o. is_at next o ≡ true → pair o ≡ true)
         (λ o _ h. taken_pair o h) os all_ranks)
-        ∙ sym (each next) ∙ is_next.least.there
+        ∙ sym (taken next) ∙ ap is_some is_next.least.there
 
     abbrev NotPast : OfferEntry → Type 0
     NotPast o = order next (place_of o) ≢ Greater
@@ -311,30 +318,26 @@ module _ (places : PlaceSet) (os : List OfferEntry) (each : (p : Place) → has 
     past o x below h = order_total.antisymm next (place_of o)
         ∙ ap ordering_reverse (subst (λ p. order (place_of o) p ≡ Less) (sym (same_place next (place_of x) h)) below)
 
-    first_named : (os : List OfferEntry) → Rises os → All NotPast os → is_taken os next ≡ true
-        → option_map name_of (head os) ≡ Some (name_at next)
-    first_named [] rises all h = absurd (cc)
-    first_named (o ∷ os) rises all h = elim (is_at next o) as (λ b. is_at next o ≡ b → (b || is_taken os next) ≡ true
-        → Some (name_of o) ≡ Some (name_at next)) [
-          | true ↦ λ e _. ap (λ (p : Place). Some (name_at p)) (sym (same_place next (place_of o) e))
+    first_placed : (os : List OfferEntry) → Rises os → All NotPast os → is_taken os next ≡ true
+        → option_map place_of (head os) ≡ Some next
+    first_placed [] rises all h = absurd (cc)
+    first_placed (o ∷ os) rises all h = elim (is_at next o) as (λ b. is_at next o ≡ b → (b || is_taken os next) ≡ true
+        → Some (place_of o) ≡ Some next) [
+          | true ↦ λ e _. ap Some (sym (same_place next (place_of o) e))
           | false ↦ λ _ later. absurd (none_of (is_at next) (Below o) os rises.0 later
               (λ x below e. All-head NotPast o os all (past o x below e)))
         ] refl h
 
-    next_named : option_map name_of (head left) ≡ Some (name_at next)
-    next_named = first_named left rises not_past next_taken
+    next_placed : option_map place_of (head left) ≡ Some next
+    next_placed = first_placed left rises not_past next_taken
 
   -- the first offer that is left, by the place that comes next
   next_is : next_in selling buying after os ≡ head left
   unfolding next_in book_in
   next_is = ap head (left_is after (ranked of_pair))
 
-  pub none_next : IsLastOfPair places start → None ≡ option_map name_of (next_in selling buying after os)
-  none_next last = sym (ap (option_map name_of) (next_is ∙ last_left last))
-
-  pub some_next : (next : Place) → IsNextOfPair places start next
-      → Some (name_at next) ≡ option_map name_of (next_in selling buying after os)
-  some_next next is_next = sym (ap (option_map name_of) next_is ∙ next_named next is_next)
+  pub none_next : IsLastOfPair places start → None ≡ next_in selling buying after os
+  none_next last = sym (next_is ∙ last_left last)
 
 -- what holds of some offers holds of the one that a book has next
 pub next_of : (P : OfferEntry → Type 0) (os : List OfferEntry) (selling buying : Asset) (after : Option (Price × ℤ))
@@ -347,3 +350,51 @@ next_of P os selling buying after all = subst (λ l. IfSome (head l) P) (sym (le
     first_of : (l : List OfferEntry) → All P l → IfSome (head l) P
     first_of [] all = tt
     first_of (o ∷ os) all = All-head P o os all
+
+-- ---- the offer that comes next, from its place and its terms
+
+none_there : (o : OfferEntry) (os : List OfferEntry) → All (λ x. o.offer_id ≢ x.offer_id) os
+    → terms_in os (place_of o) ≡ None
+none_there o [] apart = refl
+none_there o (x ∷ os) apart =
+    ap (λ t. option_or t (cond (is_at (place_of o) x) (Some (terms_of x)) None))
+    (none_there o os (All-tail (λ y. o.offer_id ≢ y.offer_id) x os apart))
+    ∙ elim (is_at (place_of o) x) as (λ b. is_at (place_of o) x ≡ b → cond b (Some (terms_of x)) None ≡ None) [
+      | true ↦ λ e. absurd (All-head (λ y. o.offer_id ≢ y.offer_id) x os apart
+          (ap (λ (p : Place). p.id) (same_place (place_of o) (place_of x) e)))
+      | false ↦ λ _. refl
+    ] refl
+
+-- offers with distinct ids have their own terms at their places
+abbrev HasTerms : List OfferEntry → OfferEntry → Type 0
+HasTerms os o = terms_in os (place_of o) ≡ Some (terms_of o)
+
+own_terms : (os : List OfferEntry) → AreApart os → All (HasTerms os) os
+own_terms [] apart = All-nil (HasTerms [])
+own_terms (o ∷ os) apart = All-cons (HasTerms (o ∷ os)) o os
+    (ap (λ t. option_or t (cond (is_at (place_of o) o) (Some (terms_of o)) None)) (none_there o os apart.0)
+    ∙ ap (λ r. cond (is_eq r) (Some (terms_of o)) None) (tied_itself order_total (place_of o)))
+    (All-weaker (HasTerms os) (HasTerms (o ∷ os))
+    (λ x h. ap (λ t. option_or t (cond (is_at (place_of x) o) (Some (terms_of o)) None)) h) os
+    (own_terms os apart.1))
+
+whole : (x : Option OfferEntry) (next : Place) (terms : OfferTerms) (os : List OfferEntry)
+    → option_map place_of x ≡ Some next → terms_in os next ≡ Some terms → IfSome x (HasTerms os)
+    → Some (offer_with next terms) ≡ x
+whole None next terms os is there own = absurd (cc)
+whole (Some o) next terms os is there own =
+    let same : place_of o ≡ next = cc in
+    let alike : Some (terms_of o) ≡ Some terms = sym own ∙ ap (terms_in os) same ∙ there in
+    let told : terms_of o ≡ terms = cc in
+    λ i. Some (offer_with (sym same i) (sym told i))
+
+pub some_next : (places : PlaceMap) (os : List OfferEntry) → ((p : Place) → get places p ≡ terms_in os p)
+    → AreSound os → AreNarrow os → (selling buying : Asset) (after : Option (Price × ℤ)) → IsPlaceRanked after
+    → (next : Place) (terms : OfferTerms) → IsNextOfPair places (start_of selling buying after) next terms
+    → Some (offer_with next terms) ≡ next_in selling buying after os
+some_next places os each sound narrow selling buying after ranked next terms is_next =
+    whole (next_in selling buying after os) next terms os
+    (ap (option_map place_of) (next_is places os each sound narrow selling buying after ranked)
+    ∙ next_placed places os each sound narrow selling buying after ranked next terms is_next)
+    (sym (each next) ∙ is_next.least.there)
+    (next_of (HasTerms os) os selling buying after (own_terms os sound.apart))

@@ -1,16 +1,20 @@
 -- The index behind a batch is that of the offers behind it.
 use Rattle.std.proofs.Common.{◌≡◌, refl, sym, ap, subst, ◌∙◌, Bool, true, false, cond, not, ◌||◌, ◌&&◌, List, [], ◌∷◌}
-use Rattle.std.proofs.Common.{◌++◌}
+use Rattle.std.proofs.Common.{◌++◌, Option, Some, None}
+use Rattle.std.specs.Option.{is_some, option_or}
 use Rattle.std.specs.List.{filter}
-use Rattle.std.proofs.lemmas.List.Folds.{list_any-append}
 use Rattle.ledger_types.specs.declared.offer.OfferEntry.{OfferEntry}
 use Rattle.entry_map.specs.declared.place.Place.{Place}
+use Rattle.entry_map.specs.declared.place.OfferTerms.{OfferTerms}
 use Rattle.entry_map.specs.declared.batch.Batch.{Batch}
 use Rattle.entry_map.specs.Book.{offers_in}
-use Rattle.entry_map.specs.Places.{key_at}
-use Rattle.entry_map.specs.Indexes.{PlaceSet, has, is_at, is_taken, is_among, is_old, old_keys, index_of}
+use Rattle.entry_map.specs.Places.{key_at, terms_of}
+use Rattle.entry_map.specs.Indexes.{PlaceMap, is_at, is_taken, is_among, is_old, old_keys, index_of, terms_at}
 use Rattle.entry_map.specs.Indexes.{AreReplaced, AreChangedTo, IndexStaysRight, offers_behind}
-use Rattle.entry_map.proofs.Sets.{has-index_of, same_set}
+use Rattle.entry_map.specs.Indexes.{with_offers, without_offers}
+use Rattle.entry_map.proofs.KeyMaps.{or_none}
+use Rattle.entry_map.proofs.PlaceMaps.{terms_in, some_terms, get-index_of, get-without_offers, with_more}
+use Rattle.entry_map.proofs.PlaceMaps.{same_places}
 use Rattle.entry_map.proofs.Places.{same_place}
 
 module _ (p : Place) (q : OfferEntry → Bool) (b : Bool) (alike : (o : OfferEntry) → is_at p o ≡ true → q o ≡ b) where
@@ -42,45 +46,70 @@ module _ (p : Place) (q : OfferEntry → Bool) (b : Bool) (alike : (o : OfferEnt
       and_false false = refl
   taken_filter (o ∷ os) = kept_by (q o) o (filter q os) (is_taken os p) refl (taken_filter os)
 
-left_over : (b t : Bool) → (not (b && t) && t) ≡ (not b && t)
-left_over true true = refl
-left_over true false = refl
-left_over false t = refl
+-- the same of what the offers put
+module _ (p : Place) (q : OfferEntry → Bool) (b : Bool) (alike : (o : OfferEntry) → is_at p o ≡ true → q o ≡ b) where
+  terms_by : (t : Bool) (o : OfferEntry) (kept : List OfferEntry) (rest : Option OfferTerms) → q o ≡ t
+      → terms_in kept p ≡ cond b rest None
+      → terms_in (cond t (o ∷ kept) kept) p ≡ cond b (option_or rest (terms_at p (Some o))) None
+  terms_by t o kept rest is later = elim (is_at p o) as (λ x. is_at p o ≡ x
+      → terms_in (cond t (o ∷ kept) kept) p ≡ cond b (option_or rest (cond x (Some (terms_of o)) None)) None) [
+        | true ↦ λ here. there t b here (sym is ∙ alike o here) later
+        | false ↦ λ other. skipped t other ∙ later ∙ ap (λ r. cond b r None) (sym (or_none rest))
+      ] refl
+    where
+      there : (t b : Bool) → is_at p o ≡ true → t ≡ b → terms_in kept p ≡ cond b rest None
+          → terms_in (cond t (o ∷ kept) kept) p ≡ cond b (option_or rest (Some (terms_of o))) None
+      there true true here same later = ap (λ x. option_or (terms_in kept p) (cond x (Some (terms_of o)) None)) here
+          ∙ ap (λ r. option_or r (Some (terms_of o))) later
+      there true false here same later = absurd (cc)
+      there false true here same later = absurd (cc)
+      there false false here same later = later
 
-turned : (l i x : Bool) → (l || (i || x)) ≡ (x || (i || l))
-turned true true true = refl
-turned true true false = refl
-turned true false true = refl
-turned true false false = refl
-turned false true true = refl
-turned false true false = refl
-turned false false true = refl
-turned false false false = refl
+      skipped : (t : Bool) → is_at p o ≡ false → terms_in (cond t (o ∷ kept) kept) p ≡ terms_in kept p
+      skipped true other = ap (λ x. option_or (terms_in kept p) (cond x (Some (terms_of o)) None)) other
+          ∙ or_none (terms_in kept p)
+      skipped false other = refl
+
+  terms_filter : (os : List OfferEntry) → terms_in (filter q os) p ≡ cond b (terms_in os p) None
+  terms_filter [] = sym (nothing b)
+    where
+      nothing : (b : Bool) → cond b (terms_in [] p) None ≡ terms_in [] p
+      nothing true = refl
+      nothing false = refl
+  terms_filter (o ∷ os) = terms_by (q o) o (filter q os) (terms_in os p) refl (terms_filter os)
+
+-- what is left without the old offers of a place is nothing, or what was there
+left_over : (old : Bool) (t : Option OfferTerms) → cond (old && is_some t) None t ≡ cond (not old) t None
+left_over true None = refl
+left_over true (Some x) = refl
+left_over false t = refl
 
 old_alike : (batch : Batch) (p : Place) (o : OfferEntry) → is_at p o ≡ true
     → is_old batch o ≡ is_among (old_keys batch) (key_at p)
 old_alike batch p o h = ap (λ x. is_among (old_keys batch) (key_at x)) (sym (same_place p _ h))
 
-pub rebuilt : (offers before : List OfferEntry) (batch : Batch) (first left made index : PlaceSet)
-    → first ≡ index_of offers → AreReplaced offers before batch
-    → ((p : Place) → has left p ≡ (not (is_taken before p) && has first p))
-    → ((p : Place) → has made p ≡ (is_taken (offers_in batch.init) p || has left p))
-    → ((p : Place) → has index p ≡ (is_taken (offers_in batch.live) p || has made p))
-    → index ≡ index_of (offers_behind offers batch)
-rebuilt offers before batch first left made index is replaced l m i = same_set index _ (λ p.
+pub taken_out : (offers before : List OfferEntry) (batch : Batch) → AreReplaced offers before batch
+    → without_offers (index_of offers) before ≡ index_of (filter (λ o. not (is_old batch o)) offers)
+taken_out offers before batch replaced = same_places _ _ (λ p.
     let old = is_among (old_keys batch) (key_at p) in
-    let gone : has left p ≡ is_taken (filter (λ o. not (is_old batch o)) offers) p =
-    l p ∙ ap (λ b. not b && has first p) (replaced p ∙ taken_filter p (is_old batch) old (old_alike batch p) offers)
-    ∙ ap (λ b. not (old && is_taken offers p) && b) (ap (λ s. has s p) is ∙ has-index_of offers p)
-    ∙ left_over old (is_taken offers p)
-    ∙ sym (taken_filter p (λ o. not (is_old batch o)) (not old) (λ o h. ap not (old_alike batch p o h)) offers) in
-    i p ∙ ap (λ b. is_taken (offers_in batch.live) p || b) (m p ∙ ap (λ b. is_taken (offers_in batch.init) p || b) gone)
-    ∙ turned (is_taken (offers_in batch.live) p) (is_taken (offers_in batch.init) p) _
-    ∙ sym (has-index_of (offers_behind offers batch) p
-    ∙ list_any-append (is_at p) (filter (λ o. not (is_old batch o)) offers)
-    (offers_in batch.init ++ offers_in batch.live)
-    ∙ ap (λ b. is_taken (filter (λ o. not (is_old batch o)) offers) p || b)
-    (list_any-append (is_at p) (offers_in batch.init) (offers_in batch.live))))
+    get-without_offers (index_of offers) before p ∙ ap (cond (is_taken before p) None) (get-index_of offers p)
+    ∙ ap (λ b. cond b None (terms_in offers p))
+    (replaced p ∙ taken_filter p (is_old batch) old (old_alike batch p) offers
+    ∙ ap (λ b. old && b) (sym (some_terms offers p)))
+    ∙ left_over old (terms_in offers p)
+    ∙ sym (terms_filter p (λ o. not (is_old batch o)) (not old) (λ o h. ap not (old_alike batch p o h)) offers)
+    ∙ sym (get-index_of (filter (λ o. not (is_old batch o)) offers) p))
+
+pub rebuilt : (offers before : List OfferEntry) (batch : Batch) (first left made index : PlaceMap)
+    → first ≡ index_of offers → AreReplaced offers before batch → left ≡ without_offers first before
+    → made ≡ with_offers left (offers_in batch.init) → index ≡ with_offers made (offers_in batch.live)
+    → index ≡ index_of (offers_behind offers batch)
+rebuilt offers before batch first left made index is replaced l m i =
+    i ∙ ap (λ x. with_offers x (offers_in batch.live)) (m
+    ∙ ap (λ x. with_offers x (offers_in batch.init)) (l ∙ ap (λ x. without_offers x before) is
+    ∙ taken_out offers before batch replaced))
+    ∙ sym (with_more _ (offers_in batch.init) (offers_in batch.live))
+    ∙ sym (with_more _ (filter (λ o. not (is_old batch o)) offers) (offers_in batch.init ++ offers_in batch.live))
 
 pub stays_right : IndexStaysRight
 stays_right offers [] last replaced made = made

@@ -3,7 +3,7 @@ use Rattle.std.proofs.Common.{◌≡◌, ◌≢◌, refl, sym, ap, subst, ◌∙
 use Rattle.std.proofs.Common.{take, length-append}
 use Rattle.entry_map.specs.EntryMap.{EntryMap}
 use Rattle.entry_map.specs.Undo.{Undo, IsOpen, opened, kept}
-use Rattle.entry_map.specs.Indexes.{PlaceSet, IsIndexOf, IsIndexed, AreIndexes}
+use Rattle.entry_map.specs.Indexes.{PlaceMap, IsIndexOf, IsIndexed, AreIndexes}
 
 front : {X : Type 0} (xs ys : List X) → take (length xs) (xs ++ ys) ≡ xs
 front [] ys = refl
@@ -18,14 +18,14 @@ all_but_last older saved x is = ap (λ s. take (length s - 1) s) is
     one_less : (n : ℕ) → n ≡ length older + 1 → n - 1 ≡ length older
     one_less n e = omega arith
 
-pub child_saved : (u new : Undo) (index shared : PlaceSet) (saved more : List PlaceSet) → IsIndexed u index saved
+pub child_saved : (u new : Undo) (index shared : PlaceMap) (saved more : List PlaceMap) → IsIndexed u index saved
     → shared ≡ index → more ≡ saved ++ shared ∷ [] → new ≡ opened u → IsIndexed new index more
 child_saved u new index shared saved more h same is is_new = subst (λ w. IsIndexed w index more) (sym is_new) (record {
   now = h.now;
   earlier = (saved, (shared, (is, (subst (IsIndexOf u.current) (sym same) h.now, h.earlier))));
 })
 
-committed : (current base : EntryMap) (maps : List EntryMap) (index : PlaceSet) (saved fewer : List PlaceSet)
+committed : (current base : EntryMap) (maps : List EntryMap) (index : PlaceMap) (saved fewer : List PlaceMap)
     → IsIndexed (record { current = current; saved = maps; base = base }) index saved → maps ≢ []
     → fewer ≡ take (length saved - 1) saved
     → IsIndexed (kept (record { current = current; saved = maps; base = base })) index fewer
@@ -36,7 +36,7 @@ committed current base (m ∷ ms) index saved fewer h some is = record {
       h.earlier.1.1.1.1;
 }
 
-pub kept_saved : (u was new : Undo) (index : PlaceSet) (saved fewer : List PlaceSet)
+pub kept_saved : (u was new : Undo) (index : PlaceMap) (saved fewer : List PlaceMap)
     → IsIndexed u index saved → IsOpen was
     → u ≡ was → fewer ≡ take (length saved - 1) saved → new ≡ kept u → IsIndexed new index fewer
 kept_saved u was new index saved fewer h some same is is_new = subst (λ w. IsIndexed w index fewer) (sym is_new)

@@ -1,6 +1,6 @@
 -- The book of a pair of assets: the offers that sell the one for the other, by their exact price and then by their id
 -- (loadBestOffers and isBetterOffer in stellar-core).
-use Rattle.std.specs.Prelude.{◌≢◌, ◌*◌, ◌≤ℤ◌, ℤ, pos, unsigned_abs, Bool, ◌&&◌}
+use Rattle.std.specs.Prelude.{◌≢◌, ◌*◌, ℤ, unsigned_abs, Bool, ◌&&◌}
 use Rattle.std.specs.Prelude.{List, [], ◌∷◌, All, Option, Some, None, if◌then◌else◌}
 use Rattle.std.specs.List.{filter, filter_map}
 use Rattle.std.specs.declared.cmp.Ordering.{Ordering}

@@ -8,6 +8,7 @@ use Rattle.ledger_types.specs.declared.offer.OfferEntry.{OfferEntry}
 use Rattle.ledger_types.specs.declared.key.LedgerKey.{LedgerKey}
 use Rattle.ledger_types.specs.declared.key.LedgerKey.TheVariants as key
 use Rattle.entry_map.specs.declared.place.Place.{Place}
+use Rattle.entry_map.specs.declared.place.OfferTerms.{OfferTerms}
 
 -- a price whose denominator fits 32 bits
 abbrev pub IsNarrow : Price → Type 0
@@ -34,13 +35,25 @@ place_of offer = record {
   seller = offer.seller_id;
 }
 
+-- what of an offer its place doesn't tell
+abbrev pub terms_of : OfferEntry → OfferTerms
+terms_of offer = record { amount = offer.amount; price = offer.price; flags = offer.flags }
+
+-- the offer that has a place and these terms
+abbrev pub offer_with : Place → OfferTerms → OfferEntry
+offer_with place terms = record {
+  seller_id = place.seller;
+  offer_id = place.id;
+  selling = place.selling;
+  buying = place.buying;
+  amount = terms.amount;
+  price = terms.price;
+  flags = terms.flags;
+}
+
 -- the key under which an offer with a place stands
 abbrev pub key_at : Place → LedgerKey
 key_at place = key.Offer place.seller place.id
-
--- the seller and the id of an offer with a place
-abbrev pub name_at : Place → AccountId × ℤ
-name_at place = (place.seller, place.id)
 
 abbrev pub no_seller : AccountId
 no_seller = record { 0 = replicate 32 0 }

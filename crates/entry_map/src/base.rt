@@ -6,7 +6,7 @@ ghost use Rattle.entry_map.specs.EntryMap.{EntryMap, IsKeyed, IsNextAfter};
 ghost use Rattle.entry_map.specs.Book.{IsPlacePriced, AreOffersSound, next_offer};
 ghost use Rattle.entry_map.specs.Indexes.{IsIndexOf};
 
-use crate::index::{OfferIndex, offer_key, offer_of};
+use crate::index::OfferIndex;
 use ledger_types::{Asset, LedgerEntry, LedgerKey, OfferEntry, Price};
 use std::alloc::AllocError;
 
@@ -40,10 +40,6 @@ pub trait Base {
         ensures { AreOffersSound (entries self.now) → IsPlacePriced after
             → IfOk result (λ offer. offer ≡ next_offer (entries self.now) selling.now buying.now after) }
     {
-        let Some(name) = self.offers()?.after(selling, buying, after) else {
-            return Ok(None);
-        };
-        let entry = self.find(&offer_key(name))?;
-        Ok(offer_of(&entry))
+        Ok(self.offers()?.offer_after(selling, buying, after))
     }
 }

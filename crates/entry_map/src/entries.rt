@@ -12,13 +12,13 @@ ghost use Rattle.entry_map.specs.Undo.{started, with_current, IsOpen, opened, un
 
 use crate::base::Base;
 use crate::batch::Batch;
-use crate::index::{OfferIndex, is_of_offer, offer_in, offer_key, offer_of};
+use crate::index::{OfferIndex, is_of_offer, offer_in};
 use crate::layered::Layered;
 use ledger_types::{Asset, LedgerEntry, LedgerKey, OfferEntry, Price};
 use std::alloc::{AllocError, Global};
 use std::marker::Model;
 
-/// A map of entries with undo: layers of changes over a base, which stays as it is, and the places of the offers behind
+/// A map of entries with undo: layers of changes over a base, which stays as it is, and the index of the offers behind
 /// them. Contracts see the map, the maps that are kept for undoing, and the base's map. After a call that memory was
 /// refused to it may only be dropped.
 #[derive(Drop)]
@@ -138,11 +138,7 @@ impl<'a, B: Base> Entries<'a, B> {
         if self.is_broken {
             return Err(AllocError);
         }
-        let Some(name) = self.offers.after(selling, buying, after) else {
-            return Ok(None);
-        };
-        let entry = self.layered.get(&offer_key(name))?;
-        Ok(offer_of(&entry))
+        Ok(self.offers.offer_after(selling, buying, after))
     }
 
     /// The index of the map's offers.

@@ -1,45 +1,44 @@
-//! The places of offers, kept in their order.
+//! Offers by their places, kept in their order.
 
-ghost use Rattle.std.specs.Prelude.{◌≡◌, ◌&&◌, not, ◌||◌, None, List, [], ◌∷◌, IfOk, MatchOption, option_map, map};
+ghost use Rattle.std.specs.Prelude.{◌≡◌, None, List, [], ◌∷◌, IfOk, MatchOption, option_map, map};
 ghost use Rattle.std.specs.Option.{option_copied};
 ghost use Rattle.std.specs.List.{IsDistinct};
 ghost use Rattle.std.specs.Ordering.{eq_by_cmp};
 ghost use Rattle.std.specs.FinMap.{empty, insert, remove, get, from_entries};
 ghost use Rattle.ledger_types.specs.KeyOrder.{key_cmp};
 ghost use Rattle.ledger_types.specs.Keys.{key_of};
-ghost use Rattle.ledger_types.specs.declared.key.LedgerKey.TheVariants.{Offer};
 ghost use Rattle.ledger_types.specs.declared.offer.OfferEntry.{OfferEntry as AnOffer};
-ghost use Rattle.entry_map.specs.declared.place.Place.{Place as APlace};
 ghost use Rattle.entry_map.specs.EntryMap.{EntryMap, put};
 ghost use Rattle.entry_map.specs.Book.{IsPlacePriced, AreSound, AreOffersSound, next_in, next_offer, offer_in};
 ghost use Rattle.entry_map.specs.Book.{offer_of, offers_in};
-ghost use Rattle.entry_map.specs.Places.{IsNarrow, place_of, start_of};
+ghost use Rattle.entry_map.specs.Places.{IsNarrow, place_of, terms_of};
 ghost use Rattle.entry_map.specs.Indexes.{IsIndexOf, IsNextOfPair, IsLastOfPair, IsLeastPlace, IsLastPlace, AreNarrow};
-ghost use Rattle.entry_map.specs.Indexes.{IsChangedTo, has, index_of, is_of_offer, is_taken, name_of, without};
+ghost use Rattle.entry_map.specs.Indexes.{IsChangedTo, index_of, is_of_offer, name_of, with_offers, without};
+ghost use Rattle.entry_map.specs.Indexes.{without_offers};
 
 use crate::batch::Batch;
-use crate::place::{Place, place_of, start_of};
+use crate::place::{OfferTerms, Place, place_of, start_of, terms_of};
 use ledger_types::{AccountId, Asset, LedgerEntry, LedgerEntryBody, LedgerKey, OfferEntry, Price};
 use shared_tree::{Kept, Tree};
 use std::alloc::{AllocError, Global};
 use std::marker::Model;
 
-/// The places of offers, in the order of their books. What changes is made anew, and the rest is shared. Contracts see
-/// the set of the places.
+/// Offers by their places, in the order of their books. What changes is made anew, and the rest is shared. Contracts
+/// see under each place what of its offer it doesn't tell.
 #[derive(Drop)]
 pub struct OfferIndex {
-    tree: Tree<Place, ()>,
+    tree: Tree<Place, OfferTerms>,
 }
 
 impl Model for OfferIndex {
     ghost use Rattle.std.specs.FinMap.{from_sorted};
     ghost use Rattle.shared_tree.specs.Rows.{IsRising};
     ghost use Rattle.entry_map.specs.Order.{order};
-    ghost use Rattle.entry_map.specs.Indexes.{PlaceSet, set_code};
+    ghost use Rattle.entry_map.specs.Indexes.{PlaceMap, place_map_code};
 
-    ghost Value = { PlaceSet };
+    ghost Value = { PlaceMap };
 
-    ghost coded = { set_code };
+    ghost coded = { place_map_code };
 
     ghost view = { λ index. from_sorted index.tree };
 
@@ -63,17 +62,6 @@ pub fn offer_of(entry: &Option<LedgerEntry>) -> Option<OfferEntry>
     match entry {
         None => None,
         Some(entry) => offer_in(entry).copied(),
-    }
-}
-
-/// The key of an offer, by its seller and its id.
-pub fn offer_key(name: (AccountId, i64)) -> LedgerKey
-    ensures { result ≡ Offer name.0 name.1 }
-{
-    let (seller_id, offer_id) = name;
-    LedgerKey::Offer {
-        seller_id,
-        offer_id,
     }
 }
 
@@ -103,35 +91,29 @@ impl OfferIndex {
         })
     }
 
-    /// The index with a place.
-    fn with_place(&self, alloc: Global, place: Place) -> Result<OfferIndex, AllocError>
-        ensures { IfOk result (λ index. index ≡ insert self.now place tt) }
-    {
-        let kept = Kept::new(alloc, place, ())?;
-        Ok(OfferIndex {
-            tree: self.tree.put(alloc, &kept)?,
-        })
-    }
-
-    /// The index without a place.
-    fn without_place(&self, alloc: Global, place: &Place) -> Result<OfferIndex, AllocError>
-        ensures { IfOk result (λ index. index ≡ remove self.now place.now) }
-    {
-        Ok(OfferIndex {
-            tree: self.tree.take(alloc, place)?,
-        })
-    }
-
-    /// The index with the place of an offer.
+    /// The index with an offer.
     pub(crate) fn with_offer(
         &self,
         alloc: Global,
         offer: &OfferEntry,
     ) -> Result<OfferIndex, AllocError>
-        ensures value { IfOk result (λ index. index ≡ insert self.now (place_of offer.now) tt) }
+        ensures value { IfOk result (λ index.
+            index ≡ insert self.now (place_of offer.now) (terms_of offer.now)) }
         ensures narrow { IsNarrow offer.now.price }
     {
-        self.with_place(alloc, place_of(offer))
+        let kept = Kept::new(alloc, place_of(offer), terms_of(offer))?;
+        Ok(OfferIndex {
+            tree: self.tree.put(alloc, &kept)?,
+        })
+    }
+
+    /// The index without the place of an offer.
+    fn without_offer(&self, alloc: Global, offer: &OfferEntry) -> Result<OfferIndex, AllocError>
+        ensures { IfOk result (λ index. index ≡ remove self.now (place_of offer.now)) }
+    {
+        Ok(OfferIndex {
+            tree: self.tree.take(alloc, &place_of(offer))?,
+        })
     }
 
     /// The index without the place of an entry, if there is one and it is an offer.
@@ -144,14 +126,13 @@ impl OfferIndex {
     {
         match offer_of(entry) {
             None => self.share(),
-            Some(offer) => self.without_place(alloc, &place_of(&offer)),
+            Some(offer) => self.without_offer(alloc, &offer),
         }
     }
 
-    /// The index with the place of an entry that wasn't there, if it is an offer.
+    /// The index with an entry that wasn't there, if it is an offer.
     pub fn with_entry(&self, alloc: Global, entry: &LedgerEntry) -> Result<OfferIndex, AllocError>
-        ensures value { IfOk result (λ index. (p : APlace)
-            → has index p ≡ (is_taken (offers_in (entry.now ∷ [])) p || has self.now p)) }
+        ensures value { IfOk result (λ index. index ≡ with_offers self.now (offers_in (entry.now ∷ []))) }
         ensures map { (m : EntryMap) → IsIndexOf m self.now → get m (key_of entry.now) ≡ None
             → IfOk result (IsIndexOf (put m entry.now)) }
     {
@@ -161,10 +142,9 @@ impl OfferIndex {
         }
     }
 
-    /// The index with the places of entries that are offers.
+    /// The index with those of some entries that are offers, one after the other.
     fn with_entries(&self, alloc: Global, entries: &[LedgerEntry]) -> Result<OfferIndex, AllocError>
-        ensures { IfOk result (λ index. (p : APlace)
-            → has index p ≡ (is_taken (offers_in entries.now) p || has self.now p)) }
+        ensures { IfOk result (λ index. index ≡ with_offers self.now (offers_in entries.now)) }
     {
         let mut index = self.share()?;
         for entry in entries {
@@ -175,12 +155,11 @@ impl OfferIndex {
 
     /// The index without the places of offers.
     fn without_offers(&self, alloc: Global, offers: &[OfferEntry]) -> Result<OfferIndex, AllocError>
-        ensures { IfOk result (λ index. (p : APlace)
-            → has index p ≡ (not (is_taken offers.now p) && has self.now p)) }
+        ensures { IfOk result (λ index. index ≡ without_offers self.now offers.now) }
     {
         let mut index = self.share()?;
         for offer in offers {
-            index = index.without_place(alloc, &place_of(offer))?;
+            index = index.without_offer(alloc, offer)?;
         }
         Ok(index)
     }
@@ -225,22 +204,22 @@ impl OfferIndex {
         made.with_entries(alloc, batch.live.as_slice())
     }
 
-    /// The least place above another one.
-    fn first_above(&self, start: &Place) -> Option<Place>
-        ensures { MatchOption result (IsLastPlace self.now start.now) (IsLeastPlace self.now start.now) }
+    /// The least place above another one, with its terms.
+    fn first_above(&self, start: &Place) -> Option<&Kept<Place, OfferTerms>>
+        ensures { MatchOption (option_copied result) (IsLastPlace self.now start.now)
+            (λ next. IsLeastPlace self.now start.now next.0 next.1) }
     {
-        match self.tree.above(start) {
-            None => None,
-            Some(kept) => Some(*kept.key()),
-        }
+        self.tree.above(start)
     }
 
-    /// The least place above another one, if it is of the same pair.
-    fn next_place(&self, start: &Place) -> Option<Place>
-        ensures { MatchOption result (IsLastOfPair self.now start.now) (IsNextOfPair self.now start.now) }
+    /// The least place above another one with its terms, if it is of the same pair.
+    fn next_place(&self, start: &Place) -> Option<&Kept<Place, OfferTerms>>
+        ensures { MatchOption (option_copied result) (IsLastOfPair self.now start.now)
+            (λ next. IsNextOfPair self.now start.now next.0 next.1) }
     {
         let next = self.first_above(start)?;
-        if next.selling.is_same(&start.selling) && next.buying.is_same(&start.buying) {
+        let place = next.key();
+        if place.selling.is_same(&start.selling) && place.buying.is_same(&start.buying) {
             Some(next)
         } else {
             None
@@ -261,9 +240,24 @@ impl OfferIndex {
             → AreNarrow offers → IsPlacePriced place
             → result ≡ option_map name_of (next_in selling.now buying.now place offers) }
     {
-        let Some(next) = self.next_place(&start_of(selling, buying, place)) else {
-            return None;
-        };
-        Some(next.name())
+        let next = self.offer_after(selling, buying, place)?;
+        Some((next.seller_id, next.offer_id))
+    }
+
+    /// The first offer of a pair's book behind a price and an id, or at its head. None exactly where there is none.
+    pub fn offer_after(
+        &self,
+        selling: &Asset,
+        buying: &Asset,
+        place: Option<(Price, i64)>,
+    ) -> Option<OfferEntry>
+        ensures map { (m : EntryMap) → IsIndexOf m self.now → AreOffersSound m → IsPlacePriced place
+            → result ≡ next_offer m selling.now buying.now place }
+        ensures list { (offers : List AnOffer) → self.now ≡ index_of offers → AreSound offers
+            → AreNarrow offers → IsPlacePriced place
+            → result ≡ next_in selling.now buying.now place offers }
+    {
+        let next = self.next_place(&start_of(selling, buying, place))?;
+        Some(next.value().offer_at(next.key()))
     }
 }

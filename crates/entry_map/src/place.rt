@@ -1,7 +1,7 @@
-//! Where an offer stands among all offers.
+//! Where an offer stands among all offers, and what else there is of it.
 
 ghost use Rattle.std.specs.Prelude.{◌≡◌};
-ghost use Rattle.entry_map.specs.Places.{IsNarrow, IsPlaceNarrow, name_at, rank, place_of, start_of};
+ghost use Rattle.entry_map.specs.Places.{IsNarrow, IsPlaceNarrow, offer_with, rank, place_of, start_of, terms_of};
 
 use ledger_types::{AccountId, Asset, OfferEntry, Price};
 
@@ -19,12 +19,39 @@ pub struct Place {
     pub(crate) seller: AccountId,
 }
 
-impl Place {
-    /// The seller and the id of the offer that has it.
-    pub fn name(self) -> (AccountId, i64)
-        ensures { result ≡ name_at self }
+/// What of an offer its place doesn't tell.
+#[derive(Clone, Copy)]
+pub struct OfferTerms {
+    amount: i64,
+    price: Price,
+    flags: u32,
+}
+
+impl OfferTerms {
+    /// The offer that has a place and these terms.
+    pub fn offer_at(self, place: &Place) -> OfferEntry
+        ensures { result ≡ offer_with place.now self }
     {
-        (self.seller, self.id)
+        OfferEntry {
+            seller_id: place.seller,
+            offer_id: place.id,
+            selling: place.selling,
+            buying: place.buying,
+            amount: self.amount,
+            price: self.price,
+            flags: self.flags,
+        }
+    }
+}
+
+/// What of an offer its place doesn't tell.
+pub fn terms_of(offer: &OfferEntry) -> OfferTerms
+    ensures { result ≡ terms_of offer.now }
+{
+    OfferTerms {
+        amount: offer.amount,
+        price: offer.price,
+        flags: offer.flags,
     }
 }
 

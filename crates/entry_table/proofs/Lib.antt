@@ -1,3 +1,4 @@
+pub mod Rowed
 pub mod Walks
 pub mod Turns
 pub mod Passes

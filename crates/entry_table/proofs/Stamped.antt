@@ -12,7 +12,7 @@ use Rattle.ledger_types.specs.declared.key.LedgerKey.{LedgerKey}
 use Rattle.entry_map.specs.EntryMap.{EntryMap, IsKeyed, put}
 use Rattle.entry_map.specs.Book.{offer_in, offer_of}
 use Rattle.entry_map.specs.Places.{IsNarrow, key_at}
-use Rattle.entry_map.specs.Indexes.{PlaceSet, is_in, IsIndexOf}
+use Rattle.entry_map.specs.Indexes.{PlaceMap, terms_at, IsIndexOf}
 use Rattle.entry_table.specs.Rows.{IsTableRow}
 use Rattle.entry_table.proofs.Walks.{first, second}
 use Rattle.entry_changes.specs.Next.{IsNextAt, AreNextEntries}
@@ -26,11 +26,11 @@ same_offer seq None (Some e) after h = sym (ap offer_of h)
 same_offer seq (Some was) (Some e) after (inl h) = ap (λ parts. offer_in parts.0) (sym h.0) ∙ sym (ap offer_of h.1)
 same_offer seq (Some was) (Some e) after (inr h) = sym (ap offer_of h.1)
 
-pub next_index : (seq : ℕ) (before worked after : EntryMap) (index : PlaceSet) → IsIndexOf worked index
+pub next_index : (seq : ℕ) (before worked after : EntryMap) (index : PlaceMap) → IsIndexOf worked index
     → AreNextEntries seq before worked after → IsKeyed after → IsIndexOf after index
 next_index seq before worked after index h next keyed = record {
   keyed = keyed;
-  each = λ p. h.each p ∙ ap (is_in p) (same_offer seq (get before (key_at p)) (get worked (key_at p))
+  each = λ p. h.each p ∙ ap (terms_at p) (same_offer seq (get before (key_at p)) (get worked (key_at p))
       (get after (key_at p)) (next.each (key_at p)));
   narrow = λ k. subst (λ o. IfSome o (λ offer. IsNarrow offer.price))
       (same_offer seq (get before k) (get worked k) (get after k) (next.each k)) (h.narrow k);
@@ -52,7 +52,7 @@ not_behind x rest h = get-from_entries keys_total rest (key_of x.1)
 
 -- an entry in front of those behind it is put
 pub put_in_front : (x : LedgerKey × LedgerEntry) (rest : List (LedgerKey × LedgerEntry)) (e : LedgerEntry)
-    (index : PlaceSet) → IsTableRow (x ∷ rest) → e ≡ x.1 → IsIndexOf (put (from_entries rest) e) index
+    (index : PlaceMap) → IsTableRow (x ∷ rest) → e ≡ x.1 → IsIndexOf (put (from_entries rest) e) index
     → IsIndexOf (from_entries (x ∷ rest)) index
 put_in_front x rest e index h same is = subst (λ m. IsIndexOf m index)
     (ap (put (from_entries rest)) same ∙ ap (λ k. insert (from_entries rest) k x.1) h.own.0) is

@@ -19,6 +19,7 @@ use Rattle.ledger_types.specs.Keys.{key_of}
 use Rattle.ledger_types.proofs.KeyOrdering.{keys_total, keys_exact}
 use Rattle.entry_map.specs.EntryMap.{EntryMap, IsKeyed}
 use Rattle.entry_map.specs.KeyMaps.{AreRising}
+use Rattle.entry_map.proofs.KeyMaps.{or_or}
 use Rattle.entry_table.specs.Rows.{map_of, with_key, value_at, is_among, AreOwn, IsTableRow, IsOverlaid}
 use Rattle.entry_table.specs.Rows.{IsWithout, IsRowBehind}
 use Rattle.entry_table.proofs.Walks.{both, first, second, is_less, same_key, none_found, Sorted, Above}
@@ -110,10 +111,6 @@ own_from (x ∷ xs) s h = (
 )
 
 -- ---- the row behind a batch
-
-or_or : (l i o : Option LedgerEntry) → option_or l (option_or i o) ≡ option_or (option_or l i) o
-or_or None i o = refl
-or_or (Some x) i o = refl
 
 pub row_behind : (row left made all : List (LedgerKey × LedgerEntry)) (init live : List LedgerEntry)
     (dead : List LedgerKey) → IsWithout row dead left → IsOverlaid left (map with_key init) made

@@ -11,7 +11,7 @@ use Rattle.ledger_types.specs.declared.entry.LedgerEntry.{LedgerEntry}
 use Rattle.ledger_types.specs.KeyOrder.{key_cmp}
 use Rattle.ledger_types.specs.Keys.{key_of}
 use Rattle.entry_map.specs.EntryMap.{EntryMap}
-use Rattle.entry_map.specs.Indexes.{PlaceSet, IsIndexOf}
+use Rattle.entry_map.specs.Indexes.{PlaceMap, IsIndexOf}
 use Rattle.shared_tree.specs.Rows.{all_changed}
 
 -- each key is above those before it
@@ -55,7 +55,7 @@ abbrev pub map_of : List (LedgerKey × LedgerEntry) → EntryMap
 map_of row = from_sorted row
 
 -- the row of a table, and the index of its offers
-pub record IsTable (row : List (LedgerKey × LedgerEntry)) (offers : PlaceSet) : Type 0 where
+pub record IsTable (row : List (LedgerKey × LedgerEntry)) (offers : PlaceMap) : Type 0 where
   pub rows : IsTableRow row
   pub index : IsIndexOf (map_of row) offers
 

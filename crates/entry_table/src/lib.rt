@@ -5,9 +5,11 @@
 mod kept;
 mod next;
 mod offers;
+mod row;
 mod rows;
 mod table;
 
 pub use kept::{Kept, kept_entry};
+pub use row::EntryRow;
 pub use rows::overlay;
 pub use table::EntryTable;

@@ -10,7 +10,7 @@ ghost use Rattle.legal_rules.specs.Legal.{IsAuthorized, AreLinesAuthorized};
 
 use crate::holders::holder;
 use entry_map::Base;
-use entry_table::EntryTable;
+use entry_table::EntryRow;
 use ledger_types::{LedgerEntry, LedgerEntryBody, LedgerKey, OfferEntry};
 use std::alloc::AllocError;
 
@@ -28,7 +28,7 @@ fn is_authorized(entry: &Option<LedgerEntry>) -> bool
 }
 
 /// Whether what stands under a key, if one is named, is authorised.
-fn is_key_authorized(entries: &EntryTable, named: Option<LedgerKey>) -> Result<bool, AllocError>
+fn is_key_authorized(entries: &EntryRow<'_>, named: Option<LedgerKey>) -> Result<bool, AllocError>
     ensures { IfOk result (λ kept.
         IsTrue kept ↔ All (λ k. IsAuthorized (line_of (get entries.now k))) (keys_in named)) }
 {
@@ -42,7 +42,7 @@ fn is_key_authorized(entries: &EntryTable, named: Option<LedgerKey>) -> Result<b
 }
 
 /// Whether the lines in which an offer's seller has its assets are authorised, where they stand.
-fn are_both_authorized(entries: &EntryTable, offer: &OfferEntry) -> Result<bool, AllocError>
+fn are_both_authorized(entries: &EntryRow<'_>, offer: &OfferEntry) -> Result<bool, AllocError>
     ensures { IfOk result (λ kept. IsTrue kept ↔ All (λ k. IsAuthorized (line_of (get entries.now k)))
         (keys_in (spec.holder offer.now.seller_id offer.now.selling)
         ++ keys_in (spec.holder offer.now.seller_id offer.now.buying))) }
@@ -53,7 +53,7 @@ fn are_both_authorized(entries: &EntryTable, offer: &OfferEntry) -> Result<bool,
 }
 
 /// Whether the lines that an entry trades in, if it is an offer, are authorised.
-fn are_lines_authorized(entries: &EntryTable, body: &LedgerEntryBody) -> Result<bool, AllocError>
+fn are_lines_authorized(entries: &EntryRow<'_>, body: &LedgerEntryBody) -> Result<bool, AllocError>
     ensures { IfOk result (λ kept. IsTrue kept ↔ AreLinesAuthorized entries.now body.now) }
 {
     match body {
@@ -63,7 +63,7 @@ fn are_lines_authorized(entries: &EntryTable, body: &LedgerEntryBody) -> Result<
 }
 
 /// Whether the lines that offers trade in are authorised.
-pub fn are_all_authorized(entries: &EntryTable) -> Result<bool, AllocError>
+pub fn are_all_authorized(entries: &EntryRow<'_>) -> Result<bool, AllocError>
     ensures { IfOk result (λ kept.
         IsTrue kept ↔ EachEntry (λ k e. AreLinesAuthorized entries.now e.body) entries.now) }
 {

@@ -23,7 +23,7 @@ use crate::shares::{add_share_line, add_shares, add_uses};
 use entry_slots::{
     account_liabilities, line_liabilities, num_sponsored, num_sponsoring, sponsor_in, use_count,
 };
-use entry_table::EntryTable;
+use entry_table::EntryRow;
 use ledger_types::{
     AccountEntry, AccountId, LedgerEntry, LedgerEntryBody, LedgerKey, LiquidityPoolEntry,
     TrustLineEntry,
@@ -134,7 +134,7 @@ fn add_bought(tally: &mut Tally, body: &LedgerEntryBody) -> Result<(), AllocErro
 fn add_entry(
     tally: &mut Tally,
     book: Book,
-    entries: &EntryTable,
+    entries: &EntryRow<'_>,
     entry: &LedgerEntry,
 ) -> Result<(), AllocError>
     requires { AreTerms entry.now.body }
@@ -153,7 +153,7 @@ fn add_entry(
 }
 
 /// What all entries count for others in a book.
-fn tally_of(alloc: Global, book: Book, entries: &EntryTable) -> Result<Tally, AllocError>
+fn tally_of(alloc: Global, book: Book, entries: &EntryRow<'_>) -> Result<Tally, AllocError>
     requires { HaveTerms entries.now }
     ensures { IfOk result (λ tally. AreCounts book entries.now tally) }
 {
@@ -258,7 +258,7 @@ fn agrees(tally: &Tally, book: Book, entry: &LedgerEntry) -> bool
 }
 
 /// Whether each account, each line and each pool states what is counted for it.
-fn do_all_agree(tally: &Tally, book: Book, entries: &EntryTable) -> bool
+fn do_all_agree(tally: &Tally, book: Book, entries: &EntryRow<'_>) -> bool
     requires owned { AreOwned entries.now }
     requires counted { AreCounts book entries.now tally.now }
     ensures { IsTrue result ↔ IsBooked (kind_of book) entries.now }
@@ -272,7 +272,7 @@ fn do_all_agree(tally: &Tally, book: Book, entries: &EntryTable) -> bool
 }
 
 /// Whether each account, each line and each pool states in a book what all entries count for it.
-pub fn is_booked(alloc: Global, book: Book, entries: &EntryTable) -> Result<bool, AllocError>
+pub fn is_booked(alloc: Global, book: Book, entries: &EntryRow<'_>) -> Result<bool, AllocError>
     requires owned { AreOwned entries.now }
     requires terms { HaveTerms entries.now }
     ensures { IfOk result (λ kept. IsTrue kept ↔ IsBooked (kind_of book) entries.now) }

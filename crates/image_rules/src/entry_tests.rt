@@ -8,7 +8,7 @@ use crate::pools::is_filled_or_empty;
 use crate::ranges::is_entry_in_range;
 use crate::sponsorship::do_reserves_fit;
 use crate::subentries::are_subentries_few;
-use entry_table::EntryTable;
+use entry_table::EntryRow;
 use ledger_types::LedgerEntry;
 
 /// What may be asked of an entry.
@@ -37,7 +37,7 @@ fn passes(test: EntryTest, entry: &LedgerEntry) -> bool
 }
 
 /// Whether each entry passes a test.
-pub fn do_all_pass(test: EntryTest, entries: &EntryTable) -> bool
+pub fn do_all_pass(test: EntryTest, entries: &EntryRow<'_>) -> bool
     ensures { IsTrue result ↔ EachEntry (λ k e. Passes test e) entries.now }
 {
     for place in 0..entries.len() {

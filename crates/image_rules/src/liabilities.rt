@@ -5,11 +5,11 @@ ghost use Rattle.close_rules.specs.EntryRules.{AreOwned, AreLiable};
 ghost use Rattle.image_rules.specs.Terms.{HaveTerms};
 
 use crate::books::{Book, is_booked};
-use entry_table::EntryTable;
+use entry_table::EntryRow;
 use std::alloc::{AllocError, Global};
 
 /// Whether liabilities are those of all offers.
-pub fn are_liable(alloc: Global, entries: &EntryTable) -> Result<bool, AllocError>
+pub fn are_liable(alloc: Global, entries: &EntryRow<'_>) -> Result<bool, AllocError>
     requires owned { AreOwned entries.now }
     requires terms { HaveTerms entries.now }
     ensures { IfOk result (λ kept. IsTrue kept ↔ AreLiable entries.now) }

@@ -7,7 +7,7 @@ ghost use Rattle.legal_rules.specs.Supply.{held, held_in, of_asset};
 ghost use Rattle.close_rules.specs.EntryRules.{AreLumensCounted};
 ghost use Rattle.image_rules.specs.Terms.{AreTerms, HaveTerms};
 
-use entry_table::EntryTable;
+use entry_table::EntryRow;
 use ledger_types::{Asset, LedgerEntryBody, LedgerHeader};
 
 /// The lumens in an amount of an asset, both in units of 10^-7.
@@ -39,7 +39,7 @@ fn lumens_in(body: &LedgerEntryBody) -> i64
 }
 
 /// The lumens that all entries hold. The sum of all balances may pass 64 bits.
-fn lumens_of(entries: &EntryTable) -> i128
+fn lumens_of(entries: &EntryRow<'_>) -> i128
     requires { HaveTerms entries.now }
     ensures { result ≡ total (held Native) entries.now }
 {
@@ -59,7 +59,7 @@ fn is_total(lumens: i128, fee_pool: i64, total_coins: i64) -> bool
 }
 
 /// Whether the lumens that entries hold and the fee pool are the header's total.
-pub fn are_lumens_counted(header: &LedgerHeader, entries: &EntryTable) -> bool
+pub fn are_lumens_counted(header: &LedgerHeader, entries: &EntryRow<'_>) -> bool
     requires { HaveTerms entries.now }
     ensures { IsTrue result ↔ AreLumensCounted header.now entries.now }
 {

@@ -4,7 +4,7 @@ ghost use Rattle.std.specs.Prelude.{◌↔◌, IsTrue, IfOk};
 ghost use Rattle.legal_rules.specs.OfferIds.{AreOffersApart};
 ghost use Rattle.image_rules.specs.OfferSets.{Brings};
 
-use entry_table::EntryTable;
+use entry_table::EntryRow;
 use ledger_types::LedgerEntryBody;
 use std::alloc::{AllocError, Global};
 use std::collections::BTreeSet;
@@ -20,7 +20,7 @@ fn is_id_new(ids: &mut BTreeSet<i64>, body: &LedgerEntryBody) -> Result<bool, Al
 }
 
 /// Whether no two offers have the same id.
-pub fn are_offers_apart(alloc: Global, entries: &EntryTable) -> Result<bool, AllocError>
+pub fn are_offers_apart(alloc: Global, entries: &EntryRow<'_>) -> Result<bool, AllocError>
     ensures { IfOk result (λ kept. IsTrue kept ↔ AreOffersApart entries.now) }
 {
     let mut ids = BTreeSet::new(alloc);

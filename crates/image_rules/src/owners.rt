@@ -19,7 +19,7 @@ use crate::parts::{owner_of, sponsorship};
 use crate::standing_pools::pool_params;
 use entry_map::Base;
 use entry_slots::sponsor_in;
-use entry_table::EntryTable;
+use entry_table::EntryRow;
 use ledger_types::{
     AccountId, Hash, LedgerEntry, LedgerEntryBody, LedgerKey, OfferEntry, PoolParams,
     TrustLineAsset,
@@ -27,7 +27,7 @@ use ledger_types::{
 use std::alloc::{AllocError, Global};
 
 /// Whether an account stands.
-fn has_account(entries: &EntryTable, account_id: AccountId) -> Result<bool, AllocError>
+fn has_account(entries: &EntryRow<'_>, account_id: AccountId) -> Result<bool, AllocError>
     ensures { IfOk result (λ there. IsTrue there ↔ (get entries.now (key.Account account_id) ≢ None)) }
 {
     let found = entries.find(&LedgerKey::Account { account_id })?;
@@ -35,7 +35,7 @@ fn has_account(entries: &EntryTable, account_id: AccountId) -> Result<bool, Allo
 }
 
 /// Whether an account stands, if one is named.
-fn stands(entries: &EntryTable, id: Option<AccountId>) -> Result<bool, AllocError>
+fn stands(entries: &EntryRow<'_>, id: Option<AccountId>) -> Result<bool, AllocError>
     ensures { IfOk result (λ there. IsTrue there ↔ All (λ q. get entries.now q ≢ None) (account_keys id)) }
 {
     match id {
@@ -45,7 +45,7 @@ fn stands(entries: &EntryTable, id: Option<AccountId>) -> Result<bool, AllocErro
 }
 
 /// Whether all accounts that are named stand.
-fn do_all_stand(entries: &EntryTable, ids: &[Option<AccountId>]) -> Result<bool, AllocError>
+fn do_all_stand(entries: &EntryRow<'_>, ids: &[Option<AccountId>]) -> Result<bool, AllocError>
     ensures { IfOk result (λ there.
         IsTrue there ↔ All (λ id. All (λ q. get entries.now q ≢ None) (account_keys id)) ids.now) }
 {
@@ -58,7 +58,7 @@ fn do_all_stand(entries: &EntryTable, ids: &[Option<AccountId>]) -> Result<bool,
 }
 
 /// Whether the owner of an entry stands, where the entry does. An account is its own.
-fn does_owner_stand(entries: &EntryTable, body: &LedgerEntryBody) -> Result<bool, AllocError>
+fn does_owner_stand(entries: &EntryRow<'_>, body: &LedgerEntryBody) -> Result<bool, AllocError>
     requires { get entries.now (key_of_body body.now) ≢ None }
     ensures { IfOk result (λ there.
         IsTrue there ↔ All (λ q. get entries.now q ≢ None) (account_keys (charge.owner_of body.now))) }
@@ -70,7 +70,7 @@ fn does_owner_stand(entries: &EntryTable, body: &LedgerEntryBody) -> Result<bool
 }
 
 /// Whether the sponsors of the signers in an entry stand.
-fn do_payers_stand(entries: &EntryTable, body: &LedgerEntryBody) -> Result<bool, AllocError>
+fn do_payers_stand(entries: &EntryRow<'_>, body: &LedgerEntryBody) -> Result<bool, AllocError>
     ensures { IfOk result (λ there.
         IsTrue there ↔ All (λ q. get entries.now q ≢ None) (flat_map account_keys (signer_sponsors_in body.now))) }
 {
@@ -86,7 +86,7 @@ fn do_payers_stand(entries: &EntryTable, body: &LedgerEntryBody) -> Result<bool,
 }
 
 /// Whether something stands under a key, if one is named.
-fn is_key_there(entries: &EntryTable, named: Option<LedgerKey>) -> Result<bool, AllocError>
+fn is_key_there(entries: &EntryRow<'_>, named: Option<LedgerKey>) -> Result<bool, AllocError>
     ensures { IfOk result (λ there. IsTrue there ↔ All (λ q. get entries.now q ≢ None) (keys_in named)) }
 {
     match named {
@@ -99,7 +99,7 @@ fn is_key_there(entries: &EntryTable, named: Option<LedgerKey>) -> Result<bool, 
 }
 
 /// Whether what an offer's seller has its assets in stands.
-fn are_both_there(entries: &EntryTable, offer: &OfferEntry) -> Result<bool, AllocError>
+fn are_both_there(entries: &EntryRow<'_>, offer: &OfferEntry) -> Result<bool, AllocError>
     ensures { IfOk result (λ there. IsTrue there ↔ All (λ q. get entries.now q ≢ None)
         (keys_in (spec.holder offer.now.seller_id offer.now.selling)
         ++ keys_in (spec.holder offer.now.seller_id offer.now.buying))) }
@@ -111,7 +111,7 @@ fn are_both_there(entries: &EntryTable, offer: &OfferEntry) -> Result<bool, Allo
 
 /// Whether the lines stand that an account needs for its shares of a pool.
 fn are_needed_there(
-    entries: &EntryTable,
+    entries: &EntryRow<'_>,
     id: &AccountId,
     params: &Option<PoolParams>,
 ) -> Result<bool, AllocError>
@@ -128,7 +128,7 @@ fn are_needed_there(
 }
 
 /// Whether a pool stands.
-fn has_pool(entries: &EntryTable, pool_id: Hash) -> Result<bool, AllocError>
+fn has_pool(entries: &EntryRow<'_>, pool_id: Hash) -> Result<bool, AllocError>
     ensures { IfOk result (λ there. IsTrue there ↔ (get entries.now (key.LiquidityPool pool_id) ≢ None)) }
 {
     let found = entries.find(&LedgerKey::LiquidityPool { pool_id })?;
@@ -136,7 +136,7 @@ fn has_pool(entries: &EntryTable, pool_id: Hash) -> Result<bool, AllocError>
 }
 
 /// Whether a pool stands, and the lines that an account needs for its shares.
-fn is_share_there(entries: &EntryTable, id: &AccountId, pool_id: Hash) -> Result<bool, AllocError>
+fn is_share_there(entries: &EntryRow<'_>, id: &AccountId, pool_id: Hash) -> Result<bool, AllocError>
     ensures { IfOk result (λ there. IsTrue there ↔ All (λ q. get entries.now q ≢ None)
         (key.LiquidityPool pool_id ∷ share_keys id.now (pools_in entries.now pool_id))) }
 {
@@ -148,7 +148,7 @@ fn is_share_there(entries: &EntryTable, id: &AccountId, pool_id: Hash) -> Result
 
 /// Whether what a line needs stands, if it is one of pool shares.
 fn are_shares_there(
-    entries: &EntryTable,
+    entries: &EntryRow<'_>,
     id: &AccountId,
     asset: &TrustLineAsset,
 ) -> Result<bool, AllocError>
@@ -162,7 +162,7 @@ fn are_shares_there(
 }
 
 /// Whether what an entry holds or trades in stands, if it is a line of pool shares or an offer.
-fn are_holders_there(entries: &EntryTable, body: &LedgerEntryBody) -> Result<bool, AllocError>
+fn are_holders_there(entries: &EntryRow<'_>, body: &LedgerEntryBody) -> Result<bool, AllocError>
     ensures { IfOk result (λ there.
         IsTrue there ↔ All (λ q. get entries.now q ≢ None) (holding_keys (pools_in entries.now) body.now)) }
 {
@@ -183,7 +183,7 @@ fn are_all(owner: bool, sponsor: bool, payers: bool, holders: bool) -> bool
 }
 
 /// Whether what an entry needs stands.
-fn is_owned(entries: &EntryTable, entry: &LedgerEntry) -> Result<bool, AllocError>
+fn is_owned(entries: &EntryRow<'_>, entry: &LedgerEntry) -> Result<bool, AllocError>
     requires { get entries.now (key_of entry.now) ≢ None }
     ensures { IfOk result (λ kept.
         IsTrue kept ↔ All (λ q. get entries.now q ≢ None) (needed_keys (pools_in entries.now) entry.now)) }
@@ -196,7 +196,7 @@ fn is_owned(entries: &EntryTable, entry: &LedgerEntry) -> Result<bool, AllocErro
 }
 
 /// Whether what each entry needs stands.
-fn are_all_owned(entries: &EntryTable) -> Result<bool, AllocError>
+fn are_all_owned(entries: &EntryRow<'_>) -> Result<bool, AllocError>
     ensures { IfOk result (λ kept. IsTrue kept
         ↔ EachEntry (λ k e. All (λ q. get entries.now q ≢ None) (needed_keys (pools_in entries.now) e)) entries.now) }
 {
@@ -210,7 +210,7 @@ fn are_all_owned(entries: &EntryTable) -> Result<bool, AllocError>
 }
 
 /// Whether what each entry needs stands, and offers have distinct ids.
-pub fn are_owned(alloc: Global, entries: &EntryTable) -> Result<bool, AllocError>
+pub fn are_owned(alloc: Global, entries: &EntryRow<'_>) -> Result<bool, AllocError>
     ensures { IfOk result (λ kept. IsTrue kept ↔ AreOwned entries.now) }
 {
     let owned = are_all_owned(entries)?;

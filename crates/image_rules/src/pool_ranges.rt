@@ -7,7 +7,7 @@ ghost use Rattle.hash_ids.specs.Ids.{pool_id_of};
 ghost use Rattle.entry_sums.specs.Sums.{EachEntry};
 ghost use Rattle.image_rules.specs.PoolRanges.{IsPoolInRangeButId, HasPoolId};
 
-use entry_table::EntryTable;
+use entry_table::EntryRow;
 use hash_ids::pool_id;
 use ledger_types::{Asset, LedgerEntryBody, LiquidityPoolEntry};
 use std::alloc::{AllocError, Global};
@@ -66,7 +66,7 @@ fn has_pool_id(alloc: Global, body: &LedgerEntryBody) -> Result<bool, AllocError
 }
 
 /// Whether each pool has the id of its assets.
-pub fn have_pool_ids(alloc: Global, entries: &EntryTable) -> Result<bool, AllocError>
+pub fn have_pool_ids(alloc: Global, entries: &EntryRow<'_>) -> Result<bool, AllocError>
     ensures { IfOk result (λ kept. IsTrue kept ↔ EachEntry (λ k e. HasPoolId e.body) entries.now) }
 {
     for place in 0..entries.len() {

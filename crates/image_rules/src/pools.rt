@@ -7,7 +7,7 @@ ghost use Rattle.image_rules.specs.Terms.{HaveTerms};
 
 use crate::books::{Book, is_booked};
 use crate::entry_tests::{EntryTest, do_all_pass};
-use entry_table::EntryTable;
+use entry_table::EntryRow;
 use ledger_types::{LedgerEntryBody, LiquidityPoolEntry};
 use std::alloc::{AllocError, Global};
 
@@ -43,7 +43,7 @@ pub fn is_filled_or_empty(body: &LedgerEntryBody) -> bool
 
 /// Whether each pool states its shares and their lines, and each line how many lines of shares use it, and whether each
 /// pool is filled or empty.
-pub fn are_pools_counted(alloc: Global, entries: &EntryTable) -> Result<bool, AllocError>
+pub fn are_pools_counted(alloc: Global, entries: &EntryRow<'_>) -> Result<bool, AllocError>
     requires owned { AreOwned entries.now }
     requires terms { HaveTerms entries.now }
     ensures { IfOk result (λ kept. IsTrue kept ↔ ArePoolsCounted entries.now) }

@@ -17,7 +17,7 @@ use crate::pool_ranges::{have_pool_ids, is_pool_in_range};
 use crate::room::fits_within;
 use crate::signers::are_signers_in_range;
 use entry_slots::{account_liabilities, sponsor_in};
-use entry_table::EntryTable;
+use entry_table::EntryRow;
 use ledger_types::{
     AccountEntry, AccountId, DataEntry, LedgerEntry, LedgerEntryBody, LedgerHeader,
 };
@@ -103,7 +103,7 @@ pub fn is_entry_in_range(id_pool: u64, entry: &LedgerEntry) -> bool
 }
 
 /// Whether each entry is in its ranges.
-fn are_all_in_range(header: &LedgerHeader, entries: &EntryTable) -> Result<bool, AllocError>
+fn are_all_in_range(header: &LedgerHeader, entries: &EntryRow<'_>) -> Result<bool, AllocError>
     ensures { IfOk result (λ kept.
         IsTrue kept ↔ EachEntry (λ k e. spec.IsEntryInRange header.now.id_pool e) entries.now) }
 {
@@ -116,7 +116,7 @@ fn are_all_in_range(header: &LedgerHeader, entries: &EntryTable) -> Result<bool,
 }
 
 /// Whether each entry is in its ranges, and the lines of offers are authorised.
-pub fn are_in_range(header: &LedgerHeader, entries: &EntryTable) -> Result<bool, AllocError>
+pub fn are_in_range(header: &LedgerHeader, entries: &EntryRow<'_>) -> Result<bool, AllocError>
     ensures { IfOk result (λ kept. IsTrue kept ↔ AreInRange header.now entries.now) }
 {
     let within = are_all_in_range(header, entries)?;

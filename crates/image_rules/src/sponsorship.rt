@@ -8,7 +8,7 @@ ghost use Rattle.image_rules.specs.Terms.{HaveTerms};
 use crate::books::{Book, is_booked};
 use crate::entry_tests::{EntryTest, do_all_pass};
 use entry_slots::num_sponsoring;
-use entry_table::EntryTable;
+use entry_table::EntryRow;
 use ledger_types::LedgerEntryBody;
 use std::alloc::{AllocError, Global};
 
@@ -25,7 +25,7 @@ pub fn do_reserves_fit(body: &LedgerEntryBody) -> bool
 }
 
 /// Whether each account states how many reserves it pays and how many of its own others pay.
-pub fn are_sponsors_counted(alloc: Global, entries: &EntryTable) -> Result<bool, AllocError>
+pub fn are_sponsors_counted(alloc: Global, entries: &EntryRow<'_>) -> Result<bool, AllocError>
     requires owned { AreOwned entries.now }
     requires terms { HaveTerms entries.now }
     ensures { IfOk result (λ kept. IsTrue kept ↔ AreSponsorsCounted entries.now) }

@@ -4,7 +4,7 @@ ghost use Rattle.std.specs.Prelude.{◌≡◌, IfOk};
 ghost use Rattle.legal_rules.specs.Legal.{params_of, pools_in};
 
 use entry_map::Base;
-use entry_table::EntryTable;
+use entry_table::EntryRow;
 use ledger_types::{Hash, LedgerEntry, LedgerEntryBody, LedgerKey, PoolParams};
 use std::alloc::AllocError;
 
@@ -22,7 +22,7 @@ fn params_in(entry: &Option<LedgerEntry>) -> Option<PoolParams>
 }
 
 /// What decides a pool's id, if the pool stands.
-pub fn pool_params(entries: &EntryTable, pool_id: Hash) -> Result<Option<PoolParams>, AllocError>
+pub fn pool_params(entries: &EntryRow<'_>, pool_id: Hash) -> Result<Option<PoolParams>, AllocError>
     ensures { IfOk result (λ params. params ≡ pools_in entries.now pool_id) }
 {
     let found = entries.find(&LedgerKey::LiquidityPool { pool_id })?;

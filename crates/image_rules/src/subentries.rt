@@ -7,7 +7,7 @@ ghost use Rattle.image_rules.specs.Terms.{HaveTerms};
 
 use crate::books::{Book, is_booked};
 use crate::entry_tests::{EntryTest, do_all_pass};
-use entry_table::EntryTable;
+use entry_table::EntryRow;
 use ledger_types::LedgerEntryBody;
 use std::alloc::{AllocError, Global};
 
@@ -22,7 +22,7 @@ pub fn are_subentries_few(body: &LedgerEntryBody) -> bool
 }
 
 /// Whether each account states how many subentries it has, and has few.
-pub fn are_subentries_counted(alloc: Global, entries: &EntryTable) -> Result<bool, AllocError>
+pub fn are_subentries_counted(alloc: Global, entries: &EntryRow<'_>) -> Result<bool, AllocError>
     requires owned { AreOwned entries.now }
     requires terms { HaveTerms entries.now }
     ensures { IfOk result (λ kept. IsTrue kept ↔ AreSubentriesCounted entries.now) }

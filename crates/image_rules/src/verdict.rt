@@ -13,14 +13,14 @@ use crate::ranges::are_in_range;
 use crate::sponsorship::are_sponsors_counted;
 use crate::subentries::are_subentries_counted;
 use close_rules::ImageRule;
-use entry_table::EntryTable;
+use entry_table::{EntryRow, EntryTable};
 use ledger_types::LedgerHeader;
 use std::alloc::AllocError;
 
 /// The first of the rules of pools and lumens that is broken, if one is.
 fn first_of_sums(
     header: &LedgerHeader,
-    entries: &EntryTable,
+    entries: &EntryRow<'_>,
 ) -> Result<Option<ImageRule>, AllocError>
     requires owned { spec.AreOwned entries.now }
     requires terms { HaveTerms entries.now }
@@ -39,7 +39,7 @@ fn first_of_sums(
 /// The first of the rules from the books on that is broken, if one is.
 fn first_of_books(
     header: &LedgerHeader,
-    entries: &EntryTable,
+    entries: &EntryRow<'_>,
 ) -> Result<Option<ImageRule>, AllocError>
     requires owned { spec.AreOwned entries.now }
     requires terms { HaveTerms entries.now }
@@ -57,10 +57,10 @@ fn first_of_books(
     first_of_sums(header, entries)
 }
 
-/// The first rule of the entries behind a ledger that is broken, if one is.
-pub fn first_broken(
+/// The first rule of entries that is broken, if one is.
+fn first_in_row(
     header: &LedgerHeader,
-    entries: &EntryTable,
+    entries: &EntryRow<'_>,
 ) -> Result<Option<ImageRule>, AllocError>
     ensures { IfOk result (λ broken. spec.IsFirstBroken header.now entries.now spec.entry_rules broken) }
 {
@@ -78,4 +78,16 @@ pub fn first_broken(
         return Ok(Some(ImageRule::Liabilities));
     }
     first_of_books(header, entries)
+}
+
+/// The first rule of the entries behind a ledger that is broken, if one is.
+pub fn first_broken(
+    header: &LedgerHeader,
+    table: &EntryTable,
+) -> Result<Option<ImageRule>, AllocError>
+    ensures { IfOk result (λ broken. spec.IsFirstBroken header.now table.now spec.entry_rules broken) }
+{
+    let alloc = header.scp_value.upgrades.allocator();
+    let row = EntryRow::new(alloc, table)?;
+    first_in_row(header, &row)
 }

@@ -8,7 +8,7 @@ use Rattle.xdr_header.specs.declared.record.CloseRecord.{CloseRecord}
 use Rattle.entry_map.specs.declared.batch.Batch.{Batch}
 use Rattle.entry_map.specs.EntryMap.{EntryMap, IsKeyed}
 use Rattle.entry_map.specs.Batch.{IsBatch}
-use Rattle.entry_map.specs.Indexes.{PlaceSet, IsIndexOf}
+use Rattle.entry_map.specs.Indexes.{PlaceMap, IsIndexOf}
 use Rattle.entry_map.specs.Undo.{Undo, started}
 use Rattle.entry_sums.specs.Sums.{EachEntry}
 use Rattle.tx_apply.specs.declared.set.SetDone.{SetDone}
@@ -74,7 +74,7 @@ applied_batch s closing old new done batch begun answer told =
     begun
     behind
 
-pub applied_index : (s : ClosingState) (closing : CloseRecord) (old new : Undo) (done : SetDone) (index : PlaceSet)
+pub applied_index : (s : ClosingState) (closing : CloseRecord) (old new : Undo) (done : SetDone) (index : PlaceMap)
     → old ≡ started s.entries → IsAnswer (setting_in s closing) closing.tx_set old new (Ok done)
     → IsIndexOf new.current index → IsIndexOf (applied_in s closing).entries index
 applied_index s closing old new done index begun answer is =

@@ -80,17 +80,13 @@ split (suc n) (x ∷ xs) (y ∷ ys) p q = by (split n xs ys (omega arith) (omega
 
 -- ---- a word that decides, and one that is tied
 
-differs : (x y : ℕ) (s : Ordering) → (x ≡ y → ⊥) → ordering_then (nat_cmp x y) s ≡ nat_cmp x y
-differs x y s other = by (nat_cmp x y) refl (ranks x y)
-  where
-    by : (r : Ordering) → nat_cmp x y ≡ r → MatchOrdering r (x < y) (x ≡ y) (y < x)
-        → ordering_then (nat_cmp x y) s ≡ nat_cmp x y
-    by Less is l = rw is refl
-    by Equal is l = absurd (other l)
-    by Greater is l = rw is refl
+decides : (r s : Ordering) → (r ≡ Equal → ⊥) → ordering_then r s ≡ r
+decides Less s other = refl
+decides Equal s other = absurd (other refl)
+decides Greater s other = refl
 
-is_tied : (x y : ℕ) → x ≡ y → nat_cmp x y ≡ Equal
-is_tied x y e = subst (λ z. nat_cmp x z ≡ Equal) e (sym (nat_cmp_is x x Equal refl))
+passes : (r s : Ordering) → r ≡ Equal → ordering_then r s ≡ s
+passes r s e = ap (λ t. ordering_then t s) e
 
 -- ---- 32 bytes
 
@@ -126,27 +122,15 @@ module _ (xs ys : List ℕ) where
 
   -- ---- the word that decides
 
-  module _ (p : length xs ≡ 32) (q : length ys ≡ 32) (f : Bytes xs) (g : Bytes ys) where
-    spelt_at : (i : ℕ) → i + 8 ≤ 32
-        → nat_cmp (big_endian 0 (chunk i 8 xs)) (big_endian 0 (chunk i 8 ys)) ≡ word_cmp i
-    spelt_at i h = word_spelt xs ys i 8 (omega arith) (omega arith) f g
-
+  module _ (p : length xs ≡ 32) (q : length ys ≡ 32) where
     abbrev pub Tied : ℕ → Type 0
-    Tied i = big_endian 0 (chunk i 8 xs) ≡ big_endian 0 (chunk i 8 ys)
-
-    decides : (i : ℕ) (s : Ordering) → i + 8 ≤ 32 → (Tied i → ⊥) → ordering_then (word_cmp i) s ≡ word_cmp i
-    decides i s h other = subst (λ r. ordering_then r s ≡ r) (spelt_at i h) (differs _ _ s other)
-
-    passes : (i : ℕ) (s : Ordering) → i + 8 ≤ 32 → Tied i → ordering_then (word_cmp i) s ≡ s
-    passes i s h e = ap (λ r. ordering_then r s) (sym (spelt_at i h) ∙ is_tied _ _ e)
+    Tied i = word_cmp i ≡ Equal
 
     pub by_second : Tied 0 → (Tied 8 → ⊥) → bytes_cmp xs ys ≡ word_cmp 8
-    by_second e other = four_words p q ∙ passes 0 _ (omega arith) e ∙ decides 8 _ (omega arith) other
+    by_second e other = four_words p q ∙ passes _ _ e ∙ decides _ _ other
 
     pub by_third : Tied 0 → Tied 8 → (Tied 16 → ⊥) → bytes_cmp xs ys ≡ word_cmp 16
-    by_third e h other =
-        four_words p q ∙ passes 0 _ (omega arith) e ∙ passes 8 _ (omega arith) h ∙ decides 16 _ (omega arith) other
+    by_third e h other = four_words p q ∙ passes _ _ e ∙ passes _ _ h ∙ decides _ _ other
 
     pub by_last : Tied 0 → Tied 8 → Tied 16 → bytes_cmp xs ys ≡ word_cmp 24
-    by_last e h k =
-        four_words p q ∙ passes 0 _ (omega arith) e ∙ passes 8 _ (omega arith) h ∙ passes 16 _ (omega arith) k
+    by_last e h k = four_words p q ∙ passes _ _ e ∙ passes _ _ h ∙ passes _ _ k

@@ -11,14 +11,17 @@ use std::cmp::Ordering;
 pub(crate) fn bytes_order(a: &[u8; 32], b: &[u8; 32]) -> Ordering
     ensures { result ≡ bytes_cmp a.now b.now }
 {
-    if word_at(a, 0) != word_at(b, 0) {
-        return word_order(a, b, 0);
+    match word_order(a, b, 0) {
+        Ordering::Equal => {}
+        order => return order,
     }
-    if word_at(a, 8) != word_at(b, 8) {
-        return word_order(a, b, 8);
+    match word_order(a, b, 8) {
+        Ordering::Equal => {}
+        order => return order,
     }
-    if word_at(a, 16) != word_at(b, 16) {
-        return word_order(a, b, 16);
+    match word_order(a, b, 16) {
+        Ordering::Equal => {}
+        order => return order,
     }
     word_order(a, b, 24)
 }

@@ -14,11 +14,10 @@ use Rattle.ledger_types.specs.declared.entry.LedgerEntry.{LedgerEntry}
 use Rattle.ledger_types.specs.declared.entry.LedgerEntryBody.{LedgerEntryBody}
 use Rattle.ledger_types.specs.declared.entry.LedgerEntryBody.TheVariants as body
 use Rattle.ledger_types.specs.declared.key.LedgerKey.{LedgerKey}
-use Rattle.ledger_types.specs.Keys.{key_of}
+use Rattle.ledger_types.specs.Keys.{key_of, key_of_body}
 use Rattle.ledger_types.specs.KeyOrder.{account_cmp, key_cmp}
-use Rattle.entry_map.specs.Book.{offer_in, offers_in, offers_of, AreApart}
+use Rattle.entry_map.specs.Book.{offer_in, offer_of, offers_in, offers_of, AreApart}
 use Rattle.entry_map.specs.EntryMap.{EntryMap, IsKeyed}
-use Rattle.entry_map.proofs.Books.{all_there}
 use Rattle.entry_map.proofs.Layers.{some_is}
 use Rattle.entry_slots.specs.Offers.{offer_at}
 use Rattle.offer_book.specs.Book.{offers_by, AreNumbered}
@@ -120,7 +119,9 @@ module _ (v : View) (id_pool : ℕ) (owed : Owed) (sum : ℤ) (m : EntryMap) (le
 
     all_stand : All (IsThere m) (offers_of m)
     unfolding offer_at
-    all_stand = all_there m own_keys
+    all_stand = each_offer m (IsThere m) (λ k e o there is.
+        ap (λ q. offer_of (get m q)) (sym (ap key_of_body is) ∙ legal.keyed k e there)
+        ∙ ap offer_of there ∙ ap offer_in is)
 
     pub offers_standing : (seller : AccountId) → AreStanding m (offers_by m seller)
     unfolding offers_by

@@ -1,7 +1,7 @@
 //! What no contract says: that calls succeed where there is memory.
 
 use entry_map::{Base, Entries};
-use entry_table::{EntryTable, kept_entry};
+use entry_table::{EntryRow, EntryTable, kept_entry};
 use ledger_types::{AccountId, Asset, LedgerEntry, LedgerEntryBody, LedgerKey, OfferEntry, Price};
 use std::alloc::{AllocError, Global};
 
@@ -60,4 +60,60 @@ fn is_stamped(alloc: Global) -> Result<bool, AllocError> {
 #[test]
 fn a_new_offer_has_the_number_of_its_ledger(rt: HostRuntime) {
     assert!(rt; is_stamped(rt.alloc()) == Ok(true));
+}
+
+/// The number of the offer that an entry is, if there is one and it is an offer.
+fn number_of(entry: &Option<LedgerEntry>) -> Option<i64> {
+    match entry {
+        None => None,
+        Some(entry) => match &entry.body {
+            LedgerEntryBody::Offer(offer) => Some(offer.offer_id),
+            _ => None,
+        },
+    }
+}
+
+/// The number of the offer that a base has under a key.
+fn number_under<B: Base>(base: &B, key: &LedgerKey) -> Result<Option<i64>, AllocError> {
+    let found = base.find(key)?;
+    Ok(number_of(&found))
+}
+
+/// The number of the offer that a base has behind a key.
+fn number_behind<B: Base>(base: &B, key: &LedgerKey) -> Result<Option<i64>, AllocError> {
+    let found = base.next_after(key)?;
+    Ok(number_of(&found))
+}
+
+/// The number of the best offer of a base that sells and buys lumens.
+fn number_at_head<B: Base>(base: &B) -> Result<Option<i64>, AllocError> {
+    match base.offer_after(&Asset::Native, &Asset::Native, None)? {
+        None => Ok(None),
+        Some(offer) => Ok(Some(offer.offer_id)),
+    }
+}
+
+/// Whether the row of a table of the offers 2 and 3 answers as the table does.
+fn is_as_its_table(row: &EntryRow<'_>) -> Result<bool, AllocError> {
+    let second = LedgerKey::Offer {
+        seller_id: SELLER,
+        offer_id: 2,
+    };
+    let found = number_under(row, &second)?;
+    let next = number_behind(row, &second)?;
+    let head = number_at_head(row)?;
+    Ok(row.len() == 2 && found == Some(2) && next == Some(3) && head == Some(2))
+}
+
+/// Whether a table of two offers has such a row.
+fn has_row(alloc: Global) -> Result<bool, AllocError> {
+    let table = one_offer(alloc)?;
+    let next = next_offer(alloc, &table)?;
+    let row = EntryRow::new(alloc, &next)?;
+    is_as_its_table(&row)
+}
+
+#[test]
+fn a_row_answers_as_its_table_does(rt: HostRuntime) {
+    assert!(rt; has_row(rt.alloc()) == Ok(true));
 }

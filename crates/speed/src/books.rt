@@ -12,6 +12,12 @@ const CHANGED: u32 = 1_000;
 
 const BATCH: u32 = 100;
 
+// How many offers a measure of walks asks for in all, and how often one of heads asks.
+const ANSWERS: u32 = 1_000_000;
+
+// How many indexes a measure makes.
+const INDEXES: u32 = 1_000;
+
 // A prime, so that no offer is changed twice unless it divides the count.
 const STEP: u64 = 7919;
 
@@ -89,12 +95,17 @@ fn put_offers(
     Ok(())
 }
 
-/// Goes through the book of the pair, from its head to its end.
+/// Goes through the book of the pair, from its head to its end and from its head again, until it saw as many offers as
+/// a measure asks for.
 fn walk(entries: &Entries<'_, MapBase>) -> Result<Seen, AllocError> {
     let mut seen = Seen::nothing();
     let mut after = None;
-    for _ in 0..u64::MAX {
-        let Some(next) = entries.offer_after(&sold(0), &Asset::Native, after)? else {
+    for _ in 0..ANSWERS {
+        let next = match entries.offer_after(&sold(0), &Asset::Native, after)? {
+            Some(next) => Some(next),
+            None => entries.offer_after(&sold(0), &Asset::Native, None)?,
+        };
+        let Some(next) = next else {
             break;
         };
         seen.see(next.offer_id);
@@ -104,7 +115,7 @@ fn walk(entries: &Entries<'_, MapBase>) -> Result<Seen, AllocError> {
 }
 
 /// Makes a map of `count` offers of one pair, and changes a thousand of them in a layer. Where `through` says so, it
-/// goes through their whole book.
+/// goes through their book, again and again.
 pub fn pass_book(alloc: Global, count: u32, through: bool) -> Result<Seen, AllocError> {
     let base = no_entries(alloc)?;
     let mut entries = Entries::new(alloc, &base)?;
@@ -132,7 +143,7 @@ fn erase_best(entries: &mut Entries<'_, MapBase>, count: u32) -> Result<(), Allo
 }
 
 /// Makes a map of 20,000 offers of one pair, of which the best are erased in a layer. Where `calls` says so, it asks
-/// 10,000 times for the head of their book, in the layer above.
+/// a million times for the head of their book, in the layer above.
 pub fn pass_head(alloc: Global, erased: u32, calls: bool) -> Result<Seen, AllocError> {
     let base = no_entries(alloc)?;
     let mut entries = Entries::new(alloc, &base)?;
@@ -141,7 +152,7 @@ pub fn pass_head(alloc: Global, erased: u32, calls: bool) -> Result<Seen, AllocE
     erase_best(&mut entries, erased)?;
     entries.child()?;
     let mut seen = Seen::nothing();
-    for _ in 0..if calls { 10_000u32 } else { 0 } {
+    for _ in 0..if calls { ANSWERS } else { 0 } {
         if let Some(best) = entries.offer_after(&sold(0), &Asset::Native, None)? {
             seen.see(best.offer_id);
         }
@@ -171,7 +182,7 @@ fn batch_of(
 }
 
 /// Makes the index of `count` offers in some pairs. Where `over` says so, it makes the one behind a batch of a hundred
-/// a hundred times.
+/// a thousand times.
 pub fn pass_index(alloc: Global, count: u32, pairs: u32, over: bool) -> Result<Seen, AllocError> {
     let mut offers = Vec::new(alloc);
     for number in 0..count {
@@ -180,7 +191,7 @@ pub fn pass_index(alloc: Global, count: u32, pairs: u32, over: bool) -> Result<S
     let index = OfferIndex::from_offers(alloc, offers.as_slice())?;
     let (batch, before) = batch_of(alloc, offers.as_slice(), pairs)?;
     let mut seen = Seen::nothing();
-    for _ in 0..if over { 100u32 } else { 0 } {
+    for _ in 0..if over { INDEXES } else { 0 } {
         let next = index.with_changes(before.as_slice(), &batch)?;
         if let Some((_, id)) = next.after(&sold(0), &Asset::Native, None) {
             seen.see(id);

@@ -18,11 +18,13 @@
 //!
 //! Both print how many bytes the merge has, or both files together.
 //!
-//!     speed book COUNT              makes a map of so many offers, a thousand of them changed, and walks their book
+//!     speed book COUNT              makes a map of so many offers, a thousand of them changed; walks their book for a
+//!                                   million answers
 //!     speed book-base COUNT         makes the map alone
-//!     speed head COUNT              makes a map whose so many best offers are erased; asks 10,000 times for its best
+//!     speed head COUNT              makes a map whose so many best offers are erased; asks for its best a million
+//!                                   times
 //!     speed head-base COUNT         makes the map alone
-//!     speed index COUNT PAIRS       makes an index of so many offers, and 100 times the one behind a batch of 100
+//!     speed index COUNT PAIRS       makes an index of so many offers, and 1,000 times the one behind a batch of 100
 //!     speed index-base COUNT PAIRS  makes the index alone
 //!
 //! These print how many offers were answered, and the sum of their numbers.

@@ -1,7 +1,7 @@
 use Rattle.std.proofs.Common.{ap, ◌∙◌}
 use Rattle.std.specs.FinMap.{from_sorted}
 use Rattle.entry_map.proofs.Places.{order}
-use Rattle.entry_map.proofs.Sets.{row_empty}
+use Rattle.entry_map.proofs.PlaceMaps.{row_empty}
 use Rattle.entry_map.proofs.index.OfferIndex.empty.Goals as goal
 
 pub returns : goal.returns

@@ -1,7 +1,6 @@
 use Rattle.std.proofs.Common.{◌≡◌, take}
-use Rattle.entry_map.specs.declared.place.Place.{Place}
-use Rattle.entry_map.specs.Indexes.{has, is_taken}
+use Rattle.entry_map.specs.Indexes.{index_of}
 use Rattle.entry_map.proofs.index.OfferIndex.from_offers.Given as goal
 
 abbrev pub invariant-loop-offer : goal.invariant-loop-offer
-invariant-loop-offer l = (p : Place) → has l.index p ≡ is_taken (take l.offer-index l.offers) p
+invariant-loop-offer l = l.index ≡ index_of (take l.offer-index l.offers)

@@ -1,18 +1,15 @@
+use Rattle.std.proofs.Common.{sym, subst}
+use Rattle.entry_map.specs.Indexes.{IsLeastPlace}
 use Rattle.entry_map.proofs.Pairs.{other_pair}
 use Rattle.entry_map.proofs.index.OfferIndex.next_place.Goals as goal
 use Rattle.entry_map.proofs.index.OfferIndex.next_place.Goals.{else-is_same-via-then-is_same+else-is_same-2}
 use Rattle.entry_map.proofs.index.OfferIndex.next_place.Goals.{else-is_same-via-else-is_same}
 
-pub returns-then-is_same-2 : goal.returns-then-is_same-2
-returns-then-is_same-2 c = record {
-  least = c.in_ok-next.ensures;
-  selling = c.is_same.ensures.same.0 c.if-is_same.true;
-  buying = c.is_same-then-is_same.ensures.same.0 c.if-is_same-2.true;
-}
-
 pub returns-else-is_same : goal.returns-else-is_same
 returns-else-is_same c =
-    other_pair c.args.self.now c.args.start.now c.in_ok-next.next c.in_ok-next.ensures (λ selling buying.
+    other_pair c.args.self.now c.args.start.now c.key-place.result.now c.in_ok-next.next.now.1
+    (subst (λ place. IsLeastPlace c.args.self.now c.args.start.now place c.in_ok-next.next.now.1)
+    (sym c.key-place.ensures) c.in_ok-next.ensures) (λ selling buying.
     elim c.else-is_same.branch [
       | else-is_same-via-then-is_same+else-is_same-2 w ↦
           absurd (cc (w.if-is_same-2.false, w.is_same-then-is_same.ensures.tied, buying))

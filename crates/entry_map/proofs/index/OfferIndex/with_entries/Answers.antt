@@ -1,10 +1,8 @@
-use Rattle.std.proofs.Common.{ap}
-use Rattle.entry_map.specs.Indexes.{has}
-use Rattle.entry_map.proofs.Building.{more_entries, all_entries_in}
+use Rattle.entry_map.proofs.Building.{more_entries, all_entries_in, no_offers_in}
 use Rattle.entry_map.proofs.index.OfferIndex.with_entries.Goals as goal
 
 pub loop-entry-init : goal.loop-entry-init
-loop-entry-init c p = ap (λ s. has s p) c.in_ok-index.ensures
+loop-entry-init c = no_offers_in c.args.self.now c.in_ok-index.index c.in_ok-index.ensures
 
 pub loop-entry-preserved : goal.loop-entry-preserved
 loop-entry-preserved c = more_entries c.args.entries.now c.loop-entry.entry-index c.entry-item.result c.args.self.now

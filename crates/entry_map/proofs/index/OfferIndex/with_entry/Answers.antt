@@ -1,16 +1,16 @@
-use Rattle.std.proofs.Common.{sym, ap, subst, ◌∙◌, ◌||◌}
+use Rattle.std.proofs.Common.{sym, ap, subst, ◌∙◌}
 use Rattle.std.specs.Option.{option_copied}
 use Rattle.std.proofs.lemmas.Result.{IfOk-weaker}
 use Rattle.entry_map.specs.EntryMap.{put}
-use Rattle.entry_map.specs.Indexes.{has, IsIndexOf}
+use Rattle.entry_map.specs.Indexes.{IsIndexOf}
 use Rattle.entry_map.proofs.Books.{index_kept}
-use Rattle.entry_map.proofs.Building.{index_new, none_taken, one_taken}
+use Rattle.entry_map.proofs.Building.{index_new, none_put, one_put}
 use Rattle.entry_map.proofs.index.OfferIndex.with_entry.Goals as goal
 
 pub returns-in-None-clause-value : goal.returns-in-None-clause-value
 returns-in-None-clause-value c = IfOk-weaker c.share.result _ _
-    (λ index same p. ap (λ s. has s p) same ∙ sym (ap (λ b. b || has c.args.self.now p)
-    (none_taken c.args.entry.now p (sym c.offer_in.ensures ∙ ap option_copied c.in-None.is)))) c.share.ensures
+    (λ index same. same ∙ sym (none_put c.args.entry.now c.args.self.now
+    (sym c.offer_in.ensures ∙ ap option_copied c.in-None.is))) c.share.ensures
 
 pub returns-in-None-clause-map : goal.returns-in-None-clause-map
 returns-in-None-clause-map c m is none = IfOk-weaker c.share.result _ _
@@ -20,8 +20,8 @@ returns-in-None-clause-map c m is none = IfOk-weaker c.share.result _ _
 
 pub returns-in-Some-clause-value : goal.returns-in-Some-clause-value
 returns-in-Some-clause-value c = IfOk-weaker c.with_offer.result _ _
-    (λ index made p. one_taken c.args.entry.now c.in-Some.offer.now c.args.self.now index p
-    (sym c.offer_in.ensures ∙ ap option_copied c.in-Some.is) made) c.with_offer.ensures.value
+    (λ index made. made ∙ sym (one_put c.args.entry.now c.in-Some.offer.now c.args.self.now
+    (sym c.offer_in.ensures ∙ ap option_copied c.in-Some.is))) c.with_offer.ensures.value
 
 pub returns-in-Some-clause-map : goal.returns-in-Some-clause-map
 returns-in-Some-clause-map c m is none = IfOk-weaker c.with_offer.result _ _

@@ -4,7 +4,7 @@ use Rattle.close_rules.specs.declared.image_fault.ImageRule.TheVariants as rule
 use Rattle.image_rules.specs.RuleLists.{book_rules}
 use Rattle.image_rules.proofs.Bounded.{terms_of}
 use Rattle.image_rules.proofs.Judged.{broken_first, kept_first}
-use Rattle.image_rules.proofs.verdict.first_broken.Goals as goal
+use Rattle.image_rules.proofs.verdict.first_in_row.Goals as goal
 
 pub returns-then-not-within : goal.returns-then-not-within
 returns-then-not-within c =

@@ -14,7 +14,7 @@ ledger of the last whole `closed` line that came, or to the next one; a run with
 records that follow print what the whole run printed from there on.
 
 Such a crash is one of the process alone: what it wrote stays in the memory of the system. That power is lost is what the contracts of the
-store speak of, and what the program `stopped_runs` shows over a volume in memory.
+store speak of, and what the program `trial_runs` shows over a volume in memory.
 
 Exit status: 0 where all is well, 1 where a run left anything else, 2 where a run fails. Python 3.9 or later and its standard library.
 """

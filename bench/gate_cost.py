@@ -66,14 +66,23 @@ def checked(process):
     return total
 
 
-def used(process):
-    """What a process is, if it is a prover or compiler: when it started, its crate, what for, seconds and bytes so far."""
+def command(process):
+    """The words of a process that is a prover or compiler."""
     with open(f"/proc/{process}/cmdline") as file:
         words = file.read().split("\0")
-    if not words[0].endswith("/rattle") or "--crate-name" not in words:
+    return words if words[0].endswith("/rattle") and "--crate-name" in words else None
+
+
+def used(process):
+    """What a process is, if it is a prover or compiler: when it started, its crate, what for, seconds and bytes so far."""
+    words = command(process)
+    if words is None:
         return None
     with open(f"/proc/{process}/stat") as file:
         state = file.read().rsplit(")", 1)[1].split()
+    if command(state[1]):
+        # a part of another one, which has its time as soon as it waited for it
+        return None
     # its own time and that of the children that it waited for, of the program and of the system
     seconds = sum(map(int, state[11:15])) / TICKS
     name = words[words.index("--crate-name") + 1]

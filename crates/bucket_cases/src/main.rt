@@ -19,8 +19,8 @@ mod verdict;
 mod wanted;
 
 use bucket_core::{Bucket, BucketFault};
+use case_values::bytes_of;
 use handed::run_handed;
-use hex::FromHexError;
 use levels::Closing;
 use merged::merge_of;
 use std::alloc::{AllocError, Global};
@@ -31,15 +31,6 @@ use verdict::verdict_of;
 
 /// The ledger behind which the levels are made anew of their files.
 const RESTARTED: u32 = 70;
-
-/// The bytes that a text says in hexadecimal, or none where it is none.
-fn bytes_of(alloc: Global, digits: &str) -> Result<Option<Vec<u8>>, AllocError> {
-    match hex::decode(alloc, digits) {
-        Ok(bytes) => Ok(Some(bytes)),
-        Err(FromHexError::OutOfMemory) => Err(AllocError),
-        Err(_) => Ok(None),
-    }
-}
 
 /// Reads a file, and prints it where it is otherwise than wanted.
 fn run_file<R: Print + AllocGlobal>(rt: &R, digits: &str, wanted: &str) -> io::Result<()> {

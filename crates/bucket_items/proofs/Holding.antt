@@ -2,14 +2,14 @@
 use Rattle.std.proofs.Common.{◌≡◌, ℕ, ◌+◌, ◌≤◌, ℤ, pos, List, [], ◌++◌, length, drop, take, Ok, Err, refl, sym, ap}
 use Rattle.std.proofs.Common.{subst}
 use Rattle.std.proofs.Common.{◌∙◌, append_assoc, arith}
-use Rattle.std.proofs.lemmas.List.{append-nil, length-append}
+use Rattle.std.proofs.lemmas.List.{length-append}
 use Rattle.std.specs.Int.{w32, cast_unsigned}
 use Rattle.xdr_core.specs.declared.fault.XdrFault.{XdrFault}
 use Rattle.xdr_core.specs.Place.{Place, start_of}
 use Rattle.xdr_core.specs.Format.{IsBytes}
 use Rattle.xdr_core.specs.Leaves.{u32, i32}
 use Rattle.xdr_core.proofs.Numbers.{wide4}
-use Rattle.xdr_core.proofs.LeafLaws.{drop_front, take_front, i32_within, i32_sized, i32_lawful}
+use Rattle.xdr_core.proofs.LeafLaws.{drop_front, take_front}
 use Rattle.ledger_types.specs.declared.key.LedgerKey.{LedgerKey}
 use Rattle.ledger_types.specs.declared.entry.LedgerEntry.{LedgerEntry}
 use Rattle.ledger_types.specs.declared.bucket.BucketEntry.{BucketEntry}

@@ -1,6 +1,6 @@
 -- A record of an item reads as the item, and what reads as one is its record.
-use Rattle.std.proofs.Common.{◌≡◌, ℕ, ◌+◌, ◌<◌, ◌≤◌, List, [], ◌++◌, length, Ok, Err, refl, sym, ap, subst, ◌∙◌, arith}
-use Rattle.std.proofs.lemmas.List.{append-nil, length-append}
+use Rattle.std.proofs.Common.{◌≡◌, ℕ, ◌+◌, ◌<◌, ◌≤◌, List, [], ◌++◌, length, Ok, refl, sym, ap, subst, ◌∙◌, arith}
+use Rattle.std.proofs.lemmas.List.{append-nil}
 use Rattle.std.specs.Prelude.{Result}
 use Rattle.xdr_core.specs.declared.fault.XdrFault.{XdrFault}
 use Rattle.xdr_core.specs.Place.{Place, Reading, ◌>>=◌}
@@ -10,7 +10,7 @@ use Rattle.xdr_core.proofs.Marks.{mark_lawful, mark_is_read, marked_leaves}
 use Rattle.ledger_types.specs.declared.bucket.BucketEntry.{BucketEntry}
 use Rattle.xdr_entries.specs.Keys.{bucket_entry}
 use Rattle.xdr_entries.proofs.KeyLaws.{bucket_entry_laws}
-use Rattle.bucket_items.specs.Item.{ended, whole_at, IsItemText}
+use Rattle.bucket_items.specs.Item.{ended, whole_at}
 use Rattle.bucket_items.specs.MarkedItem.{max_item_len, record_of, IsSpellable, behind_mark, item_in, item_at}
 use Rattle.bucket_items.proofs.Marking.{whole_is_text, item_says}
 

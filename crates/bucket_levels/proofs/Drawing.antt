@@ -1,12 +1,11 @@
 -- A job that is drawn, and an outcome that is handed in, change what is kept of one level.
-use Rattle.std.proofs.Common.{◌≡◌, ℕ, ◌<◌, List, Option, Some, None, length, map, set, get_or, refl, sym, ap, subst}
+use Rattle.std.proofs.Common.{◌≡◌, ℕ, ◌<◌, List, Option, Some, None, length, map, set, get_or, sym, ap, subst}
 use Rattle.std.proofs.Common.{◌∙◌, inl, inr, arith, is_some, true, false, IfSome}
 use Rattle.std.proofs.lemmas.Bool.{cases_eq, cases_lt}
 use Rattle.std.proofs.lemmas.List.{length-map, get_or_past, length-set, get_or-set_same, get_or-set_other, map-set}
 use Rattle.std.proofs.lemmas.Option.{none-some, same_Some}
 use Rattle.bucket_merge.specs.Job.{Job}
 use Rattle.bucket_levels.specs.Spills.{level_count}
-use Rattle.bucket_levels.specs.EachLevel.{EachLevel}
 use Rattle.bucket_levels.specs.Pairs.{Pair}
 use Rattle.bucket_levels.specs.Levels.{LevelsAt}
 use Rattle.bucket_levels.specs.Pending.{PendingAt, pending_at, not_pending, IsPending}

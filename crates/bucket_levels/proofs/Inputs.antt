@@ -1,22 +1,17 @@
 -- What is pending stays so until it is committed, and then it is what the step merges.
-use Rattle.std.proofs.Common.{◌≡◌, ℕ, zero, suc, ◌+◌, ◌-◌, ◌<◌, ◌≤◌, Bool, true, false, List, length, refl, sym, ap}
+use Rattle.std.proofs.Common.{◌≡◌, ℕ, zero, suc, ◌+◌, ◌-◌, ◌<◌, ◌≤◌, Bool, true, false, List, sym, ap}
 use Rattle.std.proofs.Common.{subst}
-use Rattle.std.proofs.Common.{◌∙◌, arith, map, Some, None, Option, get_or, is_some}
+use Rattle.std.proofs.Common.{◌∙◌, arith, None}
 use Rattle.std.specs.Prelude.{if◌then◌else◌}
-use Rattle.std.proofs.lemmas.List.{get_or-map, length-map}
 use Rattle.bucket_core.specs.Bucket.{Contents}
 use Rattle.bucket_merge.specs.Job.{Job}
 use Rattle.bucket_merge.specs.Merge.{IsMerge}
-use Rattle.bucket_levels.specs.Spills.{level_count, half, upper, spills}
+use Rattle.bucket_levels.specs.Spills.{half, spills}
 use Rattle.bucket_levels.specs.Pairs.{Pair, pair_at}
-use Rattle.bucket_levels.specs.Step.{base_at, snap_after, IsMergedIf, IsCurrAfter, IsPairAfter, IsStep}
-use Rattle.bucket_levels.specs.Pending.{PendingAt, pending_at, not_pending, begun, undrawn_at, start_of, commit_of}
-use Rattle.bucket_levels.specs.Pending.{IsPending, renews, AreRenewed, AreUndrawnAt}
-use Rattle.bucket_levels.specs.Held.{pending_of, nothing_pending, IsHeld, AreHeld, AreUndrawn, IsJobIf, AreBegun}
-use Rattle.bucket_levels.specs.Held.{renewed}
-use Rattle.bucket_levels.specs.Held.{AllRenewed}
-use Rattle.bucket_levels.specs.declared.pending.PendingMerge.{PendingMerge}
-use Rattle.bucket_levels.proofs.Starts.{commit_is_next, start_is_now, start_stays}
+use Rattle.bucket_levels.specs.Step.{base_at, IsMergedIf, IsCurrAfter, IsStep}
+use Rattle.bucket_levels.specs.Pending.{start_of}
+use Rattle.bucket_levels.specs.Pending.{IsPending}
+use Rattle.bucket_levels.proofs.Starts.{commit_is_next, start_stays}
 
 -- ---- the inputs
 

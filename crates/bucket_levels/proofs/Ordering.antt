@@ -1,5 +1,5 @@
 -- The step in order is the step that is said all at once.
-use Rattle.std.proofs.Common.{◌≡◌, ℕ, zero, suc, ◌+◌, ◌<◌, ◌≤◌, Bool, true, false, eqb, List, length, Option, Some}
+use Rattle.std.proofs.Common.{◌≡◌, ℕ, zero, suc, ◌+◌, ◌<◌, ◌≤◌, Bool, true, false, eqb, List, Option, Some}
 use Rattle.std.proofs.Common.{None}
 use Rattle.std.proofs.Common.{map, zero-add, ◌⊎◌, inl, inr, refl, sym, ap, subst, ◌∙◌, arith, eq-eqb}
 use Rattle.std.specs.Prelude.{if◌then◌else◌}
@@ -12,10 +12,10 @@ use Rattle.bucket_merge.specs.Merge.{IsMerge}
 use Rattle.bucket_levels.specs.Spills.{level_count, half, upper, spills}
 use Rattle.bucket_levels.specs.Pairs.{Pair, empty_pair, pair_at}
 use Rattle.bucket_levels.specs.Step.{IsMergedIf, IsPairAfter, IsStep, base_at, snap_after}
-use Rattle.bucket_levels.specs.Pending.{start_of, commit_of}
+use Rattle.bucket_levels.specs.Pending.{start_of}
 use Rattle.bucket_levels.specs.InOrder.{PendingInputs, InOrder, put_at, IsNext, spilled, begins, committed}
 use Rattle.bucket_levels.specs.InOrder.{IsCommittedIf}
-use Rattle.bucket_levels.specs.InOrder.{AreCommitted, IsStepInOrder, pending_inputs, IsOfFiles, StepsAreInOrder}
+use Rattle.bucket_levels.specs.InOrder.{AreCommitted, pending_inputs, IsOfFiles, StepsAreInOrder}
 use Rattle.bucket_levels.proofs.Halves.{none_spills_below}
 use Rattle.bucket_levels.proofs.Inputs.{curr_stays_if}
 use Rattle.bucket_levels.proofs.Starts.{commit_is_next, start_is_now, start_stays}

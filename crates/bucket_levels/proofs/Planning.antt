@@ -1,12 +1,12 @@
 -- A step is planned level by level.
-use Rattle.std.proofs.Common.{◌≡◌, ℕ, zero, suc, ◌+◌, ◌-◌, ◌<◌, ◌≤◌, List, [], ◌∷◌, ◌++◌, length, map, get_or, refl}
+use Rattle.std.proofs.Common.{◌≡◌, ℕ, zero, suc, ◌+◌, ◌-◌, ◌<◌, ◌≤◌, List, [], ◌∷◌, ◌++◌, length, map, get_or}
 use Rattle.std.proofs.Common.{sym}
 use Rattle.std.proofs.Common.{ap, subst, ◌∙◌, add-one, arith, below_more}
 use Rattle.std.proofs.lemmas.List.{get_or-map, get_or_append_left, get_or_push, length_push, map-append}
 use Rattle.bucket_core.specs.Bucket.{Contents}
 use Rattle.bucket_levels.specs.declared.pair.LevelPair.{LevelPair}
 use Rattle.bucket_levels.specs.Spills.{level_count}
-use Rattle.bucket_levels.specs.Pairs.{Pair, pair_at, empty_pair}
+use Rattle.bucket_levels.specs.Pairs.{pair_at, empty_pair}
 use Rattle.bucket_levels.specs.Levels.{LevelsAt, pair_of}
 use Rattle.bucket_levels.specs.Work.{work_at, work_above}
 use Rattle.bucket_levels.specs.EachLevel.{EachLevel}

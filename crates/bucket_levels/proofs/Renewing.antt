@@ -9,10 +9,9 @@ use Rattle.std.proofs.lemmas.Option.{none-some, same_Some}
 use Rattle.bucket_core.specs.Bucket.{Contents}
 use Rattle.bucket_merge.specs.Job.{Job}
 use Rattle.bucket_levels.specs.Spills.{level_count, spills}
-use Rattle.bucket_levels.specs.EachLevel.{EachLevel}
 use Rattle.bucket_levels.specs.Pairs.{Pair}
 use Rattle.bucket_levels.specs.Step.{IsStep}
-use Rattle.bucket_levels.specs.Pending.{PendingAt, pending_at, not_pending, begun, undrawn_at, IsPending, renews}
+use Rattle.bucket_levels.specs.Pending.{PendingAt, pending_at, not_pending, begun, IsPending, renews}
 use Rattle.bucket_levels.specs.Pending.{AreRenewed, AreUndrawnAt}
 use Rattle.bucket_levels.specs.Held.{pending_of, nothing_pending, IsHeld, AreHeld, AreUndrawn, IsJobIf, AreBegun}
 use Rattle.bucket_levels.specs.Held.{renewed, AllRenewed, AreRenewedTo}

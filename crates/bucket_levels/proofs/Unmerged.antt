@@ -3,8 +3,7 @@
 use Rattle.std.proofs.Common.{◌≡◌, ℕ, zero, suc, ◌-◌, ◌<◌, ◌≤◌, Bool, true, false, List, Option, Some, None, refl}
 use Rattle.std.proofs.Common.{eqb, sym, ap, subst, arith}
 use Rattle.std.specs.Prelude.{nat_eq, if◌then◌else◌}
-use Rattle.ledger_types.specs.declared.key.LedgerKey.{LedgerKey}
-use Rattle.bucket_core.specs.Bucket.{Change, Init, Live, Dead, Contents, change_at, version_of}
+use Rattle.bucket_core.specs.Bucket.{Change, Init, Live, Dead, Contents, change_at}
 use Rattle.bucket_merge.specs.Merge.{kept, merged_change, IsMerge}
 use Rattle.bucket_levels.specs.Spills.{spills}
 use Rattle.bucket_levels.specs.Pairs.{Pair, pair_at}

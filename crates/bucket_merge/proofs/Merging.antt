@@ -5,15 +5,13 @@ use Rattle.std.proofs.Common.{subst, ◌∙◌, All, eqb, arith, length, ◌++�
 use Rattle.std.proofs.lemmas.Bool.{cases_lt}
 use Rattle.std.proofs.lemmas.List.{length-append}
 use Rattle.std.specs.Prelude.{option_and_then}
-use Rattle.std.proofs.lemmas.List.Elements.{All-from_recursion, recursion_from_All, All-head, All-tail, All-cons}
-use Rattle.std.proofs.lemmas.List.Elements.{All-nil}
+use Rattle.std.proofs.lemmas.List.Elements.{All-from_recursion, recursion_from_All}
 use Rattle.std.specs.List.{AllByRecursion}
-use Rattle.std.specs.FinMap.{get, entries, entries_sorted, from_sorted, get-entries, entries-from_sorted}
+use Rattle.std.specs.FinMap.{entries, entries_sorted, get-entries, entries-from_sorted}
 use Rattle.std.specs.FinMap.{get-from_sorted}
-use Rattle.std.specs.FinMap.Entries.{find, is_sorted}
+use Rattle.std.specs.FinMap.Entries.{find}
 use Rattle.ledger_types.specs.declared.key.LedgerKey.{LedgerKey}
 use Rattle.ledger_types.specs.declared.entry.LedgerEntry.{LedgerEntry}
-use Rattle.ledger_types.specs.declared.bucket.BucketEntry.{BucketEntry}
 use Rattle.ledger_types.specs.declared.bucket.BucketEntry.TheVariants as bucket
 use Rattle.ledger_types.specs.KeyOrder.{key_cmp}
 use Rattle.xdr_core.specs.Leaves.{i32}
@@ -26,7 +24,7 @@ use Rattle.bucket_core.specs.File.{item_of, items_of, HasFile}
 use Rattle.bucket_core.proofs.Files.{nothing_has_file}
 use Rattle.bucket_merge.specs.Merge.{joined, kept, merged_change, greater_version, IsMerge}
 use Rattle.bucket_merge.specs.Walk.{Pair, put, walk, changes_of, filled_with, merge_of}
-use Rattle.bucket_merge.proofs.WalkLaws.{Sorted, Above, along, InOrder, walk_in_order, walk_merges}
+use Rattle.bucket_merge.proofs.WalkLaws.{Sorted, along, walk_in_order, walk_merges}
 
 -- ---- key by key
 

@@ -1,5 +1,5 @@
 -- Both sides of a merge, from the first items to the last ones.
-use Rattle.std.proofs.Common.{◌≡◌, ℕ, ◌+◌, ◌<◌, List, [], ◌∷◌, ◌++◌, length, map, Option, Some, None, refl, sym, ap}
+use Rattle.std.proofs.Common.{◌≡◌, ℕ, ◌+◌, ◌<◌, List, [], ◌∷◌, ◌++◌, length, Option, Some, None, refl, sym, ap}
 use Rattle.std.proofs.Common.{subst}
 use Rattle.std.proofs.Common.{◌∙◌, append_assoc, arith, true, false, max, suc, Bool, nat_eq}
 use Rattle.std.proofs.lemmas.Bool.{ne_eqb, true≢false}
@@ -8,7 +8,6 @@ use Rattle.std.specs.Option.{is_some, is_none}
 use Rattle.std.specs.Prelude.{not}
 use Rattle.std.specs.List.{flat_map}
 use Rattle.std.proofs.lemmas.List.{append-nil, length-map}
-use Rattle.std.specs.FinMap.{entries, get-entries}
 use Rattle.byteorder.specs.Endian.{big_bytes}
 use Rattle.xdr_core.specs.Leaves.{i32, u32, mark}
 use Rattle.xdr_core.specs.Combinators.{constant}
@@ -17,7 +16,7 @@ use Rattle.ledger_types.specs.declared.bucket.BucketEntry.{BucketEntry}
 use Rattle.ledger_types.specs.declared.bucket.BucketEntry.TheVariants as bucket
 use Rattle.bucket_items.specs.declared.item.BucketItem.{BucketItem}
 use Rattle.bucket_items.specs.Item.{Shows}
-use Rattle.bucket_items.specs.MarkedItem.{record_of, max_item_len}
+use Rattle.bucket_items.specs.MarkedItem.{record_of}
 use Rattle.bucket_core.specs.Bucket.{Contents, version_of}
 use Rattle.bucket_core.specs.File.{item_of, items_of, file_of, HasFile}
 use Rattle.bucket_core.specs.Cursor.{TakesFirst}

@@ -1,5 +1,5 @@
 -- One step of a merge.
-use Rattle.std.proofs.Common.{◌≡◌, ℕ, ◌+◌, ◌<◌, List, [], ◌∷◌, ◌++◌, length, map, Option, Some, None, refl, sym, ap}
+use Rattle.std.proofs.Common.{◌≡◌, ℕ, ◌+◌, ◌<◌, List, [], ◌∷◌, ◌++◌, length, Option, Some, None, refl, sym, ap}
 use Rattle.std.proofs.Common.{subst}
 use Rattle.std.proofs.Common.{◌∙◌, append_assoc, arith}
 use Rattle.std.specs.Prelude.{option_and_then, IsSomeAnd, Result, OnOk}
@@ -21,7 +21,7 @@ use Rattle.bucket_core.specs.Cursor.{TakesFirst}
 use Rattle.bucket_core.proofs.Judging.{entry_key_text, init_key_text, dead_key_text}
 use Rattle.bucket_merge.specs.declared.side.Side.{Side}
 use Rattle.bucket_merge.specs.Merge.{kept, joined}
-use Rattle.bucket_merge.specs.Walk.{Pair, put, by_order, among, walk}
+use Rattle.bucket_merge.specs.Walk.{Pair, put, by_order, walk}
 use Rattle.bucket_merge.specs.Pending.{Tells, Has, records_of}
 use Rattle.bucket_merge.specs.Taking.{first_key, Nearer}
 

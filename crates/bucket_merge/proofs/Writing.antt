@@ -21,7 +21,7 @@ use Rattle.bucket_core.specs.File.{item_of}
 use Rattle.bucket_merge.specs.declared.joining.Joining.{Joining}
 use Rattle.bucket_merge.specs.declared.joining.Joining.TheVariants as give
 use Rattle.bucket_merge.specs.Merge.{kept, joined}
-use Rattle.bucket_merge.specs.Walk.{Pair, put}
+use Rattle.bucket_merge.specs.Walk.{put}
 use Rattle.bucket_merge.specs.Joining.{joining_of, is_dropped}
 use Rattle.bucket_merge.specs.Pending.{Tells, records_of}
 

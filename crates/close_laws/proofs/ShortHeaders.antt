@@ -1,14 +1,10 @@
 -- A header that can be written is short.
-use Rattle.std.proofs.Common.{ℕ, ◌+◌, ◌*◌, ◌<◌, Option, Some, None, ℤ, pos, arith}
-use Rattle.ledger_types.specs.declared.ids.Hash.{Hash}
-use Rattle.ledger_types.specs.declared.header.LedgerCloseValueSignature.{LedgerCloseValueSignature}
-use Rattle.ledger_types.specs.declared.header.StellarValue.{StellarValue}
-use Rattle.ledger_types.specs.declared.header.LedgerHeaderExtensionV1.{LedgerHeaderExtensionV1}
+use Rattle.std.proofs.Common.{ℕ, ◌+◌, ◌*◌, ◌<◌, Some, None, ℤ, pos, arith}
 use Rattle.ledger_types.specs.declared.header.LedgerHeader.{LedgerHeader}
 use Rattle.xdr_core.specs.Leaves.{u32, u64, i64, var}
-use Rattle.xdr_core.specs.Combinators.{◌⨾◌, Fields, struct_of, whole, closed, times, extension, constant}
-use Rattle.xdr_core.specs.Xdr.{Xdr, tag, list_of, extension_of}
-use Rattle.xdr_entries.specs.Basic.{hash, account_id}
+use Rattle.xdr_core.specs.Combinators.{◌⨾◌, Fields, struct_of, whole, times, extension, constant}
+use Rattle.xdr_core.specs.Xdr.{Xdr, list_of, extension_of}
+use Rattle.xdr_entries.specs.Basic.{hash}
 use Rattle.xdr_header.specs.Header.{ledger_close_value_signature, value_signature_fields, stellar_value, value_fields}
 use Rattle.xdr_header.specs.Header.{ledger_header_extension_v1, header_v1_fields, limits, limits_fields, counts}
 use Rattle.xdr_header.specs.Header.{counts_fields, ledger_header, header_fields}

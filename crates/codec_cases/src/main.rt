@@ -19,13 +19,13 @@ mod predicates;
 mod results;
 mod verdict;
 
+use case_values::bytes_of;
 use formats::{
     BucketEntryFormat, CloseRecordFormat, ImageFormat, LedgerEntryFormat, LedgerHeaderFormat,
     LedgerKeyFormat, LedgerUpgradeFormat, MemoFormat, PredicateFormat, PriceFormat,
     ResultSetFormat, SignerKeyFormat, StellarValueFormat, TransactionSetFormat,
     TrustLineAssetFormat,
 };
-use hex::FromHexError;
 use std::alloc::{AllocError, Global};
 use std::rt::Files;
 use std::{env, fs, io};
@@ -105,15 +105,6 @@ fn any_verdict(alloc: Global, kind: Kind, input: &[u8]) -> Result<String, AllocE
         Kind::TransactionResultSet => verdict_of::<ResultSetFormat>(alloc, input),
         Kind::TransactionSet => verdict_of::<TransactionSetFormat>(alloc, input),
         Kind::TrustLineAsset => verdict_of::<TrustLineAssetFormat>(alloc, input),
-    }
-}
-
-/// The bytes that a text says in hexadecimal, or none where it is none.
-fn bytes_of(alloc: Global, digits: &str) -> Result<Option<Vec<u8>>, AllocError> {
-    match hex::decode(alloc, digits) {
-        Ok(bytes) => Ok(Some(bytes)),
-        Err(FromHexError::OutOfMemory) => Err(AllocError),
-        Err(_) => Ok(None),
     }
 }
 

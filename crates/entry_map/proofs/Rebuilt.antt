@@ -1,5 +1,5 @@
 -- The index behind a batch is that of the offers behind it.
-use Rattle.std.proofs.Common.{◌≡◌, refl, sym, ap, subst, ◌∙◌, Bool, true, false, cond, not, ◌||◌, ◌&&◌, List, [], ◌∷◌}
+use Rattle.std.proofs.Common.{◌≡◌, refl, sym, ap, subst, ◌∙◌, Bool, true, false, cond, not, ◌&&◌, List, [], ◌∷◌}
 use Rattle.std.proofs.Common.{◌++◌, Option, Some, None}
 use Rattle.std.specs.Option.{is_some, option_or}
 use Rattle.std.specs.List.{filter}
@@ -17,36 +17,7 @@ use Rattle.entry_map.proofs.PlaceMaps.{terms_in, some_terms, get-index_of, get-w
 use Rattle.entry_map.proofs.PlaceMaps.{same_places}
 use Rattle.entry_map.proofs.Places.{same_place}
 
-module _ (p : Place) (q : OfferEntry → Bool) (b : Bool) (alike : (o : OfferEntry) → is_at p o ≡ true → q o ≡ b) where
-  kept_by : (t : Bool) (o : OfferEntry) (kept : List OfferEntry) (rest : Bool) → q o ≡ t
-      → is_taken kept p ≡ (b && rest) → is_taken (cond t (o ∷ kept) kept) p ≡ (b && (is_at p o || rest))
-  kept_by t o kept rest is later = elim (is_at p o) as (λ x. is_at p o ≡ x
-      → is_taken (cond t (o ∷ kept) kept) p ≡ (b && (x || rest))) [
-        | true ↦ λ here. there t b here (sym is ∙ alike o here) later
-        | false ↦ λ other. skipped t other ∙ later
-      ] refl
-    where
-      there : (t b : Bool) → is_at p o ≡ true → t ≡ b → is_taken kept p ≡ (b && rest)
-          → is_taken (cond t (o ∷ kept) kept) p ≡ (b && true)
-      there true true here same later = ap (λ x. x || is_taken kept p) here
-      there true false here same later = absurd (cc)
-      there false true here same later = absurd (cc)
-      there false false here same later = later
-
-      skipped : (t : Bool) → is_at p o ≡ false → is_taken (cond t (o ∷ kept) kept) p ≡ is_taken kept p
-      skipped true other = ap (λ x. x || is_taken kept p) other
-      skipped false other = refl
-
-  -- a filter that treats all offers with a place alike
-  taken_filter : (os : List OfferEntry) → is_taken (filter q os) p ≡ (b && is_taken os p)
-  taken_filter [] = sym (and_false b)
-    where
-      and_false : (b : Bool) → (b && false) ≡ false
-      and_false true = refl
-      and_false false = refl
-  taken_filter (o ∷ os) = kept_by (q o) o (filter q os) (is_taken os p) refl (taken_filter os)
-
--- the same of what the offers put
+-- what a filter leaves of a place, where it treats all offers there alike
 module _ (p : Place) (q : OfferEntry → Bool) (b : Bool) (alike : (o : OfferEntry) → is_at p o ≡ true → q o ≡ b) where
   terms_by : (t : Bool) (o : OfferEntry) (kept : List OfferEntry) (rest : Option OfferTerms) → q o ≡ t
       → terms_in kept p ≡ cond b rest None
@@ -78,6 +49,10 @@ module _ (p : Place) (q : OfferEntry → Bool) (b : Bool) (alike : (o : OfferEnt
       nothing false = refl
   terms_filter (o ∷ os) = terms_by (q o) o (filter q os) (terms_in os p) refl (terms_filter os)
 
+some_where : (b : Bool) (t : Option OfferTerms) → is_some (cond b t None) ≡ (b && is_some t)
+some_where true t = refl
+some_where false t = refl
+
 -- what is left without the old offers of a place is nothing, or what was there
 left_over : (old : Bool) (t : Option OfferTerms) → cond (old && is_some t) None t ≡ cond (not old) t None
 left_over true None = refl
@@ -94,8 +69,8 @@ taken_out offers before batch replaced = same_places _ _ (λ p.
     let old = is_among (old_keys batch) (key_at p) in
     get-without_offers (index_of offers) before p ∙ ap (cond (is_taken before p) None) (get-index_of offers p)
     ∙ ap (λ b. cond b None (terms_in offers p))
-    (replaced p ∙ taken_filter p (is_old batch) old (old_alike batch p) offers
-    ∙ ap (λ b. old && b) (sym (some_terms offers p)))
+    (replaced p ∙ sym (some_terms (filter (is_old batch) offers) p)
+    ∙ ap is_some (terms_filter p (is_old batch) old (old_alike batch p) offers) ∙ some_where old (terms_in offers p))
     ∙ left_over old (terms_in offers p)
     ∙ sym (terms_filter p (λ o. not (is_old batch o)) (not old) (λ o h. ap not (old_alike batch p o h)) offers)
     ∙ sym (get-index_of (filter (λ o. not (is_old batch o)) offers) p))

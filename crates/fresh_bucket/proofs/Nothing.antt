@@ -1,5 +1,5 @@
 -- A batch of nothing tells that nothing changed.
-use Rattle.std.proofs.Common.{◌≡◌, ℕ, List, [], Option, Some, None, IfSome, sym, subst, ap, ◌∙◌, arith, Contains}
+use Rattle.std.proofs.Common.{◌≡◌, ℕ, [], Some, IfSome, sym, subst, ◌∙◌, arith, Contains}
 use Rattle.std.specs.FinMap.{get, empty, get-empty}
 use Rattle.ledger_types.specs.declared.key.LedgerKey.{LedgerKey}
 use Rattle.ledger_types.specs.declared.entry.LedgerEntry.{LedgerEntry}

@@ -1,10 +1,8 @@
 -- A bucket of the items that an exact batch tells says exactly what changed.
-use Rattle.std.proofs.Common.{◌≡◌, inl, inr, ℕ, true, false, cond, List, [], ◌∷◌, Option, Some, None}
+use Rattle.std.proofs.Common.{◌≡◌, inl, inr, ℕ, true, false, List, [], ◌∷◌, Option, Some, None}
 use Rattle.std.proofs.Common.{IfSome, map, option_map, refl, sym, ap, subst, ◌∙◌}
 use Rattle.std.specs.Option.{option_or}
-use Rattle.std.specs.Ordering.{is_lt, eq_by_cmp}
 use Rattle.std.specs.FinMap.{get, get-from_sorted}
-use Rattle.std.specs.FinMap.Entries.{find, is_sorted, below_all}
 use Rattle.ledger_types.specs.declared.key.LedgerKey.{LedgerKey}
 use Rattle.ledger_types.specs.declared.entry.LedgerEntry.{LedgerEntry}
 use Rattle.ledger_types.specs.declared.bucket.BucketEntry.{BucketEntry}
@@ -17,7 +15,7 @@ use Rattle.entry_map.specs.KeyMaps.{AreRising}
 use Rattle.entry_map.specs.Batch.{IsNew, IsChanged, IsGone, IsBatch}
 use Rattle.entry_changes.specs.Next.{IsExactBatch}
 use Rattle.entry_table.specs.Rows.{value_at, IsOverlaid}
-use Rattle.entry_table.proofs.Walks.{both, first, second, Sorted, Above}
+use Rattle.entry_table.proofs.Walks.{Sorted}
 use Rattle.entry_table.proofs.Batches.{same_parts}
 use Rattle.bucket_core.specs.Bucket.{Change, Init, Live, Dead, change_at}
 use Rattle.bucket_levels.specs.Fresh.{BecameOf, IsFresh}

@@ -3,9 +3,6 @@
 
 ghost use Rattle.std.specs.Prelude.{◌≡◌, ◌<◌};
 
-#[cfg(test)]
-mod tests;
-
 use outside::{DirVolume, OpenGate, Sink, Source, StdSink, StdSource, Steps, Volume};
 use replay::{end_without_memory, run_program};
 use std::marker::Brand;

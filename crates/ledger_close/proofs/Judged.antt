@@ -1,7 +1,6 @@
 -- What parts of an image's judging say of the whole.
 use Rattle.std.proofs.Common.{◌≡◌, ◌≢◌, ℕ, ◌≤◌, inl, inr, List, [], ◌∷◌, map, Option, Some, None}
 use Rattle.std.proofs.Common.{pos, Ok, Err, refl, sym, ap, ◌∙◌, subst, arith, All, ◌*◌, length}
-use Rattle.bucket_core.specs.File.{file_of}
 use Rattle.std.specs.List.{AllByRecursion}
 use Rattle.std.specs.FinMap.{get, entries, get-entries}
 use Rattle.std.proofs.lemmas.List.{length-append}

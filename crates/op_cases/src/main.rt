@@ -6,10 +6,8 @@
 //! `words.txt`. What is wanted (`stdout`) was worked out by hand.
 #![tactic(auto)]
 
-mod answers;
 mod balances;
 mod changes;
-mod hexadecimal;
 mod ledger;
 mod predicates;
 mod script;

@@ -5,13 +5,12 @@ ghost use Rattle.std.specs.Prelude.{◌≡◌, []};
 ghost use Rattle.std.specs.FinMap.{from_entries};
 ghost use Rattle.op_cases.specs.Ready.{IsReadyLedger, asks_for_pools};
 
-use crate::answers::{answer, made_balance, moved_balance};
 use crate::balances::tell_id;
 use crate::changes::tell_changes;
-use crate::hexadecimal::{entry_of, operation_of};
 use crate::ledger::{applied, asks_for_pools, no_entries, put_all};
 use crate::told::Told;
 use crate::words::account_named;
+use case_values::{answer, entry_of, made_balance, moved_balance, operation_of};
 use entry_map::{Batch, Entries, MapBase};
 use item_list::ItemList;
 use ledger_types::{AccountId, LedgerEntry};

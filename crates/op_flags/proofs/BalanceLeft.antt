@@ -8,7 +8,6 @@ use Rattle.ledger_types.specs.declared.ids.ClaimableBalanceId.{ClaimableBalanceI
 use Rattle.ledger_types.specs.declared.account.AccountEntry.{AccountEntry}
 use Rattle.ledger_types.specs.declared.claimable_balance.ClaimableBalanceEntry.{ClaimableBalanceEntry}
 use Rattle.ledger_types.specs.declared.entry.LedgerEntry.{LedgerEntry}
-use Rattle.ledger_types.specs.declared.key.LedgerKey.{LedgerKey}
 use Rattle.ledger_types.specs.Keys.{key_of, key_of_body}
 use Rattle.entry_map.specs.EntryMap.{EntryMap, put}
 use Rattle.entry_slots.specs.Accounts.{account_at, HasAccount}

@@ -9,7 +9,6 @@ use Rattle.ledger_types.specs.declared.ids.AccountId.{AccountId}
 use Rattle.ledger_types.specs.declared.ids.Hash.{Hash}
 use Rattle.ledger_types.specs.declared.asset.Asset.{Asset}
 use Rattle.ledger_types.specs.declared.asset.Asset.TheVariants as asset
-use Rattle.ledger_types.specs.declared.asset.TrustLineAsset.{TrustLineAsset}
 use Rattle.ledger_types.specs.declared.asset.TrustLineAsset.TheVariants as line
 use Rattle.ledger_types.specs.declared.claimable_balance.Claimant.{Claimant}
 use Rattle.ledger_types.specs.declared.claimable_balance.ClaimableBalanceEntry.{ClaimableBalanceEntry}
@@ -64,7 +63,6 @@ use Rattle.op_form.specs.Assets.{is_issued_by}
 use Rattle.op_form.specs.Done.{OfAccount, OfBalance}
 use Rattle.op_form.specs.Flags.{is_clawback_line, flagged_ext}
 use Rattle.op_form.specs.Assets.{line_of_asset}
-use Rattle.op_form.specs.Steps.{after}
 use Rattle.op_flags.specs.RevokedShares.{sponsor_at, Revoked, Given, revoked_id, sole_claimant, revoked_balance}
 use Rattle.op_flags.specs.RevokedShares.{move_to, alone}
 use Rattle.op_flags.specs.RevokedShares.{balance_put, balance_added, left_by, left, payer_of_share, given_of}

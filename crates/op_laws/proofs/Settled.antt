@@ -14,7 +14,6 @@ use Rattle.ledger_types.specs.declared.claimable_balance.ClaimableBalanceEntry.{
 use Rattle.ledger_types.specs.declared.entry.LedgerEntry.{LedgerEntry}
 use Rattle.ledger_types.specs.declared.entry.LedgerEntryBody.{LedgerEntryBody}
 use Rattle.ledger_types.specs.declared.entry.LedgerEntryBody.TheVariants as body
-use Rattle.ledger_types.specs.declared.key.LedgerKey.{LedgerKey}
 use Rattle.ledger_types.specs.declared.key.LedgerKey.TheVariants as key
 use Rattle.ledger_types.specs.KeyOrder.{asset_cmp}
 use Rattle.entry_map.specs.EntryMap.{EntryMap}
@@ -24,7 +23,7 @@ use Rattle.entry_slots.specs.Lines.{line_at}
 use Rattle.reserve_rules.specs.Reserve.{IsLineInRange}
 use Rattle.entry_sums.specs.Sums.{total}
 use Rattle.entry_sums.proofs.Summing.{total_not_below}
-use Rattle.legal_rules.specs.Books.{Subentries, Sponsored, stated}
+use Rattle.legal_rules.specs.Books.{Subentries, Sponsored}
 use Rattle.legal_rules.specs.Ranges.{IsBodyInRange}
 use Rattle.legal_rules.specs.Supply.{of_asset, of_line, held_in, held}
 use Rattle.legal_rules.specs.Legal.{view, pools_in}

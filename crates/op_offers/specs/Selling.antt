@@ -1,6 +1,6 @@
 -- An offer that is made or changed, once its fields and lines have passed their tests and while it is out of the book
 -- (ManageOfferOpFrameBase in stellar-core; CAP-0003). Its reserve is counted meanwhile.
-use Rattle.std.specs.Prelude.{ℕ, ◌-◌, zero, suc, ℤ, pos, neg_ℤ, unsigned_abs, nat_eq, nat_lt, min}
+use Rattle.std.specs.Prelude.{ℕ, ◌-◌, zero, suc, pos, neg_ℤ, unsigned_abs, nat_eq, nat_lt, min}
 use Rattle.std.specs.Prelude.{◌||◌, [], ◌∷◌, Option, Some, None, Result, Ok, Err}
 use Rattle.ledger_types.specs.declared.offer.OfferEntry.{OfferEntry}
 use Rattle.ledger_types.specs.declared.entry.LedgerEntry.{LedgerEntry}

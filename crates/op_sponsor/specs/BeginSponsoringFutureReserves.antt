@@ -1,5 +1,5 @@
 -- BEGIN_SPONSORING_FUTURE_RESERVES (BeginSponsoringFutureReservesOpFrame in stellar-core; CAP-0033).
-use Rattle.std.specs.Prelude.{◌||◌, ◌∷◌, ◌++◌, [], is_some, Ok}
+use Rattle.std.specs.Prelude.{◌||◌, ◌∷◌, ◌++◌, [], is_some}
 use Rattle.op_types.specs.declared.operation_result.OperationResult.{OperationResult}
 use Rattle.op_types.specs.declared.operation_result.OperationResult.TheVariants.{Inner}
 use Rattle.op_types.specs.declared.operation_result.OperationResultTr.TheVariants as tr

@@ -1,5 +1,5 @@
 -- END_SPONSORING_FUTURE_RESERVES (EndSponsoringFutureReservesOpFrame in stellar-core; CAP-0033).
-use Rattle.std.specs.Prelude.{ℕ, [], Option, Some, None}
+use Rattle.std.specs.Prelude.{ℕ, [], Option}
 use Rattle.std.specs.List.{position, remove}
 use Rattle.op_types.specs.declared.operation_result.OperationResult.{OperationResult}
 use Rattle.op_types.specs.declared.operation_result.OperationResult.TheVariants.{Inner}

@@ -16,7 +16,7 @@ use Rattle.bucket_core.specs.File.{HasFile, file_of}
 use Rattle.bucket_levels.specs.Pairs.{empty_pair}
 use Rattle.bucket_levels.specs.Size.{file_total, pair_size}
 use Rattle.sample_ledger.specs.Accounts.{account_id, ledger_entry}
-use Rattle.sample_ledger.specs.Image.{changes_of, first_bucket, first_changes, levels_with}
+use Rattle.sample_ledger.specs.Image.{changes_of, first_bucket, levels_with}
 use Rattle.sample_ledger.specs.Rows.{as_change}
 use Rattle.sample_ledger.proofs.Entries.{item_spellable, item_record_short, meta_record_short}
 use Rattle.sample_ledger.proofs.Rows.{Row, init_record, next_row, no_changes, has_file, file_is}

@@ -1,5 +1,5 @@
 -- A ledger closes from the first state of a sample, and the image stands for it.
-use Rattle.std.proofs.Common.{◌≡◌, ℕ, List, [], ◌∷◌, length, map, replicate, pos, refl, ap, arith}
+use Rattle.std.proofs.Common.{◌≡◌, ℕ, [], ◌∷◌, pos, refl, arith}
 use Rattle.std.proofs.lemmas.Int.{ints}
 use Rattle.std.proofs.lemmas.List.Elements.{All-from_recursion}
 use Rattle.std.specs.Prelude.{None}
@@ -10,12 +10,11 @@ use Rattle.entry_changes.specs.Spellable.{AreSpellable, IsEntrySpellable}
 use Rattle.legal_rules.specs.Headers.{IsHeaderInRange}
 use Rattle.legal_rules.specs.Legal.{IsLegal}
 use Rattle.legal_rules.specs.FirstStates.{IsPlainAccount, PlainStatesAreLegal}
-use Rattle.bucket_core.specs.File.{HasFile, file_of}
+use Rattle.bucket_core.specs.File.{HasFile}
 use Rattle.bucket_levels.specs.Pairs.{Pair, empty_pair}
 use Rattle.close_rules.specs.State.{IsSpelled, IsClosingState}
 use Rattle.close_rules.specs.Images.{AreFilesOf}
-use Rattle.close_laws.specs.Images.{IsImageOf, ImagesStandForStates}
-use Rattle.sample_ledger.specs.Accounts.{ledger_entry}
+use Rattle.close_laws.specs.Images.{ImagesStandForStates}
 use Rattle.sample_ledger.specs.Image.{first_bucket, first_header, first_image, levels_with}
 use Rattle.sample_ledger.specs.Samples.{first_entries, first_state, FirstStatesClose}
 use Rattle.sample_ledger.proofs.Bytes.{hash_fits}

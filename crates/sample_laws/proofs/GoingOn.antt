@@ -1,5 +1,5 @@
 -- The next record of a sample closes its ledger, or is refused since the files would be too long.
-use Rattle.std.proofs.Common.{◌≡◌, ℕ, zero, suc, ◌+◌, ◌*◌, ◌<◌, ◌≤◌, ◌^◌, List, [], length, Some, None, Result, Ok, Err}
+use Rattle.std.proofs.Common.{◌≡◌, ℕ, zero, suc, ◌+◌, ◌*◌, ◌<◌, ◌≤◌, ◌^◌, List, [], Some, None, Result, Ok, Err}
 use Rattle.std.proofs.Common.{refl, sym, ap, subst, ◌∙◌, arith, append-nil}
 use Rattle.ledger_types.specs.declared.header.LedgerHeader.{LedgerHeader}
 use Rattle.xdr_core.specs.declared.fault.XdrFault.{XdrFault}
@@ -19,7 +19,7 @@ use Rattle.account_laws.specs.Standing.{ClosesKeepAccounts, MergesNone}
 use Rattle.sample_ledger.specs.Accounts.{account_id}
 use Rattle.sample_ledger.specs.Records.{record_of}
 use Rattle.sample_ledger.specs.Samples.{Progress, HaveClosed, record_bytes, FirstStatesClose}
-use Rattle.sample_ledger.specs.Samples.{IsWritten, RecordsAreWritten}
+use Rattle.sample_ledger.specs.Samples.{RecordsAreWritten}
 use Rattle.sample_ledger.specs.Samples.{IsAcceptedOrFull, SamplesGoOn, SamplesStand, first_state}
 use Rattle.sample_laws.proofs.FirstEntries.{first_accounts}
 use Rattle.sample_laws.proofs.MergesNone.{merges_none}

@@ -6,7 +6,6 @@
 #![tactic(auto)]
 
 mod asking;
-mod hexadecimal;
 mod ledger;
 mod script;
 mod signers;

@@ -14,12 +14,12 @@
 //!     extended ENTRY, used ENTRY        whether it has an extension after nothing, something and nothing are set
 //!     signers ID                        are told, a line each
 
-use crate::hexadecimal::entry_of;
 use crate::ledger::{alone, counts_of, no_entries};
 use crate::signers::tell_signers_of;
 use crate::slots::{extended, stored_and_erased, used};
 use crate::steps::{added, take_step};
 use crate::words::account_named;
+use case_values::entry_of;
 use entry_map::{Entries, MapBase};
 use ledger_types::LedgerEntry;
 use sponsor_rules::{Ctx, Sponsorship};

@@ -1,8 +1,8 @@
 //! Steps: what is added, moved and removed, and the answer.
 
 use crate::asking::{add, add_key, move_key, move_to};
-use crate::hexadecimal::{entry_of, hash_of, key_of, signer_key_of};
 use crate::words::{account_named, payer_named};
+use case_values::{entry_of, hash_of, key_of, signer_key_of};
 use entry_map::{Entries, MapBase};
 use ledger_types::{AccountId, Hash, LedgerKey, SignerKey};
 use sponsor_rules::{AddFault, Ctx, remove_entry, remove_preauth, remove_signer};

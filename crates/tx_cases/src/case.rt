@@ -1,6 +1,6 @@
 //! Cases, put together line by line.
 
-use crate::hexadecimal::{bytes_of, entry_of, header_of, results_of};
+use case_values::{bytes_of, entry_of, header_of, results_of};
 use ledger_types::{LedgerEntry, LedgerHeader};
 use op_types::TransactionResultSet;
 use std::alloc::{AllocError, Global};

@@ -6,12 +6,10 @@
 #![tactic(auto)]
 
 mod account;
-mod answers;
 mod apply;
 mod case;
 mod differences;
 mod header;
-mod hexadecimal;
 mod ledger;
 mod run;
 mod telling;

@@ -1,6 +1,6 @@
 //! Results of transactions as text: each says all that its result has.
 
-use crate::answers::{answer, made_balance, moved_balance};
+use case_values::{answer, made_balance, moved_balance};
 use ledger_types::Hash;
 use op_types::{
     Coded, InnerTransactionOutcome, InnerTransactionResultPair, OperationResult,

@@ -19,7 +19,6 @@ use Rattle.xdr_results.proofs.AnswerLaws.{end_sponsoring_future_reserves_result_
 use Rattle.xdr_results.proofs.AnswerLaws.{clawback_result_laws, clawback_claimable_balance_result_laws}
 use Rattle.xdr_results.proofs.AnswerLaws.{set_trust_line_flags_result_laws, liquidity_pool_deposit_result_laws}
 use Rattle.xdr_results.proofs.AnswerLaws.{liquidity_pool_withdraw_result_laws}
-use Rattle.xdr_results.specs.Coded.{plain}
 use Rattle.xdr_results.specs.Results.{create_account_answer, payment_answer, path_payment_strict_receive_answer}
 use Rattle.xdr_results.specs.Results.{manage_sell_offer_answer, create_passive_sell_offer_answer, set_options_answer}
 use Rattle.xdr_results.specs.Results.{change_trust_answer, allow_trust_answer, account_merge_answer, inflation_answer}

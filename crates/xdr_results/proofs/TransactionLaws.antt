@@ -11,7 +11,6 @@ use Rattle.op_types.specs.declared.transaction_result.TransactionOutcome.{Transa
 use Rattle.op_types.specs.declared.transaction_result.TransactionOutcome.TheVariants as outcome
 use Rattle.op_types.specs.Codes.{inner_code, outcome_code, inner_values, outcome_values}
 use Rattle.xdr_results.proofs.OperationLaws.{operation_result_laws}
-use Rattle.xdr_results.specs.Coded.{plain}
 use Rattle.xdr_results.specs.Results.{inner_success, inner_failed, inner_arms, inner_part, inner_transaction_outcome}
 use Rattle.xdr_results.specs.Results.{inner_result_fields, inner_transaction_result, inner_pair_fields}
 use Rattle.xdr_results.specs.Results.{inner_transaction_result_pair, outcome_success, outcome_failed}

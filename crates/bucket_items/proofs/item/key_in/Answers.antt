@@ -1,6 +1,4 @@
-use Rattle.std.proofs.Common.{◌≡◌, ap, sym, ◌∙◌, take}
-use Rattle.ledger_types.specs.declared.bucket.BucketEntry.{BucketEntry}
-use Rattle.bucket_items.specs.Item.{item_type, item_key_text}
+use Rattle.std.proofs.Common.{◌≡◌, ◌∙◌}
 use Rattle.bucket_items.proofs.Holding.{live_key, init_key, dead_key}
 use Rattle.bucket_items.proofs.item.key_in.Goals as goal
 

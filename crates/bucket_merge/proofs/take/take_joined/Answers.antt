@@ -1,4 +1,4 @@
-use Rattle.std.proofs.Common.{subst, sym}
+use Rattle.std.proofs.Common.{subst}
 use Rattle.bucket_merge.specs.Pending.{Tells}
 use Rattle.bucket_merge.proofs.Stepping.{hand_tells, advanced}
 use Rattle.bucket_merge.proofs.take.take_joined.Goals as goal

@@ -1,7 +1,6 @@
-use Rattle.std.proofs.Common.{◌≡◌, Option, ap, ◌∙◌}
+use Rattle.std.proofs.Common.{◌≡◌, ap, ◌∙◌}
 use Rattle.std.specs.Option.{option_map}
 use Rattle.std.proofs.lemmas.Result.{IfOk-weaker}
-use Rattle.ledger_types.specs.declared.bucket.BucketEntry.{BucketEntry}
 use Rattle.bucket_core.specs.Bucket.{change_at}
 use Rattle.bucket_core.specs.File.{item_of}
 use Rattle.bucket_core.specs.Find.{item_under}

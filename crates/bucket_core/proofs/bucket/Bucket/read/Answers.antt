@@ -1,6 +1,4 @@
-use Rattle.std.proofs.Common.{◌≡◌, List, ℕ, ap, sym, subst, ◌∙◌, None}
-use Rattle.xdr_core.specs.Format.{IsBytes}
-use Rattle.bucket_core.specs.Faults.{first_fault}
+use Rattle.std.proofs.Common.{◌≡◌, ℕ, ap, sym, subst, ◌∙◌}
 use Rattle.bucket_core.specs.File.{file_of}
 use Rattle.bucket_core.specs.Reading.{IsFile}
 use Rattle.bucket_core.proofs.Files.{no_fault_is_file}

@@ -12,8 +12,8 @@ use Rattle.entry_map.proofs.index.OfferIndex.offer_after.Goals as goal
 pub returns-in_err-next-clause-list : goal.returns-in_err-next-clause-list
 returns-in_err-next-clause-list c offers is sound narrow priced =
     c.from_residual.ensures
-    ∙ none_next c.args.self.now offers (λ p. ap (λ s. get s p) is ∙ get-index_of offers p) sound narrow c.args.selling.now
-    c.args.buying.now c.args.place (ranked_place c.args.place priced c.start_of.ensures.narrow)
+    ∙ none_next c.args.self.now offers (λ p. ap (λ s. get s p) is ∙ get-index_of offers p) sound narrow
+    c.args.selling.now c.args.buying.now c.args.place (ranked_place c.args.place priced c.start_of.ensures.narrow)
     (subst (IsLastOfPair c.args.self.now) c.start_of.ensures.value c.in_err-next.ensures)
 
 pub returns-in_err-next-clause-map : goal.returns-in_err-next-clause-map

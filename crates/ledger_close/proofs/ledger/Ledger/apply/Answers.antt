@@ -1,5 +1,4 @@
-use Rattle.std.proofs.Common.{◌≡◌, subst, sym, ap, ◌∙◌, None}
-use Rattle.close_rules.specs.State.{ClosingState}
+use Rattle.std.proofs.Common.{◌≡◌, subst, sym, ◌∙◌, None}
 use Rattle.close_rules.specs.Refusals.{set_fault}
 use Rattle.close_rules.specs.Close.{applied_in}
 use Rattle.close_laws.proofs.SpelledSets.{set_spelled}

@@ -2,7 +2,6 @@ use Rattle.std.proofs.Common.{◌+◌, ap, ◌∙◌, to_z, of_z, w64, FitsSigne
 use Rattle.std.proofs.lemmas.Int.{to_z-of_z}
 use Rattle.value_hashes.specs.Hashes.{ledger_hash_of, results_hash_of}
 use Rattle.header_chain.specs.SkipList.{finished}
-use Rattle.close_rules.specs.State.{ClosingState}
 use Rattle.close_rules.specs.Close.{result_set, upgraded_header}
 use Rattle.ledger_close.specs.declared.heading.Given.{Given}
 use Rattle.ledger_close.specs.States.{LedgerAt}

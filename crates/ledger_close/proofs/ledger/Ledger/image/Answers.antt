@@ -1,6 +1,5 @@
 use Rattle.std.proofs.Common.{Ok, subst}
 use Rattle.xdr_header.specs.declared.image.StartImage.{StartImage}
-use Rattle.close_rules.specs.State.{ClosingState}
 use Rattle.close_rules.specs.Images.{IsJudged, state_of}
 use Rattle.ledger_close.specs.States.{LedgerAt}
 use Rattle.ledger_close.proofs.ledger.Ledger.image.Goals as goal

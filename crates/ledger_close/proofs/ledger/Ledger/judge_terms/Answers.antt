@@ -1,5 +1,4 @@
 use Rattle.std.proofs.Common.{Ok, Err, sym, ap, ◌∙◌}
-use Rattle.close_rules.specs.State.{ClosingState}
 use Rattle.close_laws.proofs.SpelledSets.{set_spelled}
 use Rattle.ledger_close.specs.States.{LedgerAt}
 use Rattle.ledger_close.proofs.Parts.{upgraded_by, upgrades_few}

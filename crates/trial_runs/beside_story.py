@@ -1,0 +1,40 @@
+#!/usr/bin/env python3
+"""Writes the run with and without workers, into data/beside: image, records, what is printed for them, text, and what the run leaves in the four
+files of the volume, image0, image1, journal0 and journal1. Ledgers 2 to 401 close.
+
+They come from the ledger and the store in Python beside `close_cases`. Python 3.9 or later and its standard library.
+"""
+
+import os
+import sys
+
+HERE = os.path.dirname(os.path.abspath(__file__))
+sys.path.insert(0, f"{os.path.dirname(HERE)}/close_cases")
+import ledger_model  # noqa: E402, F401 (puts the folder of set_cases first)
+import set_cases as sets  # noqa: E402
+from case_tools import A, NETWORK, NO_FILES, Story, image, sent, write  # noqa: E402
+from store_model import FILES, init, run  # noqa: E402
+
+FIRST, LAST = 1, 401
+
+
+def main():
+    story = Story(image([A], seq=FIRST))
+    # one account makes, changes and removes data, so that levels have marks of each kind
+    for seq in range(FIRST + 1, LAST + 1):
+        name, value = b"n%d" % (seq % 7), None if seq % 14 >= 7 else b"at %d" % seq
+        story.close(sent("a", seq - FIRST, sets.manage_data(name, value)))
+    start, records = story.data[:story.length], story.data[story.length:]
+    (text, told, status), made = init(NETWORK, start, list(NO_FILES))
+    assert (text, told, status) == ("", "", 0)
+    (text, told, status), left = run(records, made)
+    assert (told, status) == ("", 0)
+    write(f"{HERE}/data/beside/image", start)
+    write(f"{HERE}/data/beside/records", records)
+    write(f"{HERE}/data/beside/text", text)
+    for name, file in zip(FILES, left):
+        write(f"{HERE}/data/beside/{name}", file)
+
+
+if __name__ == "__main__":
+    main()

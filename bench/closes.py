@@ -11,7 +11,7 @@ One is of accounts: payments, new accounts, options, data, sequence numbers, dat
 of assets: lines that are made and changed, what is issued, paid and redeemed in them, authorisations taken back and given, claimable
 balances made, claimed and clawed back, and clawback. A third mix, of offers (`trading.py`), and a fourth, of all 24 operations
 (`everything.py`), are run behind images of 10,000 and 100,000 offers in 20 books, the fourth with ten pools. What the program prints is
-compared with what the ledger in Python beside `close_cases` says. Images of 98 and 980 offers of one account are opened too; it can't
+compared with what the ledger in Python in tests/models says. Images of 98 and 980 offers of one account are opened too; it can't
 have more than 1,000 subentries. So are images of pools (`pooling.py`): of 1,000 and 10,000 pools with a line of shares each, and of one
 pool with 1,000 and 10,000 lines.
 
@@ -38,7 +38,7 @@ import time
 
 from measuring import TOP, built, run, stop
 
-sys.path[:0] = [f"{TOP}/crates/close_cases", f"{TOP}/crates/tx_cases"]
+sys.path.insert(0, f"{TOP}/tests/models")
 import ledger_model as model  # noqa: E402
 import set_cases as sets  # noqa: E402
 from everything import Doer, world  # noqa: E402

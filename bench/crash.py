@@ -9,12 +9,12 @@ TMPDIR. Over a copy of it `run` closes 300 ledgers, and goes on to another epoch
 (SIGKILL) at random moments, until 200 were killed before their end. About half of the moments are on the clock, within the time that a
 whole run takes. The others are told by the output: a little behind the moment at which so many of its bytes have come.
 
-What a killed run printed must be a front of the whole run's text. Its files must open, by the store in Python beside `close_cases`, to the
+What a killed run printed must be a front of the whole run's text. Its files must open, by the store in Python in tests/models, to the
 ledger of the last whole `closed` line that came, or to the next one; a run without records must end at that ledger, and a run over the
 records that follow print what the whole run printed from there on.
 
 Such a crash is one of the process alone: what it wrote stays in the memory of the system. That power is lost is what the contracts of the
-store speak of, and what the program `trial_runs` shows over a volume in memory.
+store speak of, and what `tests/stops.py` tries.
 
 Exit status: 0 where all is well, 1 where a run left anything else, 2 where a run fails. Python 3.9 or later and its standard library.
 """
@@ -31,7 +31,7 @@ import time
 
 from measuring import TOP, built, stop
 
-sys.path[:0] = [f"{TOP}/crates/close_cases", f"{TOP}/crates/tx_cases"]
+sys.path.insert(0, f"{TOP}/tests/models")
 import ledger_model as model  # noqa: E402
 import set_cases as sets  # noqa: E402
 import store_model as stores  # noqa: E402

@@ -7,7 +7,7 @@ PROGRAM is the built program, crates/ledger/out/ledger of this repository where 
 
 It runs `catchup`, `init`, `run`, and `run` beside two workers, over an image and three records, those in examples/, once for each call for
 memory that the run makes of the C library. A library that is loaded in front of that one counts the calls and refuses one of them. Each run has to answer 8, tell
-`no memory`, and write a front of the text that the ledger in Python beside `close_cases` gives; or, where the directory of the store
+`no memory`, and write a front of the text that the ledger in Python in tests/models gives; or, where the directory of the store
 is refused memory, 6 with `disk fault`; or it passes over the refusal, and answers 0 with all of the text. Behind `init` and `run` the
 store is opened again, by a `run` without input: behind 8 and 0 at the last ledger whose `closed` line was written, behind 6 there or one
 further on. An `init` that answered 8 has made no store, and one that answered 6 may have.
@@ -29,75 +29,10 @@ import tempfile
 
 from measuring import TOP, built, stop
 
-sys.path.insert(0, f"{TOP}/crates/close_cases")
+sys.path.insert(0, f"{TOP}/tests/models")
 from ledger_model import catchup  # noqa: E402
 
 NETWORK = "Test SDF Network ; September 2015"
-
-# Refuses the call whose number is in REFUSED, counted from 1, and leaves the number of calls in the file COUNTED. Where there is
-# WORKERS_ALONE, the calls of the first thread don't count.
-COUNTER = r"""
-#define _GNU_SOURCE
-#include <dlfcn.h>
-#include <errno.h>
-#include <stdio.h>
-#include <stdlib.h>
-#include <sys/syscall.h>
-#include <unistd.h>
-
-static volatile unsigned long calls;
-
-static int is_refused(void) {
-    static long refused = -1;
-    if (refused < 0) {
-        const char *text = getenv("REFUSED");
-        refused = text ? atol(text) : 0;
-    }
-    if (getenv("WORKERS_ALONE") && syscall(SYS_gettid) == getpid())
-        return 0;
-    return __sync_add_and_fetch(&calls, 1) == (unsigned long)refused;
-}
-
-#define REAL(type, name, list) type (*real) list = (type (*) list)dlsym(RTLD_NEXT, name)
-
-void *malloc(size_t size) {
-    REAL(void *, "malloc", (size_t));
-    return is_refused() ? NULL : real(size);
-}
-
-void *realloc(void *old, size_t size) {
-    REAL(void *, "realloc", (void *, size_t));
-    return is_refused() ? NULL : real(old, size);
-}
-
-void *aligned_alloc(size_t to, size_t size) {
-    REAL(void *, "aligned_alloc", (size_t, size_t));
-    return is_refused() ? NULL : real(to, size);
-}
-
-int posix_memalign(void **at, size_t to, size_t size) {
-    REAL(int, "posix_memalign", (void **, size_t, size_t));
-    return is_refused() ? ENOMEM : real(at, to, size);
-}
-
-static void tell(void) {
-    unsigned long count = calls;
-    FILE *file = fopen(getenv("COUNTED"), "w");
-    if (file) {
-        fprintf(file, "%lu", count);
-        fclose(file);
-    }
-}
-
-/* The program ends by this call. */
-void _exit(int status) {
-    REAL(void, "_exit", (int));
-    tell();
-    real(status);
-    __builtin_unreachable();
-}
-"""
-
 
 def content(path):
     with open(path, "rb") as file:
@@ -105,13 +40,11 @@ def content(path):
 
 
 def compiled(folder):
-    """The library that counts and refuses."""
-    with open(f"{folder}/counter.c", "w", encoding="ascii") as file:
-        file.write(COUNTER)
-    words = ["cc", "-shared", "-fPIC", "-O1", "-o", f"{folder}/counter.so", f"{folder}/counter.c", "-ldl"]
+    """The library that counts and refuses calls for memory."""
+    words = ["cc", "-shared", "-fPIC", "-O1", "-o", f"{folder}/shim.so", f"{TOP}/tests/shim.c", "-ldl", "-lpthread"]
     if subprocess.run(words, check=False).returncode:
-        stop("the counter of calls could not be compiled")
-    return f"{folder}/counter.so"
+        stop("tests/shim.c could not be compiled")
+    return f"{folder}/shim.so"
 
 
 class Command:

@@ -4,7 +4,7 @@ import sys
 
 from measuring import TOP
 
-sys.path[:0] = [f"{TOP}/crates/close_cases", f"{TOP}/crates/tx_cases"]
+sys.path.insert(0, f"{TOP}/tests/models")
 import pool_tools as pools  # noqa: E402
 import set_cases as sets  # noqa: E402
 from case_tools import entry, line  # noqa: E402

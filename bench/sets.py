@@ -3,11 +3,12 @@
 
     bench/sets.py [PROGRAM]
 
-PROGRAM is the built program that runs cases of sets, crates/tx_cases/out/tx_cases of this repository where none is given.
+PROGRAM is the built program, crates/ledger/out/ledger of this repository where none is given.
 
-The ledger has 10,000 accounts. Sets of 1,000 and of 10,000 payments are applied to it, each of another source and signed by one
-hash-x signer. The time of the same case with an empty set is taken off, so that reading and judging the accounts doesn't count;
-reading the set and telling its results do. What the program answers is compared with what is known of payments.
+The ledger has 10,000 accounts. `catchup` opens its image and closes one record, whose set has 1,000 or 10,000 payments, each of another
+source and signed by one hash-x signer. The time of the same run with an empty set is taken off, so that opening the image doesn't count;
+reading the set, merging what it changed and printing its lines do. The lines of the transactions are compared with what is known of
+payments.
 
 The script prints processor time, microseconds a transaction, the share that sha256sum takes to hash every envelope twice, and how
 much longer ten times the transactions take.
@@ -16,51 +17,44 @@ Exit status: 0 where all is well, 1 where ten times the transactions take more t
 another line. Python 3.9 or later, its standard library, and sha256sum.
 """
 
-import os
 import sys
 import tempfile
 
-from measuring import TOP, built, run
+from measuring import TOP, built, run, stop
 
-sys.path.insert(0, f"{TOP}/crates/tx_cases")
+sys.path.insert(0, f"{TOP}/tests/models")
 import set_cases as made  # noqa: E402
 
 ACCOUNTS = 10_000
 GREATEST_RATIO = 13
 BALANCE = 1_000_000_000
+WORDS = ["catchup", "--network", "Test SDF Network ; September 2015"]
 
 
-def table(count):
-    """The lines of one case: so many accounts, of which the first ones pay the next one 1 stroop each."""
+def payments(count):
+    """The input of a run over so many accounts, of which the first ones pay the next one 1 stroop each; and the envelopes."""
     accounts = [made.Account(number, BALANCE) for number in range(ACCOUNTS)]
+    start = made.Start(accounts, max_size=1_000_000)
     listed = [made.sent(number, 1, made.payment((number + 1) % ACCOUNTS, 1)) for number in range(count)]
-    after = []
-    for number, account in enumerate(accounts):
-        paid = number < count
-        got = (number - 1) % ACCOUNTS < count
-        after.append(account.but(balance=BALANCE - 101 * paid + got, seq=int(paid)))
-    made.LINES.clear()
-    wanted = [(100, made.ok(made.ran(made.PAYMENT, 0)))] * count
-    made.case("payments", accounts, listed, wanted, 100 * count, after, max_size=1_000_000)
-    return "\n".join(made.LINES) + "\n", b"".join(envelope.xdr() for envelope in listed)
+    return start.image + made.marked(start.record(listed, made.TIME)), listed
 
 
 def measure(program, folder, count, runs):
     """The time in which so many transactions are applied, and that in which their envelopes are hashed twice."""
-    text, envelopes = table(count)
-    cases = f"{folder}/{count}"
-    os.makedirs(cases)
-    with open(f"{cases}/cases.txt", "w", encoding="ascii") as out:
-        out.write(text)
-    with open(f"{folder}/envelopes", "wb") as out:
-        out.write(envelopes * 2)
-    seconds, _, _ = run([program, cases], runs, folder, wanted="cases: 1\n")
+    data, listed = payments(count)
+    for name, content in (("input", data), ("envelopes", b"".join(envelope.xdr() for envelope in listed) * 2)):
+        with open(f"{folder}/{name}", "wb") as out:
+            out.write(content)
+    seconds, _, text = run([program, *WORDS], runs, folder, source=f"{folder}/input")
+    lines = {line for line in text.decode().splitlines() if line.startswith("tx ")}
+    if lines != {f"tx {envelope.hash.hex()} 100 0" for envelope in listed}:
+        stop(f"{count} payments: another line of a transaction")
     hashed, _, _ = run(["sha256sum", f"{folder}/envelopes"], runs, folder)
     return seconds, hashed
 
 
 def main():
-    program = sys.argv[1] if len(sys.argv) > 1 else built("tx_cases")
+    program = sys.argv[1] if len(sys.argv) > 1 else built("ledger")
     with tempfile.TemporaryDirectory() as folder:
         none, _ = measure(program, folder, 0, 5)
         times = {}

@@ -9,7 +9,7 @@ import sys
 
 from measuring import TOP, i32, i64
 
-sys.path[:0] = [f"{TOP}/crates/close_cases", f"{TOP}/crates/tx_cases"]
+sys.path.insert(0, f"{TOP}/tests/models")
 import ledger_model as model  # noqa: E402
 import set_cases as sets  # noqa: E402
 from entry_model import ASSET, OFFER  # noqa: E402

@@ -26,7 +26,7 @@ import time
 
 from measuring import TOP, built, stop
 
-sys.path[:0] = [f"{TOP}/crates/close_cases", f"{TOP}/crates/tx_cases"]
+sys.path.insert(0, f"{TOP}/tests/models")
 import ledger_model as model  # noqa: E402
 import set_cases as sets  # noqa: E402
 

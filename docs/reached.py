@@ -37,10 +37,20 @@ def parts_of(path):
     return imports, found
 
 
-def names_in(imports):
+def crates_named():
+    """The names of all crates."""
+    return {os.path.basename(path) for path in glob.glob(f"{TOP}/crates/*")}
+
+
+def direct(line, crates):
+    """An import without the crate through which it comes, where a crate passes on the definitions of a lower one."""
+    return re.sub(r"Rattle\.\w+\.specs\.(\w+)\.(?=\w)", lambda path: f"Rattle.{path[1]}.specs." if path[1] in crates else path[0], line)
+
+
+def names_in(imports, crates):
     """What a file's imports bring: by name, or by the name of a whole file."""
     names, files = {}, {}
-    for line in imports:
+    for line in (direct(line, crates) for line in imports):
         match = re.match(r"(?:pub )?use Rattle\.(\w+)\.specs\.(\w+)\.\{(.*)\}", line)
         if match:
             for it in match[3].split(","):
@@ -53,11 +63,11 @@ def names_in(imports):
 
 
 def read_all():
-    read = {}
+    read, crates = {}, crates_named()
     for path in glob.glob(f"{TOP}/crates/*/specs/*.antt"):
         crate, file = path.split("/")[-3], os.path.basename(path)[: -len(".antt")]
         imports, found = parts_of(path)
-        read[crate, file] = (*names_in(imports), found)
+        read[crate, file] = (*names_in(imports, crates), found)
     return read
 
 

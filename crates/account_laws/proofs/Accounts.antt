@@ -2,47 +2,47 @@
 use Rattle.std.proofs.Common.{List, None, Ok, Option, Some, [], is_some, nat_eq, not, pos, ℕ, ◌∷◌}
 use Rattle.std.specs.FinMap.{get}
 use Rattle.std.specs.Prelude.{int_lt}
-use Rattle.ledger_types.specs.declared.account.AccountEntry.{AccountEntry}
-use Rattle.ledger_types.specs.declared.data_entry.DataEntry.{DataEntry}
-use Rattle.ledger_types.specs.declared.ids.AccountId.{AccountId}
-use Rattle.ledger_types.specs.declared.key.LedgerKey.{LedgerKey}
-use Rattle.ledger_types.specs.declared.key.LedgerKey.TheVariants as key
-use Rattle.ledger_types.specs.declared.signer.Signer.{Signer}
-use Rattle.ledger_types.specs.declared.signer.SignerKey.{SignerKey}
-use Rattle.op_types.specs.declared.account_ops.BumpSequenceOp.{BumpSequenceOp}
-use Rattle.op_types.specs.declared.account_ops.CreateAccountOp.{CreateAccountOp}
-use Rattle.op_types.specs.declared.account_ops.ManageDataOp.{ManageDataOp}
-use Rattle.op_types.specs.declared.account_ops.SetOptionsOp.{SetOptionsOp}
-use Rattle.op_types.specs.declared.account_results.BumpSequenceResult.TheVariants as bump
-use Rattle.op_types.specs.declared.account_results.ManageDataResult.TheVariants as manage
-use Rattle.op_types.specs.declared.account_results.SetOptionsResult.TheVariants as set
-use Rattle.op_types.specs.declared.operation_result.OperationResult.TheVariants.{NoAccount}
-use Rattle.op_types.specs.declared.payment_results.CreateAccountResult.TheVariants as create
-use Rattle.op_types.specs.declared.sponsor_ops.BeginSponsoringFutureReservesOp.{BeginSponsoringFutureReservesOp}
-use Rattle.op_types.specs.declared.sponsor_ops.RevokeSponsorshipOp.{RevokeSponsorshipOp}
-use Rattle.op_types.specs.declared.sponsor_ops.RevokeSponsorshipOp.TheVariants as revoked
-use Rattle.op_types.specs.declared.sponsor_results.EndSponsoringFutureReservesResult.TheVariants as end
-use Rattle.op_types.specs.declared.sponsor_results.RevokeSponsorshipResult.TheVariants as revoke
-use Rattle.entry_map.specs.EntryMap.{EntryMap}
-use Rattle.entry_slots.specs.Accounts.{account_at}
-use Rattle.entry_slots.specs.DataEntries.{data_at}
-use Rattle.sponsor_rules.specs.declared.context.Ctx.{Ctx}
-use Rattle.sponsor_rules.specs.declared.signer_place.FoundSigner.{FoundSigner}
-use Rattle.sponsor_rules.specs.Adding.{map_after_adding}
-use Rattle.sponsor_rules.specs.Moving.{map_after_moving}
-use Rattle.sponsor_rules.specs.Payers.{open_sponsor}
-use Rattle.sponsor_rules.specs.SignerPlace.{found_signer}
-use Rattle.sponsor_rules.specs.Signers.{map_after_adding_signer, map_after_moving_signer, map_after_removing_signer}
-use Rattle.op_form.specs.Lumens.{map_after_lumens_debit}
-use Rattle.op_account.specs.BumpSequence as bumping
-use Rattle.op_account.specs.CreateAccount as creating
-use Rattle.op_options.specs.ManageData as managing
-use Rattle.op_options.specs.OptionSigner as signers
-use Rattle.op_options.specs.OptionTests as tests
-use Rattle.op_options.specs.SetOptions as options
-use Rattle.op_sponsor.specs.BeginSponsoringFutureReserves as beginning
-use Rattle.op_sponsor.specs.EndSponsoringFutureReserves as ending
-use Rattle.op_sponsor.specs.RevokeSponsorship as revoking
+use Rattle.close_laws.specs.ledger_types.declared.account.AccountEntry.{AccountEntry}
+use Rattle.close_laws.specs.ledger_types.declared.data_entry.DataEntry.{DataEntry}
+use Rattle.close_laws.specs.ledger_types.declared.ids.AccountId.{AccountId}
+use Rattle.close_laws.specs.ledger_types.declared.key.LedgerKey.{LedgerKey}
+use Rattle.close_laws.specs.ledger_types.declared.key.LedgerKey.TheVariants as key
+use Rattle.close_laws.specs.ledger_types.declared.signer.Signer.{Signer}
+use Rattle.close_laws.specs.ledger_types.declared.signer.SignerKey.{SignerKey}
+use Rattle.close_laws.specs.op_types.declared.account_ops.BumpSequenceOp.{BumpSequenceOp}
+use Rattle.close_laws.specs.op_types.declared.account_ops.CreateAccountOp.{CreateAccountOp}
+use Rattle.close_laws.specs.op_types.declared.account_ops.ManageDataOp.{ManageDataOp}
+use Rattle.close_laws.specs.op_types.declared.account_ops.SetOptionsOp.{SetOptionsOp}
+use Rattle.close_laws.specs.op_types.declared.account_results.BumpSequenceResult.TheVariants as bump
+use Rattle.close_laws.specs.op_types.declared.account_results.ManageDataResult.TheVariants as manage
+use Rattle.close_laws.specs.op_types.declared.account_results.SetOptionsResult.TheVariants as set
+use Rattle.close_laws.specs.op_types.declared.operation_result.OperationResult.TheVariants.{NoAccount}
+use Rattle.close_laws.specs.op_types.declared.payment_results.CreateAccountResult.TheVariants as create
+use Rattle.close_laws.specs.op_types.declared.sponsor_ops.BeginSponsoringFutureReservesOp.{BeginSponsoringFutureReservesOp}
+use Rattle.close_laws.specs.op_types.declared.sponsor_ops.RevokeSponsorshipOp.{RevokeSponsorshipOp}
+use Rattle.close_laws.specs.op_types.declared.sponsor_ops.RevokeSponsorshipOp.TheVariants as revoked
+use Rattle.close_laws.specs.op_types.declared.sponsor_results.EndSponsoringFutureReservesResult.TheVariants as end
+use Rattle.close_laws.specs.op_types.declared.sponsor_results.RevokeSponsorshipResult.TheVariants as revoke
+use Rattle.close_laws.specs.entry_map.EntryMap.{EntryMap}
+use Rattle.close_laws.specs.entry_slots.Accounts.{account_at}
+use Rattle.close_laws.specs.entry_slots.DataEntries.{data_at}
+use Rattle.close_laws.specs.sponsor_rules.declared.context.Ctx.{Ctx}
+use Rattle.close_laws.specs.sponsor_rules.declared.signer_place.FoundSigner.{FoundSigner}
+use Rattle.close_laws.specs.sponsor_rules.Adding.{map_after_adding}
+use Rattle.close_laws.specs.sponsor_rules.Moving.{map_after_moving}
+use Rattle.close_laws.specs.sponsor_rules.Payers.{open_sponsor}
+use Rattle.close_laws.specs.sponsor_rules.SignerPlace.{found_signer}
+use Rattle.close_laws.specs.sponsor_rules.Signers.{map_after_adding_signer, map_after_moving_signer, map_after_removing_signer}
+use Rattle.close_laws.specs.op_form.Lumens.{map_after_lumens_debit}
+use Rattle.close_laws.specs.op_account.BumpSequence as bumping
+use Rattle.close_laws.specs.op_account.CreateAccount as creating
+use Rattle.close_laws.specs.op_options.ManageData as managing
+use Rattle.close_laws.specs.op_options.OptionSigner as signers
+use Rattle.close_laws.specs.op_options.OptionTests as tests
+use Rattle.close_laws.specs.op_options.SetOptions as options
+use Rattle.close_laws.specs.op_sponsor.BeginSponsoringFutureReserves as beginning
+use Rattle.close_laws.specs.op_sponsor.EndSponsoringFutureReserves as ending
+use Rattle.close_laws.specs.op_sponsor.RevokeSponsorship as revoking
 use Rattle.account_laws.proofs.Amounts.{lumens_debit_keeps}
 use Rattle.account_laws.proofs.Sponsored.{adding_keeps, adding_signer_keeps, moving_keeps, moving_signer_keeps}
 use Rattle.account_laws.proofs.Sponsored.{removing_keeps, removing_signer_keeps}

@@ -2,28 +2,28 @@
 use Rattle.std.proofs.Common.{Bool, None, Ok, Option, Some, false, if◌then◌else◌, true}
 use Rattle.std.specs.Option.{ok_or}
 use Rattle.std.specs.Prelude.{ℤ}
-use Rattle.ledger_types.specs.declared.account.AccountEntry.{AccountEntry}
-use Rattle.ledger_types.specs.declared.asset.Asset.{Asset}
-use Rattle.ledger_types.specs.declared.asset.Asset.TheVariants as asset
-use Rattle.ledger_types.specs.declared.asset.TrustLineAsset.{TrustLineAsset}
-use Rattle.ledger_types.specs.declared.ids.AccountId.{AccountId}
-use Rattle.ledger_types.specs.declared.key.LedgerKey.{LedgerKey}
-use Rattle.ledger_types.specs.declared.key.LedgerKey.TheVariants as key
-use Rattle.ledger_types.specs.declared.offer.OfferEntry.{OfferEntry}
-use Rattle.ledger_types.specs.declared.trust_line.TrustLineEntry.{TrustLineEntry}
-use Rattle.entry_map.specs.EntryMap.{EntryMap}
-use Rattle.entry_slots.specs.Accounts.{account_at}
-use Rattle.entry_slots.specs.Lines.{line_at}
-use Rattle.sponsor_rules.specs.declared.context.Ctx.{Ctx}
-use Rattle.legal_rules.specs.Binding.{acquiring, binding, bound_account, bound_line, releasing}
-use Rattle.legal_rules.specs.Payments.{paid}
-use Rattle.legal_rules.specs.Trades.{holder}
-use Rattle.trade_cross.specs.Cancelling.{map_after_cancelling}
-use Rattle.trade_cross.specs.Crossing.{offer_key}
-use Rattle.trade_cross.specs.Holdings.{line_paid, paying}
-use Rattle.op_form.specs.Amounts as amounts
-use Rattle.op_form.specs.Assets.{is_issued_by, line_asset_of}
-use Rattle.op_form.specs.Lumens as lumens
+use Rattle.close_laws.specs.ledger_types.declared.account.AccountEntry.{AccountEntry}
+use Rattle.close_laws.specs.ledger_types.declared.asset.Asset.{Asset}
+use Rattle.close_laws.specs.ledger_types.declared.asset.Asset.TheVariants as asset
+use Rattle.close_laws.specs.ledger_types.declared.asset.TrustLineAsset.{TrustLineAsset}
+use Rattle.close_laws.specs.ledger_types.declared.ids.AccountId.{AccountId}
+use Rattle.close_laws.specs.ledger_types.declared.key.LedgerKey.{LedgerKey}
+use Rattle.close_laws.specs.ledger_types.declared.key.LedgerKey.TheVariants as key
+use Rattle.close_laws.specs.ledger_types.declared.offer.OfferEntry.{OfferEntry}
+use Rattle.close_laws.specs.ledger_types.declared.trust_line.TrustLineEntry.{TrustLineEntry}
+use Rattle.close_laws.specs.entry_map.EntryMap.{EntryMap}
+use Rattle.close_laws.specs.entry_slots.Accounts.{account_at}
+use Rattle.close_laws.specs.entry_slots.Lines.{line_at}
+use Rattle.close_laws.specs.sponsor_rules.declared.context.Ctx.{Ctx}
+use Rattle.close_laws.specs.legal_rules.Binding.{acquiring, binding, bound_account, bound_line, releasing}
+use Rattle.close_laws.specs.legal_rules.Payments.{paid}
+use Rattle.close_laws.specs.legal_rules.Trades.{holder}
+use Rattle.close_laws.specs.trade_cross.Cancelling.{map_after_cancelling}
+use Rattle.close_laws.specs.trade_cross.Crossing.{offer_key}
+use Rattle.close_laws.specs.trade_cross.Holdings.{line_paid, paying}
+use Rattle.close_laws.specs.op_form.Amounts as amounts
+use Rattle.close_laws.specs.op_form.Assets.{is_issued_by, line_asset_of}
+use Rattle.close_laws.specs.op_form.Lumens as lumens
 use Rattle.account_laws.proofs.Sponsored.{removing_keeps}
 use Rattle.account_laws.proofs.Standing.{Keeps, either_way, with_account_keeps, with_line_keeps}
 use Rattle.account_laws.proofs.Steps.{Gives, KeepsIf, KeepsIfSome, unless_keeps}

@@ -2,36 +2,36 @@
 use Rattle.std.proofs.Common.{Bool, List, None, Option, Some, [], false, is_some, pos, suc, true, zero, ℕ, ◌∷◌}
 use Rattle.std.specs.List.{filter}
 use Rattle.std.specs.Prelude.{neg_ℤ}
-use Rattle.ledger_types.specs.declared.asset.Asset.{Asset}
-use Rattle.ledger_types.specs.declared.asset.TrustLineAsset.TheVariants as line
-use Rattle.ledger_types.specs.declared.ids.AccountId.{AccountId}
-use Rattle.ledger_types.specs.declared.ids.Hash.{Hash}
-use Rattle.ledger_types.specs.declared.liquidity_pool.LiquidityPoolEntry.{LiquidityPoolEntry}
-use Rattle.ledger_types.specs.declared.offer.OfferEntry.{OfferEntry}
-use Rattle.ledger_types.specs.declared.trust_line.TrustLineEntry.{TrustLineEntry}
-use Rattle.op_types.specs.declared.operation_result.OperationResult.{OperationResult}
-use Rattle.op_types.specs.declared.operation_result.OperationResult.TheVariants.{NoAccount, NotSupported}
-use Rattle.op_types.specs.declared.trust_ops.AllowTrustOp.{AllowTrustOp}
-use Rattle.op_types.specs.declared.trust_ops.SetTrustLineFlagsOp.{SetTrustLineFlagsOp}
-use Rattle.op_types.specs.declared.trust_results.AllowTrustResult.TheVariants as allow
-use Rattle.op_types.specs.declared.trust_results.SetTrustLineFlagsResult.TheVariants as set
-use Rattle.entry_map.specs.EntryMap.{EntryMap}
-use Rattle.entry_slots.specs.Accounts.{account_at}
-use Rattle.entry_slots.specs.Balances.{balance_at}
-use Rattle.entry_slots.specs.Lines.{line_at}
-use Rattle.entry_slots.specs.Pools.{pool_at}
-use Rattle.sponsor_rules.specs.declared.context.Ctx.{Ctx}
-use Rattle.sponsor_rules.specs.Adding.{map_after_adding}
-use Rattle.offer_book.specs.Book.{offers_by}
-use Rattle.trade_cross.specs.Cancelling.{map_after_cancelling}
-use Rattle.pool_shares.specs.Withdrawing.{part_of}
-use Rattle.op_form.specs.Assets.{is_issued_by, line_asset_of, line_of_asset}
-use Rattle.op_flags.specs.AllowTrust as allowing
-use Rattle.op_flags.specs.LineFlags as flagging
-use Rattle.op_flags.specs.RevokedShares.{Given, Revoked}
-use Rattle.op_flags.specs.RevokedShares as revoking
-use Rattle.op_flags.specs.Revoking.{map_after_cancelling_all, map_without_offers, trades_in}
-use Rattle.op_flags.specs.SetTrustLineFlags as setting
+use Rattle.close_laws.specs.ledger_types.declared.asset.Asset.{Asset}
+use Rattle.close_laws.specs.ledger_types.declared.asset.TrustLineAsset.TheVariants as line
+use Rattle.close_laws.specs.ledger_types.declared.ids.AccountId.{AccountId}
+use Rattle.close_laws.specs.ledger_types.declared.ids.Hash.{Hash}
+use Rattle.close_laws.specs.ledger_types.declared.liquidity_pool.LiquidityPoolEntry.{LiquidityPoolEntry}
+use Rattle.close_laws.specs.ledger_types.declared.offer.OfferEntry.{OfferEntry}
+use Rattle.close_laws.specs.ledger_types.declared.trust_line.TrustLineEntry.{TrustLineEntry}
+use Rattle.close_laws.specs.op_types.declared.operation_result.OperationResult.{OperationResult}
+use Rattle.close_laws.specs.op_types.declared.operation_result.OperationResult.TheVariants.{NoAccount, NotSupported}
+use Rattle.close_laws.specs.op_types.declared.trust_ops.AllowTrustOp.{AllowTrustOp}
+use Rattle.close_laws.specs.op_types.declared.trust_ops.SetTrustLineFlagsOp.{SetTrustLineFlagsOp}
+use Rattle.close_laws.specs.op_types.declared.trust_results.AllowTrustResult.TheVariants as allow
+use Rattle.close_laws.specs.op_types.declared.trust_results.SetTrustLineFlagsResult.TheVariants as set
+use Rattle.close_laws.specs.entry_map.EntryMap.{EntryMap}
+use Rattle.close_laws.specs.entry_slots.Accounts.{account_at}
+use Rattle.close_laws.specs.entry_slots.Balances.{balance_at}
+use Rattle.close_laws.specs.entry_slots.Lines.{line_at}
+use Rattle.close_laws.specs.entry_slots.Pools.{pool_at}
+use Rattle.close_laws.specs.sponsor_rules.declared.context.Ctx.{Ctx}
+use Rattle.close_laws.specs.sponsor_rules.Adding.{map_after_adding}
+use Rattle.close_laws.specs.offer_book.Book.{offers_by}
+use Rattle.close_laws.specs.trade_cross.Cancelling.{map_after_cancelling}
+use Rattle.close_laws.specs.pool_shares.Withdrawing.{part_of}
+use Rattle.close_laws.specs.op_form.Assets.{is_issued_by, line_asset_of, line_of_asset}
+use Rattle.close_laws.specs.op_flags.AllowTrust as allowing
+use Rattle.close_laws.specs.op_flags.LineFlags as flagging
+use Rattle.close_laws.specs.op_flags.RevokedShares.{Given, Revoked}
+use Rattle.close_laws.specs.op_flags.RevokedShares as revoking
+use Rattle.close_laws.specs.op_flags.Revoking.{map_after_cancelling_all, map_without_offers, trades_in}
+use Rattle.close_laws.specs.op_flags.SetTrustLineFlags as setting
 use Rattle.account_laws.proofs.Amounts.{cancelling_keeps}
 use Rattle.account_laws.proofs.Pools.{shares_keep, without_share_line_keeps}
 use Rattle.account_laws.proofs.Sponsored.{adding_keeps}

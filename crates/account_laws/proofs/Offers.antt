@@ -3,35 +3,35 @@ use Rattle.std.proofs.Common.{Err, None, Ok, Option, Result, Some, if◌then◌e
 use Rattle.std.specs.FinMap.{get}
 use Rattle.std.specs.Ordering.{int_eq}
 use Rattle.std.specs.Prelude.{neg_ℤ}
-use Rattle.ledger_types.specs.declared.entry.LedgerEntry.{LedgerEntry}
-use Rattle.ledger_types.specs.declared.entry.LedgerEntryBody.{LedgerEntryBody}
-use Rattle.ledger_types.specs.declared.entry.LedgerEntryBody.TheVariants as body
-use Rattle.ledger_types.specs.declared.ids.AccountId.{AccountId}
-use Rattle.ledger_types.specs.declared.key.LedgerKey.TheVariants as key
-use Rattle.ledger_types.specs.declared.offer.OfferEntry.{OfferEntry}
-use Rattle.entry_map.specs.EntryMap.{EntryMap}
-use Rattle.entry_slots.specs.EntrySponsor.{sponsor_of}
-use Rattle.entry_slots.specs.Tests.{first_fault, unless_fault}
-use Rattle.sponsor_rules.specs.declared.context.Ctx.{Ctx}
-use Rattle.sponsor_rules.specs.declared.fault.AddFault.{AddFault}
-use Rattle.sponsor_rules.specs.Adding.{map_after_counting_subentry}
-use Rattle.legal_rules.specs.Trades.{holder}
-use Rattle.trade_cross.specs.declared.crossed.CrossEnd.{CrossEnd}
-use Rattle.trade_cross.specs.declared.crossed.CrossEnd.TheVariants.{CrossSelf, TooMany}
-use Rattle.trade_cross.specs.declared.trade.Trade.{Trade}
-use Rattle.trade_cross.specs.Cancelling.{map_after_cancelling}
-use Rattle.trade_cross.specs.Crossing.{converted, offer_key}
-use Rattle.op_offers.specs.declared.ask.Ask.{Ask}
-use Rattle.op_offers.specs.declared.fault.OfferFault.{OfferFault}
-use Rattle.op_offers.specs.declared.fault.OfferFault.TheVariants as fault
-use Rattle.op_offers.specs.Asked.{is_malformed}
-use Rattle.op_offers.specs.Managing.{Changed, Effect, Made, Managed, Removed, Traded, buy_fault, changed, made, managed}
-use Rattle.op_offers.specs.Managing.{managed_at, managed_old, new_asked, of_sold, old_asked, sell_fault, unless_lines}
-use Rattle.op_offers.specs.Managing.{unless_some, with_reserve}
-use Rattle.op_offers.specs.Operations.{Answer, attempt_of_managed}
-use Rattle.op_offers.specs.Selling.{Asked, Sold, after_tests, by_end, crossed_by, left_of, map_after_keeping}
-use Rattle.op_offers.specs.Selling.{map_without_offer, offer_left, settled, sold, source_gives_at, source_takes_at}
-use Rattle.op_offers.specs.Selling.{trade_of, wanted_tests}
+use Rattle.close_laws.specs.ledger_types.declared.entry.LedgerEntry.{LedgerEntry}
+use Rattle.close_laws.specs.ledger_types.declared.entry.LedgerEntryBody.{LedgerEntryBody}
+use Rattle.close_laws.specs.ledger_types.declared.entry.LedgerEntryBody.TheVariants as body
+use Rattle.close_laws.specs.ledger_types.declared.ids.AccountId.{AccountId}
+use Rattle.close_laws.specs.ledger_types.declared.key.LedgerKey.TheVariants as key
+use Rattle.close_laws.specs.ledger_types.declared.offer.OfferEntry.{OfferEntry}
+use Rattle.close_laws.specs.entry_map.EntryMap.{EntryMap}
+use Rattle.close_laws.specs.entry_slots.EntrySponsor.{sponsor_of}
+use Rattle.close_laws.specs.entry_slots.Tests.{first_fault, unless_fault}
+use Rattle.close_laws.specs.sponsor_rules.declared.context.Ctx.{Ctx}
+use Rattle.close_laws.specs.sponsor_rules.declared.fault.AddFault.{AddFault}
+use Rattle.close_laws.specs.sponsor_rules.Adding.{map_after_counting_subentry}
+use Rattle.close_laws.specs.legal_rules.Trades.{holder}
+use Rattle.close_laws.specs.trade_cross.declared.crossed.CrossEnd.{CrossEnd}
+use Rattle.close_laws.specs.trade_cross.declared.crossed.CrossEnd.TheVariants.{CrossSelf, TooMany}
+use Rattle.close_laws.specs.trade_cross.declared.trade.Trade.{Trade}
+use Rattle.close_laws.specs.trade_cross.Cancelling.{map_after_cancelling}
+use Rattle.close_laws.specs.trade_cross.Crossing.{converted, offer_key}
+use Rattle.close_laws.specs.op_offers.declared.ask.Ask.{Ask}
+use Rattle.close_laws.specs.op_offers.declared.fault.OfferFault.{OfferFault}
+use Rattle.close_laws.specs.op_offers.declared.fault.OfferFault.TheVariants as fault
+use Rattle.close_laws.specs.op_offers.Asked.{is_malformed}
+use Rattle.close_laws.specs.op_offers.Managing.{Changed, Effect, Made, Managed, Removed, Traded, buy_fault, changed, made, managed}
+use Rattle.close_laws.specs.op_offers.Managing.{managed_at, managed_old, new_asked, of_sold, old_asked, sell_fault, unless_lines}
+use Rattle.close_laws.specs.op_offers.Managing.{unless_some, with_reserve}
+use Rattle.close_laws.specs.op_offers.Operations.{Answer, attempt_of_managed}
+use Rattle.close_laws.specs.op_offers.Selling.{Asked, Sold, after_tests, by_end, crossed_by, left_of, map_after_keeping}
+use Rattle.close_laws.specs.op_offers.Selling.{map_without_offer, offer_left, settled, sold, source_gives_at, source_takes_at}
+use Rattle.close_laws.specs.op_offers.Selling.{trade_of, wanted_tests}
 use Rattle.account_laws.proofs.Amounts.{acquiring_keeps, cancelling_keeps, paying_keeps, releasing_offer_keeps}
 use Rattle.account_laws.proofs.Sponsored.{counting_keeps, discounting_keeps}
 use Rattle.account_laws.proofs.Standing.{Keeps, either_way, erase_keeps, put_keeps}

@@ -1,39 +1,39 @@
 -- An operation that isn't ACCOUNT_MERGE leaves each account that stood.
 use Rattle.std.proofs.Common.{false, ◌≡◌}
-use Rattle.op_types.specs.declared.operation.OperationBody.{OperationBody}
-use Rattle.op_types.specs.declared.operation.OperationBody.TheVariants as body
-use Rattle.entry_map.specs.EntryMap.{EntryMap}
-use Rattle.sponsor_rules.specs.declared.context.Ctx.{Ctx}
-use Rattle.op_account.specs.BumpSequence.{bump_sequence}
-use Rattle.op_account.specs.CreateAccount.{create_account}
-use Rattle.op_account.specs.Operations.{account_operation}
-use Rattle.op_options.specs.ManageData.{manage_data}
-use Rattle.op_options.specs.Operations.{options_operation}
-use Rattle.op_options.specs.SetOptions.{set_options}
-use Rattle.op_payment.specs.Operations.{payment_operation}
-use Rattle.op_payment.specs.PathReceive.{path_payment_strict_receive}
-use Rattle.op_payment.specs.PathSend.{path_payment_strict_send}
-use Rattle.op_payment.specs.Payment.{payment}
-use Rattle.op_trust.specs.Operations.{change_trust, trust_operation}
-use Rattle.op_offers.specs.declared.answers.Kind.TheVariants as kind
-use Rattle.op_offers.specs.Asked.{ask_passively, ask_to_buy, ask_to_sell}
-use Rattle.op_offers.specs.Operations.{answer_of, attempt_of, offers_operation}
-use Rattle.op_flags.specs.AllowTrust.{allow_trust}
-use Rattle.op_flags.specs.Operations.{flags_operation}
-use Rattle.op_flags.specs.SetTrustLineFlags.{set_trust_line_flags}
-use Rattle.op_claim.specs.ClaimClaimableBalance.{claim_claimable_balance}
-use Rattle.op_claim.specs.Clawback.{clawback}
-use Rattle.op_claim.specs.ClawbackClaimableBalance.{clawback_claimable_balance}
-use Rattle.op_claim.specs.CreateClaimableBalance.{create_claimable_balance}
-use Rattle.op_claim.specs.Operations.{claim_operation}
-use Rattle.op_pool.specs.Deposit.{liquidity_pool_deposit}
-use Rattle.op_pool.specs.Operations.{pool_operation}
-use Rattle.op_pool.specs.Withdraw.{liquidity_pool_withdraw}
-use Rattle.op_sponsor.specs.BeginSponsoringFutureReserves.{begin_sponsoring}
-use Rattle.op_sponsor.specs.EndSponsoringFutureReserves.{end_sponsoring}
-use Rattle.op_sponsor.specs.Operations.{sponsor_operation}
-use Rattle.op_sponsor.specs.RevokeSponsorship.{revoke_sponsorship}
-use Rattle.op_laws.specs.AnyOperation.{any_operation}
+use Rattle.close_laws.specs.op_types.declared.operation.OperationBody.{OperationBody}
+use Rattle.close_laws.specs.op_types.declared.operation.OperationBody.TheVariants as body
+use Rattle.close_laws.specs.entry_map.EntryMap.{EntryMap}
+use Rattle.close_laws.specs.sponsor_rules.declared.context.Ctx.{Ctx}
+use Rattle.close_laws.specs.op_account.BumpSequence.{bump_sequence}
+use Rattle.close_laws.specs.op_account.CreateAccount.{create_account}
+use Rattle.close_laws.specs.op_account.Operations.{account_operation}
+use Rattle.close_laws.specs.op_options.ManageData.{manage_data}
+use Rattle.close_laws.specs.op_options.Operations.{options_operation}
+use Rattle.close_laws.specs.op_options.SetOptions.{set_options}
+use Rattle.close_laws.specs.op_payment.Operations.{payment_operation}
+use Rattle.close_laws.specs.op_payment.PathReceive.{path_payment_strict_receive}
+use Rattle.close_laws.specs.op_payment.PathSend.{path_payment_strict_send}
+use Rattle.close_laws.specs.op_payment.Payment.{payment}
+use Rattle.close_laws.specs.op_trust.Operations.{change_trust, trust_operation}
+use Rattle.close_laws.specs.op_offers.declared.answers.Kind.TheVariants as kind
+use Rattle.close_laws.specs.op_offers.Asked.{ask_passively, ask_to_buy, ask_to_sell}
+use Rattle.close_laws.specs.op_offers.Operations.{answer_of, attempt_of, offers_operation}
+use Rattle.close_laws.specs.op_flags.AllowTrust.{allow_trust}
+use Rattle.close_laws.specs.op_flags.Operations.{flags_operation}
+use Rattle.close_laws.specs.op_flags.SetTrustLineFlags.{set_trust_line_flags}
+use Rattle.close_laws.specs.op_claim.ClaimClaimableBalance.{claim_claimable_balance}
+use Rattle.close_laws.specs.op_claim.Clawback.{clawback}
+use Rattle.close_laws.specs.op_claim.ClawbackClaimableBalance.{clawback_claimable_balance}
+use Rattle.close_laws.specs.op_claim.CreateClaimableBalance.{create_claimable_balance}
+use Rattle.close_laws.specs.op_claim.Operations.{claim_operation}
+use Rattle.close_laws.specs.op_pool.Deposit.{liquidity_pool_deposit}
+use Rattle.close_laws.specs.op_pool.Operations.{pool_operation}
+use Rattle.close_laws.specs.op_pool.Withdraw.{liquidity_pool_withdraw}
+use Rattle.close_laws.specs.op_sponsor.BeginSponsoringFutureReserves.{begin_sponsoring}
+use Rattle.close_laws.specs.op_sponsor.EndSponsoringFutureReserves.{end_sponsoring}
+use Rattle.close_laws.specs.op_sponsor.Operations.{sponsor_operation}
+use Rattle.close_laws.specs.op_sponsor.RevokeSponsorship.{revoke_sponsorship}
+use Rattle.close_laws.specs.op_laws.AnyOperation.{any_operation}
 use Rattle.account_laws.specs.Standing.{OperationsKeepAccounts, is_merge}
 use Rattle.account_laws.proofs.Accounts.{begin_keeps, bump_sequence_keeps, create_account_keeps, end_keeps}
 use Rattle.account_laws.proofs.Accounts.{manage_data_keeps, revoke_keeps, set_options_keeps}

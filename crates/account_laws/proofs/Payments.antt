@@ -1,37 +1,37 @@
 -- Payments, also along paths, claimable balances and clawbacks leave each account that stood.
 use Rattle.std.proofs.Common.{Err, Ok, Result, [], is_some, pos, ◌∷◌}
-use Rattle.ledger_types.specs.declared.key.LedgerKey.TheVariants as key
-use Rattle.ledger_types.specs.Ids.{account_of}
-use Rattle.op_types.specs.declared.balance_ops.ClaimClaimableBalanceOp.{ClaimClaimableBalanceOp}
-use Rattle.op_types.specs.declared.balance_ops.ClawbackClaimableBalanceOp.{ClawbackClaimableBalanceOp}
-use Rattle.op_types.specs.declared.balance_ops.CreateClaimableBalanceOp.{CreateClaimableBalanceOp}
-use Rattle.op_types.specs.declared.balance_results.ClaimClaimableBalanceResult.TheVariants as claim
-use Rattle.op_types.specs.declared.balance_results.ClawbackClaimableBalanceResult.TheVariants as reclaim
-use Rattle.op_types.specs.declared.balance_results.CreateClaimableBalanceResult.TheVariants as create
-use Rattle.op_types.specs.declared.operation_result.OperationResult.TheVariants.{NotSupported}
-use Rattle.op_types.specs.declared.payment_ops.PathPaymentStrictReceiveOp.{PathPaymentStrictReceiveOp}
-use Rattle.op_types.specs.declared.payment_ops.PathPaymentStrictSendOp.{PathPaymentStrictSendOp}
-use Rattle.op_types.specs.declared.payment_ops.PaymentOp.{PaymentOp}
-use Rattle.op_types.specs.declared.trust_ops.ClawbackOp.{ClawbackOp}
-use Rattle.op_types.specs.declared.trust_results.ClawbackResult.TheVariants as claw
-use Rattle.entry_map.specs.EntryMap.{EntryMap}
-use Rattle.entry_slots.specs.Balances.{balance_at}
-use Rattle.sponsor_rules.specs.declared.context.Ctx.{Ctx}
-use Rattle.sponsor_rules.specs.Adding.{map_after_adding}
-use Rattle.sponsor_rules.specs.Removing.{map_after_removing}
-use Rattle.op_form.specs.Amounts.{map_after_credit, map_after_debit, with_less}
-use Rattle.op_form.specs.Assets.{line_asset_of, line_of_asset}
-use Rattle.op_form.specs.Done.{Attempt}
-use Rattle.op_form.specs.Steps.{unless_refused}
-use Rattle.op_payment.specs.declared.path_fault.PathFault.{PathFault}
-use Rattle.op_payment.specs.PathReceive as receiving
-use Rattle.op_payment.specs.PathSend as sending
-use Rattle.op_payment.specs.Paths.{Carried, received, sent, set_out}
-use Rattle.op_payment.specs.Payment as paying
-use Rattle.op_claim.specs.ClaimClaimableBalance as claiming
-use Rattle.op_claim.specs.Clawback as clawing
-use Rattle.op_claim.specs.ClawbackClaimableBalance as taking
-use Rattle.op_claim.specs.CreateClaimableBalance as balances
+use Rattle.close_laws.specs.ledger_types.declared.key.LedgerKey.TheVariants as key
+use Rattle.close_laws.specs.ledger_types.Ids.{account_of}
+use Rattle.close_laws.specs.op_types.declared.balance_ops.ClaimClaimableBalanceOp.{ClaimClaimableBalanceOp}
+use Rattle.close_laws.specs.op_types.declared.balance_ops.ClawbackClaimableBalanceOp.{ClawbackClaimableBalanceOp}
+use Rattle.close_laws.specs.op_types.declared.balance_ops.CreateClaimableBalanceOp.{CreateClaimableBalanceOp}
+use Rattle.close_laws.specs.op_types.declared.balance_results.ClaimClaimableBalanceResult.TheVariants as claim
+use Rattle.close_laws.specs.op_types.declared.balance_results.ClawbackClaimableBalanceResult.TheVariants as reclaim
+use Rattle.close_laws.specs.op_types.declared.balance_results.CreateClaimableBalanceResult.TheVariants as create
+use Rattle.close_laws.specs.op_types.declared.operation_result.OperationResult.TheVariants.{NotSupported}
+use Rattle.close_laws.specs.op_types.declared.payment_ops.PathPaymentStrictReceiveOp.{PathPaymentStrictReceiveOp}
+use Rattle.close_laws.specs.op_types.declared.payment_ops.PathPaymentStrictSendOp.{PathPaymentStrictSendOp}
+use Rattle.close_laws.specs.op_types.declared.payment_ops.PaymentOp.{PaymentOp}
+use Rattle.close_laws.specs.op_types.declared.trust_ops.ClawbackOp.{ClawbackOp}
+use Rattle.close_laws.specs.op_types.declared.trust_results.ClawbackResult.TheVariants as claw
+use Rattle.close_laws.specs.entry_map.EntryMap.{EntryMap}
+use Rattle.close_laws.specs.entry_slots.Balances.{balance_at}
+use Rattle.close_laws.specs.sponsor_rules.declared.context.Ctx.{Ctx}
+use Rattle.close_laws.specs.sponsor_rules.Adding.{map_after_adding}
+use Rattle.close_laws.specs.sponsor_rules.Removing.{map_after_removing}
+use Rattle.close_laws.specs.op_form.Amounts.{map_after_credit, map_after_debit, with_less}
+use Rattle.close_laws.specs.op_form.Assets.{line_asset_of, line_of_asset}
+use Rattle.close_laws.specs.op_form.Done.{Attempt}
+use Rattle.close_laws.specs.op_form.Steps.{unless_refused}
+use Rattle.close_laws.specs.op_payment.declared.path_fault.PathFault.{PathFault}
+use Rattle.close_laws.specs.op_payment.PathReceive as receiving
+use Rattle.close_laws.specs.op_payment.PathSend as sending
+use Rattle.close_laws.specs.op_payment.Paths.{Carried, received, sent, set_out}
+use Rattle.close_laws.specs.op_payment.Payment as paying
+use Rattle.close_laws.specs.op_claim.ClaimClaimableBalance as claiming
+use Rattle.close_laws.specs.op_claim.Clawback as clawing
+use Rattle.close_laws.specs.op_claim.ClawbackClaimableBalance as taking
+use Rattle.close_laws.specs.op_claim.CreateClaimableBalance as balances
 use Rattle.account_laws.proofs.Amounts.{credit_keeps, debit_keeps}
 use Rattle.account_laws.proofs.Sponsored.{adding_keeps, removing_keeps}
 use Rattle.account_laws.proofs.Standing.{Keeps, either_way, with_line_keeps}

@@ -1,30 +1,30 @@
 -- Pools and lines of their shares, which come, change and go, leave each account that stood.
 use Rattle.std.proofs.Common.{None, Option, Some, pos, ℕ}
 use Rattle.std.specs.Prelude.{neg_ℤ, ℤ}
-use Rattle.ledger_types.specs.declared.asset.PoolParams.{PoolParams}
-use Rattle.ledger_types.specs.declared.asset.TrustLineAsset.TheVariants as line
-use Rattle.ledger_types.specs.declared.ids.AccountId.{AccountId}
-use Rattle.ledger_types.specs.declared.ids.Hash.{Hash}
-use Rattle.ledger_types.specs.declared.key.LedgerKey.{LedgerKey}
-use Rattle.ledger_types.specs.declared.key.LedgerKey.TheVariants as key
-use Rattle.ledger_types.specs.declared.liquidity_pool.LiquidityPoolEntry.{LiquidityPoolEntry}
-use Rattle.op_types.specs.declared.pool_ops.LiquidityPoolDepositOp.{LiquidityPoolDepositOp}
-use Rattle.op_types.specs.declared.pool_ops.LiquidityPoolWithdrawOp.{LiquidityPoolWithdrawOp}
-use Rattle.op_types.specs.declared.pool_results.LiquidityPoolDepositResult.TheVariants as deposit
-use Rattle.op_types.specs.declared.pool_results.LiquidityPoolWithdrawResult.TheVariants as withdraw
-use Rattle.entry_map.specs.EntryMap.{EntryMap, erase}
-use Rattle.entry_slots.specs.Lines.{line_at}
-use Rattle.entry_slots.specs.Pools.{pool_at}
-use Rattle.sponsor_rules.specs.declared.context.Ctx.{Ctx}
-use Rattle.legal_rules.specs.PoolLaws.{new_pool}
-use Rattle.legal_rules.specs.PoolShares.{needed_line}
-use Rattle.legal_rules.specs.ShareLaws.{map_with_share_lines, map_with_uses_at, with_lines, with_uses}
-use Rattle.legal_rules.specs.Trades.{holder}
-use Rattle.pool_shares.specs.ShareLines.{empty_pool, has_no_line, map_with_pool_by, map_without_bare_pool}
-use Rattle.pool_shares.specs.ShareLines.{map_without_share_line}
-use Rattle.pool_shares.specs.Withdrawing.{map_with_shares, part_of, share_key, with_change}
-use Rattle.op_pool.specs.Deposit as depositing
-use Rattle.op_pool.specs.Withdraw as withdrawing
+use Rattle.close_laws.specs.ledger_types.declared.asset.PoolParams.{PoolParams}
+use Rattle.close_laws.specs.ledger_types.declared.asset.TrustLineAsset.TheVariants as line
+use Rattle.close_laws.specs.ledger_types.declared.ids.AccountId.{AccountId}
+use Rattle.close_laws.specs.ledger_types.declared.ids.Hash.{Hash}
+use Rattle.close_laws.specs.ledger_types.declared.key.LedgerKey.{LedgerKey}
+use Rattle.close_laws.specs.ledger_types.declared.key.LedgerKey.TheVariants as key
+use Rattle.close_laws.specs.ledger_types.declared.liquidity_pool.LiquidityPoolEntry.{LiquidityPoolEntry}
+use Rattle.close_laws.specs.op_types.declared.pool_ops.LiquidityPoolDepositOp.{LiquidityPoolDepositOp}
+use Rattle.close_laws.specs.op_types.declared.pool_ops.LiquidityPoolWithdrawOp.{LiquidityPoolWithdrawOp}
+use Rattle.close_laws.specs.op_types.declared.pool_results.LiquidityPoolDepositResult.TheVariants as deposit
+use Rattle.close_laws.specs.op_types.declared.pool_results.LiquidityPoolWithdrawResult.TheVariants as withdraw
+use Rattle.close_laws.specs.entry_map.EntryMap.{EntryMap, erase}
+use Rattle.close_laws.specs.entry_slots.Lines.{line_at}
+use Rattle.close_laws.specs.entry_slots.Pools.{pool_at}
+use Rattle.close_laws.specs.sponsor_rules.declared.context.Ctx.{Ctx}
+use Rattle.close_laws.specs.legal_rules.PoolLaws.{new_pool}
+use Rattle.close_laws.specs.legal_rules.PoolShares.{needed_line}
+use Rattle.close_laws.specs.legal_rules.ShareLaws.{map_with_share_lines, map_with_uses_at, with_lines, with_uses}
+use Rattle.close_laws.specs.legal_rules.Trades.{holder}
+use Rattle.close_laws.specs.pool_shares.ShareLines.{empty_pool, has_no_line, map_with_pool_by, map_without_bare_pool}
+use Rattle.close_laws.specs.pool_shares.ShareLines.{map_without_share_line}
+use Rattle.close_laws.specs.pool_shares.Withdrawing.{map_with_shares, part_of, share_key, with_change}
+use Rattle.close_laws.specs.op_pool.Deposit as depositing
+use Rattle.close_laws.specs.op_pool.Withdraw as withdrawing
 use Rattle.account_laws.proofs.Amounts.{paying_keeps}
 use Rattle.account_laws.proofs.Sponsored.{removing_keeps}
 use Rattle.account_laws.proofs.Standing.{Keeps, either_way, erase_keeps, put_keeps, with_line_keeps, with_pool_keeps}

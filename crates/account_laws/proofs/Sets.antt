@@ -4,43 +4,43 @@ use Rattle.std.proofs.Common.{sym, true, ℕ, ◌+◌, ◌∙◌, ◌∷◌, ◌
 use Rattle.std.proofs.lemmas.List.Elements.{All-head, All-tail}
 use Rattle.std.specs.FinMap.{get}
 use Rattle.std.specs.Prelude.{neg_ℤ, ℤ}
-use Rattle.ledger_types.specs.declared.account.AccountEntry.{AccountEntry}
-use Rattle.ledger_types.specs.declared.entry.LedgerEntry.{LedgerEntry}
-use Rattle.ledger_types.specs.declared.ids.AccountId.{AccountId}
-use Rattle.ledger_types.specs.declared.ids.Hash.{Hash}
-use Rattle.ledger_types.specs.declared.key.LedgerKey.TheVariants as key
-use Rattle.ledger_types.specs.declared.signer.SignerKey.TheVariants.{PreAuthTx}
-use Rattle.op_types.specs.declared.operation.Operation.{Operation}
-use Rattle.op_types.specs.declared.transaction.FeeBumpTransaction.{FeeBumpTransaction}
-use Rattle.op_types.specs.declared.transaction.Transaction.{Transaction}
-use Rattle.op_types.specs.declared.transaction.TransactionEnvelope.{TransactionEnvelope}
-use Rattle.op_types.specs.declared.transaction.TransactionEnvelope.TheVariants as envelope
-use Rattle.op_types.specs.declared.transaction.TransactionSet.{TransactionSet}
-use Rattle.op_types.specs.declared.transaction_result.TransactionOutcome.{TransactionOutcome}
-use Rattle.op_types.specs.declared.transaction_result.TransactionOutcome.TheVariants as outcome
-use Rattle.value_hashes.specs.Hashes.{signed_hash_of, transaction_hash_of}
-use Rattle.entry_map.specs.EntryMap.{EntryMap}
-use Rattle.entry_slots.specs.Accounts.{account_at, account_in, account_of}
-use Rattle.entry_slots.specs.Tests.{first_fault}
-use Rattle.sponsor_rules.specs.declared.context.Ctx.{Ctx}
-use Rattle.sponsor_rules.specs.Signers.{map_after_removing_preauth}
-use Rattle.legal_rules.specs.Payments.{numbered, paid}
-use Rattle.signer_check.specs.declared.held.HeldSignature.{HeldSignature}
-use Rattle.fee_rules.specs.Envelopes.{fee_source_of}
-use Rattle.fee_rules.specs.Fees.{set_base_fee}
-use Rattle.fee_rules.specs.Turns.{apply_order_of}
-use Rattle.op_form.specs.declared.levels.ThresholdLevel.TheVariants.{Low}
-use Rattle.tx_apply.specs.Checks as checks
-use Rattle.tx_apply.specs.FeeBump as bump
-use Rattle.tx_apply.specs.Fees.{fee_of, fees_taken, map_after_fee}
-use Rattle.tx_apply.specs.Operations.{operations_of}
-use Rattle.tx_apply.specs.Running.{Ran, done_at, done_by, placed, run}
-use Rattle.tx_apply.specs.Set.{Setting, all_applied, all_held, ctx_in, envelope_applied, envelopes_in_order}
-use Rattle.tx_apply.specs.Set.{fees_taken_of, set_done}
-use Rattle.tx_apply.specs.Signing.{Auth, are_used, auth_of, source_of}
-use Rattle.tx_apply.specs.Transaction as spec
-use Rattle.tx_apply.proofs.Conserving.{all_at}
-use Rattle.close_rules.specs.Close.{applied_in, setting_in}
+use Rattle.close_laws.specs.ledger_types.declared.account.AccountEntry.{AccountEntry}
+use Rattle.close_laws.specs.ledger_types.declared.entry.LedgerEntry.{LedgerEntry}
+use Rattle.close_laws.specs.ledger_types.declared.ids.AccountId.{AccountId}
+use Rattle.close_laws.specs.ledger_types.declared.ids.Hash.{Hash}
+use Rattle.close_laws.specs.ledger_types.declared.key.LedgerKey.TheVariants as key
+use Rattle.close_laws.specs.ledger_types.declared.signer.SignerKey.TheVariants.{PreAuthTx}
+use Rattle.close_laws.specs.op_types.declared.operation.Operation.{Operation}
+use Rattle.close_laws.specs.op_types.declared.transaction.FeeBumpTransaction.{FeeBumpTransaction}
+use Rattle.close_laws.specs.op_types.declared.transaction.Transaction.{Transaction}
+use Rattle.close_laws.specs.op_types.declared.transaction.TransactionEnvelope.{TransactionEnvelope}
+use Rattle.close_laws.specs.op_types.declared.transaction.TransactionEnvelope.TheVariants as envelope
+use Rattle.close_laws.specs.op_types.declared.transaction.TransactionSet.{TransactionSet}
+use Rattle.close_laws.specs.op_types.declared.transaction_result.TransactionOutcome.{TransactionOutcome}
+use Rattle.close_laws.specs.op_types.declared.transaction_result.TransactionOutcome.TheVariants as outcome
+use Rattle.close_laws.specs.value_hashes.Hashes.{signed_hash_of, transaction_hash_of}
+use Rattle.close_laws.specs.entry_map.EntryMap.{EntryMap}
+use Rattle.close_laws.specs.entry_slots.Accounts.{account_at, account_in, account_of}
+use Rattle.close_laws.specs.entry_slots.Tests.{first_fault}
+use Rattle.close_laws.specs.sponsor_rules.declared.context.Ctx.{Ctx}
+use Rattle.close_laws.specs.sponsor_rules.Signers.{map_after_removing_preauth}
+use Rattle.close_laws.specs.legal_rules.Payments.{numbered, paid}
+use Rattle.close_laws.specs.signer_check.declared.held.HeldSignature.{HeldSignature}
+use Rattle.close_laws.specs.fee_rules.Envelopes.{fee_source_of}
+use Rattle.close_laws.specs.fee_rules.Fees.{set_base_fee}
+use Rattle.close_laws.specs.fee_rules.Turns.{apply_order_of}
+use Rattle.close_laws.specs.op_form.declared.levels.ThresholdLevel.TheVariants.{Low}
+use Rattle.close_laws.specs.tx_apply.Checks as checks
+use Rattle.close_laws.specs.tx_apply.FeeBump as bump
+use Rattle.close_laws.specs.tx_apply.Fees.{fee_of, fees_taken, map_after_fee}
+use Rattle.close_laws.specs.tx_apply.Operations.{operations_of}
+use Rattle.close_laws.specs.tx_apply.Running.{Ran, done_at, done_by, placed, run}
+use Rattle.close_laws.specs.tx_apply.Set.{Setting, all_applied, all_held, ctx_in, envelope_applied, envelopes_in_order}
+use Rattle.close_laws.specs.tx_apply.Set.{fees_taken_of, set_done}
+use Rattle.close_laws.specs.tx_apply.Signing.{Auth, are_used, auth_of, source_of}
+use Rattle.close_laws.specs.tx_apply.Transaction as spec
+use Rattle.close_laws.proofs.tx_apply_proofs.Conserving.{all_at}
+use Rattle.close_laws.specs.close_rules.Close.{applied_in, setting_in}
 use Rattle.close_laws.proofs.Unmarked.{AreAlike, AreMapsAlike, next_alike}
 use Rattle.account_laws.specs.Standing.{ClosesKeepAccounts, DoAccountsStand, MergesNone, SetsKeepAccounts, is_merge}
 use Rattle.account_laws.proofs.Operations.{any_keeps}

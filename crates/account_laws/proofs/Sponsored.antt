@@ -1,30 +1,30 @@
 -- Adding, removing and moving leave each account that stood, where no account is removed.
 use Rattle.std.proofs.Common.{None, Option, Some, ℕ}
 use Rattle.std.specs.FinMap.{get}
-use Rattle.ledger_types.specs.declared.account.AccountEntry.{AccountEntry}
-use Rattle.ledger_types.specs.declared.entry.LedgerEntry.{LedgerEntry}
-use Rattle.ledger_types.specs.declared.ids.AccountId.{AccountId}
-use Rattle.ledger_types.specs.declared.key.LedgerKey.{LedgerKey}
-use Rattle.ledger_types.specs.declared.signer.Signer.{Signer}
-use Rattle.ledger_types.specs.declared.signer.SignerKey.{SignerKey}
-use Rattle.entry_map.specs.EntryMap.{EntryMap}
-use Rattle.entry_slots.specs.Accounts.{account_at, account_in, with_account}
-use Rattle.entry_slots.specs.EntrySponsor.{sponsor_of, with_sponsor}
-use Rattle.sponsor_rules.specs.declared.charge.Charge.{Charge}
-use Rattle.sponsor_rules.specs.declared.charge.Charge.TheVariants as charge
-use Rattle.sponsor_rules.specs.declared.context.Ctx.{Ctx}
-use Rattle.sponsor_rules.specs.declared.count.Count.TheVariants.{Sponsoring}
-use Rattle.sponsor_rules.specs.declared.signer_place.FoundSigner.{FoundSigner}
-use Rattle.sponsor_rules.specs.Adding as adding
-use Rattle.sponsor_rules.specs.Charge.{charge_of}
-use Rattle.sponsor_rules.specs.Counting.{with_less, with_more}
-use Rattle.sponsor_rules.specs.Moving as moving
-use Rattle.sponsor_rules.specs.Payers.{open_sponsor, payer_of, payer_other_than}
-use Rattle.sponsor_rules.specs.Paying.{map_after_charging, map_after_exchange, map_after_releasing, with_other_payer}
-use Rattle.sponsor_rules.specs.Paying.{with_subentry, without_subentry}
-use Rattle.sponsor_rules.specs.Removing as removing
-use Rattle.sponsor_rules.specs.SignerPlace.{found_signer}
-use Rattle.sponsor_rules.specs.Signers as signing
+use Rattle.close_laws.specs.ledger_types.declared.account.AccountEntry.{AccountEntry}
+use Rattle.close_laws.specs.ledger_types.declared.entry.LedgerEntry.{LedgerEntry}
+use Rattle.close_laws.specs.ledger_types.declared.ids.AccountId.{AccountId}
+use Rattle.close_laws.specs.ledger_types.declared.key.LedgerKey.{LedgerKey}
+use Rattle.close_laws.specs.ledger_types.declared.signer.Signer.{Signer}
+use Rattle.close_laws.specs.ledger_types.declared.signer.SignerKey.{SignerKey}
+use Rattle.close_laws.specs.entry_map.EntryMap.{EntryMap}
+use Rattle.close_laws.specs.entry_slots.Accounts.{account_at, account_in, with_account}
+use Rattle.close_laws.specs.entry_slots.EntrySponsor.{sponsor_of, with_sponsor}
+use Rattle.close_laws.specs.sponsor_rules.declared.charge.Charge.{Charge}
+use Rattle.close_laws.specs.sponsor_rules.declared.charge.Charge.TheVariants as charge
+use Rattle.close_laws.specs.sponsor_rules.declared.context.Ctx.{Ctx}
+use Rattle.close_laws.specs.sponsor_rules.declared.count.Count.TheVariants.{Sponsoring}
+use Rattle.close_laws.specs.sponsor_rules.declared.signer_place.FoundSigner.{FoundSigner}
+use Rattle.close_laws.specs.sponsor_rules.Adding as adding
+use Rattle.close_laws.specs.sponsor_rules.Charge.{charge_of}
+use Rattle.close_laws.specs.sponsor_rules.Counting.{with_less, with_more}
+use Rattle.close_laws.specs.sponsor_rules.Moving as moving
+use Rattle.close_laws.specs.sponsor_rules.Payers.{open_sponsor, payer_of, payer_other_than}
+use Rattle.close_laws.specs.sponsor_rules.Paying.{map_after_charging, map_after_exchange, map_after_releasing, with_other_payer}
+use Rattle.close_laws.specs.sponsor_rules.Paying.{with_subentry, without_subentry}
+use Rattle.close_laws.specs.sponsor_rules.Removing as removing
+use Rattle.close_laws.specs.sponsor_rules.SignerPlace.{found_signer}
+use Rattle.close_laws.specs.sponsor_rules.Signers as signing
 use Rattle.account_laws.proofs.Standing.{IsOther, Keeps, erase_keeps, put_keeps, with_account_keeps}
 use Rattle.account_laws.proofs.Steps.{KeepsIf, unless_keeps}
 

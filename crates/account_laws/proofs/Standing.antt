@@ -3,26 +3,26 @@
 use Rattle.std.proofs.Common.{Bool, List, None, Option, Some, false, if◌then◌else◌, true, ℕ, ◌≢◌}
 use Rattle.std.specs.FinMap.{get}
 use Rattle.std.specs.Prelude.{ℤ}
-use Rattle.ledger_types.specs.declared.account.AccountEntry.{AccountEntry}
-use Rattle.ledger_types.specs.declared.asset.TrustLineAsset.{TrustLineAsset}
-use Rattle.ledger_types.specs.declared.data_entry.DataEntry.{DataEntry}
-use Rattle.ledger_types.specs.declared.entry.LedgerEntry.{LedgerEntry}
-use Rattle.ledger_types.specs.declared.entry.LedgerEntryBody.{LedgerEntryBody}
-use Rattle.ledger_types.specs.declared.entry.LedgerEntryBody.TheVariants as body
-use Rattle.ledger_types.specs.declared.ids.AccountId.{AccountId}
-use Rattle.ledger_types.specs.declared.ids.Hash.{Hash}
-use Rattle.ledger_types.specs.declared.key.LedgerKey.{LedgerKey}
-use Rattle.ledger_types.specs.declared.key.LedgerKey.TheVariants as key
-use Rattle.ledger_types.specs.declared.liquidity_pool.LiquidityPoolEntry.{LiquidityPoolEntry}
-use Rattle.ledger_types.specs.declared.offer.OfferEntry.{OfferEntry}
-use Rattle.ledger_types.specs.declared.trust_line.TrustLineEntry.{TrustLineEntry}
-use Rattle.entry_map.specs.EntryMap.{EntryMap, erase, put}
-use Rattle.entry_slots.specs.Accounts.{with_account, with_account_in, with_account_of}
-use Rattle.entry_slots.specs.DataEntries.{with_data, with_data_in, with_data_of}
-use Rattle.entry_slots.specs.Lines.{with_line, with_line_in, with_line_of}
-use Rattle.entry_slots.specs.Offers.{with_offer, with_offer_in, with_offer_of}
-use Rattle.entry_slots.specs.Pools.{with_pool, with_pool_in, with_pool_of}
-use Rattle.sponsor_laws.proofs.Settling.{stands_erased, stands_put}
+use Rattle.close_laws.specs.ledger_types.declared.account.AccountEntry.{AccountEntry}
+use Rattle.close_laws.specs.ledger_types.declared.asset.TrustLineAsset.{TrustLineAsset}
+use Rattle.close_laws.specs.ledger_types.declared.data_entry.DataEntry.{DataEntry}
+use Rattle.close_laws.specs.ledger_types.declared.entry.LedgerEntry.{LedgerEntry}
+use Rattle.close_laws.specs.ledger_types.declared.entry.LedgerEntryBody.{LedgerEntryBody}
+use Rattle.close_laws.specs.ledger_types.declared.entry.LedgerEntryBody.TheVariants as body
+use Rattle.close_laws.specs.ledger_types.declared.ids.AccountId.{AccountId}
+use Rattle.close_laws.specs.ledger_types.declared.ids.Hash.{Hash}
+use Rattle.close_laws.specs.ledger_types.declared.key.LedgerKey.{LedgerKey}
+use Rattle.close_laws.specs.ledger_types.declared.key.LedgerKey.TheVariants as key
+use Rattle.close_laws.specs.ledger_types.declared.liquidity_pool.LiquidityPoolEntry.{LiquidityPoolEntry}
+use Rattle.close_laws.specs.ledger_types.declared.offer.OfferEntry.{OfferEntry}
+use Rattle.close_laws.specs.ledger_types.declared.trust_line.TrustLineEntry.{TrustLineEntry}
+use Rattle.close_laws.specs.entry_map.EntryMap.{EntryMap, erase, put}
+use Rattle.close_laws.specs.entry_slots.Accounts.{with_account, with_account_in, with_account_of}
+use Rattle.close_laws.specs.entry_slots.DataEntries.{with_data, with_data_in, with_data_of}
+use Rattle.close_laws.specs.entry_slots.Lines.{with_line, with_line_in, with_line_of}
+use Rattle.close_laws.specs.entry_slots.Offers.{with_offer, with_offer_in, with_offer_of}
+use Rattle.close_laws.specs.entry_slots.Pools.{with_pool, with_pool_in, with_pool_of}
+use Rattle.close_laws.proofs.sponsor_laws_proofs.Settling.{stands_erased, stands_put}
 use Rattle.account_laws.specs.Standing.{DoAccountsStand}
 
 -- each account of the old entries stands

@@ -1,12 +1,12 @@
 -- What the steps of an operation give, where each leaves the accounts that stood.
 use Rattle.std.proofs.Common.{Err, IfOk, IfSome, None, Ok, Option, Result, Some}
-use Rattle.op_types.specs.declared.operation_result.OperationResult.{OperationResult}
-use Rattle.entry_map.specs.EntryMap.{EntryMap}
-use Rattle.entry_slots.specs.Tests.{Tests, first_fault, unless_fault}
-use Rattle.sponsor_rules.specs.declared.context.Ctx.{Ctx}
-use Rattle.sponsor_rules.specs.declared.fault.AddFault.{AddFault}
-use Rattle.op_form.specs.Done.{Attempt, Done, done_of}
-use Rattle.op_form.specs.Steps.{after, after_charge, after_some, after_step, unless_refused, unless_result}
+use Rattle.close_laws.specs.op_types.declared.operation_result.OperationResult.{OperationResult}
+use Rattle.close_laws.specs.entry_map.EntryMap.{EntryMap}
+use Rattle.close_laws.specs.entry_slots.Tests.{Tests, first_fault, unless_fault}
+use Rattle.close_laws.specs.sponsor_rules.declared.context.Ctx.{Ctx}
+use Rattle.close_laws.specs.sponsor_rules.declared.fault.AddFault.{AddFault}
+use Rattle.close_laws.specs.op_form.Done.{Attempt, Done, done_of}
+use Rattle.close_laws.specs.op_form.Steps.{after, after_charge, after_some, after_step, unless_refused, unless_result}
 use Rattle.account_laws.proofs.Standing.{Keeps}
 
 -- what holds of what a step gives, if it gives something

@@ -2,26 +2,26 @@
 use Rattle.std.proofs.Common.{Bool, Err, List, None, Ok, Option, Result, Some, [], false, if◌then◌else◌, pos, suc, true}
 use Rattle.std.proofs.Common.{zero, ℕ, ◌&&◌, ◌-◌, ◌∷◌}
 use Rattle.std.specs.Prelude.{neg_ℤ, unsigned_abs}
-use Rattle.ledger_types.specs.declared.asset.Asset.{Asset}
-use Rattle.ledger_types.specs.declared.offer.OfferEntry.{OfferEntry}
-use Rattle.offer_exchange.specs.declared.rounding.Rounding.{Rounding}
-use Rattle.offer_exchange.specs.Exchange.{Amounts, Bounds, exchanged, wheat_stays}
-use Rattle.entry_map.specs.EntryMap.{EntryMap}
-use Rattle.sponsor_rules.specs.declared.context.Ctx.{Ctx}
-use Rattle.legal_rules.specs.Binding.{releasing}
-use Rattle.trade_cross.specs.declared.crossed.CrossEnd.{CrossEnd}
-use Rattle.trade_cross.specs.declared.crossed.CrossEnd.TheVariants.{Converted, CrossSelf, TooMany}
-use Rattle.trade_cross.specs.declared.trade.Trade.{Trade}
-use Rattle.trade_cross.specs.declared.turn.Turn.{Turn}
-use Rattle.trade_cross.specs.declared.turn.Turn.TheVariants.{Ends, Meets}
-use Rattle.trade_cross.specs.Crossing.{Crossing, Left, amount_at, at_limit, converted, crossed, ended, joined}
-use Rattle.trade_cross.specs.Crossing.{left_after, left_of, map_after_rest, meeting, offer_key, seller_gives_at}
-use Rattle.trade_cross.specs.Crossing.{seller_takes_at, step, step_by, turn, with_amount}
-use Rattle.trade_cross.specs.Hop.{better_of, hop, is_cheaper, is_served, pool_of_pair, swap_of, swapped, with_swap}
-use Rattle.op_payment.specs.declared.path_fault.PathFault.{PathFault}
-use Rattle.op_payment.specs.declared.path_fault.PathFault.TheVariants as fault
-use Rattle.op_payment.specs.Paths.{Carried, after_hop, and_then, by_end, carried_on, hopped, is_same_asset}
-use Rattle.op_payment.specs.Paths.{needed_before, received, received_hop, receiving, sending, sent, sent_hop}
+use Rattle.close_laws.specs.ledger_types.declared.asset.Asset.{Asset}
+use Rattle.close_laws.specs.ledger_types.declared.offer.OfferEntry.{OfferEntry}
+use Rattle.close_laws.specs.offer_exchange.declared.rounding.Rounding.{Rounding}
+use Rattle.close_laws.specs.offer_exchange.Exchange.{Amounts, Bounds, exchanged, wheat_stays}
+use Rattle.close_laws.specs.entry_map.EntryMap.{EntryMap}
+use Rattle.close_laws.specs.sponsor_rules.declared.context.Ctx.{Ctx}
+use Rattle.close_laws.specs.legal_rules.Binding.{releasing}
+use Rattle.close_laws.specs.trade_cross.declared.crossed.CrossEnd.{CrossEnd}
+use Rattle.close_laws.specs.trade_cross.declared.crossed.CrossEnd.TheVariants.{Converted, CrossSelf, TooMany}
+use Rattle.close_laws.specs.trade_cross.declared.trade.Trade.{Trade}
+use Rattle.close_laws.specs.trade_cross.declared.turn.Turn.{Turn}
+use Rattle.close_laws.specs.trade_cross.declared.turn.Turn.TheVariants.{Ends, Meets}
+use Rattle.close_laws.specs.trade_cross.Crossing.{Crossing, Left, amount_at, at_limit, converted, crossed, ended, joined}
+use Rattle.close_laws.specs.trade_cross.Crossing.{left_after, left_of, map_after_rest, meeting, offer_key, seller_gives_at}
+use Rattle.close_laws.specs.trade_cross.Crossing.{seller_takes_at, step, step_by, turn, with_amount}
+use Rattle.close_laws.specs.trade_cross.Hop.{better_of, hop, is_cheaper, is_served, pool_of_pair, swap_of, swapped, with_swap}
+use Rattle.close_laws.specs.op_payment.declared.path_fault.PathFault.{PathFault}
+use Rattle.close_laws.specs.op_payment.declared.path_fault.PathFault.TheVariants as fault
+use Rattle.close_laws.specs.op_payment.Paths.{Carried, after_hop, and_then, by_end, carried_on, hopped, is_same_asset}
+use Rattle.close_laws.specs.op_payment.Paths.{needed_before, received, received_hop, receiving, sending, sent, sent_hop}
 use Rattle.account_laws.proofs.Amounts.{acquiring_keeps, paying_keeps, releasing_offer_keeps}
 use Rattle.account_laws.proofs.Sponsored.{removing_keeps}
 use Rattle.account_laws.proofs.Standing.{Keeps, either_way, with_offer_keeps, with_pool_keeps}

@@ -2,30 +2,30 @@
 use Rattle.std.proofs.Common.{None, Option, Some, [], is_some, not, pos, ◌+◌, ◌∷◌}
 use Rattle.std.specs.Ordering.{int_eq}
 use Rattle.std.specs.Prelude.{ℤ}
-use Rattle.ledger_types.specs.declared.account.AccountEntry.{AccountEntry}
-use Rattle.ledger_types.specs.declared.asset.Asset.{Asset}
-use Rattle.ledger_types.specs.declared.asset.Asset.TheVariants as asset
-use Rattle.ledger_types.specs.declared.asset.ChangeTrustAsset.{ChangeTrustAsset}
-use Rattle.ledger_types.specs.declared.asset.ChangeTrustAsset.TheVariants as asked
-use Rattle.ledger_types.specs.declared.asset.PoolParams.{PoolParams}
-use Rattle.ledger_types.specs.declared.asset.TrustLineAsset.TheVariants as line
-use Rattle.ledger_types.specs.declared.key.LedgerKey.TheVariants as key
-use Rattle.ledger_types.specs.declared.trust_line.TrustLineEntry.{TrustLineEntry}
-use Rattle.op_types.specs.declared.trust_ops.ChangeTrustOp.{ChangeTrustOp}
-use Rattle.op_types.specs.declared.trust_results.ChangeTrustResult.TheVariants as trust
-use Rattle.entry_map.specs.EntryMap.{EntryMap}
-use Rattle.entry_slots.specs.LineExtensions.{use_count}
-use Rattle.entry_slots.specs.Lines.{line_at}
-use Rattle.entry_slots.specs.Pools.{pool_at}
-use Rattle.sponsor_rules.specs.declared.context.Ctx.{Ctx}
-use Rattle.sponsor_rules.specs.Adding.{map_after_adding}
-use Rattle.legal_rules.specs.PoolShares.{needed_line}
-use Rattle.legal_rules.specs.ShareLaws.{share_line}
-use Rattle.pool_shares.specs.ShareLines.{map_with_pool}
-use Rattle.op_form.specs.Assets.{issuer_at, line_asset_of, line_of_asset}
-use Rattle.op_trust.specs.ChangeTrust as trusting
-use Rattle.op_trust.specs.Operations.{change_trust, trust_in}
-use Rattle.op_trust.specs.ShareTrust as sharing
+use Rattle.close_laws.specs.ledger_types.declared.account.AccountEntry.{AccountEntry}
+use Rattle.close_laws.specs.ledger_types.declared.asset.Asset.{Asset}
+use Rattle.close_laws.specs.ledger_types.declared.asset.Asset.TheVariants as asset
+use Rattle.close_laws.specs.ledger_types.declared.asset.ChangeTrustAsset.{ChangeTrustAsset}
+use Rattle.close_laws.specs.ledger_types.declared.asset.ChangeTrustAsset.TheVariants as asked
+use Rattle.close_laws.specs.ledger_types.declared.asset.PoolParams.{PoolParams}
+use Rattle.close_laws.specs.ledger_types.declared.asset.TrustLineAsset.TheVariants as line
+use Rattle.close_laws.specs.ledger_types.declared.key.LedgerKey.TheVariants as key
+use Rattle.close_laws.specs.ledger_types.declared.trust_line.TrustLineEntry.{TrustLineEntry}
+use Rattle.close_laws.specs.op_types.declared.trust_ops.ChangeTrustOp.{ChangeTrustOp}
+use Rattle.close_laws.specs.op_types.declared.trust_results.ChangeTrustResult.TheVariants as trust
+use Rattle.close_laws.specs.entry_map.EntryMap.{EntryMap}
+use Rattle.close_laws.specs.entry_slots.LineExtensions.{use_count}
+use Rattle.close_laws.specs.entry_slots.Lines.{line_at}
+use Rattle.close_laws.specs.entry_slots.Pools.{pool_at}
+use Rattle.close_laws.specs.sponsor_rules.declared.context.Ctx.{Ctx}
+use Rattle.close_laws.specs.sponsor_rules.Adding.{map_after_adding}
+use Rattle.close_laws.specs.legal_rules.PoolShares.{needed_line}
+use Rattle.close_laws.specs.legal_rules.ShareLaws.{share_line}
+use Rattle.close_laws.specs.pool_shares.ShareLines.{map_with_pool}
+use Rattle.close_laws.specs.op_form.Assets.{issuer_at, line_asset_of, line_of_asset}
+use Rattle.close_laws.specs.op_trust.ChangeTrust as trusting
+use Rattle.close_laws.specs.op_trust.Operations.{change_trust, trust_in}
+use Rattle.close_laws.specs.op_trust.ShareTrust as sharing
 use Rattle.account_laws.proofs.Pools.{share_lines_keep, with_new_pool_keeps, without_share_line_keeps}
 use Rattle.account_laws.proofs.Sponsored.{adding_keeps, removing_keeps}
 use Rattle.account_laws.proofs.Standing.{Keeps, either_way, with_line_keeps}

@@ -1,17 +1,17 @@
 -- That accounts stand: one goes by ACCOUNT_MERGE alone.
 use Rattle.std.specs.Prelude.{◌≡◌, Bool, true, false, All}
-use Rattle.ledger_types.specs.declared.ids.AccountId.{AccountId}
-use Rattle.op_types.specs.declared.operation.OperationBody.{OperationBody}
-use Rattle.op_types.specs.declared.operation.OperationBody.TheVariants as body
-use Rattle.op_types.specs.declared.transaction.TransactionSet.{TransactionSet}
-use Rattle.xdr_header.specs.declared.record.CloseRecord.{CloseRecord}
-use Rattle.entry_map.specs.EntryMap.{EntryMap}
-use Rattle.entry_slots.specs.Accounts.{HasAccount}
-use Rattle.sponsor_rules.specs.declared.context.Ctx.{Ctx}
-use Rattle.op_laws.specs.AnyOperation.{any_operation}
-use Rattle.tx_apply.specs.Operations.{operations_of}
-use Rattle.tx_apply.specs.Set.{Setting, set_done}
-use Rattle.close_rules.specs.State.{ClosingState}
+use Rattle.close_laws.specs.ledger_types.declared.ids.AccountId.{AccountId}
+use Rattle.close_laws.specs.op_types.declared.operation.OperationBody.{OperationBody}
+use Rattle.close_laws.specs.op_types.declared.operation.OperationBody.TheVariants as body
+use Rattle.close_laws.specs.op_types.declared.transaction.TransactionSet.{TransactionSet}
+use Rattle.close_laws.specs.xdr_header.declared.record.CloseRecord.{CloseRecord}
+use Rattle.close_laws.specs.entry_map.EntryMap.{EntryMap}
+use Rattle.close_laws.specs.entry_slots.Accounts.{HasAccount}
+use Rattle.close_laws.specs.sponsor_rules.declared.context.Ctx.{Ctx}
+use Rattle.close_laws.specs.op_laws.AnyOperation.{any_operation}
+use Rattle.close_laws.specs.tx_apply.Operations.{operations_of}
+use Rattle.close_laws.specs.tx_apply.Set.{Setting, set_done}
+use Rattle.close_laws.specs.close_rules.State.{ClosingState}
 use Rattle.close_laws.specs.Legal.{AreClosed}
 
 -- the one type of operation that removes an account, its source's own

@@ -3,6 +3,8 @@
 
 ghost use Rattle.account_laws.specs.Standing as spec;
 
+pub use close_laws;
+
 /// An operation that isn't ACCOUNT_MERGE leaves each account that stood.
 pub fn operations_keep_accounts()
     ensures { spec.OperationsKeepAccounts }

@@ -9,3 +9,7 @@ pub mod Code
 pub mod ItemKey
 pub mod Judge
 pub mod Find
+pub use Rattle.bucket_items.specs as bucket_items
+pub use Rattle.hash_ids.specs as hash_ids
+pub use Rattle.ledger_types.specs as ledger_types
+pub use Rattle.xdr_entries.specs as xdr_entries

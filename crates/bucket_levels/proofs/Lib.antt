@@ -12,3 +12,5 @@ pub mod Drawing
 pub mod Differing
 pub mod Ordering
 pub mod Unmerged
+pub use Rattle.bucket_core.proofs as bucket_core_proofs
+pub use Rattle.entry_map.proofs as entry_map_proofs

@@ -2,7 +2,7 @@
 use Rattle.std.specs.Prelude.{List, ◌++◌}
 use Rattle.std.specs.List.{flat_map}
 use Rattle.ledger_types.specs.declared.ids.Hash.{Hash}
-use Rattle.hash_ids.specs.Ids.{hash_of}
+use Rattle.bucket_core.specs.hash_ids.Ids.{hash_of}
 use Rattle.bucket_core.specs.Bucket.{Contents}
 use Rattle.bucket_core.specs.File.{file_of}
 use Rattle.bucket_core.specs.Hash.{file_hash}

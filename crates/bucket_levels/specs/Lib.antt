@@ -14,3 +14,7 @@ pub mod HandIn
 pub mod Work
 pub mod InOrder
 pub mod Planned
+pub use Rattle.bucket_core.specs as bucket_core
+pub use Rattle.bucket_core.specs.bucket_items
+pub use Rattle.bucket_merge.specs as bucket_merge
+pub use Rattle.entry_map.specs as entry_map

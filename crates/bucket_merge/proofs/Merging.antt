@@ -10,13 +10,13 @@ use Rattle.std.specs.List.{AllByRecursion}
 use Rattle.std.specs.FinMap.{entries, entries_sorted, get-entries, entries-from_sorted}
 use Rattle.std.specs.FinMap.{get-from_sorted}
 use Rattle.std.specs.FinMap.Entries.{find}
-use Rattle.ledger_types.specs.declared.key.LedgerKey.{LedgerKey}
-use Rattle.ledger_types.specs.declared.entry.LedgerEntry.{LedgerEntry}
-use Rattle.ledger_types.specs.declared.bucket.BucketEntry.TheVariants as bucket
-use Rattle.ledger_types.specs.KeyOrder.{key_cmp}
+use Rattle.bucket_core.specs.ledger_types.declared.key.LedgerKey.{LedgerKey}
+use Rattle.bucket_core.specs.ledger_types.declared.entry.LedgerEntry.{LedgerEntry}
+use Rattle.bucket_core.specs.ledger_types.declared.bucket.BucketEntry.TheVariants as bucket
+use Rattle.bucket_core.specs.ledger_types.KeyOrder.{key_cmp}
 use Rattle.xdr_core.specs.Leaves.{i32}
-use Rattle.xdr_entries.specs.Entries.{ledger_entry}
-use Rattle.xdr_entries.specs.Keys.{bucket_entry}
+use Rattle.bucket_core.specs.xdr_entries.Entries.{ledger_entry}
+use Rattle.bucket_core.specs.xdr_entries.Keys.{bucket_entry}
 use Rattle.bucket_items.specs.MarkedItem.{IsSpellable, max_item_len}
 use Rattle.bucket_items.proofs.Holding.{i32_len}
 use Rattle.bucket_core.specs.Bucket.{Change, Init, Live, Dead, Contents, change_at, version_of, IsUnderKey}

@@ -11,9 +11,9 @@ use Rattle.std.proofs.lemmas.List.{append-nil, length-map}
 use Rattle.byteorder.specs.Endian.{big_bytes}
 use Rattle.xdr_core.specs.Leaves.{i32, u32, mark}
 use Rattle.xdr_core.specs.Combinators.{constant}
-use Rattle.xdr_entries.specs.Keys.{bucket_entry}
-use Rattle.ledger_types.specs.declared.bucket.BucketEntry.{BucketEntry}
-use Rattle.ledger_types.specs.declared.bucket.BucketEntry.TheVariants as bucket
+use Rattle.bucket_core.specs.xdr_entries.Keys.{bucket_entry}
+use Rattle.bucket_core.specs.ledger_types.declared.bucket.BucketEntry.{BucketEntry}
+use Rattle.bucket_core.specs.ledger_types.declared.bucket.BucketEntry.TheVariants as bucket
 use Rattle.bucket_items.specs.declared.item.BucketItem.{BucketItem}
 use Rattle.bucket_items.specs.Item.{Shows}
 use Rattle.bucket_items.specs.MarkedItem.{record_of}

@@ -7,10 +7,10 @@ use Rattle.std.proofs.lemmas.List.{append-nil}
 use Rattle.std.proofs.lemmas.Result.{on_ok_weaker}
 use Rattle.std.specs.declared.cmp.Ordering.{Ordering}
 use Rattle.std.specs.declared.cmp.Ordering.TheVariants.{Less, Equal, Greater}
-use Rattle.ledger_types.specs.declared.key.LedgerKey.{LedgerKey}
-use Rattle.ledger_types.specs.declared.bucket.BucketEntry.{BucketEntry}
-use Rattle.ledger_types.specs.KeyOrder.{key_cmp}
-use Rattle.ledger_types.proofs.KeyOrdering.{keys_exact}
+use Rattle.bucket_core.specs.ledger_types.declared.key.LedgerKey.{LedgerKey}
+use Rattle.bucket_core.specs.ledger_types.declared.bucket.BucketEntry.{BucketEntry}
+use Rattle.bucket_core.specs.ledger_types.KeyOrder.{key_cmp}
+use Rattle.bucket_core.proofs.ledger_types_proofs.KeyOrdering.{keys_exact}
 use Rattle.bucket_items.specs.declared.item.BucketItem.{BucketItem}
 use Rattle.bucket_items.specs.Item.{Shows}
 use Rattle.bucket_items.specs.KeyText.{IsKeyText, OrdersKeys}

@@ -8,9 +8,9 @@ use Rattle.std.specs.declared.cmp.Ordering.TheVariants.{Less, Equal, Greater}
 use Rattle.std.specs.Ordering.{is_lt, is_eq, eq_by_cmp, ordering_reverse}
 use Rattle.std.specs.Cmp.{tied_itself}
 use Rattle.std.specs.FinMap.Entries.{find, is_sorted, below_all}
-use Rattle.ledger_types.specs.declared.key.LedgerKey.{LedgerKey}
-use Rattle.ledger_types.specs.KeyOrder.{key_cmp}
-use Rattle.ledger_types.proofs.KeyOrdering.{keys_total}
+use Rattle.bucket_core.specs.ledger_types.declared.key.LedgerKey.{LedgerKey}
+use Rattle.bucket_core.specs.ledger_types.KeyOrder.{key_cmp}
+use Rattle.bucket_core.proofs.ledger_types_proofs.KeyOrdering.{keys_total}
 use Rattle.bucket_core.specs.Bucket.{Change}
 use Rattle.bucket_core.proofs.Keyed.{both, first, second, below, found_below, is_less, same_key}
 use Rattle.bucket_merge.specs.Merge.{joined, kept, merged_change}

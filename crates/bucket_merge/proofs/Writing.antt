@@ -6,12 +6,12 @@ use Rattle.std.proofs.lemmas.List.{append-nil, length-append}
 use Rattle.std.proofs.lemmas.Result.{on_ok_weaker}
 use Rattle.xdr_core.specs.Leaves.{i32, mark}
 use Rattle.xdr_core.proofs.LeafLaws.{drop_front}
-use Rattle.xdr_entries.specs.Entries.{ledger_entry}
-use Rattle.xdr_entries.specs.Keys.{bucket_entry}
-use Rattle.ledger_types.specs.declared.key.LedgerKey.{LedgerKey}
-use Rattle.ledger_types.specs.declared.entry.LedgerEntry.{LedgerEntry}
-use Rattle.ledger_types.specs.declared.bucket.BucketEntry.{BucketEntry}
-use Rattle.ledger_types.specs.declared.bucket.BucketEntry.TheVariants as bucket
+use Rattle.bucket_core.specs.xdr_entries.Entries.{ledger_entry}
+use Rattle.bucket_core.specs.xdr_entries.Keys.{bucket_entry}
+use Rattle.bucket_core.specs.ledger_types.declared.key.LedgerKey.{LedgerKey}
+use Rattle.bucket_core.specs.ledger_types.declared.entry.LedgerEntry.{LedgerEntry}
+use Rattle.bucket_core.specs.ledger_types.declared.bucket.BucketEntry.{BucketEntry}
+use Rattle.bucket_core.specs.ledger_types.declared.bucket.BucketEntry.TheVariants as bucket
 use Rattle.bucket_items.specs.declared.item.BucketItem.{BucketItem}
 use Rattle.bucket_items.specs.Item.{IsItemText, item_type}
 use Rattle.bucket_items.specs.MarkedItem.{max_item_len, record_of, IsSpellable}

@@ -1,6 +1,6 @@
 -- The merge of an older and a newer bucket, key by key (CAP-0020).
 use Rattle.std.specs.Prelude.{◌≡◌, ℕ, max, Option, Some, None, nat_eq, if◌then◌else◌, option_and_then}
-use Rattle.ledger_types.specs.declared.key.LedgerKey.{LedgerKey}
+use Rattle.bucket_core.specs.ledger_types.declared.key.LedgerKey.{LedgerKey}
 use Rattle.bucket_core.specs.Bucket.{Change, Init, Live, Dead, Contents, change_at, version_of}
 
 -- what both say of one key

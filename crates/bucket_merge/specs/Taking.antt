@@ -2,7 +2,7 @@
 use Rattle.std.specs.Prelude.{◌≡◌, ◌<◌, ◌+◌, ◌++◌, ℕ, List, [], ◌∷◌, length}
 use Rattle.std.specs.declared.cmp.Ordering.{Ordering}
 use Rattle.std.specs.declared.cmp.Ordering.TheVariants.{Less, Equal, Greater}
-use Rattle.ledger_types.specs.KeyOrder.{key_cmp}
+use Rattle.bucket_core.specs.ledger_types.KeyOrder.{key_cmp}
 use Rattle.bucket_merge.specs.declared.side.Side.{Side}
 use Rattle.bucket_merge.specs.Walk.{Pair, walk}
 use Rattle.bucket_merge.specs.Pending.{Has, records_of}

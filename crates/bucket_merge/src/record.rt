@@ -3,9 +3,9 @@
 ghost use Rattle.std.specs.Prelude.{◌≡◌, ◌+◌, ◌≤◌, ◌++◌, length, OnOk};
 ghost use Rattle.byteorder.specs.Endian.{big_bytes};
 ghost use Rattle.xdr_core.specs.Leaves.{mark};
-ghost use Rattle.ledger_types.specs.declared.bucket.BucketEntry.{BucketEntry};
-ghost use Rattle.ledger_types.specs.declared.bucket.BucketEntry.TheVariants as entry;
-ghost use Rattle.ledger_types.specs.declared.entry.LedgerEntry.{LedgerEntry};
+ghost use Rattle.bucket_core.specs.ledger_types.declared.bucket.BucketEntry.{BucketEntry};
+ghost use Rattle.bucket_core.specs.ledger_types.declared.bucket.BucketEntry.TheVariants as entry;
+ghost use Rattle.bucket_core.specs.ledger_types.declared.entry.LedgerEntry.{LedgerEntry};
 ghost use Rattle.bucket_items.specs.Item.{Shows};
 ghost use Rattle.bucket_items.specs.MarkedItem.{max_item_len, record_of, IsSpellable};
 

@@ -1,7 +1,7 @@
 //! Writing what items under one key give.
 
 ghost use Rattle.std.specs.Prelude.{◌≡◌, ◌++◌, [], OnOk, option_and_then};
-ghost use Rattle.ledger_types.specs.declared.key.LedgerKey.{LedgerKey};
+ghost use Rattle.bucket_core.specs.ledger_types.declared.key.LedgerKey.{LedgerKey};
 ghost use Rattle.bucket_core.specs.Bucket.{Change};
 ghost use Rattle.bucket_merge.specs.Merge.{kept, joined};
 ghost use Rattle.bucket_merge.specs.Walk.{put};

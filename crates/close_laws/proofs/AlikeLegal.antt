@@ -2,26 +2,26 @@
 use Rattle.std.proofs.Common.{◌≡◌, ℕ, refl, sym, ap, subst, ◌∙◌, Option, Some, None}
 use Rattle.std.specs.Prelude.{pos, ◌≤ℤ◌}
 use Rattle.std.specs.FinMap.{get}
-use Rattle.ledger_types.specs.declared.asset.Asset.TheVariants as asset
-use Rattle.ledger_types.specs.declared.ids.AccountId.{AccountId}
-use Rattle.ledger_types.specs.declared.entry.LedgerEntry.{LedgerEntry}
-use Rattle.ledger_types.specs.declared.entry.LedgerEntryBody.{LedgerEntryBody}
-use Rattle.ledger_types.specs.declared.entry.LedgerEntryExtensionV1.{LedgerEntryExtensionV1}
-use Rattle.ledger_types.specs.declared.key.LedgerKey.{LedgerKey}
-use Rattle.ledger_types.specs.declared.key.LedgerKey.TheVariants as key
-use Rattle.ledger_types.specs.Keys.{key_of_body}
-use Rattle.entry_map.specs.EntryMap.{EntryMap}
-use Rattle.entry_map.specs.Batch.{parts_of}
-use Rattle.entry_slots.specs.Accounts.{account_at, account_of, account_in}
-use Rattle.entry_sums.specs.Sums.{total}
-use Rattle.legal_rules.specs.Books.{Kind, Subentries, Sponsoring, Sponsored, Selling, Buying, Shares, ShareLines, Uses}
-use Rattle.legal_rules.specs.Books.{View}
-use Rattle.legal_rules.specs.OfferIds.{offer_with}
-use Rattle.legal_rules.specs.Supply.{held}
-use Rattle.legal_rules.specs.Legal.{view, params_of}
-use Rattle.legal_rules.specs.Owing.{weight, IsEntryLegal}
-use Rattle.op_laws.specs.Underway.{IsSettled}
-use Rattle.legal_rules.proofs.Legality.{entries_legal}
+use Rattle.close_rules.specs.ledger_types.declared.asset.Asset.TheVariants as asset
+use Rattle.close_rules.specs.ledger_types.declared.ids.AccountId.{AccountId}
+use Rattle.close_rules.specs.ledger_types.declared.entry.LedgerEntry.{LedgerEntry}
+use Rattle.close_rules.specs.ledger_types.declared.entry.LedgerEntryBody.{LedgerEntryBody}
+use Rattle.close_rules.specs.ledger_types.declared.entry.LedgerEntryExtensionV1.{LedgerEntryExtensionV1}
+use Rattle.close_rules.specs.ledger_types.declared.key.LedgerKey.{LedgerKey}
+use Rattle.close_rules.specs.ledger_types.declared.key.LedgerKey.TheVariants as key
+use Rattle.close_rules.specs.ledger_types.Keys.{key_of_body}
+use Rattle.bucket_levels.specs.entry_map.EntryMap.{EntryMap}
+use Rattle.bucket_levels.specs.entry_map.Batch.{parts_of}
+use Rattle.close_rules.specs.entry_slots.Accounts.{account_at, account_of, account_in}
+use Rattle.close_rules.specs.entry_sums.Sums.{total}
+use Rattle.close_rules.specs.legal_rules.Books.{Kind, Subentries, Sponsoring, Sponsored, Selling, Buying, Shares, ShareLines, Uses}
+use Rattle.close_rules.specs.legal_rules.Books.{View}
+use Rattle.close_rules.specs.legal_rules.OfferIds.{offer_with}
+use Rattle.close_rules.specs.legal_rules.Supply.{held}
+use Rattle.close_rules.specs.legal_rules.Legal.{view, params_of}
+use Rattle.close_rules.specs.legal_rules.Owing.{weight, IsEntryLegal}
+use Rattle.close_rules.specs.op_laws.Underway.{IsSettled}
+use Rattle.close_rules.proofs.legal_rules_proofs.Legality.{entries_legal}
 use Rattle.close_laws.proofs.Unmarked.{AreAlike, AreMapsAlike, unmarked, stood, total_alike}
 
 -- ---- entries

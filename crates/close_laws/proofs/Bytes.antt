@@ -5,44 +5,44 @@ use Rattle.std.proofs.lemmas.List.Elements.{All-head, All-tail}
 use Rattle.std.specs.Prelude.{option_map, ◌≤ℤ◌}
 use Rattle.std.specs.List.{find}
 use Rattle.std.specs.FinMap.{get}
-use Rattle.ledger_types.specs.Ids.{account_of}
-use Rattle.ledger_types.specs.declared.ids.AccountId.{AccountId}
-use Rattle.ledger_types.specs.declared.ids.MuxedAccount.{MuxedAccount}
-use Rattle.ledger_types.specs.declared.ids.MuxedAccount.TheVariants as muxed
-use Rattle.ledger_types.specs.declared.signer.Signer.{Signer}
-use Rattle.ledger_types.specs.declared.account.AccountEntry.{AccountEntry}
-use Rattle.ledger_types.specs.declared.account.AccountEntryExtensionV2.{AccountEntryExtensionV2}
-use Rattle.ledger_types.specs.declared.asset.TrustLineAsset.{TrustLineAsset}
-use Rattle.ledger_types.specs.declared.trust_line.TrustLineEntry.{TrustLineEntry}
-use Rattle.ledger_types.specs.declared.offer.OfferEntry.{OfferEntry}
-use Rattle.ledger_types.specs.declared.data_entry.DataEntry.{DataEntry}
-use Rattle.ledger_types.specs.declared.claimable_balance.Claimant.{Claimant}
-use Rattle.ledger_types.specs.declared.claimable_balance.ClaimableBalanceEntry.{ClaimableBalanceEntry}
-use Rattle.ledger_types.specs.declared.liquidity_pool.LiquidityPoolEntry.{LiquidityPoolEntry}
-use Rattle.ledger_types.specs.declared.entry.LedgerEntry.{LedgerEntry}
-use Rattle.ledger_types.specs.declared.entry.LedgerEntryBody.{LedgerEntryBody}
-use Rattle.ledger_types.specs.declared.entry.LedgerEntryBody.TheVariants as body
-use Rattle.ledger_types.specs.declared.entry.LedgerEntryExtensionV1.{LedgerEntryExtensionV1}
-use Rattle.ledger_types.specs.declared.key.LedgerKey.{LedgerKey}
-use Rattle.ledger_types.specs.declared.key.LedgerKey.TheVariants as key
-use Rattle.xdr_core.specs.Leaves.{i64, fixed, var}
-use Rattle.xdr_core.specs.Combinators.{constant, option}
-use Rattle.xdr_core.specs.Xdr.{optional}
-use Rattle.xdr_entries.specs.Basic as basic
-use Rattle.xdr_entries.specs.Basic.{account_id, muxed_account, signer_key}
-use Rattle.xdr_entries.specs.Entries.{claimant}
-use Rattle.entry_map.specs.EntryMap.{EntryMap, put, erase}
-use Rattle.entry_sums.specs.Sums.{EachEntry}
-use Rattle.entry_sums.proofs.Lookups.{put_each, erase_each}
-use Rattle.entry_slots.specs.Accounts.{with_account, with_account_of, with_account_in}
-use Rattle.entry_slots.specs.Lines.{with_line, with_line_of, with_line_in}
-use Rattle.entry_slots.specs.DataEntries.{with_data, with_data_of, with_data_in}
-use Rattle.entry_slots.specs.AccountExtensions.{account_liabilities, second_in}
-use Rattle.entry_slots.specs.EntrySponsor.{sponsor_of, with_sponsor, with_sponsor_in, sponsor_in}
-use Rattle.reserve_rules.specs.Reserve.{greatest_i64}
-use Rattle.sponsor_rules.specs.declared.context.Ctx.{Ctx}
-use Rattle.sponsor_rules.specs.declared.context.Sponsorship.{Sponsorship}
-use Rattle.sponsor_rules.specs.Payers.{is_same_account, open_sponsor, payer_by, payer_of}
+use Rattle.close_rules.specs.ledger_types.Ids.{account_of}
+use Rattle.close_rules.specs.ledger_types.declared.ids.AccountId.{AccountId}
+use Rattle.close_rules.specs.ledger_types.declared.ids.MuxedAccount.{MuxedAccount}
+use Rattle.close_rules.specs.ledger_types.declared.ids.MuxedAccount.TheVariants as muxed
+use Rattle.close_rules.specs.ledger_types.declared.signer.Signer.{Signer}
+use Rattle.close_rules.specs.ledger_types.declared.account.AccountEntry.{AccountEntry}
+use Rattle.close_rules.specs.ledger_types.declared.account.AccountEntryExtensionV2.{AccountEntryExtensionV2}
+use Rattle.close_rules.specs.ledger_types.declared.asset.TrustLineAsset.{TrustLineAsset}
+use Rattle.close_rules.specs.ledger_types.declared.trust_line.TrustLineEntry.{TrustLineEntry}
+use Rattle.close_rules.specs.ledger_types.declared.offer.OfferEntry.{OfferEntry}
+use Rattle.close_rules.specs.ledger_types.declared.data_entry.DataEntry.{DataEntry}
+use Rattle.close_rules.specs.ledger_types.declared.claimable_balance.Claimant.{Claimant}
+use Rattle.close_rules.specs.ledger_types.declared.claimable_balance.ClaimableBalanceEntry.{ClaimableBalanceEntry}
+use Rattle.close_rules.specs.ledger_types.declared.liquidity_pool.LiquidityPoolEntry.{LiquidityPoolEntry}
+use Rattle.close_rules.specs.ledger_types.declared.entry.LedgerEntry.{LedgerEntry}
+use Rattle.close_rules.specs.ledger_types.declared.entry.LedgerEntryBody.{LedgerEntryBody}
+use Rattle.close_rules.specs.ledger_types.declared.entry.LedgerEntryBody.TheVariants as body
+use Rattle.close_rules.specs.ledger_types.declared.entry.LedgerEntryExtensionV1.{LedgerEntryExtensionV1}
+use Rattle.close_rules.specs.ledger_types.declared.key.LedgerKey.{LedgerKey}
+use Rattle.close_rules.specs.ledger_types.declared.key.LedgerKey.TheVariants as key
+use Rattle.close_rules.specs.xdr_core.Leaves.{i64, fixed, var}
+use Rattle.close_rules.specs.xdr_core.Combinators.{constant, option}
+use Rattle.close_rules.specs.xdr_core.Xdr.{optional}
+use Rattle.close_rules.specs.xdr_entries.Basic as basic
+use Rattle.close_rules.specs.xdr_entries.Basic.{account_id, muxed_account, signer_key}
+use Rattle.close_rules.specs.xdr_entries.Entries.{claimant}
+use Rattle.bucket_levels.specs.entry_map.EntryMap.{EntryMap, put, erase}
+use Rattle.close_rules.specs.entry_sums.Sums.{EachEntry}
+use Rattle.close_rules.proofs.entry_sums_proofs.Lookups.{put_each, erase_each}
+use Rattle.close_rules.specs.entry_slots.Accounts.{with_account, with_account_of, with_account_in}
+use Rattle.close_rules.specs.entry_slots.Lines.{with_line, with_line_of, with_line_in}
+use Rattle.close_rules.specs.entry_slots.DataEntries.{with_data, with_data_of, with_data_in}
+use Rattle.close_rules.specs.entry_slots.AccountExtensions.{account_liabilities, second_in}
+use Rattle.close_rules.specs.entry_slots.EntrySponsor.{sponsor_of, with_sponsor, with_sponsor_in, sponsor_in}
+use Rattle.close_rules.specs.reserve_rules.Reserve.{greatest_i64}
+use Rattle.close_rules.specs.sponsor_rules.declared.context.Ctx.{Ctx}
+use Rattle.close_rules.specs.sponsor_rules.declared.context.Sponsorship.{Sponsorship}
+use Rattle.close_rules.specs.sponsor_rules.Payers.{is_same_account, open_sponsor, payer_by, payer_of}
 use Rattle.close_rules.specs.State.{IsSpelled}
 
 -- ---- ids

@@ -1,38 +1,38 @@
 -- Operations on claimable balances, and clawback, leave the bytes of entries.
 use Rattle.std.proofs.Common.{[], ◌∷◌, map, length, All, Bool}
 use Rattle.std.specs.Prelude.{is_some}
-use Rattle.ledger_types.specs.declared.ids.Hash.{Hash}
-use Rattle.ledger_types.specs.declared.key.LedgerKey.TheVariants as key
-use Rattle.ledger_types.specs.Ids.{account_of}
-use Rattle.op_types.specs.declared.balance_ops.ClaimClaimableBalanceOp.{ClaimClaimableBalanceOp}
-use Rattle.op_types.specs.declared.balance_ops.ClawbackClaimableBalanceOp.{ClawbackClaimableBalanceOp}
-use Rattle.op_types.specs.declared.balance_ops.CreateClaimableBalanceOp.{CreateClaimableBalanceOp}
-use Rattle.op_types.specs.declared.trust_ops.ClawbackOp.{ClawbackOp}
-use Rattle.op_types.specs.declared.operation.OperationBody.TheVariants as body
-use Rattle.op_types.specs.declared.operation_result.OperationResult.TheVariants.{NotSupported}
-use Rattle.op_types.specs.declared.balance_results.ClaimClaimableBalanceResult.TheVariants as claim
-use Rattle.op_types.specs.declared.balance_results.ClawbackClaimableBalanceResult.TheVariants as claw
-use Rattle.op_types.specs.declared.balance_results.CreateClaimableBalanceResult.TheVariants as create
-use Rattle.op_types.specs.declared.trust_results.ClawbackResult.TheVariants as clawback
-use Rattle.xdr_core.specs.Leaves.{i64}
-use Rattle.xdr_core.specs.Combinators.{constant}
-use Rattle.xdr_entries.specs.Basic as basic
-use Rattle.xdr_entries.specs.Basic.{claimable_balance_id, hash}
-use Rattle.xdr_entries.specs.Entries.{claimant}
-use Rattle.xdr_tx.specs.Operations.{operation_body, create_claimable_balance_op}
-use Rattle.entry_map.specs.EntryMap.{EntryMap}
-use Rattle.entry_slots.specs.Balances.{balance_at}
-use Rattle.sponsor_rules.specs.declared.context.Ctx.{Ctx}
-use Rattle.sponsor_rules.specs.Adding.{map_after_adding}
-use Rattle.sponsor_rules.specs.Payers.{payer_of}
-use Rattle.sponsor_rules.specs.Removing.{map_after_removing}
-use Rattle.op_form.specs.Amounts.{map_after_credit, map_after_debit, with_less}
-use Rattle.op_form.specs.Assets.{line_asset_of, line_of_asset}
-use Rattle.op_claim.specs.ClaimClaimableBalance as claiming
-use Rattle.op_claim.specs.Clawback as clawing
-use Rattle.op_claim.specs.ClawbackClaimableBalance as taking
-use Rattle.op_claim.specs.CreateClaimableBalance as creating
-use Rattle.op_claim.specs.Predicates.{fixed_claimant}
+use Rattle.close_rules.specs.ledger_types.declared.ids.Hash.{Hash}
+use Rattle.close_rules.specs.ledger_types.declared.key.LedgerKey.TheVariants as key
+use Rattle.close_rules.specs.ledger_types.Ids.{account_of}
+use Rattle.close_rules.specs.op_types.declared.balance_ops.ClaimClaimableBalanceOp.{ClaimClaimableBalanceOp}
+use Rattle.close_rules.specs.op_types.declared.balance_ops.ClawbackClaimableBalanceOp.{ClawbackClaimableBalanceOp}
+use Rattle.close_rules.specs.op_types.declared.balance_ops.CreateClaimableBalanceOp.{CreateClaimableBalanceOp}
+use Rattle.close_rules.specs.op_types.declared.trust_ops.ClawbackOp.{ClawbackOp}
+use Rattle.close_rules.specs.op_types.declared.operation.OperationBody.TheVariants as body
+use Rattle.close_rules.specs.op_types.declared.operation_result.OperationResult.TheVariants.{NotSupported}
+use Rattle.close_rules.specs.op_types.declared.balance_results.ClaimClaimableBalanceResult.TheVariants as claim
+use Rattle.close_rules.specs.op_types.declared.balance_results.ClawbackClaimableBalanceResult.TheVariants as claw
+use Rattle.close_rules.specs.op_types.declared.balance_results.CreateClaimableBalanceResult.TheVariants as create
+use Rattle.close_rules.specs.op_types.declared.trust_results.ClawbackResult.TheVariants as clawback
+use Rattle.close_rules.specs.xdr_core.Leaves.{i64}
+use Rattle.close_rules.specs.xdr_core.Combinators.{constant}
+use Rattle.close_rules.specs.xdr_entries.Basic as basic
+use Rattle.close_rules.specs.xdr_entries.Basic.{claimable_balance_id, hash}
+use Rattle.close_rules.specs.xdr_entries.Entries.{claimant}
+use Rattle.close_rules.specs.xdr_tx.Operations.{operation_body, create_claimable_balance_op}
+use Rattle.bucket_levels.specs.entry_map.EntryMap.{EntryMap}
+use Rattle.close_rules.specs.entry_slots.Balances.{balance_at}
+use Rattle.close_rules.specs.sponsor_rules.declared.context.Ctx.{Ctx}
+use Rattle.close_rules.specs.sponsor_rules.Adding.{map_after_adding}
+use Rattle.close_rules.specs.sponsor_rules.Payers.{payer_of}
+use Rattle.close_rules.specs.sponsor_rules.Removing.{map_after_removing}
+use Rattle.close_rules.specs.op_form.Amounts.{map_after_credit, map_after_debit, with_less}
+use Rattle.close_rules.specs.op_form.Assets.{line_asset_of, line_of_asset}
+use Rattle.close_rules.specs.op_claim.ClaimClaimableBalance as claiming
+use Rattle.close_rules.specs.op_claim.Clawback as clawing
+use Rattle.close_rules.specs.op_claim.ClawbackClaimableBalance as taking
+use Rattle.close_rules.specs.op_claim.CreateClaimableBalance as creating
+use Rattle.close_rules.specs.op_claim.Predicates.{fixed_claimant}
 use Rattle.close_rules.specs.State.{IsSpelled}
 use Rattle.close_laws.proofs.Spelled.{each_spelled}
 use Rattle.close_laws.proofs.Digests.{hash_spelled}

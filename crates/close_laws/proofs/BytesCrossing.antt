@@ -6,45 +6,45 @@ use Rattle.std.proofs.lemmas.Int.{ints}
 use Rattle.std.proofs.lemmas.List.Elements.{All-nil, All-cons, All-head, All-tail}
 use Rattle.std.specs.Prelude.{ℤ, pos, neg_ℤ, ◌+ℤ◌, ◌≤ℤ◌, min, unsigned_abs, if◌then◌else◌}
 use Rattle.std.specs.List.{AllByRecursion}
-use Rattle.ledger_types.specs.declared.ids.AccountId.{AccountId}
-use Rattle.ledger_types.specs.declared.claim_atom.ClaimAtom.{ClaimAtom}
-use Rattle.ledger_types.specs.declared.offer.OfferEntry.{OfferEntry}
-use Rattle.ledger_types.specs.declared.entry.LedgerEntry.{LedgerEntry}
-use Rattle.ledger_types.specs.declared.key.LedgerKey.{LedgerKey}
-use Rattle.ledger_types.specs.declared.key.LedgerKey.TheVariants as key
-use Rattle.xdr_core.specs.Leaves.{i64}
-use Rattle.xdr_results.specs.Answers.{claim_atom}
-use Rattle.entry_map.specs.EntryMap.{EntryMap}
-use Rattle.entry_slots.specs.Accounts.{account_at}
-use Rattle.entry_slots.specs.Offers.{offer_at, with_offer}
-use Rattle.reserve_rules.specs.Reserve.{greatest_i64}
-use Rattle.offer_exchange.specs.declared.rounding.Rounding.{Rounding}
-use Rattle.offer_exchange.specs.declared.rounding.Rounding.TheVariants.{Normal}
-use Rattle.offer_exchange.specs.Exchange.{Amounts, Bounds, adjusted, offered, exchanged, wheat_stays, unlimited}
-use Rattle.offer_exchange.proofs.Within.{exchanged_within}
-use Rattle.legal_rules.specs.Binding.{acquiring, releasing}
-use Rattle.legal_rules.specs.Books.{Subentries, Sponsored, View}
-use Rattle.legal_rules.specs.OfferLiabilities.{bound_of}
-use Rattle.legal_rules.specs.OneMore.{IsOwedRightly}
-use Rattle.legal_rules.specs.Owing.{Owed, IsLegalOwing}
-use Rattle.legal_rules.specs.Payments.{paid}
-use Rattle.legal_rules.specs.Ranges.{IsOfferInRange}
-use Rattle.legal_rules.proofs.OffersKept.{IsOfferEntry, offer_entry}
-use Rattle.trade_cross.specs.declared.crossed.CrossEnd.{CrossEnd}
-use Rattle.trade_cross.specs.declared.crossed.CrossEnd.TheVariants.{Converted, TooMany}
-use Rattle.trade_cross.specs.declared.trade.Trade.{Trade}
-use Rattle.trade_cross.specs.declared.turn.Turn.{Turn}
-use Rattle.trade_cross.specs.declared.turn.Turn.TheVariants.{Ends, Meets}
-use Rattle.trade_cross.specs.Crossing.{Left, seller_gives_at, seller_takes_at, amount_at, meeting, map_after_trade}
-use Rattle.trade_cross.specs.Crossing.{with_amount, offer_key, map_after_rest, step_by, step, turn, Crossing, ended}
-use Rattle.trade_cross.specs.Crossing.{atom_of, left_after, joined, at_limit, crossed}
-use Rattle.trade_cross.specs.CrossingLaws.{kept_by}
-use Rattle.trade_cross.specs.Holdings.{most_given, most_taken, line_paid, paying}
-use Rattle.trade_cross.proofs.Binding.{given_fits}
-use Rattle.trade_cross.proofs.Bonds.{available_within}
-use Rattle.trade_cross.proofs.CrossedLegal.{met}
-use Rattle.trade_cross.proofs.StepLegal.{IsOpen, its_range, owed_then, covered_then, trade_open, release_open}
-use Rattle.trade_cross.proofs.StepLegal.{sells_fit, account_keeps, same_given, enough, in_bounds, step_legal}
+use Rattle.close_rules.specs.ledger_types.declared.ids.AccountId.{AccountId}
+use Rattle.close_rules.specs.ledger_types.declared.claim_atom.ClaimAtom.{ClaimAtom}
+use Rattle.close_rules.specs.ledger_types.declared.offer.OfferEntry.{OfferEntry}
+use Rattle.close_rules.specs.ledger_types.declared.entry.LedgerEntry.{LedgerEntry}
+use Rattle.close_rules.specs.ledger_types.declared.key.LedgerKey.{LedgerKey}
+use Rattle.close_rules.specs.ledger_types.declared.key.LedgerKey.TheVariants as key
+use Rattle.close_rules.specs.xdr_core.Leaves.{i64}
+use Rattle.close_rules.specs.xdr_results.Answers.{claim_atom}
+use Rattle.bucket_levels.specs.entry_map.EntryMap.{EntryMap}
+use Rattle.close_rules.specs.entry_slots.Accounts.{account_at}
+use Rattle.close_rules.specs.entry_slots.Offers.{offer_at, with_offer}
+use Rattle.close_rules.specs.reserve_rules.Reserve.{greatest_i64}
+use Rattle.close_rules.specs.offer_exchange.declared.rounding.Rounding.{Rounding}
+use Rattle.close_rules.specs.offer_exchange.declared.rounding.Rounding.TheVariants.{Normal}
+use Rattle.close_rules.specs.offer_exchange.Exchange.{Amounts, Bounds, adjusted, offered, exchanged, wheat_stays, unlimited}
+use Rattle.close_rules.proofs.offer_exchange_proofs.Within.{exchanged_within}
+use Rattle.close_rules.specs.legal_rules.Binding.{acquiring, releasing}
+use Rattle.close_rules.specs.legal_rules.Books.{Subentries, Sponsored, View}
+use Rattle.close_rules.specs.legal_rules.OfferLiabilities.{bound_of}
+use Rattle.close_rules.specs.legal_rules.OneMore.{IsOwedRightly}
+use Rattle.close_rules.specs.legal_rules.Owing.{Owed, IsLegalOwing}
+use Rattle.close_rules.specs.legal_rules.Payments.{paid}
+use Rattle.close_rules.specs.legal_rules.Ranges.{IsOfferInRange}
+use Rattle.close_rules.proofs.legal_rules_proofs.OffersKept.{IsOfferEntry, offer_entry}
+use Rattle.close_rules.specs.trade_cross.declared.crossed.CrossEnd.{CrossEnd}
+use Rattle.close_rules.specs.trade_cross.declared.crossed.CrossEnd.TheVariants.{Converted, TooMany}
+use Rattle.close_rules.specs.trade_cross.declared.trade.Trade.{Trade}
+use Rattle.close_rules.specs.trade_cross.declared.turn.Turn.{Turn}
+use Rattle.close_rules.specs.trade_cross.declared.turn.Turn.TheVariants.{Ends, Meets}
+use Rattle.close_rules.specs.trade_cross.Crossing.{Left, seller_gives_at, seller_takes_at, amount_at, meeting, map_after_trade}
+use Rattle.close_rules.specs.trade_cross.Crossing.{with_amount, offer_key, map_after_rest, step_by, step, turn, Crossing, ended}
+use Rattle.close_rules.specs.trade_cross.Crossing.{atom_of, left_after, joined, at_limit, crossed}
+use Rattle.close_rules.specs.trade_cross.CrossingLaws.{kept_by}
+use Rattle.close_rules.specs.trade_cross.Holdings.{most_given, most_taken, line_paid, paying}
+use Rattle.close_rules.proofs.trade_cross_proofs.Binding.{given_fits}
+use Rattle.close_rules.proofs.trade_cross_proofs.Bonds.{available_within}
+use Rattle.close_rules.proofs.trade_cross_proofs.CrossedLegal.{met}
+use Rattle.close_rules.proofs.trade_cross_proofs.StepLegal.{IsOpen, its_range, owed_then, covered_then, trade_open, release_open}
+use Rattle.close_rules.proofs.trade_cross_proofs.StepLegal.{sells_fit, account_keeps, same_given, enough, in_bounds, step_legal}
 use Rattle.close_rules.specs.State.{IsSpelled}
 use Rattle.close_laws.proofs.Bytes.{AreBytes, AreBodyBytes, AreOfferBytes, with_account_bytes, with_line_bytes}
 use Rattle.close_laws.proofs.BytesAmounts.{numbers}

@@ -2,28 +2,28 @@
 use Rattle.std.proofs.Common.{◌≡◌, subst, ℕ, false, ◌||◌, Some, None, arith}
 use Rattle.std.proofs.lemmas.Int.{ints}
 use Rattle.std.specs.Prelude.{ℤ, pos, neg_ℤ, ◌+ℤ◌, ◌≤ℤ◌, int_le, int_lt}
-use Rattle.ledger_types.specs.declared.asset.TrustLineAsset.TheVariants as line
-use Rattle.ledger_types.specs.declared.trust_line.TrustLineEntry.{TrustLineEntry}
-use Rattle.ledger_types.specs.declared.liquidity_pool.LiquidityPoolEntry.{LiquidityPoolEntry}
-use Rattle.op_types.specs.declared.pool_ops.LiquidityPoolDepositOp.{LiquidityPoolDepositOp}
-use Rattle.op_types.specs.declared.pool_ops.LiquidityPoolWithdrawOp.{LiquidityPoolWithdrawOp}
-use Rattle.op_types.specs.declared.pool_results.LiquidityPoolDepositResult.TheVariants as depositing
-use Rattle.op_types.specs.declared.pool_results.LiquidityPoolWithdrawResult.TheVariants as withdrawing
-use Rattle.entry_map.specs.EntryMap.{EntryMap}
-use Rattle.entry_slots.specs.Lines.{line_at}
-use Rattle.entry_slots.specs.Pools.{pool_at}
-use Rattle.entry_slots.specs.Tests.{first_fault}
-use Rattle.reserve_rules.specs.Reserve.{greatest_i64}
-use Rattle.sponsor_rules.specs.declared.context.Ctx.{Ctx}
-use Rattle.pool_math.specs.Pools.{Deposit}
-use Rattle.legal_rules.specs.Trades.{holder}
-use Rattle.legal_rules.proofs.Passed.{neither}
-use Rattle.trade_cross.specs.Holdings.{paying}
-use Rattle.pool_shares.specs.Withdrawing.{Part, part_of, map_with_shares, map_after_withdrawing}
-use Rattle.op_pool.specs.Deposit as depositing_into
-use Rattle.op_pool.specs.Deposit.{deposit_by, does_pass, is_pool_full}
-use Rattle.op_pool.specs.Withdraw as withdrawing_from
-use Rattle.op_pool.proofs.Fitting.{not_less}
+use Rattle.close_rules.specs.ledger_types.declared.asset.TrustLineAsset.TheVariants as line
+use Rattle.close_rules.specs.ledger_types.declared.trust_line.TrustLineEntry.{TrustLineEntry}
+use Rattle.close_rules.specs.ledger_types.declared.liquidity_pool.LiquidityPoolEntry.{LiquidityPoolEntry}
+use Rattle.close_rules.specs.op_types.declared.pool_ops.LiquidityPoolDepositOp.{LiquidityPoolDepositOp}
+use Rattle.close_rules.specs.op_types.declared.pool_ops.LiquidityPoolWithdrawOp.{LiquidityPoolWithdrawOp}
+use Rattle.close_rules.specs.op_types.declared.pool_results.LiquidityPoolDepositResult.TheVariants as depositing
+use Rattle.close_rules.specs.op_types.declared.pool_results.LiquidityPoolWithdrawResult.TheVariants as withdrawing
+use Rattle.bucket_levels.specs.entry_map.EntryMap.{EntryMap}
+use Rattle.close_rules.specs.entry_slots.Lines.{line_at}
+use Rattle.close_rules.specs.entry_slots.Pools.{pool_at}
+use Rattle.close_rules.specs.entry_slots.Tests.{first_fault}
+use Rattle.close_rules.specs.reserve_rules.Reserve.{greatest_i64}
+use Rattle.close_rules.specs.sponsor_rules.declared.context.Ctx.{Ctx}
+use Rattle.close_rules.specs.pool_math.Pools.{Deposit}
+use Rattle.close_rules.specs.legal_rules.Trades.{holder}
+use Rattle.close_rules.proofs.legal_rules_proofs.Passed.{neither}
+use Rattle.close_rules.specs.trade_cross.Holdings.{paying}
+use Rattle.close_rules.specs.pool_shares.Withdrawing.{Part, part_of, map_with_shares, map_after_withdrawing}
+use Rattle.close_rules.specs.op_pool.Deposit as depositing_into
+use Rattle.close_rules.specs.op_pool.Deposit.{deposit_by, does_pass, is_pool_full}
+use Rattle.close_rules.specs.op_pool.Withdraw as withdrawing_from
+use Rattle.close_rules.proofs.op_pool_proofs.Fitting.{not_less}
 use Rattle.close_laws.proofs.Bytes.{AreBytes}
 use Rattle.close_laws.proofs.BytesCrossing.{paying_bytes}
 use Rattle.close_laws.proofs.BytesPools.{MayHave, shares_bytes, may_give}

@@ -4,24 +4,24 @@ use Rattle.std.proofs.Common.{Some, inl, inr, arith}
 use Rattle.std.proofs.lemmas.Int.{ints}
 use Rattle.std.proofs.lemmas.List.Elements.{All-nil, All-cons}
 use Rattle.std.specs.Prelude.{ℤ, pos, neg_ℤ, ◌+ℤ◌, ◌≤ℤ◌, unsigned_abs, if◌then◌else◌}
-use Rattle.ledger_types.specs.declared.liquidity_pool.LiquidityPoolEntry.{LiquidityPoolEntry}
-use Rattle.ledger_types.specs.declared.key.LedgerKey.TheVariants as key
-use Rattle.xdr_core.specs.Leaves.{i64}
-use Rattle.xdr_entries.specs.Basic as basic
-use Rattle.xdr_results.specs.Answers.{claim_atom}
-use Rattle.entry_map.specs.EntryMap.{EntryMap}
-use Rattle.entry_slots.specs.Pools.{pool_at}
-use Rattle.reserve_rules.specs.Reserve.{greatest_i64}
-use Rattle.sponsor_rules.specs.declared.context.Ctx.{Ctx}
-use Rattle.offer_exchange.specs.Exchange.{Amounts}
-use Rattle.pool_math.specs.Pools.{greatest}
-use Rattle.legal_rules.proofs.Changed.{pool_entry}
-use Rattle.trade_cross.specs.declared.trade.Trade.{Trade}
-use Rattle.trade_cross.specs.Crossable.{IsCrossable}
-use Rattle.trade_cross.specs.Crossing.{most_crossings, Crossing, converted, left_of}
-use Rattle.trade_cross.specs.Hop.{is_sheep_first, pool_of_pair, with_reserves, with_swap, pool_atom, swapped, hop}
-use Rattle.trade_cross.proofs.PoolsLegal.{pool_legal}
-use Rattle.trade_cross.proofs.PoolSwaps.{DoesSwap, IsSwapping, IsEither, swaps, hop_is_either}
+use Rattle.close_rules.specs.ledger_types.declared.liquidity_pool.LiquidityPoolEntry.{LiquidityPoolEntry}
+use Rattle.close_rules.specs.ledger_types.declared.key.LedgerKey.TheVariants as key
+use Rattle.close_rules.specs.xdr_core.Leaves.{i64}
+use Rattle.close_rules.specs.xdr_entries.Basic as basic
+use Rattle.close_rules.specs.xdr_results.Answers.{claim_atom}
+use Rattle.bucket_levels.specs.entry_map.EntryMap.{EntryMap}
+use Rattle.close_rules.specs.entry_slots.Pools.{pool_at}
+use Rattle.close_rules.specs.reserve_rules.Reserve.{greatest_i64}
+use Rattle.close_rules.specs.sponsor_rules.declared.context.Ctx.{Ctx}
+use Rattle.close_rules.specs.offer_exchange.Exchange.{Amounts}
+use Rattle.close_rules.specs.pool_math.Pools.{greatest}
+use Rattle.close_rules.proofs.legal_rules_proofs.Changed.{pool_entry}
+use Rattle.close_rules.specs.trade_cross.declared.trade.Trade.{Trade}
+use Rattle.close_rules.specs.trade_cross.Crossable.{IsCrossable}
+use Rattle.close_rules.specs.trade_cross.Crossing.{most_crossings, Crossing, converted, left_of}
+use Rattle.close_rules.specs.trade_cross.Hop.{is_sheep_first, pool_of_pair, with_reserves, with_swap, pool_atom, swapped, hop}
+use Rattle.close_rules.proofs.trade_cross_proofs.PoolsLegal.{pool_legal}
+use Rattle.close_rules.proofs.trade_cross_proofs.PoolSwaps.{DoesSwap, IsSwapping, IsEither, swaps, hop_is_either}
 use Rattle.close_laws.proofs.Bytes.{ArePoolBytes, AreBodyBytes, AreBytes}
 use Rattle.close_laws.proofs.BytesCrossing.{IsTold, crossed_bytes}
 use Rattle.close_laws.proofs.BytesPools.{with_pool_bytes}

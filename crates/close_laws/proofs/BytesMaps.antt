@@ -2,33 +2,33 @@
 use Rattle.std.proofs.Common.{◌≡◌, ℕ, refl, subst, Option, Some, None, Result, Ok, IfOk}
 use Rattle.std.proofs.Common.{Bool, true, false, if◌then◌else◌}
 use Rattle.std.specs.FinMap.{get}
-use Rattle.ledger_types.specs.declared.ids.AccountId.{AccountId}
-use Rattle.ledger_types.specs.declared.signer.Signer.{Signer}
-use Rattle.ledger_types.specs.declared.signer.SignerKey.{SignerKey}
-use Rattle.ledger_types.specs.declared.account.AccountEntry.{AccountEntry}
-use Rattle.ledger_types.specs.declared.entry.LedgerEntry.{LedgerEntry}
-use Rattle.ledger_types.specs.declared.entry.LedgerEntryBody.TheVariants as body
-use Rattle.ledger_types.specs.declared.key.LedgerKey.{LedgerKey}
-use Rattle.xdr_entries.specs.Basic.{signer_key}
-use Rattle.entry_map.specs.EntryMap.{EntryMap, put}
-use Rattle.entry_slots.specs.Accounts.{account_at, with_account}
-use Rattle.entry_slots.specs.EntrySponsor.{sponsor_of, with_sponsor}
-use Rattle.entry_slots.specs.Tests.{unless_fault}
-use Rattle.sponsor_rules.specs.declared.charge.Charge.{Charge}
-use Rattle.sponsor_rules.specs.declared.charge.Charge.TheVariants as charge
-use Rattle.sponsor_rules.specs.declared.context.Ctx.{Ctx}
-use Rattle.sponsor_rules.specs.declared.count.Count.TheVariants.{Sponsored}
-use Rattle.sponsor_rules.specs.declared.signer_place.FoundSigner.{FoundSigner}
-use Rattle.sponsor_rules.specs.Charge.{charge_of}
-use Rattle.sponsor_rules.specs.Counting.{with_more}
-use Rattle.sponsor_rules.specs.Paying.{map_after_charging, map_after_releasing, map_after_exchange, with_subentry}
-use Rattle.sponsor_rules.specs.Paying.{without_subentry, with_other_payer}
-use Rattle.sponsor_rules.specs.Payers.{is_same_account, open_sponsor, payer_other_than}
-use Rattle.sponsor_rules.specs.Adding as adding
-use Rattle.sponsor_rules.specs.Removing as removing
-use Rattle.sponsor_rules.specs.Moving as moving
-use Rattle.sponsor_rules.specs.SignerPlace.{found_signer, place_for}
-use Rattle.sponsor_rules.specs.Signers as signing
+use Rattle.close_rules.specs.ledger_types.declared.ids.AccountId.{AccountId}
+use Rattle.close_rules.specs.ledger_types.declared.signer.Signer.{Signer}
+use Rattle.close_rules.specs.ledger_types.declared.signer.SignerKey.{SignerKey}
+use Rattle.close_rules.specs.ledger_types.declared.account.AccountEntry.{AccountEntry}
+use Rattle.close_rules.specs.ledger_types.declared.entry.LedgerEntry.{LedgerEntry}
+use Rattle.close_rules.specs.ledger_types.declared.entry.LedgerEntryBody.TheVariants as body
+use Rattle.close_rules.specs.ledger_types.declared.key.LedgerKey.{LedgerKey}
+use Rattle.close_rules.specs.xdr_entries.Basic.{signer_key}
+use Rattle.bucket_levels.specs.entry_map.EntryMap.{EntryMap, put}
+use Rattle.close_rules.specs.entry_slots.Accounts.{account_at, with_account}
+use Rattle.close_rules.specs.entry_slots.EntrySponsor.{sponsor_of, with_sponsor}
+use Rattle.close_rules.specs.entry_slots.Tests.{unless_fault}
+use Rattle.close_rules.specs.sponsor_rules.declared.charge.Charge.{Charge}
+use Rattle.close_rules.specs.sponsor_rules.declared.charge.Charge.TheVariants as charge
+use Rattle.close_rules.specs.sponsor_rules.declared.context.Ctx.{Ctx}
+use Rattle.close_rules.specs.sponsor_rules.declared.count.Count.TheVariants.{Sponsored}
+use Rattle.close_rules.specs.sponsor_rules.declared.signer_place.FoundSigner.{FoundSigner}
+use Rattle.close_rules.specs.sponsor_rules.Charge.{charge_of}
+use Rattle.close_rules.specs.sponsor_rules.Counting.{with_more}
+use Rattle.close_rules.specs.sponsor_rules.Paying.{map_after_charging, map_after_releasing, map_after_exchange, with_subentry}
+use Rattle.close_rules.specs.sponsor_rules.Paying.{without_subentry, with_other_payer}
+use Rattle.close_rules.specs.sponsor_rules.Payers.{is_same_account, open_sponsor, payer_other_than}
+use Rattle.close_rules.specs.sponsor_rules.Adding as adding
+use Rattle.close_rules.specs.sponsor_rules.Removing as removing
+use Rattle.close_rules.specs.sponsor_rules.Moving as moving
+use Rattle.close_rules.specs.sponsor_rules.SignerPlace.{found_signer, place_for}
+use Rattle.close_rules.specs.sponsor_rules.Signers as signing
 use Rattle.close_rules.specs.State.{IsSpelled}
 use Rattle.close_laws.proofs.Bytes.{IsId, IsIdIf, no_id, some_id, AreAccountBytes, AreEntryBytes, AreBytes}
 use Rattle.close_laws.proofs.Bytes.{put_bytes, erase_bytes, with_account_bytes, with_sponsor_bytes}

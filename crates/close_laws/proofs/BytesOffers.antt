@@ -5,38 +5,38 @@ use Rattle.std.proofs.lemmas.Int.{ints}
 use Rattle.std.proofs.lemmas.List.Elements.{All-nil}
 use Rattle.std.specs.Prelude.{ℕ, ℤ, pos, neg_ℤ, ◌+ℤ◌, ◌≤ℤ◌, if◌then◌else◌}
 use Rattle.std.specs.FinMap.{get}
-use Rattle.ledger_types.specs.declared.ids.AccountId.{AccountId}
-use Rattle.ledger_types.specs.declared.price.Liabilities.{Liabilities}
-use Rattle.ledger_types.specs.declared.account.AccountEntry.{AccountEntry}
-use Rattle.ledger_types.specs.declared.account.AccountEntryExtensionV1.{AccountEntryExtensionV1}
-use Rattle.ledger_types.specs.declared.offer.OfferEntry.{OfferEntry}
-use Rattle.ledger_types.specs.declared.entry.LedgerEntry.{LedgerEntry}
-use Rattle.ledger_types.specs.declared.entry.LedgerEntryBody.{LedgerEntryBody}
-use Rattle.ledger_types.specs.declared.entry.LedgerEntryBody.TheVariants as body
-use Rattle.ledger_types.specs.declared.key.LedgerKey.{LedgerKey}
-use Rattle.ledger_types.specs.declared.key.LedgerKey.TheVariants as key
-use Rattle.xdr_core.specs.Leaves.{i64}
-use Rattle.entry_map.specs.EntryMap.{EntryMap}
-use Rattle.entry_slots.specs.Accounts.{account_at, account_of, account_in, with_account, with_account_of}
-use Rattle.entry_slots.specs.Accounts.{with_account_in}
-use Rattle.entry_slots.specs.AccountExtensions.{account_liabilities, liabilities_in, is_nothing, with_liabilities_in}
-use Rattle.entry_slots.specs.AccountExtensions.{second_in}
-use Rattle.entry_slots.specs.EntrySponsor.{sponsor_of}
-use Rattle.entry_slots.specs.Offers.{with_offer, with_offer_of, with_offer_in}
-use Rattle.reserve_rules.specs.Reserve.{greatest_i64}
-use Rattle.legal_rules.specs.OfferLiabilities.{bound_of}
-use Rattle.legal_rules.specs.Trades.{holder}
-use Rattle.legal_rules.specs.Binding.{risen, bound_account, bound_line, binding, acquiring, releasing}
+use Rattle.close_rules.specs.ledger_types.declared.ids.AccountId.{AccountId}
+use Rattle.close_rules.specs.ledger_types.declared.price.Liabilities.{Liabilities}
+use Rattle.close_rules.specs.ledger_types.declared.account.AccountEntry.{AccountEntry}
+use Rattle.close_rules.specs.ledger_types.declared.account.AccountEntryExtensionV1.{AccountEntryExtensionV1}
+use Rattle.close_rules.specs.ledger_types.declared.offer.OfferEntry.{OfferEntry}
+use Rattle.close_rules.specs.ledger_types.declared.entry.LedgerEntry.{LedgerEntry}
+use Rattle.close_rules.specs.ledger_types.declared.entry.LedgerEntryBody.{LedgerEntryBody}
+use Rattle.close_rules.specs.ledger_types.declared.entry.LedgerEntryBody.TheVariants as body
+use Rattle.close_rules.specs.ledger_types.declared.key.LedgerKey.{LedgerKey}
+use Rattle.close_rules.specs.ledger_types.declared.key.LedgerKey.TheVariants as key
+use Rattle.close_rules.specs.xdr_core.Leaves.{i64}
+use Rattle.bucket_levels.specs.entry_map.EntryMap.{EntryMap}
+use Rattle.close_rules.specs.entry_slots.Accounts.{account_at, account_of, account_in, with_account, with_account_of}
+use Rattle.close_rules.specs.entry_slots.Accounts.{with_account_in}
+use Rattle.close_rules.specs.entry_slots.AccountExtensions.{account_liabilities, liabilities_in, is_nothing, with_liabilities_in}
+use Rattle.close_rules.specs.entry_slots.AccountExtensions.{second_in}
+use Rattle.close_rules.specs.entry_slots.EntrySponsor.{sponsor_of}
+use Rattle.close_rules.specs.entry_slots.Offers.{with_offer, with_offer_of, with_offer_in}
+use Rattle.close_rules.specs.reserve_rules.Reserve.{greatest_i64}
+use Rattle.close_rules.specs.legal_rules.OfferLiabilities.{bound_of}
+use Rattle.close_rules.specs.legal_rules.Trades.{holder}
+use Rattle.close_rules.specs.legal_rules.Binding.{risen, bound_account, bound_line, binding, acquiring, releasing}
 use Rattle.close_rules.specs.State.{IsSpelled}
 use Rattle.close_laws.proofs.Bytes.{IsIdIf, sponsors_in, AreAccountBytes, AreOfferBytes, AreBodyBytes}
 use Rattle.close_laws.proofs.Bytes.{AreBytes, put_bytes, with_line_bytes}
 use Rattle.std.specs.List.{filter}
-use Rattle.ledger_types.specs.declared.asset.Asset.{Asset}
-use Rattle.offer_book.specs.Book.{offers_by}
-use Rattle.trade_cross.specs.Cancelling.{map_after_cancelling}
-use Rattle.trade_cross.specs.Crossing.{offer_key}
-use Rattle.op_flags.specs.LineFlags.{map_after_revoking}
-use Rattle.op_flags.specs.Revoking.{trades_in, map_after_cancelling_all, map_without_offers}
+use Rattle.close_rules.specs.ledger_types.declared.asset.Asset.{Asset}
+use Rattle.close_rules.specs.offer_book.Book.{offers_by}
+use Rattle.close_rules.specs.trade_cross.Cancelling.{map_after_cancelling}
+use Rattle.close_rules.specs.trade_cross.Crossing.{offer_key}
+use Rattle.close_rules.specs.op_flags.LineFlags.{map_after_revoking}
+use Rattle.close_rules.specs.op_flags.Revoking.{trades_in, map_after_cancelling_all, map_without_offers}
 use Rattle.close_laws.proofs.BytesMaps.{removing_bytes}
 
 -- ---- offers

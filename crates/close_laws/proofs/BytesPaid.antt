@@ -4,22 +4,22 @@ use Rattle.std.proofs.Common.{Bool, true, false, if◌then◌else◌, nat_eq, sl
 use Rattle.std.proofs.lemmas.List.Elements.{All-nil, All-cons, All-append, All-take, All-drop, All-set}
 use Rattle.std.specs.Prelude.{◌≤ℤ◌}
 use Rattle.std.specs.List.{insert, remove}
-use Rattle.ledger_types.specs.declared.ids.AccountId.{AccountId}
-use Rattle.ledger_types.specs.declared.signer.Signer.{Signer}
-use Rattle.ledger_types.specs.declared.account.AccountEntry.{AccountEntry}
-use Rattle.ledger_types.specs.declared.account.AccountEntryExtensionV1.{AccountEntryExtensionV1}
-use Rattle.ledger_types.specs.declared.account.AccountEntryExtensionV2.{AccountEntryExtensionV2}
-use Rattle.xdr_entries.specs.Basic.{signer_key}
-use Rattle.entry_map.specs.EntryMap.{EntryMap}
-use Rattle.entry_slots.specs.AccountExtensions.{liabilities_in, second_in, sponsorship_of, sponsorship_in}
-use Rattle.entry_slots.specs.AccountExtensions.{with_sponsorship}
-use Rattle.reserve_rules.specs.Reserve.{greatest_i64}
-use Rattle.sponsor_rules.specs.declared.count.Count.{Count}
-use Rattle.sponsor_rules.specs.declared.count.Count.TheVariants.{SubEntries, Sponsoring, Sponsored}
-use Rattle.sponsor_rules.specs.Counting.{count_in, with_count, with_new_count, with_more, with_less}
-use Rattle.sponsor_rules.specs.Paying as paying
-use Rattle.sponsor_rules.specs.SignerPlace.{with_sponsors_in, with_sponsors, with_signer_at, without_signer}
-use Rattle.sponsor_rules.specs.SignerPlace.{with_signer_sponsor}
+use Rattle.close_rules.specs.ledger_types.declared.ids.AccountId.{AccountId}
+use Rattle.close_rules.specs.ledger_types.declared.signer.Signer.{Signer}
+use Rattle.close_rules.specs.ledger_types.declared.account.AccountEntry.{AccountEntry}
+use Rattle.close_rules.specs.ledger_types.declared.account.AccountEntryExtensionV1.{AccountEntryExtensionV1}
+use Rattle.close_rules.specs.ledger_types.declared.account.AccountEntryExtensionV2.{AccountEntryExtensionV2}
+use Rattle.close_rules.specs.xdr_entries.Basic.{signer_key}
+use Rattle.bucket_levels.specs.entry_map.EntryMap.{EntryMap}
+use Rattle.close_rules.specs.entry_slots.AccountExtensions.{liabilities_in, second_in, sponsorship_of, sponsorship_in}
+use Rattle.close_rules.specs.entry_slots.AccountExtensions.{with_sponsorship}
+use Rattle.close_rules.specs.reserve_rules.Reserve.{greatest_i64}
+use Rattle.close_rules.specs.sponsor_rules.declared.count.Count.{Count}
+use Rattle.close_rules.specs.sponsor_rules.declared.count.Count.TheVariants.{SubEntries, Sponsoring, Sponsored}
+use Rattle.close_rules.specs.sponsor_rules.Counting.{count_in, with_count, with_new_count, with_more, with_less}
+use Rattle.close_rules.specs.sponsor_rules.Paying as paying
+use Rattle.close_rules.specs.sponsor_rules.SignerPlace.{with_sponsors_in, with_sponsors, with_signer_at, without_signer}
+use Rattle.close_rules.specs.sponsor_rules.SignerPlace.{with_signer_sponsor}
 use Rattle.close_rules.specs.State.{IsSpelled}
 use Rattle.close_laws.proofs.Bytes.{IsIdIf, no_id, sponsors_in, IsKey, AreAccountBytes, AreBytes}
 use Rattle.close_laws.proofs.Bytes.{KeepsAccounts, with_account_bytes}

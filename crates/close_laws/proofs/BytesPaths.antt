@@ -5,24 +5,24 @@ use Rattle.std.proofs.lemmas.List.{length-append}
 use Rattle.std.proofs.lemmas.List.Elements.{All-nil, All-append}
 use Rattle.std.specs.Prelude.{ℤ, if◌then◌else◌}
 use Rattle.std.specs.List.{AllByRecursion}
-use Rattle.ledger_types.specs.declared.asset.Asset.{Asset}
-use Rattle.ledger_types.specs.declared.claim_atom.ClaimAtom.{ClaimAtom}
-use Rattle.xdr_entries.specs.Basic as basic
-use Rattle.entry_map.specs.EntryMap.{EntryMap}
-use Rattle.sponsor_rules.specs.declared.context.Ctx.{Ctx}
-use Rattle.trade_cross.specs.declared.crossed.CrossEnd.{CrossEnd}
-use Rattle.trade_cross.specs.declared.crossed.CrossEnd.TheVariants.{CrossSelf, TooMany}
-use Rattle.trade_cross.specs.declared.trade.Trade.{Trade}
-use Rattle.trade_cross.specs.Crossable.{IsCrossable}
-use Rattle.trade_cross.specs.Crossing.{most_crossings, Crossing}
-use Rattle.trade_cross.specs.Hop.{hop, is_served}
-use Rattle.trade_cross.specs.HopLaws.{crossings_in, IsHopTrade}
-use Rattle.trade_cross.proofs.HopsKeep.{hop_keeps}
-use Rattle.op_payment.specs.declared.path_fault.PathFault.{PathFault}
-use Rattle.op_payment.specs.declared.path_fault.PathFault.TheVariants as fault
-use Rattle.op_payment.specs.Paths.{Carried, set_out, and_then, by_end, hopped, after_hop, receiving, sending}
-use Rattle.op_payment.specs.Paths.{needed_before, carried_on, is_same_asset, received_hop, sent_hop, received, sent}
-use Rattle.op_payment.proofs.HopsMade.{receiving_asks, sending_asks}
+use Rattle.close_rules.specs.ledger_types.declared.asset.Asset.{Asset}
+use Rattle.close_rules.specs.ledger_types.declared.claim_atom.ClaimAtom.{ClaimAtom}
+use Rattle.close_rules.specs.xdr_entries.Basic as basic
+use Rattle.bucket_levels.specs.entry_map.EntryMap.{EntryMap}
+use Rattle.close_rules.specs.sponsor_rules.declared.context.Ctx.{Ctx}
+use Rattle.close_rules.specs.trade_cross.declared.crossed.CrossEnd.{CrossEnd}
+use Rattle.close_rules.specs.trade_cross.declared.crossed.CrossEnd.TheVariants.{CrossSelf, TooMany}
+use Rattle.close_rules.specs.trade_cross.declared.trade.Trade.{Trade}
+use Rattle.close_rules.specs.trade_cross.Crossable.{IsCrossable}
+use Rattle.close_rules.specs.trade_cross.Crossing.{most_crossings, Crossing}
+use Rattle.close_rules.specs.trade_cross.Hop.{hop, is_served}
+use Rattle.close_rules.specs.trade_cross.HopLaws.{crossings_in, IsHopTrade}
+use Rattle.close_rules.proofs.trade_cross_proofs.HopsKeep.{hop_keeps}
+use Rattle.close_rules.specs.op_payment.declared.path_fault.PathFault.{PathFault}
+use Rattle.close_rules.specs.op_payment.declared.path_fault.PathFault.TheVariants as fault
+use Rattle.close_rules.specs.op_payment.Paths.{Carried, set_out, and_then, by_end, hopped, after_hop, receiving, sending}
+use Rattle.close_rules.specs.op_payment.Paths.{needed_before, carried_on, is_same_asset, received_hop, sent_hop, received, sent}
+use Rattle.close_rules.proofs.op_payment_proofs.HopsMade.{receiving_asks, sending_asks}
 use Rattle.close_laws.proofs.Bytes.{AreBytes}
 use Rattle.close_laws.proofs.BytesCrossing.{IsTold}
 use Rattle.close_laws.proofs.BytesHops.{most_atoms, AreHopBytes, AreNamed, hop_bytes}

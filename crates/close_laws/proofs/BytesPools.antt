@@ -4,29 +4,29 @@ use Rattle.std.proofs.Common.{Option, Some, None, arith}
 use Rattle.std.proofs.lemmas.Int.{ints}
 use Rattle.std.specs.Prelude.{ℤ, pos, neg_ℤ, ◌+ℤ◌, ◌≤ℤ◌}
 use Rattle.std.specs.FinMap.{get}
-use Rattle.ledger_types.specs.declared.ids.AccountId.{AccountId}
-use Rattle.ledger_types.specs.declared.ids.Hash.{Hash}
-use Rattle.ledger_types.specs.declared.asset.PoolParams.{PoolParams}
-use Rattle.ledger_types.specs.declared.asset.TrustLineAsset.TheVariants as line
-use Rattle.ledger_types.specs.declared.liquidity_pool.LiquidityPoolEntry.{LiquidityPoolEntry}
-use Rattle.ledger_types.specs.declared.entry.LedgerEntry.{LedgerEntry}
-use Rattle.ledger_types.specs.declared.entry.LedgerEntryBody.{LedgerEntryBody}
-use Rattle.ledger_types.specs.declared.entry.LedgerEntryBody.TheVariants as body
-use Rattle.ledger_types.specs.declared.key.LedgerKey.{LedgerKey}
-use Rattle.ledger_types.specs.declared.key.LedgerKey.TheVariants as key
-use Rattle.xdr_entries.specs.Basic.{hash, pool_params}
-use Rattle.entry_map.specs.EntryMap.{EntryMap, erase}
-use Rattle.entry_slots.specs.Pools.{pool_in, pool_of, pool_at, with_pool, with_pool_of, with_pool_in}
-use Rattle.sponsor_rules.specs.Removing.{map_after_removing}
-use Rattle.reserve_rules.specs.Reserve.{greatest_i64}
-use Rattle.legal_rules.specs.PoolLaws.{new_pool}
-use Rattle.legal_rules.specs.PoolShares.{needed_line}
-use Rattle.legal_rules.specs.ShareLaws.{with_uses, map_with_uses_at, map_with_uses, with_lines}
-use Rattle.legal_rules.specs.ShareLaws.{map_with_share_lines}
-use Rattle.trade_cross.specs.Holdings.{paying}
-use Rattle.pool_shares.specs.ShareLines.{empty_pool, map_with_pool_by, has_no_line, map_without_bare_pool}
-use Rattle.pool_shares.specs.ShareLines.{map_without_share_line}
-use Rattle.pool_shares.specs.Withdrawing.{with_change, share_key, map_with_shares}
+use Rattle.close_rules.specs.ledger_types.declared.ids.AccountId.{AccountId}
+use Rattle.close_rules.specs.ledger_types.declared.ids.Hash.{Hash}
+use Rattle.close_rules.specs.ledger_types.declared.asset.PoolParams.{PoolParams}
+use Rattle.close_rules.specs.ledger_types.declared.asset.TrustLineAsset.TheVariants as line
+use Rattle.close_rules.specs.ledger_types.declared.liquidity_pool.LiquidityPoolEntry.{LiquidityPoolEntry}
+use Rattle.close_rules.specs.ledger_types.declared.entry.LedgerEntry.{LedgerEntry}
+use Rattle.close_rules.specs.ledger_types.declared.entry.LedgerEntryBody.{LedgerEntryBody}
+use Rattle.close_rules.specs.ledger_types.declared.entry.LedgerEntryBody.TheVariants as body
+use Rattle.close_rules.specs.ledger_types.declared.key.LedgerKey.{LedgerKey}
+use Rattle.close_rules.specs.ledger_types.declared.key.LedgerKey.TheVariants as key
+use Rattle.close_rules.specs.xdr_entries.Basic.{hash, pool_params}
+use Rattle.bucket_levels.specs.entry_map.EntryMap.{EntryMap, erase}
+use Rattle.close_rules.specs.entry_slots.Pools.{pool_in, pool_of, pool_at, with_pool, with_pool_of, with_pool_in}
+use Rattle.close_rules.specs.sponsor_rules.Removing.{map_after_removing}
+use Rattle.close_rules.specs.reserve_rules.Reserve.{greatest_i64}
+use Rattle.close_rules.specs.legal_rules.PoolLaws.{new_pool}
+use Rattle.close_rules.specs.legal_rules.PoolShares.{needed_line}
+use Rattle.close_rules.specs.legal_rules.ShareLaws.{with_uses, map_with_uses_at, map_with_uses, with_lines}
+use Rattle.close_rules.specs.legal_rules.ShareLaws.{map_with_share_lines}
+use Rattle.close_rules.specs.trade_cross.Holdings.{paying}
+use Rattle.close_rules.specs.pool_shares.ShareLines.{empty_pool, map_with_pool_by, has_no_line, map_without_bare_pool}
+use Rattle.close_rules.specs.pool_shares.ShareLines.{map_without_share_line}
+use Rattle.close_rules.specs.pool_shares.Withdrawing.{with_change, share_key, map_with_shares}
 use Rattle.close_rules.specs.State.{IsSpelled}
 use Rattle.close_laws.proofs.Bytes.{ArePoolBytes, AreBodyBytes, AreBytes, no_id, put_bytes, erase_bytes}
 use Rattle.close_laws.proofs.Bytes.{with_line_bytes}

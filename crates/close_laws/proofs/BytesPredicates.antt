@@ -8,20 +8,20 @@ use Rattle.std.specs.Prelude.{◌+ℤ◌, int_lt, FitsSigned}
 use Rattle.std.specs.Int.{w64}
 use Rattle.std.specs.List.{AllByRecursion}
 use Rattle.std.specs.Option.{option_map}
-use Rattle.ledger_types.specs.declared.claimable_balance.Claimant.{Claimant}
-use Rattle.ledger_types.specs.declared.ids.AccountId.{AccountId}
-use Rattle.ledger_types.specs.declared.predicate.ClaimPredicate.{ClaimPredicate}
-use Rattle.ledger_types.specs.declared.predicate.ClaimPredicate.TheVariants.{Unconditional}
-use Rattle.ledger_types.specs.declared.predicate.ClaimPredicate.TheViews.{out-ClaimPredicate}
-use Rattle.ledger_types.specs.declared.predicate.ClaimPredicate.TheViews.{out-roll-ClaimPredicate}
-use Rattle.ledger_types.specs.declared.predicate.ClaimPredicate.TheOpen.{ClaimPredicate-F}
-use Rattle.xdr_core.specs.Leaves.{i64}
-use Rattle.xdr_core.specs.Combinators.{list, option, refused, constant}
-use Rattle.xdr_core.specs.Xdr.{Xdr, optional, list_of}
-use Rattle.xdr_entries.specs.Entries.{claimant}
-use Rattle.xdr_entries.specs.Predicates.{level, predicate_below}
-use Rattle.reserve_rules.specs.Reserve.{greatest_i64}
-use Rattle.op_claim.specs.Predicates.{max_levels, time_after, fixed_level, fixed_below, fixed_claimant}
+use Rattle.close_rules.specs.ledger_types.declared.claimable_balance.Claimant.{Claimant}
+use Rattle.close_rules.specs.ledger_types.declared.ids.AccountId.{AccountId}
+use Rattle.close_rules.specs.ledger_types.declared.predicate.ClaimPredicate.{ClaimPredicate}
+use Rattle.close_rules.specs.ledger_types.declared.predicate.ClaimPredicate.TheVariants.{Unconditional}
+use Rattle.close_rules.specs.ledger_types.declared.predicate.ClaimPredicate.TheViews.{out-ClaimPredicate}
+use Rattle.close_rules.specs.ledger_types.declared.predicate.ClaimPredicate.TheViews.{out-roll-ClaimPredicate}
+use Rattle.close_rules.specs.ledger_types.declared.predicate.ClaimPredicate.TheOpen.{ClaimPredicate-F}
+use Rattle.close_rules.specs.xdr_core.Leaves.{i64}
+use Rattle.close_rules.specs.xdr_core.Combinators.{list, option, refused, constant}
+use Rattle.close_rules.specs.xdr_core.Xdr.{Xdr, optional, list_of}
+use Rattle.close_rules.specs.xdr_entries.Entries.{claimant}
+use Rattle.close_rules.specs.xdr_entries.Predicates.{level, predicate_below}
+use Rattle.close_rules.specs.reserve_rules.Reserve.{greatest_i64}
+use Rattle.close_rules.specs.op_claim.Predicates.{max_levels, time_after, fixed_level, fixed_below, fixed_claimant}
 use Rattle.close_rules.specs.State.{IsSpelled}
 use Rattle.close_laws.proofs.Bytes.{IsId, IsClaimant}
 

@@ -5,42 +5,42 @@ use Rattle.std.proofs.lemmas.Int.{ints}
 use Rattle.std.proofs.lemmas.List.Elements.{All-nil, All-cons}
 use Rattle.std.specs.Prelude.{ℤ, pos, ◌≤ℤ◌, unsigned_abs, is_some}
 use Rattle.std.specs.FinMap.{get}
-use Rattle.ledger_types.specs.declared.ids.AccountId.{AccountId}
-use Rattle.ledger_types.specs.declared.ids.Hash.{Hash}
-use Rattle.ledger_types.specs.declared.asset.Asset.{Asset}
-use Rattle.ledger_types.specs.declared.asset.PoolParams.{PoolParams}
-use Rattle.ledger_types.specs.declared.asset.TrustLineAsset.TheVariants as line
-use Rattle.ledger_types.specs.declared.predicate.ClaimPredicate.TheVariants.{Unconditional}
-use Rattle.ledger_types.specs.declared.trust_line.TrustLineEntry.{TrustLineEntry}
-use Rattle.ledger_types.specs.declared.liquidity_pool.LiquidityPoolEntry.{LiquidityPoolEntry}
-use Rattle.ledger_types.specs.declared.entry.LedgerEntry.{LedgerEntry}
-use Rattle.ledger_types.specs.declared.key.LedgerKey.{LedgerKey}
-use Rattle.ledger_types.specs.declared.key.LedgerKey.TheVariants as key
-use Rattle.op_types.specs.declared.operation_result.OperationResult.{OperationResult}
-use Rattle.op_types.specs.declared.operation_result.OperationResult.TheVariants.{NotSupported}
-use Rattle.xdr_entries.specs.Basic as basic
-use Rattle.entry_map.specs.EntryMap.{EntryMap}
-use Rattle.entry_slots.specs.Balances.{balance_at}
-use Rattle.entry_slots.specs.EntrySponsor.{with_sponsor}
-use Rattle.entry_slots.specs.Lines.{line_at}
-use Rattle.entry_slots.specs.Pools.{pool_at}
-use Rattle.reserve_rules.specs.Reserve.{greatest_i64}
-use Rattle.sponsor_rules.specs.declared.context.Ctx.{Ctx}
-use Rattle.sponsor_rules.specs.declared.fault.AddFault.{AddFault}
-use Rattle.sponsor_rules.specs.Adding.{map_after_adding}
-use Rattle.sponsor_rules.specs.Payers.{payer_of, payer_tests_at}
-use Rattle.sponsor_rules.specs.Paying.{map_after_charging}
-use Rattle.offer_exchange.specs.Exchange.{unlimited}
-use Rattle.pool_math.specs.Pools.{withdrawn}
-use Rattle.pool_math.proofs.WithdrawalLaws.{withdrawn_fair}
-use Rattle.legal_rules.specs.Holdings.{IsKeyed}
-use Rattle.legal_rules.proofs.Changed.{pool_entry}
-use Rattle.legal_rules.proofs.Passed.{passed}
-use Rattle.pool_shares.specs.Withdrawing.{Part, part_of}
-use Rattle.op_form.specs.Assets.{is_issued_by}
-use Rattle.op_flags.specs.LineFlags as flagging
-use Rattle.op_flags.specs.RevokedShares as revoking
-use Rattle.op_flags.specs.RevokedShares.{Revoked, Given, given_of}
+use Rattle.close_rules.specs.ledger_types.declared.ids.AccountId.{AccountId}
+use Rattle.close_rules.specs.ledger_types.declared.ids.Hash.{Hash}
+use Rattle.close_rules.specs.ledger_types.declared.asset.Asset.{Asset}
+use Rattle.close_rules.specs.ledger_types.declared.asset.PoolParams.{PoolParams}
+use Rattle.close_rules.specs.ledger_types.declared.asset.TrustLineAsset.TheVariants as line
+use Rattle.close_rules.specs.ledger_types.declared.predicate.ClaimPredicate.TheVariants.{Unconditional}
+use Rattle.close_rules.specs.ledger_types.declared.trust_line.TrustLineEntry.{TrustLineEntry}
+use Rattle.close_rules.specs.ledger_types.declared.liquidity_pool.LiquidityPoolEntry.{LiquidityPoolEntry}
+use Rattle.close_rules.specs.ledger_types.declared.entry.LedgerEntry.{LedgerEntry}
+use Rattle.close_rules.specs.ledger_types.declared.key.LedgerKey.{LedgerKey}
+use Rattle.close_rules.specs.ledger_types.declared.key.LedgerKey.TheVariants as key
+use Rattle.close_rules.specs.op_types.declared.operation_result.OperationResult.{OperationResult}
+use Rattle.close_rules.specs.op_types.declared.operation_result.OperationResult.TheVariants.{NotSupported}
+use Rattle.close_rules.specs.xdr_entries.Basic as basic
+use Rattle.bucket_levels.specs.entry_map.EntryMap.{EntryMap}
+use Rattle.close_rules.specs.entry_slots.Balances.{balance_at}
+use Rattle.close_rules.specs.entry_slots.EntrySponsor.{with_sponsor}
+use Rattle.close_rules.specs.entry_slots.Lines.{line_at}
+use Rattle.close_rules.specs.entry_slots.Pools.{pool_at}
+use Rattle.close_rules.specs.reserve_rules.Reserve.{greatest_i64}
+use Rattle.close_rules.specs.sponsor_rules.declared.context.Ctx.{Ctx}
+use Rattle.close_rules.specs.sponsor_rules.declared.fault.AddFault.{AddFault}
+use Rattle.close_rules.specs.sponsor_rules.Adding.{map_after_adding}
+use Rattle.close_rules.specs.sponsor_rules.Payers.{payer_of, payer_tests_at}
+use Rattle.close_rules.specs.sponsor_rules.Paying.{map_after_charging}
+use Rattle.close_rules.specs.offer_exchange.Exchange.{unlimited}
+use Rattle.close_rules.specs.pool_math.Pools.{withdrawn}
+use Rattle.close_rules.proofs.pool_math_proofs.WithdrawalLaws.{withdrawn_fair}
+use Rattle.close_rules.specs.legal_rules.Holdings.{IsKeyed}
+use Rattle.close_rules.proofs.legal_rules_proofs.Changed.{pool_entry}
+use Rattle.close_rules.proofs.legal_rules_proofs.Passed.{passed}
+use Rattle.close_rules.specs.pool_shares.Withdrawing.{Part, part_of}
+use Rattle.close_rules.specs.op_form.Assets.{is_issued_by}
+use Rattle.close_rules.specs.op_flags.LineFlags as flagging
+use Rattle.close_rules.specs.op_flags.RevokedShares as revoking
+use Rattle.close_rules.specs.op_flags.RevokedShares.{Revoked, Given, given_of}
 use Rattle.close_rules.specs.State.{IsSpelled}
 use Rattle.close_laws.proofs.Bytes.{IsId, IsIdIf, no_id, IsClaimant, ArePoolBytes, AreBodyBytes, AreEntryBytes}
 use Rattle.close_laws.proofs.Bytes.{AreBytes, AreSponsors, IsOpener, payer_id, payer_of_id}

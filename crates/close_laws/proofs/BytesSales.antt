@@ -2,29 +2,29 @@
 use Rattle.std.proofs.Common.{◌≡◌, refl, subst, ℕ, ◌≤◌, zero, suc, All, Ok, length, arith}
 use Rattle.std.proofs.lemmas.Int.{ints}
 use Rattle.std.specs.Prelude.{ℤ, pos, neg_ℤ, ◌≤ℤ◌, unsigned_abs}
-use Rattle.ledger_types.specs.declared.offer.OfferEntry.{OfferEntry}
-use Rattle.ledger_types.specs.declared.entry.LedgerEntry.{LedgerEntry}
-use Rattle.ledger_types.specs.declared.entry.LedgerEntryBody.TheVariants as body
-use Rattle.xdr_core.specs.Leaves.{i64}
-use Rattle.entry_map.specs.EntryMap.{EntryMap, put}
-use Rattle.entry_slots.specs.EntrySponsor.{sponsor_of}
-use Rattle.offer_exchange.specs.Exchange.{adjusted, unlimited}
-use Rattle.legal_rules.specs.Binding.{acquiring}
-use Rattle.legal_rules.specs.Books.{View}
-use Rattle.legal_rules.specs.OfferLaws.{trade_books}
-use Rattle.legal_rules.specs.OfferLiabilities.{bound_of}
-use Rattle.legal_rules.specs.OneMore.{one_more, IsOwedRightly}
-use Rattle.legal_rules.specs.Owing.{Owed, IsLegalOwing}
-use Rattle.legal_rules.proofs.MayOwe.{one_more_is_right}
-use Rattle.trade_cross.specs.declared.crossed.CrossEnd.{CrossEnd}
-use Rattle.trade_cross.specs.declared.crossed.CrossEnd.TheVariants.{Converted, Partial, BadPrice, CrossSelf, TooMany}
-use Rattle.trade_cross.specs.Crossing.{most_crossings, Crossing, converted, left_of as left_of_trade}
-use Rattle.trade_cross.specs.Holdings.{most_given, most_taken, paying}
-use Rattle.trade_cross.proofs.Binding.{given_fits}
-use Rattle.op_offers.specs.Selling.{Asked, source_gives_at, source_takes_at, trade_of, settled, left_of}
-use Rattle.op_offers.specs.Selling.{offer_left, map_after_keeping, kept, Sold, sold}
-use Rattle.op_offers.specs.SellingLaws.{IsAskedRightly}
-use Rattle.op_offers.proofs.Sold.{capped_fits, legal_now, sells_fit, legal_paid, right_then, sold_is}
+use Rattle.close_rules.specs.ledger_types.declared.offer.OfferEntry.{OfferEntry}
+use Rattle.close_rules.specs.ledger_types.declared.entry.LedgerEntry.{LedgerEntry}
+use Rattle.close_rules.specs.ledger_types.declared.entry.LedgerEntryBody.TheVariants as body
+use Rattle.close_rules.specs.xdr_core.Leaves.{i64}
+use Rattle.bucket_levels.specs.entry_map.EntryMap.{EntryMap, put}
+use Rattle.close_rules.specs.entry_slots.EntrySponsor.{sponsor_of}
+use Rattle.close_rules.specs.offer_exchange.Exchange.{adjusted, unlimited}
+use Rattle.close_rules.specs.legal_rules.Binding.{acquiring}
+use Rattle.close_rules.specs.legal_rules.Books.{View}
+use Rattle.close_rules.specs.legal_rules.OfferLaws.{trade_books}
+use Rattle.close_rules.specs.legal_rules.OfferLiabilities.{bound_of}
+use Rattle.close_rules.specs.legal_rules.OneMore.{one_more, IsOwedRightly}
+use Rattle.close_rules.specs.legal_rules.Owing.{Owed, IsLegalOwing}
+use Rattle.close_rules.proofs.legal_rules_proofs.MayOwe.{one_more_is_right}
+use Rattle.close_rules.specs.trade_cross.declared.crossed.CrossEnd.{CrossEnd}
+use Rattle.close_rules.specs.trade_cross.declared.crossed.CrossEnd.TheVariants.{Converted, Partial, BadPrice, CrossSelf, TooMany}
+use Rattle.close_rules.specs.trade_cross.Crossing.{most_crossings, Crossing, converted, left_of as left_of_trade}
+use Rattle.close_rules.specs.trade_cross.Holdings.{most_given, most_taken, paying}
+use Rattle.close_rules.proofs.trade_cross_proofs.Binding.{given_fits}
+use Rattle.close_rules.specs.op_offers.Selling.{Asked, source_gives_at, source_takes_at, trade_of, settled, left_of}
+use Rattle.close_rules.specs.op_offers.Selling.{offer_left, map_after_keeping, kept, Sold, sold}
+use Rattle.close_rules.specs.op_offers.SellingLaws.{IsAskedRightly}
+use Rattle.close_rules.proofs.op_offers_proofs.Sold.{capped_fits, legal_now, sells_fit, legal_paid, right_then, sold_is}
 use Rattle.close_rules.specs.State.{IsSpelled}
 use Rattle.close_laws.proofs.Bytes.{IsIdIf, AreOfferBytes, AreBytes, put_bytes}
 use Rattle.close_laws.proofs.BytesCrossing.{paying_bytes, available_may, amount_spelled, adjusted_few, abs_some, IsTold}

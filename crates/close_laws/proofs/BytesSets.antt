@@ -2,58 +2,58 @@
 use Rattle.std.proofs.Common.{◌≡◌, refl, sym, subst, ℕ, suc, ◌+◌, ◌<◌, ◌≤◌, ℤ, List, [], ◌∷◌, All, Option, Some, None}
 use Rattle.std.proofs.Common.{Bool, true, false, if◌then◌else◌, not, length, nat_eq, neg_ℤ, arith}
 use Rattle.std.proofs.lemmas.List.Elements.{All-nil, All-head, All-tail}
-use Rattle.ledger_types.specs.declared.ids.AccountId.{AccountId}
-use Rattle.ledger_types.specs.declared.ids.Hash.{Hash}
-use Rattle.ledger_types.specs.declared.ids.MuxedAccount.{MuxedAccount}
-use Rattle.ledger_types.specs.declared.account.AccountEntry.{AccountEntry}
-use Rattle.ledger_types.specs.declared.signer.SignerKey.TheVariants.{PreAuthTx}
-use Rattle.op_types.specs.declared.operation.Operation.{Operation}
-use Rattle.op_types.specs.declared.transaction.Transaction.{Transaction}
-use Rattle.op_types.specs.declared.transaction.FeeBumpTransaction.{FeeBumpTransaction}
-use Rattle.op_types.specs.declared.transaction.TransactionV1Envelope.{TransactionV1Envelope}
-use Rattle.op_types.specs.declared.transaction.FeeBumpTransactionEnvelope.{FeeBumpTransactionEnvelope}
-use Rattle.op_types.specs.declared.transaction.TransactionEnvelope.{TransactionEnvelope}
-use Rattle.op_types.specs.declared.transaction.TransactionEnvelope.TheVariants as envelope
-use Rattle.op_types.specs.declared.transaction.TransactionSet.{TransactionSet}
-use Rattle.op_types.specs.declared.transaction_result.TransactionOutcome.{TransactionOutcome}
-use Rattle.op_types.specs.declared.transaction_result.TransactionOutcome.TheVariants as outcome
-use Rattle.xdr_core.specs.Combinators.{option}
-use Rattle.xdr_core.specs.Xdr.{optional}
-use Rattle.xdr_entries.specs.Basic.{muxed_account}
-use Rattle.xdr_tx.specs.Operations.{operation}
-use Rattle.xdr_tx.specs.Transactions.{transaction, fee_bump_transaction}
-use Rattle.xdr_tx.specs.Transactions.{fee_bump_envelope, transaction_envelope, transaction_set}
-use Rattle.entry_map.specs.EntryMap.{EntryMap}
-use Rattle.entry_slots.specs.Accounts.{account_at}
-use Rattle.entry_slots.specs.Tests.{first_fault}
-use Rattle.sponsor_rules.specs.declared.context.Ctx.{Ctx}
-use Rattle.sponsor_rules.specs.Signers.{map_after_removing_preauth}
-use Rattle.signer_check.specs.declared.held.HeldSignature.{HeldSignature}
-use Rattle.fee_rules.specs.Envelopes.{fee_source_of}
-use Rattle.fee_rules.specs.Fees.{set_base_fee}
-use Rattle.fee_rules.specs.Turns.{apply_order_of}
-use Rattle.legal_rules.specs.Payments.{paid, numbered}
-use Rattle.op_form.specs.declared.levels.ThresholdLevel.TheVariants.{Low}
-use Rattle.op_laws.specs.Laws.{AllLawful}
-use Rattle.op_laws.specs.Steps.{TransactionLaws, LegalSettles}
-use Rattle.op_laws.specs.Underway.{IsSettled, IsUnderway}
-use Rattle.value_hashes.specs.Hashes.{signed_hash_of, transaction_hash_of}
-use Rattle.tx_apply.specs.Operations.{operations_of}
-use Rattle.tx_apply.specs.Checks as checks
-use Rattle.tx_apply.specs.FeeBump as bump
-use Rattle.tx_apply.specs.Fees.{fee_of, map_after_fee, fees_taken}
-use Rattle.tx_apply.specs.Laws.{operation_total, CanDraw, CanClose}
-use Rattle.tx_apply.specs.Running.{placed, done_by, done_at, Ran, run}
-use Rattle.tx_apply.specs.Set.{Setting, ctx_in, all_held, envelope_applied, all_applied, envelopes_in_order}
-use Rattle.tx_apply.specs.Set.{fees_taken_of, set_done}
-use Rattle.tx_apply.specs.Signing.{Auth, source_by, source_of, auth_of, are_used}
-use Rattle.tx_apply.specs.Transaction as spec
-use Rattle.tx_apply.proofs.Conserving.{all_at}
-use Rattle.tx_apply.proofs.Judging as judging
-use Rattle.tx_apply.proofs.Judging.{settled_judged}
-use Rattle.tx_apply.proofs.Lawful.{underway_placed, lawful_at, none_open}
-use Rattle.tx_apply.proofs.Sound.{envelope_sound}
-use Rattle.tx_apply.proofs.TakenFees.{all_taken}
+use Rattle.close_rules.specs.ledger_types.declared.ids.AccountId.{AccountId}
+use Rattle.close_rules.specs.ledger_types.declared.ids.Hash.{Hash}
+use Rattle.close_rules.specs.ledger_types.declared.ids.MuxedAccount.{MuxedAccount}
+use Rattle.close_rules.specs.ledger_types.declared.account.AccountEntry.{AccountEntry}
+use Rattle.close_rules.specs.ledger_types.declared.signer.SignerKey.TheVariants.{PreAuthTx}
+use Rattle.close_rules.specs.op_types.declared.operation.Operation.{Operation}
+use Rattle.close_rules.specs.op_types.declared.transaction.Transaction.{Transaction}
+use Rattle.close_rules.specs.op_types.declared.transaction.FeeBumpTransaction.{FeeBumpTransaction}
+use Rattle.close_rules.specs.op_types.declared.transaction.TransactionV1Envelope.{TransactionV1Envelope}
+use Rattle.close_rules.specs.op_types.declared.transaction.FeeBumpTransactionEnvelope.{FeeBumpTransactionEnvelope}
+use Rattle.close_rules.specs.op_types.declared.transaction.TransactionEnvelope.{TransactionEnvelope}
+use Rattle.close_rules.specs.op_types.declared.transaction.TransactionEnvelope.TheVariants as envelope
+use Rattle.close_rules.specs.op_types.declared.transaction.TransactionSet.{TransactionSet}
+use Rattle.close_rules.specs.op_types.declared.transaction_result.TransactionOutcome.{TransactionOutcome}
+use Rattle.close_rules.specs.op_types.declared.transaction_result.TransactionOutcome.TheVariants as outcome
+use Rattle.close_rules.specs.xdr_core.Combinators.{option}
+use Rattle.close_rules.specs.xdr_core.Xdr.{optional}
+use Rattle.close_rules.specs.xdr_entries.Basic.{muxed_account}
+use Rattle.close_rules.specs.xdr_tx.Operations.{operation}
+use Rattle.close_rules.specs.xdr_tx.Transactions.{transaction, fee_bump_transaction}
+use Rattle.close_rules.specs.xdr_tx.Transactions.{fee_bump_envelope, transaction_envelope, transaction_set}
+use Rattle.bucket_levels.specs.entry_map.EntryMap.{EntryMap}
+use Rattle.close_rules.specs.entry_slots.Accounts.{account_at}
+use Rattle.close_rules.specs.entry_slots.Tests.{first_fault}
+use Rattle.close_rules.specs.sponsor_rules.declared.context.Ctx.{Ctx}
+use Rattle.close_rules.specs.sponsor_rules.Signers.{map_after_removing_preauth}
+use Rattle.close_rules.specs.signer_check.declared.held.HeldSignature.{HeldSignature}
+use Rattle.close_rules.specs.fee_rules.Envelopes.{fee_source_of}
+use Rattle.close_rules.specs.fee_rules.Fees.{set_base_fee}
+use Rattle.close_rules.specs.fee_rules.Turns.{apply_order_of}
+use Rattle.close_rules.specs.legal_rules.Payments.{paid, numbered}
+use Rattle.close_rules.specs.op_form.declared.levels.ThresholdLevel.TheVariants.{Low}
+use Rattle.close_rules.specs.op_laws.Laws.{AllLawful}
+use Rattle.close_rules.specs.op_laws.Steps.{TransactionLaws, LegalSettles}
+use Rattle.close_rules.specs.op_laws.Underway.{IsSettled, IsUnderway}
+use Rattle.close_rules.specs.value_hashes.Hashes.{signed_hash_of, transaction_hash_of}
+use Rattle.close_rules.specs.tx_apply.Operations.{operations_of}
+use Rattle.close_rules.specs.tx_apply.Checks as checks
+use Rattle.close_rules.specs.tx_apply.FeeBump as bump
+use Rattle.close_rules.specs.tx_apply.Fees.{fee_of, map_after_fee, fees_taken}
+use Rattle.close_rules.specs.tx_apply.Laws.{operation_total, CanDraw, CanClose}
+use Rattle.close_rules.specs.tx_apply.Running.{placed, done_by, done_at, Ran, run}
+use Rattle.close_rules.specs.tx_apply.Set.{Setting, ctx_in, all_held, envelope_applied, all_applied, envelopes_in_order}
+use Rattle.close_rules.specs.tx_apply.Set.{fees_taken_of, set_done}
+use Rattle.close_rules.specs.tx_apply.Signing.{Auth, source_by, source_of, auth_of, are_used}
+use Rattle.close_rules.specs.tx_apply.Transaction as spec
+use Rattle.close_rules.proofs.tx_apply_proofs.Conserving.{all_at}
+use Rattle.close_rules.proofs.tx_apply_proofs.Judging as judging
+use Rattle.close_rules.proofs.tx_apply_proofs.Judging.{settled_judged}
+use Rattle.close_rules.proofs.tx_apply_proofs.Lawful.{underway_placed, lawful_at, none_open}
+use Rattle.close_rules.proofs.tx_apply_proofs.Sound.{envelope_sound}
+use Rattle.close_rules.proofs.tx_apply_proofs.TakenFees.{all_taken}
 use Rattle.close_rules.specs.State.{IsSpelled}
 use Rattle.close_laws.proofs.Spelled.{each_spelled}
 use Rattle.close_laws.proofs.SpelledSets.{envelopes_spelled, operations_spelled, all_operations_spelled, v1_spelled}

@@ -4,33 +4,33 @@ use Rattle.std.proofs.Common.{Option, Some, None, Ok, arith}
 use Rattle.std.proofs.lemmas.Int.{ints}
 use Rattle.std.specs.Prelude.{ℤ, pos, ◌+ℤ◌, ◌≤ℤ◌, int_le}
 use Rattle.std.specs.Ordering.{int_eq}
-use Rattle.ledger_types.specs.declared.ids.AccountId.{AccountId}
-use Rattle.ledger_types.specs.declared.ids.Hash.{Hash}
-use Rattle.ledger_types.specs.declared.asset.PoolParams.{PoolParams}
-use Rattle.ledger_types.specs.declared.asset.TrustLineAsset.TheVariants as line
-use Rattle.ledger_types.specs.declared.trust_line.TrustLineEntry.{TrustLineEntry}
-use Rattle.ledger_types.specs.declared.liquidity_pool.LiquidityPoolEntry.{LiquidityPoolEntry}
-use Rattle.ledger_types.specs.declared.entry.LedgerEntry.{LedgerEntry}
-use Rattle.ledger_types.specs.declared.key.LedgerKey.{LedgerKey}
-use Rattle.op_types.specs.declared.trust_results.ChangeTrustResult.TheVariants as trust
-use Rattle.xdr_entries.specs.Basic.{hash, trust_line_asset, pool_params}
-use Rattle.entry_map.specs.EntryMap.{EntryMap, put}
-use Rattle.entry_slots.specs.Lines.{line_at}
-use Rattle.entry_slots.specs.LineExtensions.{use_count}
-use Rattle.entry_slots.specs.Pools.{pool_of, pool_at}
-use Rattle.entry_slots.specs.Tests.{first_fault}
-use Rattle.entry_sums.proofs.Lookups.{put_there}
-use Rattle.reserve_rules.specs.Reserve.{greatest_i64}
-use Rattle.sponsor_rules.specs.declared.context.Ctx.{Ctx}
-use Rattle.sponsor_rules.specs.Adding.{map_after_adding}
-use Rattle.legal_rules.specs.PoolLaws.{new_pool}
-use Rattle.legal_rules.specs.PoolShares.{needed_line}
-use Rattle.legal_rules.specs.ShareLaws.{share_line}
-use Rattle.legal_rules.proofs.Passed.{neither}
-use Rattle.pool_shares.specs.ShareLines.{empty_pool, map_with_pool, map_with_pool_by}
-use Rattle.op_trust.specs.ChangeTrust.{answer, limit_tests, with_limit}
-use Rattle.op_trust.specs.ShareTrust as sharing
-use Rattle.op_trust.specs.ShareTrust.{pool_named_by}
+use Rattle.close_rules.specs.ledger_types.declared.ids.AccountId.{AccountId}
+use Rattle.close_rules.specs.ledger_types.declared.ids.Hash.{Hash}
+use Rattle.close_rules.specs.ledger_types.declared.asset.PoolParams.{PoolParams}
+use Rattle.close_rules.specs.ledger_types.declared.asset.TrustLineAsset.TheVariants as line
+use Rattle.close_rules.specs.ledger_types.declared.trust_line.TrustLineEntry.{TrustLineEntry}
+use Rattle.close_rules.specs.ledger_types.declared.liquidity_pool.LiquidityPoolEntry.{LiquidityPoolEntry}
+use Rattle.close_rules.specs.ledger_types.declared.entry.LedgerEntry.{LedgerEntry}
+use Rattle.close_rules.specs.ledger_types.declared.key.LedgerKey.{LedgerKey}
+use Rattle.close_rules.specs.op_types.declared.trust_results.ChangeTrustResult.TheVariants as trust
+use Rattle.close_rules.specs.xdr_entries.Basic.{hash, trust_line_asset, pool_params}
+use Rattle.bucket_levels.specs.entry_map.EntryMap.{EntryMap, put}
+use Rattle.close_rules.specs.entry_slots.Lines.{line_at}
+use Rattle.close_rules.specs.entry_slots.LineExtensions.{use_count}
+use Rattle.close_rules.specs.entry_slots.Pools.{pool_of, pool_at}
+use Rattle.close_rules.specs.entry_slots.Tests.{first_fault}
+use Rattle.close_rules.proofs.entry_sums_proofs.Lookups.{put_there}
+use Rattle.close_rules.specs.reserve_rules.Reserve.{greatest_i64}
+use Rattle.close_rules.specs.sponsor_rules.declared.context.Ctx.{Ctx}
+use Rattle.close_rules.specs.sponsor_rules.Adding.{map_after_adding}
+use Rattle.close_rules.specs.legal_rules.PoolLaws.{new_pool}
+use Rattle.close_rules.specs.legal_rules.PoolShares.{needed_line}
+use Rattle.close_rules.specs.legal_rules.ShareLaws.{share_line}
+use Rattle.close_rules.proofs.legal_rules_proofs.Passed.{neither}
+use Rattle.close_rules.specs.pool_shares.ShareLines.{empty_pool, map_with_pool, map_with_pool_by}
+use Rattle.close_rules.specs.op_trust.ChangeTrust.{answer, limit_tests, with_limit}
+use Rattle.close_rules.specs.op_trust.ShareTrust as sharing
+use Rattle.close_rules.specs.op_trust.ShareTrust.{pool_named_by}
 use Rattle.close_rules.specs.State.{IsSpelled}
 use Rattle.close_laws.proofs.Bytes.{IsId, no_id, AreEntryBytes, KeepsLines, with_line_bytes}
 use Rattle.close_laws.proofs.BytesMaps.{AreBytesIf, made_bytes, adding_subentry_bytes}

@@ -1,12 +1,12 @@
 -- What the steps of an operation leave: the bytes of entries, and who opened sponsorships.
 use Rattle.std.proofs.Common.{◌≡◌, refl, Option, Some, None, Result, Ok, Err, IfOk, Bool, true, false, if◌then◌else◌}
-use Rattle.op_types.specs.declared.operation_result.OperationResult.{OperationResult}
-use Rattle.entry_map.specs.EntryMap.{EntryMap}
-use Rattle.entry_slots.specs.Tests.{Tests, first_fault}
-use Rattle.sponsor_rules.specs.declared.context.Ctx.{Ctx}
-use Rattle.sponsor_rules.specs.declared.fault.AddFault.{AddFault}
-use Rattle.op_form.specs.Done.{Done, Attempt, done_of}
-use Rattle.op_form.specs.Steps.{unless_result, unless_refused, after, after_some, after_charge, after_step}
+use Rattle.close_rules.specs.op_types.declared.operation_result.OperationResult.{OperationResult}
+use Rattle.bucket_levels.specs.entry_map.EntryMap.{EntryMap}
+use Rattle.close_rules.specs.entry_slots.Tests.{Tests, first_fault}
+use Rattle.close_rules.specs.sponsor_rules.declared.context.Ctx.{Ctx}
+use Rattle.close_rules.specs.sponsor_rules.declared.fault.AddFault.{AddFault}
+use Rattle.close_rules.specs.op_form.Done.{Done, Attempt, done_of}
+use Rattle.close_rules.specs.op_form.Steps.{unless_result, unless_refused, after, after_some, after_charge, after_step}
 use Rattle.close_laws.proofs.Bytes.{AreBytes, AreSponsors}
 use Rattle.close_laws.proofs.BytesMaps.{AreBytesIf}
 

@@ -2,37 +2,37 @@
 use Rattle.std.proofs.Common.{◌∷◌, [], ℕ, Option, Some, None, ℤ, pos, not}
 use Rattle.std.specs.Prelude.{is_some}
 use Rattle.std.specs.Ordering.{int_eq}
-use Rattle.ledger_types.specs.declared.ids.AccountId.{AccountId}
-use Rattle.ledger_types.specs.declared.account.AccountEntry.{AccountEntry}
-use Rattle.ledger_types.specs.declared.asset.Asset.{Asset}
-use Rattle.ledger_types.specs.declared.asset.Asset.TheVariants as asset
-use Rattle.ledger_types.specs.declared.asset.ChangeTrustAsset.{ChangeTrustAsset}
-use Rattle.ledger_types.specs.declared.asset.ChangeTrustAsset.TheVariants as asked
-use Rattle.ledger_types.specs.declared.trust_line.TrustLineEntry.{TrustLineEntry}
-use Rattle.ledger_types.specs.declared.key.LedgerKey.TheVariants as key
-use Rattle.op_types.specs.declared.trust_ops.AllowTrustOp.{AllowTrustOp}
-use Rattle.op_types.specs.declared.trust_ops.ChangeTrustOp.{ChangeTrustOp}
-use Rattle.op_types.specs.declared.trust_ops.SetTrustLineFlagsOp.{SetTrustLineFlagsOp}
-use Rattle.op_types.specs.declared.operation.OperationBody.TheVariants as body
-use Rattle.op_types.specs.declared.operation_result.OperationResult.{OperationResult}
-use Rattle.op_types.specs.declared.operation_result.OperationResult.TheVariants.{NoAccount}
-use Rattle.op_types.specs.declared.trust_results.AllowTrustResult.TheVariants as allow
-use Rattle.op_types.specs.declared.trust_results.ChangeTrustResult.TheVariants as trust
-use Rattle.op_types.specs.declared.trust_results.SetTrustLineFlagsResult.TheVariants as set
-use Rattle.xdr_entries.specs.Basic.{change_trust_asset, trust_line_asset}
-use Rattle.xdr_tx.specs.Operations.{operation_body, change_trust_op, allow_trust_op, set_trust_line_flags_op}
-use Rattle.entry_map.specs.EntryMap.{EntryMap}
-use Rattle.entry_slots.specs.Accounts.{account_at}
-use Rattle.entry_slots.specs.LineExtensions.{use_count}
-use Rattle.sponsor_rules.specs.declared.context.Ctx.{Ctx}
-use Rattle.sponsor_rules.specs.Adding.{map_after_adding}
-use Rattle.sponsor_rules.specs.Charge.{line_multiplicity}
-use Rattle.op_form.specs.Assets.{issuer_at, line_asset_of, line_of_asset}
-use Rattle.op_flags.specs.AllowTrust as allowing
-use Rattle.op_flags.specs.LineFlags as flagged
-use Rattle.op_flags.specs.SetTrustLineFlags as setting
-use Rattle.op_trust.specs.ChangeTrust as trusting
-use Rattle.op_trust.specs.Operations.{trust_in, change_trust}
+use Rattle.close_rules.specs.ledger_types.declared.ids.AccountId.{AccountId}
+use Rattle.close_rules.specs.ledger_types.declared.account.AccountEntry.{AccountEntry}
+use Rattle.close_rules.specs.ledger_types.declared.asset.Asset.{Asset}
+use Rattle.close_rules.specs.ledger_types.declared.asset.Asset.TheVariants as asset
+use Rattle.close_rules.specs.ledger_types.declared.asset.ChangeTrustAsset.{ChangeTrustAsset}
+use Rattle.close_rules.specs.ledger_types.declared.asset.ChangeTrustAsset.TheVariants as asked
+use Rattle.close_rules.specs.ledger_types.declared.trust_line.TrustLineEntry.{TrustLineEntry}
+use Rattle.close_rules.specs.ledger_types.declared.key.LedgerKey.TheVariants as key
+use Rattle.close_rules.specs.op_types.declared.trust_ops.AllowTrustOp.{AllowTrustOp}
+use Rattle.close_rules.specs.op_types.declared.trust_ops.ChangeTrustOp.{ChangeTrustOp}
+use Rattle.close_rules.specs.op_types.declared.trust_ops.SetTrustLineFlagsOp.{SetTrustLineFlagsOp}
+use Rattle.close_rules.specs.op_types.declared.operation.OperationBody.TheVariants as body
+use Rattle.close_rules.specs.op_types.declared.operation_result.OperationResult.{OperationResult}
+use Rattle.close_rules.specs.op_types.declared.operation_result.OperationResult.TheVariants.{NoAccount}
+use Rattle.close_rules.specs.op_types.declared.trust_results.AllowTrustResult.TheVariants as allow
+use Rattle.close_rules.specs.op_types.declared.trust_results.ChangeTrustResult.TheVariants as trust
+use Rattle.close_rules.specs.op_types.declared.trust_results.SetTrustLineFlagsResult.TheVariants as set
+use Rattle.close_rules.specs.xdr_entries.Basic.{change_trust_asset, trust_line_asset}
+use Rattle.close_rules.specs.xdr_tx.Operations.{operation_body, change_trust_op, allow_trust_op, set_trust_line_flags_op}
+use Rattle.bucket_levels.specs.entry_map.EntryMap.{EntryMap}
+use Rattle.close_rules.specs.entry_slots.Accounts.{account_at}
+use Rattle.close_rules.specs.entry_slots.LineExtensions.{use_count}
+use Rattle.close_rules.specs.sponsor_rules.declared.context.Ctx.{Ctx}
+use Rattle.close_rules.specs.sponsor_rules.Adding.{map_after_adding}
+use Rattle.close_rules.specs.sponsor_rules.Charge.{line_multiplicity}
+use Rattle.close_rules.specs.op_form.Assets.{issuer_at, line_asset_of, line_of_asset}
+use Rattle.close_rules.specs.op_flags.AllowTrust as allowing
+use Rattle.close_rules.specs.op_flags.LineFlags as flagged
+use Rattle.close_rules.specs.op_flags.SetTrustLineFlags as setting
+use Rattle.close_rules.specs.op_trust.ChangeTrust as trusting
+use Rattle.close_rules.specs.op_trust.Operations.{trust_in, change_trust}
 use Rattle.close_rules.specs.State.{IsSpelled}
 use Rattle.close_laws.proofs.Bytes.{IsId, no_id, AreEntryBytes, KeepsLines, with_line_bytes}
 use Rattle.close_laws.proofs.BytesMaps.{adding_subentry_bytes, removing_bytes}

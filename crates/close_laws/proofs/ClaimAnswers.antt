@@ -1,40 +1,40 @@
 -- What operations on claimable balances, and clawback, answer keeps the bounds on lengths.
 use Rattle.std.proofs.Common.{[], ◌∷◌, Bool}
 use Rattle.std.specs.Prelude.{is_some}
-use Rattle.ledger_types.specs.declared.key.LedgerKey.TheVariants as key
-use Rattle.ledger_types.specs.Ids.{account_of}
-use Rattle.op_types.specs.declared.balance_ops.ClaimClaimableBalanceOp.{ClaimClaimableBalanceOp}
-use Rattle.op_types.specs.declared.balance_ops.ClawbackClaimableBalanceOp.{ClawbackClaimableBalanceOp}
-use Rattle.op_types.specs.declared.balance_ops.CreateClaimableBalanceOp.{CreateClaimableBalanceOp}
-use Rattle.op_types.specs.declared.trust_ops.ClawbackOp.{ClawbackOp}
-use Rattle.op_types.specs.declared.operation_result.OperationResult.TheVariants as operation
-use Rattle.op_types.specs.declared.balance_results.ClaimClaimableBalanceResult.{ClaimClaimableBalanceResult}
-use Rattle.op_types.specs.declared.balance_results.ClaimClaimableBalanceResult.TheVariants as claim
-use Rattle.op_types.specs.declared.balance_results.ClawbackClaimableBalanceResult.{ClawbackClaimableBalanceResult}
-use Rattle.op_types.specs.declared.balance_results.ClawbackClaimableBalanceResult.TheVariants as claw
-use Rattle.op_types.specs.declared.balance_results.CreateClaimableBalanceResult.{CreateClaimableBalanceResult}
-use Rattle.op_types.specs.declared.balance_results.CreateClaimableBalanceResult.TheVariants as create
-use Rattle.op_types.specs.declared.trust_results.ClawbackResult.{ClawbackResult}
-use Rattle.op_types.specs.declared.trust_results.ClawbackResult.TheVariants as clawback
-use Rattle.xdr_entries.specs.Basic.{claimable_balance_id}
-use Rattle.xdr_results.specs.Answers.{create_claimable_balance_result, claim_claimable_balance_result}
-use Rattle.xdr_results.specs.Answers.{clawback_result, clawback_claimable_balance_result}
-use Rattle.xdr_results.specs.Results.{operation_result_tr, operation_result}
-use Rattle.entry_map.specs.EntryMap.{EntryMap}
-use Rattle.entry_slots.specs.Balances.{balance_at}
-use Rattle.sponsor_rules.specs.declared.context.Ctx.{Ctx}
-use Rattle.sponsor_rules.specs.Adding.{map_after_adding}
-use Rattle.sponsor_rules.specs.Removing.{map_after_removing}
-use Rattle.op_form.specs.declared.amounts.CreditFault.{CreditFault}
-use Rattle.op_form.specs.declared.amounts.CreditFault.TheVariants as credit
-use Rattle.op_form.specs.declared.amounts.DebitFault.{DebitFault}
-use Rattle.op_form.specs.declared.amounts.DebitFault.TheVariants as debit
-use Rattle.op_form.specs.Amounts.{map_after_credit, map_after_debit}
-use Rattle.op_form.specs.Assets.{line_of_asset}
-use Rattle.op_claim.specs.ClaimClaimableBalance as claiming
-use Rattle.op_claim.specs.Clawback as clawing
-use Rattle.op_claim.specs.ClawbackClaimableBalance as taking
-use Rattle.op_claim.specs.CreateClaimableBalance as creating
+use Rattle.close_rules.specs.ledger_types.declared.key.LedgerKey.TheVariants as key
+use Rattle.close_rules.specs.ledger_types.Ids.{account_of}
+use Rattle.close_rules.specs.op_types.declared.balance_ops.ClaimClaimableBalanceOp.{ClaimClaimableBalanceOp}
+use Rattle.close_rules.specs.op_types.declared.balance_ops.ClawbackClaimableBalanceOp.{ClawbackClaimableBalanceOp}
+use Rattle.close_rules.specs.op_types.declared.balance_ops.CreateClaimableBalanceOp.{CreateClaimableBalanceOp}
+use Rattle.close_rules.specs.op_types.declared.trust_ops.ClawbackOp.{ClawbackOp}
+use Rattle.close_rules.specs.op_types.declared.operation_result.OperationResult.TheVariants as operation
+use Rattle.close_rules.specs.op_types.declared.balance_results.ClaimClaimableBalanceResult.{ClaimClaimableBalanceResult}
+use Rattle.close_rules.specs.op_types.declared.balance_results.ClaimClaimableBalanceResult.TheVariants as claim
+use Rattle.close_rules.specs.op_types.declared.balance_results.ClawbackClaimableBalanceResult.{ClawbackClaimableBalanceResult}
+use Rattle.close_rules.specs.op_types.declared.balance_results.ClawbackClaimableBalanceResult.TheVariants as claw
+use Rattle.close_rules.specs.op_types.declared.balance_results.CreateClaimableBalanceResult.{CreateClaimableBalanceResult}
+use Rattle.close_rules.specs.op_types.declared.balance_results.CreateClaimableBalanceResult.TheVariants as create
+use Rattle.close_rules.specs.op_types.declared.trust_results.ClawbackResult.{ClawbackResult}
+use Rattle.close_rules.specs.op_types.declared.trust_results.ClawbackResult.TheVariants as clawback
+use Rattle.close_rules.specs.xdr_entries.Basic.{claimable_balance_id}
+use Rattle.close_rules.specs.xdr_results.Answers.{create_claimable_balance_result, claim_claimable_balance_result}
+use Rattle.close_rules.specs.xdr_results.Answers.{clawback_result, clawback_claimable_balance_result}
+use Rattle.close_rules.specs.xdr_results.Results.{operation_result_tr, operation_result}
+use Rattle.bucket_levels.specs.entry_map.EntryMap.{EntryMap}
+use Rattle.close_rules.specs.entry_slots.Balances.{balance_at}
+use Rattle.close_rules.specs.sponsor_rules.declared.context.Ctx.{Ctx}
+use Rattle.close_rules.specs.sponsor_rules.Adding.{map_after_adding}
+use Rattle.close_rules.specs.sponsor_rules.Removing.{map_after_removing}
+use Rattle.close_rules.specs.op_form.declared.amounts.CreditFault.{CreditFault}
+use Rattle.close_rules.specs.op_form.declared.amounts.CreditFault.TheVariants as credit
+use Rattle.close_rules.specs.op_form.declared.amounts.DebitFault.{DebitFault}
+use Rattle.close_rules.specs.op_form.declared.amounts.DebitFault.TheVariants as debit
+use Rattle.close_rules.specs.op_form.Amounts.{map_after_credit, map_after_debit}
+use Rattle.close_rules.specs.op_form.Assets.{line_of_asset}
+use Rattle.close_rules.specs.op_claim.ClaimClaimableBalance as claiming
+use Rattle.close_rules.specs.op_claim.Clawback as clawing
+use Rattle.close_rules.specs.op_claim.ClawbackClaimableBalance as taking
+use Rattle.close_rules.specs.op_claim.CreateClaimableBalance as creating
 use Rattle.close_laws.proofs.BytesClaims.{new_id_spelled}
 use Rattle.close_laws.proofs.AnswerSteps.{IsAnswer, not_supported, Answers, IsDone, first_answers, some_answers}
 use Rattle.close_laws.proofs.AnswerSteps.{charge_answers, change_answers}

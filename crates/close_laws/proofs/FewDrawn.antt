@@ -1,18 +1,18 @@
 -- A set has few operations, so it draws few ids.
 use Rattle.std.proofs.Common.{◌≡◌, ℕ, suc, ◌+◌, ◌*◌, ◌^◌, ◌<◌, ◌≤◌, List, [], ◌∷◌, length, All, arith}
 use Rattle.std.proofs.lemmas.List.Elements.{All-head, All-tail}
-use Rattle.op_types.specs.declared.transaction.TransactionEnvelope.{TransactionEnvelope}
-use Rattle.op_types.specs.declared.transaction.TransactionSet.{TransactionSet}
-use Rattle.xdr_tx.specs.Operations.{operation}
-use Rattle.xdr_tx.specs.Transactions.{transaction_set}
-use Rattle.fee_rules.specs.Turns.{apply_order_of}
-use Rattle.fee_rules.proofs.Ordered.{places_stand}
-use Rattle.tx_apply.specs.Operations.{operations_of}
-use Rattle.tx_apply.specs.Laws.{operation_total, CanDraw}
-use Rattle.tx_apply.specs.Set.{envelopes_in_order}
-use Rattle.tx_apply.proofs.Conserving.{all_at}
-use Rattle.tx_apply.proofs.Drawing.{order_len}
-use Rattle.tx_apply.proofs.Placed.{as_many}
+use Rattle.close_rules.specs.op_types.declared.transaction.TransactionEnvelope.{TransactionEnvelope}
+use Rattle.close_rules.specs.op_types.declared.transaction.TransactionSet.{TransactionSet}
+use Rattle.close_rules.specs.xdr_tx.Operations.{operation}
+use Rattle.close_rules.specs.xdr_tx.Transactions.{transaction_set}
+use Rattle.close_rules.specs.fee_rules.Turns.{apply_order_of}
+use Rattle.close_rules.proofs.fee_rules_proofs.Ordered.{places_stand}
+use Rattle.close_rules.specs.tx_apply.Operations.{operations_of}
+use Rattle.close_rules.specs.tx_apply.Laws.{operation_total, CanDraw}
+use Rattle.close_rules.specs.tx_apply.Set.{envelopes_in_order}
+use Rattle.close_rules.proofs.tx_apply_proofs.Conserving.{all_at}
+use Rattle.close_rules.proofs.tx_apply_proofs.Drawing.{order_len}
+use Rattle.close_rules.proofs.tx_apply_proofs.Placed.{as_many}
 use Rattle.close_rules.specs.State.{IsSpelled}
 use Rattle.close_laws.proofs.Spelled.{few_spelled}
 use Rattle.close_laws.proofs.SpelledSets.{envelopes_spelled, all_operations_spelled}

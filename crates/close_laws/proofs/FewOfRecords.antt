@@ -1,15 +1,15 @@
 -- A record has no more transactions than bytes.
 use Rattle.std.proofs.Common.{◌≡◌, ℕ, ◌≤◌, List, [], ◌∷◌, ◌++◌, length, Ok, Err, refl, ap, subst, arith, length-append}
-use Rattle.xdr_core.specs.declared.fault.XdrFault.{XdrFault}
-use Rattle.xdr_core.specs.Format.{IsBytes}
-use Rattle.xdr_core.specs.Leaves.{u32}
-use Rattle.xdr_core.specs.Place.{Place, Reading, start_of, ◌>>=◌}
-use Rattle.xdr_tx.specs.Transactions.{transaction_set}
-use Rattle.xdr_header.specs.declared.record.CloseRecord.{CloseRecord}
-use Rattle.xdr_header.specs.Header.{stellar_value}
-use Rattle.xdr_header.specs.Records.{close_record}
-use Rattle.xdr_header.proofs.HeaderLaws.{close_record_laws}
-use Rattle.tx_apply.proofs.FewOperations.{few_transactions}
+use Rattle.close_rules.specs.xdr_core.declared.fault.XdrFault.{XdrFault}
+use Rattle.close_rules.specs.xdr_core.Format.{IsBytes}
+use Rattle.close_rules.specs.xdr_core.Leaves.{u32}
+use Rattle.close_rules.specs.xdr_core.Place.{Place, Reading, start_of, ◌>>=◌}
+use Rattle.close_rules.specs.xdr_tx.Transactions.{transaction_set}
+use Rattle.close_rules.specs.xdr_header.declared.record.CloseRecord.{CloseRecord}
+use Rattle.close_rules.specs.xdr_header.Header.{stellar_value}
+use Rattle.close_rules.specs.xdr_header.Records.{close_record}
+use Rattle.close_rules.proofs.xdr_header_proofs.HeaderLaws.{close_record_laws}
+use Rattle.close_rules.proofs.tx_apply_proofs.FewOperations.{few_transactions}
 use Rattle.close_rules.specs.Refusals.{ended_by, ended, record_in}
 
 -- ---- the bytes of a record are its spelling

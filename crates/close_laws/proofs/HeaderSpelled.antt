@@ -5,33 +5,33 @@ use Rattle.std.proofs.lemmas.Int.{ints}
 use Rattle.std.proofs.lemmas.List.Elements.{All-head, All-tail, All-map, All-from_recursion}
 use Rattle.std.specs.Prelude.{◌+ℤ◌, ◌≤ℤ◌, FitsSigned}
 use Rattle.std.specs.Int.{w64}
-use Rattle.ledger_types.specs.declared.ids.Hash.{Hash}
-use Rattle.ledger_types.specs.declared.asset.Asset.TheVariants as asset
-use Rattle.ledger_types.specs.declared.header.LedgerHeader.{LedgerHeader}
-use Rattle.ledger_types.specs.declared.header.LedgerHeaderExtensionV1.{LedgerHeaderExtensionV1}
-use Rattle.ledger_types.specs.declared.header.LedgerUpgrade.{LedgerUpgrade}
-use Rattle.ledger_types.specs.declared.header.LedgerUpgrade.TheVariants as upgrade
-use Rattle.ledger_types.specs.declared.header.StellarValue.{StellarValue}
-use Rattle.xdr_core.specs.declared.fault.XdrFault.{XdrFault}
-use Rattle.xdr_core.specs.Format.{IsBytes}
-use Rattle.xdr_core.specs.Leaves.{u32, u64, i64, var}
-use Rattle.xdr_core.specs.Place.{Reading, start_of}
-use Rattle.xdr_core.specs.Combinators.{constant, extension, times}
-use Rattle.xdr_core.specs.Xdr.{list_of, extension_of}
-use Rattle.xdr_entries.specs.Basic.{hash}
-use Rattle.xdr_header.specs.declared.record.CloseRecord.{CloseRecord}
-use Rattle.xdr_header.specs.Header.{stellar_value, ledger_upgrade, ledger_header_extension_v1, limits, counts}
-use Rattle.xdr_header.specs.Header.{ledger_header}
-use Rattle.xdr_header.specs.Records.{close_record}
-use Rattle.xdr_header.proofs.HeaderLaws.{ledger_upgrade_laws}
-use Rattle.entry_sums.specs.Sums.{total}
-use Rattle.legal_rules.specs.Headers.{header_flags_in, IsHeaderInRange}
-use Rattle.legal_rules.specs.Supply.{held}
-use Rattle.op_laws.specs.Steps.{SettledHeld}
-use Rattle.header_chain.specs.Upgrades.{if_whole, read_whole, upgrade_in, upgraded, upgraded_if, all_upgraded}
-use Rattle.header_chain.specs.SkipList.{sets_first, moves_first, moves_second, moves_third, hash_at, skip_list_after}
-use Rattle.header_chain.specs.SkipList.{finished}
-use Rattle.tx_apply.specs.Laws.{SetsConserve}
+use Rattle.close_rules.specs.ledger_types.declared.ids.Hash.{Hash}
+use Rattle.close_rules.specs.ledger_types.declared.asset.Asset.TheVariants as asset
+use Rattle.close_rules.specs.ledger_types.declared.header.LedgerHeader.{LedgerHeader}
+use Rattle.close_rules.specs.ledger_types.declared.header.LedgerHeaderExtensionV1.{LedgerHeaderExtensionV1}
+use Rattle.close_rules.specs.ledger_types.declared.header.LedgerUpgrade.{LedgerUpgrade}
+use Rattle.close_rules.specs.ledger_types.declared.header.LedgerUpgrade.TheVariants as upgrade
+use Rattle.close_rules.specs.ledger_types.declared.header.StellarValue.{StellarValue}
+use Rattle.close_rules.specs.xdr_core.declared.fault.XdrFault.{XdrFault}
+use Rattle.close_rules.specs.xdr_core.Format.{IsBytes}
+use Rattle.close_rules.specs.xdr_core.Leaves.{u32, u64, i64, var}
+use Rattle.close_rules.specs.xdr_core.Place.{Reading, start_of}
+use Rattle.close_rules.specs.xdr_core.Combinators.{constant, extension, times}
+use Rattle.close_rules.specs.xdr_core.Xdr.{list_of, extension_of}
+use Rattle.close_rules.specs.xdr_entries.Basic.{hash}
+use Rattle.close_rules.specs.xdr_header.declared.record.CloseRecord.{CloseRecord}
+use Rattle.close_rules.specs.xdr_header.Header.{stellar_value, ledger_upgrade, ledger_header_extension_v1, limits, counts}
+use Rattle.close_rules.specs.xdr_header.Header.{ledger_header}
+use Rattle.close_rules.specs.xdr_header.Records.{close_record}
+use Rattle.close_rules.proofs.xdr_header_proofs.HeaderLaws.{ledger_upgrade_laws}
+use Rattle.close_rules.specs.entry_sums.Sums.{total}
+use Rattle.close_rules.specs.legal_rules.Headers.{header_flags_in, IsHeaderInRange}
+use Rattle.close_rules.specs.legal_rules.Supply.{held}
+use Rattle.close_rules.specs.op_laws.Steps.{SettledHeld}
+use Rattle.close_rules.specs.header_chain.Upgrades.{if_whole, read_whole, upgrade_in, upgraded, upgraded_if, all_upgraded}
+use Rattle.close_rules.specs.header_chain.SkipList.{sets_first, moves_first, moves_second, moves_third, hash_at, skip_list_after}
+use Rattle.close_rules.specs.header_chain.SkipList.{finished}
+use Rattle.close_rules.specs.tx_apply.Laws.{SetsConserve}
 use Rattle.close_rules.specs.State.{ClosingState, IsSpelled}
 use Rattle.close_rules.specs.Close.{applied_in, filled_header, upgraded_header}
 use Rattle.close_laws.specs.Legal.{IsClosable}

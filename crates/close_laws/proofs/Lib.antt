@@ -59,3 +59,8 @@ pub mod OneClose
 pub mod OneImage
 pub mod ShortHeaders
 pub mod StateImages
+pub use Rattle.bucket_levels.proofs.entry_map_proofs
+pub use Rattle.close_rules.proofs.ledger_types_proofs
+pub use Rattle.close_rules.proofs.sponsor_laws_proofs
+pub use Rattle.close_rules.proofs.tx_apply_proofs
+pub use Rattle.close_rules.proofs.xdr_header_proofs

@@ -5,69 +5,69 @@ use Rattle.std.proofs.lemmas.List.Elements.{All-nil}
 use Rattle.std.specs.Prelude.{ℤ, pos, if◌then◌else◌}
 use Rattle.std.specs.FinMap.{get}
 use Rattle.std.specs.Ordering.{int_eq}
-use Rattle.ledger_types.specs.declared.ids.AccountId.{AccountId}
-use Rattle.ledger_types.specs.declared.asset.Asset.TheVariants as asset
-use Rattle.ledger_types.specs.declared.claim_atom.ClaimAtom.{ClaimAtom}
-use Rattle.ledger_types.specs.declared.price.Price.{Price}
-use Rattle.ledger_types.specs.declared.offer.OfferEntry.{OfferEntry}
-use Rattle.ledger_types.specs.declared.entry.LedgerEntry.{LedgerEntry}
-use Rattle.ledger_types.specs.declared.entry.LedgerEntryBody.{LedgerEntryBody}
-use Rattle.ledger_types.specs.declared.entry.LedgerEntryBody.TheVariants as body
-use Rattle.ledger_types.specs.declared.key.LedgerKey.TheVariants as key
-use Rattle.ledger_types.specs.Keys.{key_of_body}
-use Rattle.op_types.specs.declared.offer_ops.ManageSellOfferOp.{ManageSellOfferOp}
-use Rattle.op_types.specs.declared.offer_ops.CreatePassiveSellOfferOp.{CreatePassiveSellOfferOp}
-use Rattle.op_types.specs.declared.offer_ops.ManageBuyOfferOp.{ManageBuyOfferOp}
-use Rattle.op_types.specs.declared.offer_results.ManageOfferEffect.{ManageOfferEffect}
-use Rattle.op_types.specs.declared.offer_results.ManageOfferEffect.TheVariants as effect
-use Rattle.op_types.specs.declared.offer_results.ManageOfferResult.{ManageOfferResult}
-use Rattle.op_types.specs.declared.offer_results.ManageOfferResult.TheVariants as manage
-use Rattle.op_types.specs.declared.operation.OperationBody.TheVariants as operation
-use Rattle.op_types.specs.declared.operation_result.OperationResult.TheVariants.{Inner}
-use Rattle.xdr_core.specs.Leaves.{i64}
-use Rattle.xdr_core.specs.Combinators.{list}
-use Rattle.xdr_entries.specs.Basic as basic
-use Rattle.xdr_tx.specs.Operations.{operation_body, manage_sell_offer_op, create_passive_sell_offer_op}
-use Rattle.xdr_tx.specs.Operations.{manage_buy_offer_op}
-use Rattle.xdr_results.specs.Answers.{manage_offer_effect, manage_offer_success, manage_offer_result}
-use Rattle.xdr_results.specs.Results.{operation_result_tr, operation_result}
-use Rattle.entry_map.specs.EntryMap.{EntryMap}
-use Rattle.entry_slots.specs.Accounts.{HasAccount}
-use Rattle.entry_slots.specs.EntrySponsor.{sponsor_of}
-use Rattle.entry_sums.specs.Sums.{total}
-use Rattle.sponsor_rules.specs.declared.context.Ctx.{Ctx}
-use Rattle.sponsor_rules.specs.declared.fault.AddFault.{AddFault}
-use Rattle.sponsor_rules.specs.Adding.{sponsored_entry, map_after_counting_subentry}
-use Rattle.sponsor_rules.specs.Payers.{open_sponsor}
-use Rattle.offer_exchange.specs.Exchange.{unlimited}
-use Rattle.legal_rules.specs.Binding.{releasing}
-use Rattle.legal_rules.specs.Legal.{view}
-use Rattle.legal_rules.specs.OneMore.{one_more}
-use Rattle.legal_rules.specs.Owing.{nothing_owed, IsLegalOwing}
-use Rattle.legal_rules.specs.Sponsorships.{IsSponsorReady}
-use Rattle.legal_rules.specs.Supply.{held}
-use Rattle.legal_rules.specs.Trades.{holder}
-use Rattle.legal_rules.proofs.Given.{sponsors_ready}
-use Rattle.trade_cross.specs.Cancelling.{map_after_cancelling}
-use Rattle.trade_cross.specs.Crossing.{offer_key}
-use Rattle.op_offers.specs.declared.answers.Kind.{Kind}
-use Rattle.op_offers.specs.declared.answers.Kind.TheVariants as kind
-use Rattle.op_offers.specs.declared.ask.Ask.{Ask}
-use Rattle.op_offers.specs.declared.fault.OfferFault.{OfferFault}
-use Rattle.op_offers.specs.declared.fault.OfferFault.TheVariants as fault
-use Rattle.op_offers.specs.Asked.{inverse, ask_to_sell, ask_passively, ask_to_buy, is_malformed}
-use Rattle.op_offers.specs.Managing.{Effect, Made, Changed, Managed, Traded, Removed, of_sold, unless_some}
-use Rattle.op_offers.specs.Managing.{unless_lines, sell_fault, buy_fault, offer_asked, with_reserve, new_asked, made}
-use Rattle.op_offers.specs.Managing.{old_asked, changed, managed_old, managed_at, managed}
-use Rattle.op_offers.specs.Operations.{answer_of, code_of, fault_answer, effect_of, attempt_of_managed}
-use Rattle.op_offers.specs.Operations.{attempt_of}
-use Rattle.op_offers.specs.Selling.{Asked, offer_left, Sold, sold, map_without_offer}
-use Rattle.op_offers.specs.SellingLaws.{IsAskedRightly}
-use Rattle.op_offers.proofs.NewOffers.{new_counted, new_rightly}
-use Rattle.op_offers.proofs.OldOffers.{old_counted, old_rightly}
-use Rattle.op_offers.proofs.Tested.{IsValidAsk, valid_ask}
-use Rattle.op_laws.specs.Underway.{IsUnderway}
-use Rattle.tx_apply.specs.Laws.{CanDraw}
+use Rattle.close_rules.specs.ledger_types.declared.ids.AccountId.{AccountId}
+use Rattle.close_rules.specs.ledger_types.declared.asset.Asset.TheVariants as asset
+use Rattle.close_rules.specs.ledger_types.declared.claim_atom.ClaimAtom.{ClaimAtom}
+use Rattle.close_rules.specs.ledger_types.declared.price.Price.{Price}
+use Rattle.close_rules.specs.ledger_types.declared.offer.OfferEntry.{OfferEntry}
+use Rattle.close_rules.specs.ledger_types.declared.entry.LedgerEntry.{LedgerEntry}
+use Rattle.close_rules.specs.ledger_types.declared.entry.LedgerEntryBody.{LedgerEntryBody}
+use Rattle.close_rules.specs.ledger_types.declared.entry.LedgerEntryBody.TheVariants as body
+use Rattle.close_rules.specs.ledger_types.declared.key.LedgerKey.TheVariants as key
+use Rattle.close_rules.specs.ledger_types.Keys.{key_of_body}
+use Rattle.close_rules.specs.op_types.declared.offer_ops.ManageSellOfferOp.{ManageSellOfferOp}
+use Rattle.close_rules.specs.op_types.declared.offer_ops.CreatePassiveSellOfferOp.{CreatePassiveSellOfferOp}
+use Rattle.close_rules.specs.op_types.declared.offer_ops.ManageBuyOfferOp.{ManageBuyOfferOp}
+use Rattle.close_rules.specs.op_types.declared.offer_results.ManageOfferEffect.{ManageOfferEffect}
+use Rattle.close_rules.specs.op_types.declared.offer_results.ManageOfferEffect.TheVariants as effect
+use Rattle.close_rules.specs.op_types.declared.offer_results.ManageOfferResult.{ManageOfferResult}
+use Rattle.close_rules.specs.op_types.declared.offer_results.ManageOfferResult.TheVariants as manage
+use Rattle.close_rules.specs.op_types.declared.operation.OperationBody.TheVariants as operation
+use Rattle.close_rules.specs.op_types.declared.operation_result.OperationResult.TheVariants.{Inner}
+use Rattle.close_rules.specs.xdr_core.Leaves.{i64}
+use Rattle.close_rules.specs.xdr_core.Combinators.{list}
+use Rattle.close_rules.specs.xdr_entries.Basic as basic
+use Rattle.close_rules.specs.xdr_tx.Operations.{operation_body, manage_sell_offer_op, create_passive_sell_offer_op}
+use Rattle.close_rules.specs.xdr_tx.Operations.{manage_buy_offer_op}
+use Rattle.close_rules.specs.xdr_results.Answers.{manage_offer_effect, manage_offer_success, manage_offer_result}
+use Rattle.close_rules.specs.xdr_results.Results.{operation_result_tr, operation_result}
+use Rattle.bucket_levels.specs.entry_map.EntryMap.{EntryMap}
+use Rattle.close_rules.specs.entry_slots.Accounts.{HasAccount}
+use Rattle.close_rules.specs.entry_slots.EntrySponsor.{sponsor_of}
+use Rattle.close_rules.specs.entry_sums.Sums.{total}
+use Rattle.close_rules.specs.sponsor_rules.declared.context.Ctx.{Ctx}
+use Rattle.close_rules.specs.sponsor_rules.declared.fault.AddFault.{AddFault}
+use Rattle.close_rules.specs.sponsor_rules.Adding.{sponsored_entry, map_after_counting_subentry}
+use Rattle.close_rules.specs.sponsor_rules.Payers.{open_sponsor}
+use Rattle.close_rules.specs.offer_exchange.Exchange.{unlimited}
+use Rattle.close_rules.specs.legal_rules.Binding.{releasing}
+use Rattle.close_rules.specs.legal_rules.Legal.{view}
+use Rattle.close_rules.specs.legal_rules.OneMore.{one_more}
+use Rattle.close_rules.specs.legal_rules.Owing.{nothing_owed, IsLegalOwing}
+use Rattle.close_rules.specs.legal_rules.Sponsorships.{IsSponsorReady}
+use Rattle.close_rules.specs.legal_rules.Supply.{held}
+use Rattle.close_rules.specs.legal_rules.Trades.{holder}
+use Rattle.close_rules.proofs.legal_rules_proofs.Given.{sponsors_ready}
+use Rattle.close_rules.specs.trade_cross.Cancelling.{map_after_cancelling}
+use Rattle.close_rules.specs.trade_cross.Crossing.{offer_key}
+use Rattle.close_rules.specs.op_offers.declared.answers.Kind.{Kind}
+use Rattle.close_rules.specs.op_offers.declared.answers.Kind.TheVariants as kind
+use Rattle.close_rules.specs.op_offers.declared.ask.Ask.{Ask}
+use Rattle.close_rules.specs.op_offers.declared.fault.OfferFault.{OfferFault}
+use Rattle.close_rules.specs.op_offers.declared.fault.OfferFault.TheVariants as fault
+use Rattle.close_rules.specs.op_offers.Asked.{inverse, ask_to_sell, ask_passively, ask_to_buy, is_malformed}
+use Rattle.close_rules.specs.op_offers.Managing.{Effect, Made, Changed, Managed, Traded, Removed, of_sold, unless_some}
+use Rattle.close_rules.specs.op_offers.Managing.{unless_lines, sell_fault, buy_fault, offer_asked, with_reserve, new_asked, made}
+use Rattle.close_rules.specs.op_offers.Managing.{old_asked, changed, managed_old, managed_at, managed}
+use Rattle.close_rules.specs.op_offers.Operations.{answer_of, code_of, fault_answer, effect_of, attempt_of_managed}
+use Rattle.close_rules.specs.op_offers.Operations.{attempt_of}
+use Rattle.close_rules.specs.op_offers.Selling.{Asked, offer_left, Sold, sold, map_without_offer}
+use Rattle.close_rules.specs.op_offers.SellingLaws.{IsAskedRightly}
+use Rattle.close_rules.proofs.op_offers_proofs.NewOffers.{new_counted, new_rightly}
+use Rattle.close_rules.proofs.op_offers_proofs.OldOffers.{old_counted, old_rightly}
+use Rattle.close_rules.proofs.op_offers_proofs.Tested.{IsValidAsk, valid_ask}
+use Rattle.close_rules.specs.op_laws.Underway.{IsUnderway}
+use Rattle.close_rules.specs.tx_apply.Laws.{CanDraw}
 use Rattle.close_rules.specs.State.{IsSpelled}
 use Rattle.close_laws.proofs.AnswerSteps.{IsAnswer, exceeded, charged, Answers, IsDone}
 use Rattle.close_laws.proofs.Bytes.{IsId, no_id, AreOfferBytes, AreBodyBytes, AreEntryBytes, AreBytes}

@@ -1,12 +1,12 @@
 -- The next ledger closes from what a close leaves.
 use Rattle.std.proofs.Common.{◌+◌, sym, ap, subst}
-use Rattle.ledger_types.specs.declared.header.LedgerHeader.{LedgerHeader}
-use Rattle.xdr_header.specs.Header.{ledger_header}
-use Rattle.legal_rules.specs.Legal.{IsLegal}
-use Rattle.op_laws.specs.Steps.{TransactionLaws, LegalSettles, SettledLegal}
+use Rattle.close_rules.specs.ledger_types.declared.header.LedgerHeader.{LedgerHeader}
+use Rattle.close_rules.specs.xdr_header.Header.{ledger_header}
+use Rattle.close_rules.specs.legal_rules.Legal.{IsLegal}
+use Rattle.close_rules.specs.op_laws.Steps.{TransactionLaws, LegalSettles, SettledLegal}
 use Rattle.bucket_levels.specs.Hash.{list_hash}
 use Rattle.bucket_levels.specs.Laws.{StepsStand}
-use Rattle.tx_apply.specs.Laws.{SetsConserve}
+use Rattle.close_rules.specs.tx_apply.Laws.{SetsConserve}
 use Rattle.close_rules.specs.State.{IsSpelled}
 use Rattle.close_laws.specs.Closes.{NextIsClosing}
 use Rattle.close_laws.proofs.Digests.{hash_spelled}

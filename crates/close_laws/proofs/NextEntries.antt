@@ -6,52 +6,52 @@ use Rattle.std.proofs.lemmas.List.Elements.{All-nil, All-weaker}
 use Rattle.std.specs.Prelude.{◌+ℤ◌, ◌≤ℤ◌, FitsSigned}
 use Rattle.std.specs.Int.{w64}
 use Rattle.std.specs.FinMap.{get}
-use Rattle.ledger_types.specs.declared.signer.Signer.{Signer}
-use Rattle.ledger_types.specs.declared.account.AccountEntry.{AccountEntry}
-use Rattle.ledger_types.specs.declared.account.AccountEntryExtensionV1.{AccountEntryExtensionV1}
-use Rattle.ledger_types.specs.declared.account.AccountEntryExtensionV2.{AccountEntryExtensionV2}
-use Rattle.ledger_types.specs.declared.asset.TrustLineAsset.{TrustLineAsset}
-use Rattle.ledger_types.specs.declared.asset.TrustLineAsset.TheVariants as line
-use Rattle.ledger_types.specs.declared.trust_line.TrustLineEntry.{TrustLineEntry}
-use Rattle.ledger_types.specs.declared.price.Liabilities.{Liabilities}
-use Rattle.ledger_types.specs.declared.offer.OfferEntry.{OfferEntry}
-use Rattle.ledger_types.specs.declared.data_entry.DataEntry.{DataEntry}
-use Rattle.ledger_types.specs.declared.claimable_balance.ClaimableBalanceEntry.{ClaimableBalanceEntry}
-use Rattle.ledger_types.specs.declared.liquidity_pool.LiquidityPoolEntry.{LiquidityPoolEntry}
-use Rattle.ledger_types.specs.declared.entry.LedgerEntry.{LedgerEntry}
-use Rattle.ledger_types.specs.declared.entry.LedgerEntryBody.{LedgerEntryBody}
-use Rattle.ledger_types.specs.declared.entry.LedgerEntryBody.TheVariants as body
-use Rattle.ledger_types.specs.declared.entry.LedgerEntryExtensionV1.{LedgerEntryExtensionV1}
-use Rattle.ledger_types.specs.declared.key.LedgerKey.{LedgerKey}
-use Rattle.ledger_types.specs.Keys.{key_of_body}
-use Rattle.xdr_core.specs.Leaves.{u32, i64}
-use Rattle.xdr_core.specs.Combinators.{extension}
-use Rattle.xdr_core.specs.Xdr.{list_of, optional, extension_of}
-use Rattle.xdr_header.specs.declared.record.CloseRecord.{CloseRecord}
-use Rattle.xdr_entries.specs.Basic.{account_id, signer, liabilities}
-use Rattle.xdr_entries.specs.Entries.{account_extension_v2, account_extension_v1, account_head, account_tail}
-use Rattle.xdr_entries.specs.Entries.{account_entry, trust_line_entry, claimant, claimable_balance_entry}
-use Rattle.xdr_entries.specs.Entries.{offer_entry, liquidity_pool_entry}
-use Rattle.xdr_entries.specs.Entries.{data_entry, ledger_entry_body, ledger_entry_extension_v1, ledger_entry}
-use Rattle.entry_map.specs.EntryMap.{EntryMap}
-use Rattle.entry_map.specs.Batch.{parts_of}
-use Rattle.entry_changes.specs.Next.{IsNextAt}
-use Rattle.entry_slots.specs.Accounts.{account_at, account_of, account_in}
-use Rattle.entry_slots.specs.AccountExtensions.{account_liabilities, liabilities_in, num_sponsoring, num_sponsored}
-use Rattle.entry_slots.specs.AccountExtensions.{second_in, sponsorship_in}
-use Rattle.entry_slots.specs.LineExtensions.{use_count}
-use Rattle.entry_slots.specs.EntrySponsor.{sponsor_in}
-use Rattle.reserve_rules.specs.Reserve.{greatest_i64}
-use Rattle.sponsor_rules.specs.Payers.{IsReadyAccount}
-use Rattle.legal_rules.specs.Books.{Uses, stated, stated_at}
-use Rattle.legal_rules.specs.Bounds.{AreSubentriesFew, DoReservesFit}
-use Rattle.legal_rules.specs.Legal.{IsLegal}
-use Rattle.legal_rules.specs.Ranges.{IsAccountInRange, AreLineFlags, IsTrustLineInRange, IsBalanceInRange}
-use Rattle.legal_rules.specs.Ranges.{IsPoolInRange, IsBodyInRange}
-use Rattle.op_laws.specs.Steps.{TransactionLaws, LegalSettles, SettledLegal}
-use Rattle.entry_changes.specs.Spellable.{AreSpellable}
-use Rattle.header_chain.specs.SkipList.{finished}
-use Rattle.tx_apply.specs.Laws.{SetsConserve}
+use Rattle.close_rules.specs.ledger_types.declared.signer.Signer.{Signer}
+use Rattle.close_rules.specs.ledger_types.declared.account.AccountEntry.{AccountEntry}
+use Rattle.close_rules.specs.ledger_types.declared.account.AccountEntryExtensionV1.{AccountEntryExtensionV1}
+use Rattle.close_rules.specs.ledger_types.declared.account.AccountEntryExtensionV2.{AccountEntryExtensionV2}
+use Rattle.close_rules.specs.ledger_types.declared.asset.TrustLineAsset.{TrustLineAsset}
+use Rattle.close_rules.specs.ledger_types.declared.asset.TrustLineAsset.TheVariants as line
+use Rattle.close_rules.specs.ledger_types.declared.trust_line.TrustLineEntry.{TrustLineEntry}
+use Rattle.close_rules.specs.ledger_types.declared.price.Liabilities.{Liabilities}
+use Rattle.close_rules.specs.ledger_types.declared.offer.OfferEntry.{OfferEntry}
+use Rattle.close_rules.specs.ledger_types.declared.data_entry.DataEntry.{DataEntry}
+use Rattle.close_rules.specs.ledger_types.declared.claimable_balance.ClaimableBalanceEntry.{ClaimableBalanceEntry}
+use Rattle.close_rules.specs.ledger_types.declared.liquidity_pool.LiquidityPoolEntry.{LiquidityPoolEntry}
+use Rattle.close_rules.specs.ledger_types.declared.entry.LedgerEntry.{LedgerEntry}
+use Rattle.close_rules.specs.ledger_types.declared.entry.LedgerEntryBody.{LedgerEntryBody}
+use Rattle.close_rules.specs.ledger_types.declared.entry.LedgerEntryBody.TheVariants as body
+use Rattle.close_rules.specs.ledger_types.declared.entry.LedgerEntryExtensionV1.{LedgerEntryExtensionV1}
+use Rattle.close_rules.specs.ledger_types.declared.key.LedgerKey.{LedgerKey}
+use Rattle.close_rules.specs.ledger_types.Keys.{key_of_body}
+use Rattle.close_rules.specs.xdr_core.Leaves.{u32, i64}
+use Rattle.close_rules.specs.xdr_core.Combinators.{extension}
+use Rattle.close_rules.specs.xdr_core.Xdr.{list_of, optional, extension_of}
+use Rattle.close_rules.specs.xdr_header.declared.record.CloseRecord.{CloseRecord}
+use Rattle.close_rules.specs.xdr_entries.Basic.{account_id, signer, liabilities}
+use Rattle.close_rules.specs.xdr_entries.Entries.{account_extension_v2, account_extension_v1, account_head, account_tail}
+use Rattle.close_rules.specs.xdr_entries.Entries.{account_entry, trust_line_entry, claimant, claimable_balance_entry}
+use Rattle.close_rules.specs.xdr_entries.Entries.{offer_entry, liquidity_pool_entry}
+use Rattle.close_rules.specs.xdr_entries.Entries.{data_entry, ledger_entry_body, ledger_entry_extension_v1, ledger_entry}
+use Rattle.bucket_levels.specs.entry_map.EntryMap.{EntryMap}
+use Rattle.bucket_levels.specs.entry_map.Batch.{parts_of}
+use Rattle.close_rules.specs.entry_changes.Next.{IsNextAt}
+use Rattle.close_rules.specs.entry_slots.Accounts.{account_at, account_of, account_in}
+use Rattle.close_rules.specs.entry_slots.AccountExtensions.{account_liabilities, liabilities_in, num_sponsoring, num_sponsored}
+use Rattle.close_rules.specs.entry_slots.AccountExtensions.{second_in, sponsorship_in}
+use Rattle.close_rules.specs.entry_slots.LineExtensions.{use_count}
+use Rattle.close_rules.specs.entry_slots.EntrySponsor.{sponsor_in}
+use Rattle.close_rules.specs.reserve_rules.Reserve.{greatest_i64}
+use Rattle.close_rules.specs.sponsor_rules.Payers.{IsReadyAccount}
+use Rattle.close_rules.specs.legal_rules.Books.{Uses, stated, stated_at}
+use Rattle.close_rules.specs.legal_rules.Bounds.{AreSubentriesFew, DoReservesFit}
+use Rattle.close_rules.specs.legal_rules.Legal.{IsLegal}
+use Rattle.close_rules.specs.legal_rules.Ranges.{IsAccountInRange, AreLineFlags, IsTrustLineInRange, IsBalanceInRange}
+use Rattle.close_rules.specs.legal_rules.Ranges.{IsPoolInRange, IsBodyInRange}
+use Rattle.close_rules.specs.op_laws.Steps.{TransactionLaws, LegalSettles, SettledLegal}
+use Rattle.close_rules.specs.entry_changes.Spellable.{AreSpellable}
+use Rattle.close_rules.specs.header_chain.SkipList.{finished}
+use Rattle.close_rules.specs.tx_apply.Laws.{SetsConserve}
 use Rattle.close_rules.specs.State.{ClosingState, IsSpelled}
 use Rattle.close_rules.specs.Close.{setting_in, applied_in, upgraded_header}
 use Rattle.close_laws.specs.Legal.{IsClosable, AreClosed, EntriesStaySpellable}

@@ -4,17 +4,17 @@ use Rattle.std.proofs.Common.{Option, Some, None, arith}
 use Rattle.std.proofs.lemmas.Int.{ints}
 use Rattle.std.proofs.lemmas.List.Elements.{All-head, All-tail}
 use Rattle.std.specs.Prelude.{ℤ, pos, ◌+ℤ◌, ◌≤ℤ◌}
-use Rattle.ledger_types.specs.declared.ids.Hash.{Hash}
-use Rattle.ledger_types.specs.declared.header.LedgerHeader.{LedgerHeader}
-use Rattle.ledger_types.specs.declared.header.LedgerUpgrade.{LedgerUpgrade}
-use Rattle.ledger_types.specs.declared.header.LedgerUpgrade.TheVariants as upgrade
-use Rattle.xdr_header.specs.declared.record.CloseRecord.{CloseRecord}
-use Rattle.op_types.specs.declared.transaction.TransactionEnvelope.{TransactionEnvelope}
-use Rattle.entry_map.specs.EntryMap.{EntryMap}
-use Rattle.legal_rules.specs.Headers.{IsHeaderInRange}
-use Rattle.header_chain.specs.Upgrades.{upgrade_in, upgraded, upgraded_if, all_upgraded}
-use Rattle.header_chain.specs.SkipList.{finished}
-use Rattle.tx_apply.specs.Fees.{map_after_fee, fees_taken, sum_of}
+use Rattle.close_rules.specs.ledger_types.declared.ids.Hash.{Hash}
+use Rattle.close_rules.specs.ledger_types.declared.header.LedgerHeader.{LedgerHeader}
+use Rattle.close_rules.specs.ledger_types.declared.header.LedgerUpgrade.{LedgerUpgrade}
+use Rattle.close_rules.specs.ledger_types.declared.header.LedgerUpgrade.TheVariants as upgrade
+use Rattle.close_rules.specs.xdr_header.declared.record.CloseRecord.{CloseRecord}
+use Rattle.close_rules.specs.op_types.declared.transaction.TransactionEnvelope.{TransactionEnvelope}
+use Rattle.bucket_levels.specs.entry_map.EntryMap.{EntryMap}
+use Rattle.close_rules.specs.legal_rules.Headers.{IsHeaderInRange}
+use Rattle.close_rules.specs.header_chain.Upgrades.{upgrade_in, upgraded, upgraded_if, all_upgraded}
+use Rattle.close_rules.specs.header_chain.SkipList.{finished}
+use Rattle.close_rules.specs.tx_apply.Fees.{map_after_fee, fees_taken, sum_of}
 use Rattle.close_rules.specs.State.{ClosingState}
 use Rattle.close_rules.specs.Refusals.{record_fault}
 use Rattle.close_rules.specs.Close.{applied_in, filled_header, upgraded_header}

@@ -1,17 +1,17 @@
 -- A close leaves a legal state.
 use Rattle.std.proofs.Common.{sym, ap, subst, ◌∙◌, ℕ, ◌+◌, ◌≤◌, arith}
 use Rattle.std.specs.Prelude.{ℤ, ◌+ℤ◌}
-use Rattle.ledger_types.specs.declared.ids.Hash.{Hash}
-use Rattle.ledger_types.specs.declared.asset.Asset.TheVariants as asset
-use Rattle.xdr_header.specs.declared.record.CloseRecord.{CloseRecord}
-use Rattle.entry_map.specs.EntryMap.{EntryMap}
-use Rattle.entry_sums.specs.Sums.{total}
-use Rattle.legal_rules.specs.Supply.{held}
-use Rattle.op_laws.specs.Steps.{SettledLegal}
-use Rattle.op_laws.specs.Underway.{IsSettled}
-use Rattle.header_chain.specs.SkipList.{finished}
-use Rattle.tx_apply.specs.Laws.{operation_total, CanClose, IsConserved, SetsConserve}
-use Rattle.tx_apply.specs.Set.{envelopes_in_order}
+use Rattle.close_rules.specs.ledger_types.declared.ids.Hash.{Hash}
+use Rattle.close_rules.specs.ledger_types.declared.asset.Asset.TheVariants as asset
+use Rattle.close_rules.specs.xdr_header.declared.record.CloseRecord.{CloseRecord}
+use Rattle.bucket_levels.specs.entry_map.EntryMap.{EntryMap}
+use Rattle.close_rules.specs.entry_sums.Sums.{total}
+use Rattle.close_rules.specs.legal_rules.Supply.{held}
+use Rattle.close_rules.specs.op_laws.Steps.{SettledLegal}
+use Rattle.close_rules.specs.op_laws.Underway.{IsSettled}
+use Rattle.close_rules.specs.header_chain.SkipList.{finished}
+use Rattle.close_rules.specs.tx_apply.Laws.{operation_total, CanClose, IsConserved, SetsConserve}
+use Rattle.close_rules.specs.tx_apply.Set.{envelopes_in_order}
 use Rattle.close_rules.specs.State.{ClosingState}
 use Rattle.close_rules.specs.Close.{setting_in, applied_in, filled_header, upgraded_header}
 use Rattle.close_laws.specs.Legal.{IsClosable, AreClosed, NextIsLegal}

@@ -3,23 +3,23 @@ use Rattle.std.proofs.Common.{◌≡◌, inl, inr, ℕ, zero, suc, ◌+◌, ◌<
 use Rattle.std.proofs.Common.{Option, Some, None, Result, Ok, Err, Bool, true, false, arith}
 use Rattle.std.proofs.lemmas.List.{same_lists}
 use Rattle.std.specs.FinMap.{get, same_map}
-use Rattle.ledger_types.specs.declared.entry.LedgerEntry.{LedgerEntry}
-use Rattle.ledger_types.specs.declared.key.LedgerKey.{LedgerKey}
-use Rattle.ledger_types.proofs.KeyOrdering.{keys_total, keys_exact}
-use Rattle.xdr_core.specs.declared.fault.XdrFault.{XdrFault}
-use Rattle.xdr_header.specs.declared.record.CloseRecord.{CloseRecord}
-use Rattle.entry_map.specs.EntryMap.{EntryMap}
-use Rattle.entry_changes.specs.Next.{IsNextAt, AreNextEntries}
-use Rattle.bucket_core.specs.Bucket.{Change, Filled, Contents, change_at, version_of}
-use Rattle.bucket_merge.specs.Merge.{IsMerge}
+use Rattle.close_rules.specs.ledger_types.declared.entry.LedgerEntry.{LedgerEntry}
+use Rattle.close_rules.specs.ledger_types.declared.key.LedgerKey.{LedgerKey}
+use Rattle.close_rules.proofs.ledger_types_proofs.KeyOrdering.{keys_total, keys_exact}
+use Rattle.close_rules.specs.xdr_core.declared.fault.XdrFault.{XdrFault}
+use Rattle.close_rules.specs.xdr_header.declared.record.CloseRecord.{CloseRecord}
+use Rattle.bucket_levels.specs.entry_map.EntryMap.{EntryMap}
+use Rattle.close_rules.specs.entry_changes.Next.{IsNextAt, AreNextEntries}
+use Rattle.bucket_levels.specs.bucket_core.Bucket.{Change, Filled, Contents, change_at, version_of}
+use Rattle.bucket_levels.specs.bucket_merge.Merge.{IsMerge}
 use Rattle.bucket_levels.specs.Fresh.{IsFresh}
 use Rattle.bucket_levels.specs.Hash.{list_hash}
 use Rattle.bucket_levels.specs.Size.{file_total}
 use Rattle.bucket_levels.specs.Spills.{level_count, spills}
 use Rattle.bucket_levels.specs.Pairs.{Pair, empty_pair, pair_at}
 use Rattle.bucket_levels.specs.Step.{base_at, IsMergedIf, IsCurrAfter, IsPairAfter, IsStep}
-use Rattle.header_chain.specs.SkipList.{finished}
-use Rattle.tx_apply.proofs.Placed.{same_inside}
+use Rattle.close_rules.specs.header_chain.SkipList.{finished}
+use Rattle.close_rules.proofs.tx_apply_proofs.Placed.{same_inside}
 use Rattle.close_rules.specs.declared.close_fault.CloseFault.{CloseFault}
 use Rattle.close_rules.specs.declared.close_fault.CloseFault.TheVariants as fault
 use Rattle.close_rules.specs.State.{ClosingState, max_file_total}

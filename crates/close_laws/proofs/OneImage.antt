@@ -5,14 +5,14 @@ use Rattle.std.specs.Prelude.{All}
 use Rattle.std.specs.List.{flat_map}
 use Rattle.std.specs.FinMap.{same_map}
 use Rattle.std.proofs.lemmas.List.Elements.{All-head, All-tail}
-use Rattle.ledger_types.proofs.KeyOrdering.{keys_total, keys_exact}
-use Rattle.ledger_types.specs.declared.ids.Hash.{Hash}
-use Rattle.ledger_types.specs.declared.header.LedgerHeader.{LedgerHeader}
-use Rattle.xdr_header.specs.declared.image.StartImage.{StartImage}
-use Rattle.entry_map.specs.EntryMap.{EntryMap}
-use Rattle.bucket_core.specs.Bucket.{Contents}
-use Rattle.bucket_core.specs.File.{file_of, HasFile}
-use Rattle.bucket_core.proofs.Files.{files_tell_apart}
+use Rattle.close_rules.proofs.ledger_types_proofs.KeyOrdering.{keys_total, keys_exact}
+use Rattle.close_rules.specs.ledger_types.declared.ids.Hash.{Hash}
+use Rattle.close_rules.specs.ledger_types.declared.header.LedgerHeader.{LedgerHeader}
+use Rattle.close_rules.specs.xdr_header.declared.image.StartImage.{StartImage}
+use Rattle.bucket_levels.specs.entry_map.EntryMap.{EntryMap}
+use Rattle.bucket_levels.specs.bucket_core.Bucket.{Contents}
+use Rattle.bucket_levels.specs.bucket_core.File.{file_of, HasFile}
+use Rattle.bucket_levels.proofs.bucket_core_proofs.Files.{files_tell_apart}
 use Rattle.bucket_levels.specs.Pairs.{Pair}
 use Rattle.bucket_levels.specs.Meaning.{StandFor, AreWellMarked}
 use Rattle.bucket_levels.specs.Hash.{list_hash}

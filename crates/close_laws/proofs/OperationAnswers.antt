@@ -3,100 +3,100 @@ use Rattle.std.proofs.Common.{ℕ, List, [], ◌∷◌, Option, Some, None, Ok, 
 use Rattle.std.proofs.Common.{if◌then◌else◌, pos}
 use Rattle.std.specs.Prelude.{int_lt, nat_eq, not, is_some}
 use Rattle.std.specs.FinMap.{get}
-use Rattle.ledger_types.specs.declared.ids.AccountId.{AccountId}
-use Rattle.ledger_types.specs.declared.signer.Signer.{Signer}
-use Rattle.ledger_types.specs.declared.signer.SignerKey.{SignerKey}
-use Rattle.ledger_types.specs.declared.account.AccountEntry.{AccountEntry}
-use Rattle.ledger_types.specs.declared.data_entry.DataEntry.{DataEntry}
-use Rattle.ledger_types.specs.declared.key.LedgerKey.{LedgerKey}
-use Rattle.ledger_types.specs.Ids.{account_of}
-use Rattle.op_types.specs.declared.account_ops.AccountMergeOp.{AccountMergeOp}
-use Rattle.op_types.specs.declared.account_ops.BumpSequenceOp.{BumpSequenceOp}
-use Rattle.op_types.specs.declared.account_ops.CreateAccountOp.{CreateAccountOp}
-use Rattle.op_types.specs.declared.account_ops.ManageDataOp.{ManageDataOp}
-use Rattle.op_types.specs.declared.account_ops.SetOptionsOp.{SetOptionsOp}
-use Rattle.op_types.specs.declared.payment_ops.PaymentOp.{PaymentOp}
-use Rattle.op_types.specs.declared.sponsor_ops.BeginSponsoringFutureReservesOp.{BeginSponsoringFutureReservesOp}
-use Rattle.op_types.specs.declared.sponsor_ops.RevokeSponsorshipOp.{RevokeSponsorshipOp}
-use Rattle.op_types.specs.declared.sponsor_ops.RevokeSponsorshipOp.TheVariants as revoked
-use Rattle.op_types.specs.declared.operation.OperationBody.{OperationBody}
-use Rattle.op_types.specs.declared.operation.OperationBody.TheVariants as body
-use Rattle.op_types.specs.declared.operation_result.OperationResult.TheVariants as operation
-use Rattle.op_types.specs.declared.account_results.AccountMergeResult.{AccountMergeResult}
-use Rattle.op_types.specs.declared.account_results.AccountMergeResult.TheVariants as merge
-use Rattle.op_types.specs.declared.account_results.BumpSequenceResult.{BumpSequenceResult}
-use Rattle.op_types.specs.declared.account_results.BumpSequenceResult.TheVariants as bump
-use Rattle.op_types.specs.declared.account_results.ManageDataResult.{ManageDataResult}
-use Rattle.op_types.specs.declared.account_results.ManageDataResult.TheVariants as manage
-use Rattle.op_types.specs.declared.account_results.SetOptionsResult.{SetOptionsResult}
-use Rattle.op_types.specs.declared.account_results.SetOptionsResult.TheVariants as set
-use Rattle.op_types.specs.declared.payment_results.CreateAccountResult.{CreateAccountResult}
-use Rattle.op_types.specs.declared.payment_results.CreateAccountResult.TheVariants as create
-use Rattle.op_types.specs.declared.payment_results.PaymentResult.{PaymentResult}
-use Rattle.op_types.specs.declared.payment_results.PaymentResult.TheVariants as pay
-use Rattle.op_types.specs.declared.sponsor_results.BeginSponsoringFutureReservesResult.{
+use Rattle.close_rules.specs.ledger_types.declared.ids.AccountId.{AccountId}
+use Rattle.close_rules.specs.ledger_types.declared.signer.Signer.{Signer}
+use Rattle.close_rules.specs.ledger_types.declared.signer.SignerKey.{SignerKey}
+use Rattle.close_rules.specs.ledger_types.declared.account.AccountEntry.{AccountEntry}
+use Rattle.close_rules.specs.ledger_types.declared.data_entry.DataEntry.{DataEntry}
+use Rattle.close_rules.specs.ledger_types.declared.key.LedgerKey.{LedgerKey}
+use Rattle.close_rules.specs.ledger_types.Ids.{account_of}
+use Rattle.close_rules.specs.op_types.declared.account_ops.AccountMergeOp.{AccountMergeOp}
+use Rattle.close_rules.specs.op_types.declared.account_ops.BumpSequenceOp.{BumpSequenceOp}
+use Rattle.close_rules.specs.op_types.declared.account_ops.CreateAccountOp.{CreateAccountOp}
+use Rattle.close_rules.specs.op_types.declared.account_ops.ManageDataOp.{ManageDataOp}
+use Rattle.close_rules.specs.op_types.declared.account_ops.SetOptionsOp.{SetOptionsOp}
+use Rattle.close_rules.specs.op_types.declared.payment_ops.PaymentOp.{PaymentOp}
+use Rattle.close_rules.specs.op_types.declared.sponsor_ops.BeginSponsoringFutureReservesOp.{BeginSponsoringFutureReservesOp}
+use Rattle.close_rules.specs.op_types.declared.sponsor_ops.RevokeSponsorshipOp.{RevokeSponsorshipOp}
+use Rattle.close_rules.specs.op_types.declared.sponsor_ops.RevokeSponsorshipOp.TheVariants as revoked
+use Rattle.close_rules.specs.op_types.declared.operation.OperationBody.{OperationBody}
+use Rattle.close_rules.specs.op_types.declared.operation.OperationBody.TheVariants as body
+use Rattle.close_rules.specs.op_types.declared.operation_result.OperationResult.TheVariants as operation
+use Rattle.close_rules.specs.op_types.declared.account_results.AccountMergeResult.{AccountMergeResult}
+use Rattle.close_rules.specs.op_types.declared.account_results.AccountMergeResult.TheVariants as merge
+use Rattle.close_rules.specs.op_types.declared.account_results.BumpSequenceResult.{BumpSequenceResult}
+use Rattle.close_rules.specs.op_types.declared.account_results.BumpSequenceResult.TheVariants as bump
+use Rattle.close_rules.specs.op_types.declared.account_results.ManageDataResult.{ManageDataResult}
+use Rattle.close_rules.specs.op_types.declared.account_results.ManageDataResult.TheVariants as manage
+use Rattle.close_rules.specs.op_types.declared.account_results.SetOptionsResult.{SetOptionsResult}
+use Rattle.close_rules.specs.op_types.declared.account_results.SetOptionsResult.TheVariants as set
+use Rattle.close_rules.specs.op_types.declared.payment_results.CreateAccountResult.{CreateAccountResult}
+use Rattle.close_rules.specs.op_types.declared.payment_results.CreateAccountResult.TheVariants as create
+use Rattle.close_rules.specs.op_types.declared.payment_results.PaymentResult.{PaymentResult}
+use Rattle.close_rules.specs.op_types.declared.payment_results.PaymentResult.TheVariants as pay
+use Rattle.close_rules.specs.op_types.declared.sponsor_results.BeginSponsoringFutureReservesResult.{
   BeginSponsoringFutureReservesResult,
 }
-use Rattle.op_types.specs.declared.sponsor_results.BeginSponsoringFutureReservesResult.TheVariants as begin
-use Rattle.op_types.specs.declared.sponsor_results.EndSponsoringFutureReservesResult.{EndSponsoringFutureReservesResult}
-use Rattle.op_types.specs.declared.sponsor_results.EndSponsoringFutureReservesResult.TheVariants as end
-use Rattle.op_types.specs.declared.sponsor_results.RevokeSponsorshipResult.{RevokeSponsorshipResult}
-use Rattle.op_types.specs.declared.sponsor_results.RevokeSponsorshipResult.TheVariants as revoke
-use Rattle.xdr_core.specs.Leaves.{i64}
-use Rattle.xdr_tx.specs.Operations.{operation_body}
-use Rattle.xdr_results.specs.Answers.{create_account_result, payment_result, set_options_result, account_merge_result}
-use Rattle.xdr_results.specs.Answers.{manage_data_result, bump_sequence_result}
-use Rattle.xdr_results.specs.Answers.{begin_sponsoring_future_reserves_result, end_sponsoring_future_reserves_result}
-use Rattle.xdr_results.specs.Answers.{revoke_sponsorship_result}
-use Rattle.xdr_results.specs.Results.{operation_result_tr, operation_result}
-use Rattle.entry_map.specs.EntryMap.{EntryMap}
-use Rattle.entry_slots.specs.Accounts.{account_at}
-use Rattle.entry_slots.specs.DataEntries.{data_at}
-use Rattle.sponsor_rules.specs.declared.context.Ctx.{Ctx}
-use Rattle.sponsor_rules.specs.declared.signer_place.FoundSigner.{FoundSigner}
-use Rattle.sponsor_rules.specs.Adding.{map_after_adding}
-use Rattle.sponsor_rules.specs.Moving.{map_after_moving}
-use Rattle.sponsor_rules.specs.Payers.{open_sponsor}
-use Rattle.sponsor_rules.specs.SignerPlace.{found_signer}
-use Rattle.sponsor_rules.specs.Signers.{map_after_adding_signer, map_after_moving_signer, map_after_removing_signer}
-use Rattle.op_form.specs.declared.amounts.CreditFault.{CreditFault}
-use Rattle.op_form.specs.declared.amounts.CreditFault.TheVariants as credit
-use Rattle.op_form.specs.declared.amounts.DebitFault.{DebitFault}
-use Rattle.op_form.specs.declared.amounts.DebitFault.TheVariants as debit
-use Rattle.op_form.specs.Amounts.{map_after_credit, map_after_debit}
-use Rattle.op_form.specs.Lumens as lumens
-use Rattle.op_form.specs.Steps.{unless_refused}
-use Rattle.op_account.specs.AccountMerge as merging
-use Rattle.op_account.specs.BumpSequence as bumping
-use Rattle.op_account.specs.CreateAccount as creating
-use Rattle.op_account.specs.Operations.{account_operation}
-use Rattle.op_options.specs.ManageData as managing
-use Rattle.op_options.specs.OptionSigner as signers
-use Rattle.op_options.specs.OptionTests as tests
-use Rattle.op_options.specs.SetOptions as options
-use Rattle.op_options.specs.Operations.{options_operation}
-use Rattle.op_payment.specs.PathReceive as receiving
-use Rattle.op_payment.specs.PathSend as sending
-use Rattle.op_payment.specs.Payment as paying
-use Rattle.op_payment.specs.Operations.{payment_operation}
-use Rattle.op_trust.specs.Operations.{change_trust, trust_operation}
-use Rattle.op_flags.specs.AllowTrust as allowing
-use Rattle.op_flags.specs.SetTrustLineFlags as flagging
-use Rattle.op_flags.specs.Operations.{flags_operation}
-use Rattle.op_claim.specs.CreateClaimableBalance as balances
-use Rattle.op_claim.specs.ClaimClaimableBalance as claiming
-use Rattle.op_claim.specs.Clawback as clawing
-use Rattle.op_claim.specs.ClawbackClaimableBalance as taking
-use Rattle.op_claim.specs.Operations.{claim_operation}
-use Rattle.op_offers.specs.Operations.{attempt_of, offers_operation}
-use Rattle.op_pool.specs.Deposit as depositing
-use Rattle.op_pool.specs.Withdraw as withdrawing
-use Rattle.op_pool.specs.Operations.{pool_operation}
-use Rattle.op_sponsor.specs.BeginSponsoringFutureReserves as beginning
-use Rattle.op_sponsor.specs.EndSponsoringFutureReserves as ending
-use Rattle.op_sponsor.specs.RevokeSponsorship as revoking
-use Rattle.op_sponsor.specs.Operations.{sponsor_operation}
-use Rattle.op_laws.specs.AnyOperation.{any_operation}
+use Rattle.close_rules.specs.op_types.declared.sponsor_results.BeginSponsoringFutureReservesResult.TheVariants as begin
+use Rattle.close_rules.specs.op_types.declared.sponsor_results.EndSponsoringFutureReservesResult.{EndSponsoringFutureReservesResult}
+use Rattle.close_rules.specs.op_types.declared.sponsor_results.EndSponsoringFutureReservesResult.TheVariants as end
+use Rattle.close_rules.specs.op_types.declared.sponsor_results.RevokeSponsorshipResult.{RevokeSponsorshipResult}
+use Rattle.close_rules.specs.op_types.declared.sponsor_results.RevokeSponsorshipResult.TheVariants as revoke
+use Rattle.close_rules.specs.xdr_core.Leaves.{i64}
+use Rattle.close_rules.specs.xdr_tx.Operations.{operation_body}
+use Rattle.close_rules.specs.xdr_results.Answers.{create_account_result, payment_result, set_options_result, account_merge_result}
+use Rattle.close_rules.specs.xdr_results.Answers.{manage_data_result, bump_sequence_result}
+use Rattle.close_rules.specs.xdr_results.Answers.{begin_sponsoring_future_reserves_result, end_sponsoring_future_reserves_result}
+use Rattle.close_rules.specs.xdr_results.Answers.{revoke_sponsorship_result}
+use Rattle.close_rules.specs.xdr_results.Results.{operation_result_tr, operation_result}
+use Rattle.bucket_levels.specs.entry_map.EntryMap.{EntryMap}
+use Rattle.close_rules.specs.entry_slots.Accounts.{account_at}
+use Rattle.close_rules.specs.entry_slots.DataEntries.{data_at}
+use Rattle.close_rules.specs.sponsor_rules.declared.context.Ctx.{Ctx}
+use Rattle.close_rules.specs.sponsor_rules.declared.signer_place.FoundSigner.{FoundSigner}
+use Rattle.close_rules.specs.sponsor_rules.Adding.{map_after_adding}
+use Rattle.close_rules.specs.sponsor_rules.Moving.{map_after_moving}
+use Rattle.close_rules.specs.sponsor_rules.Payers.{open_sponsor}
+use Rattle.close_rules.specs.sponsor_rules.SignerPlace.{found_signer}
+use Rattle.close_rules.specs.sponsor_rules.Signers.{map_after_adding_signer, map_after_moving_signer, map_after_removing_signer}
+use Rattle.close_rules.specs.op_form.declared.amounts.CreditFault.{CreditFault}
+use Rattle.close_rules.specs.op_form.declared.amounts.CreditFault.TheVariants as credit
+use Rattle.close_rules.specs.op_form.declared.amounts.DebitFault.{DebitFault}
+use Rattle.close_rules.specs.op_form.declared.amounts.DebitFault.TheVariants as debit
+use Rattle.close_rules.specs.op_form.Amounts.{map_after_credit, map_after_debit}
+use Rattle.close_rules.specs.op_form.Lumens as lumens
+use Rattle.close_rules.specs.op_form.Steps.{unless_refused}
+use Rattle.close_rules.specs.op_account.AccountMerge as merging
+use Rattle.close_rules.specs.op_account.BumpSequence as bumping
+use Rattle.close_rules.specs.op_account.CreateAccount as creating
+use Rattle.close_rules.specs.op_account.Operations.{account_operation}
+use Rattle.close_rules.specs.op_options.ManageData as managing
+use Rattle.close_rules.specs.op_options.OptionSigner as signers
+use Rattle.close_rules.specs.op_options.OptionTests as tests
+use Rattle.close_rules.specs.op_options.SetOptions as options
+use Rattle.close_rules.specs.op_options.Operations.{options_operation}
+use Rattle.close_rules.specs.op_payment.PathReceive as receiving
+use Rattle.close_rules.specs.op_payment.PathSend as sending
+use Rattle.close_rules.specs.op_payment.Payment as paying
+use Rattle.close_rules.specs.op_payment.Operations.{payment_operation}
+use Rattle.close_rules.specs.op_trust.Operations.{change_trust, trust_operation}
+use Rattle.close_rules.specs.op_flags.AllowTrust as allowing
+use Rattle.close_rules.specs.op_flags.SetTrustLineFlags as flagging
+use Rattle.close_rules.specs.op_flags.Operations.{flags_operation}
+use Rattle.close_rules.specs.op_claim.CreateClaimableBalance as balances
+use Rattle.close_rules.specs.op_claim.ClaimClaimableBalance as claiming
+use Rattle.close_rules.specs.op_claim.Clawback as clawing
+use Rattle.close_rules.specs.op_claim.ClawbackClaimableBalance as taking
+use Rattle.close_rules.specs.op_claim.Operations.{claim_operation}
+use Rattle.close_rules.specs.op_offers.Operations.{attempt_of, offers_operation}
+use Rattle.close_rules.specs.op_pool.Deposit as depositing
+use Rattle.close_rules.specs.op_pool.Withdraw as withdrawing
+use Rattle.close_rules.specs.op_pool.Operations.{pool_operation}
+use Rattle.close_rules.specs.op_sponsor.BeginSponsoringFutureReserves as beginning
+use Rattle.close_rules.specs.op_sponsor.EndSponsoringFutureReserves as ending
+use Rattle.close_rules.specs.op_sponsor.RevokeSponsorship as revoking
+use Rattle.close_rules.specs.op_sponsor.Operations.{sponsor_operation}
+use Rattle.close_rules.specs.op_laws.AnyOperation.{any_operation}
 use Rattle.close_rules.specs.State.{IsSpelled}
 use Rattle.close_laws.proofs.AnswerSteps.{IsAnswer, no_account, not_supported, Answers, Any, IsDone, first_answers}
 use Rattle.close_laws.proofs.AnswerSteps.{some_answers, charge_answers, change_answers, step_answers, either_answers}

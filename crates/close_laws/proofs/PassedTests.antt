@@ -1,7 +1,7 @@
 -- Tests of which none holds.
 use Rattle.std.proofs.Common.{◌≡◌, [], ◌∷◌, None, false}
-use Rattle.entry_slots.specs.Tests.{Tests, first_fault}
-use Rattle.legal_rules.proofs.Passed.{first_passed}
+use Rattle.close_rules.specs.entry_slots.Tests.{Tests, first_fault}
+use Rattle.close_rules.proofs.legal_rules_proofs.Passed.{first_passed}
 
 abbrev pub AllPass : {F : Type 0} → Tests F → Type 0
 AllPass [] = Unit {0}

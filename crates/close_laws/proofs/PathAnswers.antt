@@ -1,27 +1,27 @@
 -- What payments along paths answer keeps the bounds on lengths.
 use Rattle.std.proofs.Common.{ℕ, ◌≤◌, List, All, length, arith}
 use Rattle.std.specs.Prelude.{ℤ}
-use Rattle.ledger_types.specs.declared.ids.AccountId.{AccountId}
-use Rattle.ledger_types.specs.declared.asset.Asset.{Asset}
-use Rattle.ledger_types.specs.declared.claim_atom.ClaimAtom.{ClaimAtom}
-use Rattle.op_types.specs.declared.payment_results.PathPaymentStrictReceiveResult.{PathPaymentStrictReceiveResult}
-use Rattle.op_types.specs.declared.payment_results.PathPaymentStrictReceiveResult.TheVariants as received_code
-use Rattle.op_types.specs.declared.payment_results.PathPaymentStrictSendResult.{PathPaymentStrictSendResult}
-use Rattle.op_types.specs.declared.payment_results.PathPaymentStrictSendResult.TheVariants as sent_code
-use Rattle.xdr_core.specs.Leaves.{i64}
-use Rattle.xdr_core.specs.Combinators.{list}
-use Rattle.xdr_results.specs.Answers.{simple_payment_result, path_payment_success, path_payment_strict_receive_result}
-use Rattle.xdr_results.specs.Answers.{path_payment_strict_send_result}
-use Rattle.xdr_results.specs.Results.{operation_result_tr, operation_result}
-use Rattle.op_form.specs.declared.amounts.CreditFault.{CreditFault}
-use Rattle.op_form.specs.declared.amounts.CreditFault.TheVariants as credit
-use Rattle.op_form.specs.declared.amounts.DebitFault.{DebitFault}
-use Rattle.op_form.specs.declared.amounts.DebitFault.TheVariants as debit
-use Rattle.op_payment.specs.declared.path_fault.PathFault.{PathFault}
-use Rattle.op_payment.specs.declared.path_fault.PathFault.TheVariants as fault
-use Rattle.op_payment.specs.PathPayment.{arrived}
-use Rattle.op_payment.specs.PathReceive as receiving
-use Rattle.op_payment.specs.PathSend as sending
+use Rattle.close_rules.specs.ledger_types.declared.ids.AccountId.{AccountId}
+use Rattle.close_rules.specs.ledger_types.declared.asset.Asset.{Asset}
+use Rattle.close_rules.specs.ledger_types.declared.claim_atom.ClaimAtom.{ClaimAtom}
+use Rattle.close_rules.specs.op_types.declared.payment_results.PathPaymentStrictReceiveResult.{PathPaymentStrictReceiveResult}
+use Rattle.close_rules.specs.op_types.declared.payment_results.PathPaymentStrictReceiveResult.TheVariants as received_code
+use Rattle.close_rules.specs.op_types.declared.payment_results.PathPaymentStrictSendResult.{PathPaymentStrictSendResult}
+use Rattle.close_rules.specs.op_types.declared.payment_results.PathPaymentStrictSendResult.TheVariants as sent_code
+use Rattle.close_rules.specs.xdr_core.Leaves.{i64}
+use Rattle.close_rules.specs.xdr_core.Combinators.{list}
+use Rattle.close_rules.specs.xdr_results.Answers.{simple_payment_result, path_payment_success, path_payment_strict_receive_result}
+use Rattle.close_rules.specs.xdr_results.Answers.{path_payment_strict_send_result}
+use Rattle.close_rules.specs.xdr_results.Results.{operation_result_tr, operation_result}
+use Rattle.close_rules.specs.op_form.declared.amounts.CreditFault.{CreditFault}
+use Rattle.close_rules.specs.op_form.declared.amounts.CreditFault.TheVariants as credit
+use Rattle.close_rules.specs.op_form.declared.amounts.DebitFault.{DebitFault}
+use Rattle.close_rules.specs.op_form.declared.amounts.DebitFault.TheVariants as debit
+use Rattle.close_rules.specs.op_payment.declared.path_fault.PathFault.{PathFault}
+use Rattle.close_rules.specs.op_payment.declared.path_fault.PathFault.TheVariants as fault
+use Rattle.close_rules.specs.op_payment.PathPayment.{arrived}
+use Rattle.close_rules.specs.op_payment.PathReceive as receiving
+use Rattle.close_rules.specs.op_payment.PathSend as sending
 use Rattle.close_laws.proofs.AnswerSteps.{IsAnswer, exceeded}
 use Rattle.close_laws.proofs.Bytes.{IsId}
 use Rattle.close_laws.proofs.BytesCrossing.{IsTold, all_told}

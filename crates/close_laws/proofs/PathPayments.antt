@@ -2,34 +2,34 @@
 use Rattle.std.proofs.Common.{◌≡◌, ℕ, ◌≤◌, ◌||◌, not, List, length, None, Result, Ok, Err, arith}
 use Rattle.std.specs.Prelude.{ℤ, pos, ◌≤ℤ◌, int_le}
 use Rattle.std.specs.List.{AllByRecursion}
-use Rattle.ledger_types.specs.Ids.{account_of}
-use Rattle.ledger_types.specs.declared.ids.AccountId.{AccountId}
-use Rattle.ledger_types.specs.declared.ids.MuxedAccount.{MuxedAccount}
-use Rattle.ledger_types.specs.declared.asset.Asset.{Asset}
-use Rattle.op_types.specs.declared.payment_ops.PathPaymentStrictReceiveOp.{PathPaymentStrictReceiveOp}
-use Rattle.op_types.specs.declared.payment_ops.PathPaymentStrictSendOp.{PathPaymentStrictSendOp}
-use Rattle.op_types.specs.declared.payment_results.PathPaymentStrictReceiveResult.TheVariants as received_code
-use Rattle.op_types.specs.declared.payment_results.PathPaymentStrictSendResult.TheVariants as sent_code
-use Rattle.op_types.specs.declared.operation.OperationBody.TheVariants as body
-use Rattle.xdr_core.specs.Combinators.{list}
-use Rattle.xdr_entries.specs.Basic as basic
-use Rattle.xdr_tx.specs.Operations.{operation_body, path_payment_strict_receive_op, path_payment_strict_send_op}
-use Rattle.entry_map.specs.EntryMap.{EntryMap}
-use Rattle.entry_slots.specs.Tests.{first_fault}
-use Rattle.sponsor_rules.specs.declared.context.Ctx.{Ctx}
-use Rattle.legal_rules.specs.Legal.{view}
-use Rattle.legal_rules.specs.Owing.{AreEntriesLegal}
-use Rattle.legal_rules.proofs.Passed.{neither}
-use Rattle.trade_cross.specs.Crossable.{IsCrossable}
-use Rattle.trade_cross.proofs.Crossables.{crossable_of}
-use Rattle.op_form.specs.Amounts.{map_after_credit, map_after_debit}
-use Rattle.op_form.specs.Done.{Attempt}
-use Rattle.op_payment.specs.declared.path_fault.PathFault.{PathFault}
-use Rattle.op_payment.specs.PathPayment.{is_path_valid}
-use Rattle.op_payment.specs.PathReceive as receiving
-use Rattle.op_payment.specs.PathSend as sending
-use Rattle.op_payment.specs.Paths.{Carried, set_out, received, sent}
-use Rattle.op_payment.proofs.Amounts.{amount_given, amount_taken}
+use Rattle.close_rules.specs.ledger_types.Ids.{account_of}
+use Rattle.close_rules.specs.ledger_types.declared.ids.AccountId.{AccountId}
+use Rattle.close_rules.specs.ledger_types.declared.ids.MuxedAccount.{MuxedAccount}
+use Rattle.close_rules.specs.ledger_types.declared.asset.Asset.{Asset}
+use Rattle.close_rules.specs.op_types.declared.payment_ops.PathPaymentStrictReceiveOp.{PathPaymentStrictReceiveOp}
+use Rattle.close_rules.specs.op_types.declared.payment_ops.PathPaymentStrictSendOp.{PathPaymentStrictSendOp}
+use Rattle.close_rules.specs.op_types.declared.payment_results.PathPaymentStrictReceiveResult.TheVariants as received_code
+use Rattle.close_rules.specs.op_types.declared.payment_results.PathPaymentStrictSendResult.TheVariants as sent_code
+use Rattle.close_rules.specs.op_types.declared.operation.OperationBody.TheVariants as body
+use Rattle.close_rules.specs.xdr_core.Combinators.{list}
+use Rattle.close_rules.specs.xdr_entries.Basic as basic
+use Rattle.close_rules.specs.xdr_tx.Operations.{operation_body, path_payment_strict_receive_op, path_payment_strict_send_op}
+use Rattle.bucket_levels.specs.entry_map.EntryMap.{EntryMap}
+use Rattle.close_rules.specs.entry_slots.Tests.{first_fault}
+use Rattle.close_rules.specs.sponsor_rules.declared.context.Ctx.{Ctx}
+use Rattle.close_rules.specs.legal_rules.Legal.{view}
+use Rattle.close_rules.specs.legal_rules.Owing.{AreEntriesLegal}
+use Rattle.close_rules.proofs.legal_rules_proofs.Passed.{neither}
+use Rattle.close_rules.specs.trade_cross.Crossable.{IsCrossable}
+use Rattle.close_rules.proofs.trade_cross_proofs.Crossables.{crossable_of}
+use Rattle.close_rules.specs.op_form.Amounts.{map_after_credit, map_after_debit}
+use Rattle.close_rules.specs.op_form.Done.{Attempt}
+use Rattle.close_rules.specs.op_payment.declared.path_fault.PathFault.{PathFault}
+use Rattle.close_rules.specs.op_payment.PathPayment.{is_path_valid}
+use Rattle.close_rules.specs.op_payment.PathReceive as receiving
+use Rattle.close_rules.specs.op_payment.PathSend as sending
+use Rattle.close_rules.specs.op_payment.Paths.{Carried, set_out, received, sent}
+use Rattle.close_rules.proofs.op_payment_proofs.Amounts.{amount_given, amount_taken}
 use Rattle.close_rules.specs.State.{IsSpelled}
 use Rattle.close_laws.proofs.Bytes.{IsId, muxed_id}
 use Rattle.close_laws.proofs.BytesAmounts.{given_bytes, taken_bytes}

@@ -1,24 +1,24 @@
 -- What ends a revocation of pool shares keeps the bounds on lengths.
 use Rattle.std.proofs.Common.{List, [], ◌∷◌, ℕ, zero, suc, Bool, true, false, if◌then◌else◌, Option, Some, None, Result}
 use Rattle.std.specs.Prelude.{is_some}
-use Rattle.ledger_types.specs.declared.ids.AccountId.{AccountId}
-use Rattle.ledger_types.specs.declared.ids.Hash.{Hash}
-use Rattle.ledger_types.specs.declared.asset.Asset.{Asset}
-use Rattle.ledger_types.specs.declared.asset.TrustLineAsset.TheVariants as line
-use Rattle.ledger_types.specs.declared.trust_line.TrustLineEntry.{TrustLineEntry}
-use Rattle.ledger_types.specs.declared.liquidity_pool.LiquidityPoolEntry.{LiquidityPoolEntry}
-use Rattle.op_types.specs.declared.operation_result.OperationResult.{OperationResult}
-use Rattle.op_types.specs.declared.operation_result.OperationResult.TheVariants.{NotSupported}
-use Rattle.entry_map.specs.EntryMap.{EntryMap}
-use Rattle.entry_slots.specs.Balances.{balance_at}
-use Rattle.entry_slots.specs.Lines.{line_at}
-use Rattle.entry_slots.specs.Pools.{pool_at}
-use Rattle.sponsor_rules.specs.declared.context.Ctx.{Ctx}
-use Rattle.sponsor_rules.specs.Adding.{map_after_adding}
-use Rattle.op_form.specs.Assets.{is_issued_by}
-use Rattle.pool_shares.specs.Withdrawing.{part_of}
-use Rattle.op_flags.specs.RevokedShares as revoking
-use Rattle.op_flags.specs.RevokedShares.{Revoked, Given, given_of}
+use Rattle.close_rules.specs.ledger_types.declared.ids.AccountId.{AccountId}
+use Rattle.close_rules.specs.ledger_types.declared.ids.Hash.{Hash}
+use Rattle.close_rules.specs.ledger_types.declared.asset.Asset.{Asset}
+use Rattle.close_rules.specs.ledger_types.declared.asset.TrustLineAsset.TheVariants as line
+use Rattle.close_rules.specs.ledger_types.declared.trust_line.TrustLineEntry.{TrustLineEntry}
+use Rattle.close_rules.specs.ledger_types.declared.liquidity_pool.LiquidityPoolEntry.{LiquidityPoolEntry}
+use Rattle.close_rules.specs.op_types.declared.operation_result.OperationResult.{OperationResult}
+use Rattle.close_rules.specs.op_types.declared.operation_result.OperationResult.TheVariants.{NotSupported}
+use Rattle.bucket_levels.specs.entry_map.EntryMap.{EntryMap}
+use Rattle.close_rules.specs.entry_slots.Balances.{balance_at}
+use Rattle.close_rules.specs.entry_slots.Lines.{line_at}
+use Rattle.close_rules.specs.entry_slots.Pools.{pool_at}
+use Rattle.close_rules.specs.sponsor_rules.declared.context.Ctx.{Ctx}
+use Rattle.close_rules.specs.sponsor_rules.Adding.{map_after_adding}
+use Rattle.close_rules.specs.op_form.Assets.{is_issued_by}
+use Rattle.close_rules.specs.pool_shares.Withdrawing.{part_of}
+use Rattle.close_rules.specs.op_flags.RevokedShares as revoking
+use Rattle.close_rules.specs.op_flags.RevokedShares.{Revoked, Given, given_of}
 use Rattle.close_laws.proofs.AnswerSteps.{IsAnswer, not_supported, Answers, Any, first_answers, charge_answers}
 use Rattle.close_laws.proofs.AnswerSteps.{step_answers}
 

@@ -4,52 +4,52 @@ use Rattle.std.proofs.Common.{Option, Some, None, Bool, true, false, if◌then�
 use Rattle.std.proofs.Common.{◌&&◌}
 use Rattle.std.proofs.lemmas.List.Elements.{All-nil, All-cons, All-head, All-tail}
 use Rattle.std.specs.List.{AllByRecursion, list_all}
-use Rattle.ledger_types.specs.declared.ids.AccountId.{AccountId}
-use Rattle.ledger_types.specs.declared.ids.Hash.{Hash}
-use Rattle.ledger_types.specs.declared.account.AccountEntry.{AccountEntry}
-use Rattle.op_types.specs.declared.operation.Operation.{Operation}
-use Rattle.op_types.specs.declared.operation.OperationBody.{OperationBody}
-use Rattle.op_types.specs.declared.operation.OperationBody.TheVariants as body
-use Rattle.op_types.specs.declared.operation_result.OperationResult.{OperationResult}
-use Rattle.op_types.specs.declared.transaction.Transaction.{Transaction}
-use Rattle.op_types.specs.declared.transaction.FeeBumpTransaction.{FeeBumpTransaction}
-use Rattle.op_types.specs.declared.transaction.TransactionEnvelope.{TransactionEnvelope}
-use Rattle.op_types.specs.declared.transaction.TransactionEnvelope.TheVariants as envelope
-use Rattle.op_types.specs.declared.transaction_result.TransactionOutcome.{TransactionOutcome}
-use Rattle.op_types.specs.declared.transaction_result.TransactionOutcome.TheVariants as outcome
-use Rattle.op_types.specs.declared.transaction_result.TransactionResultPair.{TransactionResultPair}
-use Rattle.xdr_core.specs.Leaves.{i64, fixed}
-use Rattle.xdr_core.specs.Combinators.{constant, list}
-use Rattle.xdr_core.specs.Xdr.{list_of}
-use Rattle.xdr_entries.specs.Basic.{hash, account_id, claimable_balance_id, asset}
-use Rattle.xdr_results.specs.Answers as answer
-use Rattle.xdr_results.specs.Results.{operation_result_tr, operation_result, inner_transaction_outcome}
-use Rattle.xdr_results.specs.Results.{inner_transaction_result, inner_transaction_result_pair, transaction_outcome}
-use Rattle.xdr_results.specs.Results.{transaction_result, transaction_result_pair, transaction_result_set}
-use Rattle.entry_map.specs.EntryMap.{EntryMap}
-use Rattle.entry_slots.specs.Accounts.{account_at}
-use Rattle.entry_slots.specs.Tests.{Tests, first_fault}
-use Rattle.sponsor_rules.specs.declared.context.Ctx.{Ctx}
-use Rattle.sponsor_rules.specs.Signers.{map_after_removing_preauth}
-use Rattle.signer_check.specs.declared.held.HeldSignature.{HeldSignature}
-use Rattle.fee_rules.specs.Turns.{apply_order_of}
-use Rattle.op_form.specs.declared.levels.ThresholdLevel.TheVariants.{Low}
-use Rattle.op_form.specs.DefaultResults.{default_result}
-use Rattle.op_laws.specs.Laws.{AllLawful}
-use Rattle.op_laws.specs.Steps.{TransactionLaws, LegalSettles}
-use Rattle.value_hashes.specs.Hashes.{signed_hash_of, transaction_hash_of}
-use Rattle.tx_apply.specs.Operations.{operations_of}
-use Rattle.tx_apply.specs.Checks as checks
-use Rattle.tx_apply.specs.FeeBump as bump
-use Rattle.op_types.specs.InnerOutcome.{inner_outcome}
-use Rattle.tx_apply.specs.InnerResult.{inner_pair, bump_outcome}
-use Rattle.tx_apply.specs.Running.{placed, done_by, done_at, Ran, run}
-use Rattle.tx_apply.specs.Set.{Setting, ctx_in, all_held, envelope_applied, result_pair, all_applied}
-use Rattle.tx_apply.specs.Set.{envelopes_in_order}
-use Rattle.tx_apply.specs.Set.{fees_taken_of}
-use Rattle.tx_apply.specs.Signing.{Auth, Auths, source_of, auth_of, auths_of, auth_result, auth_results, are_used}
-use Rattle.tx_apply.specs.Transaction as spec
-use Rattle.tx_apply.proofs.Conserving.{all_at}
+use Rattle.close_rules.specs.ledger_types.declared.ids.AccountId.{AccountId}
+use Rattle.close_rules.specs.ledger_types.declared.ids.Hash.{Hash}
+use Rattle.close_rules.specs.ledger_types.declared.account.AccountEntry.{AccountEntry}
+use Rattle.close_rules.specs.op_types.declared.operation.Operation.{Operation}
+use Rattle.close_rules.specs.op_types.declared.operation.OperationBody.{OperationBody}
+use Rattle.close_rules.specs.op_types.declared.operation.OperationBody.TheVariants as body
+use Rattle.close_rules.specs.op_types.declared.operation_result.OperationResult.{OperationResult}
+use Rattle.close_rules.specs.op_types.declared.transaction.Transaction.{Transaction}
+use Rattle.close_rules.specs.op_types.declared.transaction.FeeBumpTransaction.{FeeBumpTransaction}
+use Rattle.close_rules.specs.op_types.declared.transaction.TransactionEnvelope.{TransactionEnvelope}
+use Rattle.close_rules.specs.op_types.declared.transaction.TransactionEnvelope.TheVariants as envelope
+use Rattle.close_rules.specs.op_types.declared.transaction_result.TransactionOutcome.{TransactionOutcome}
+use Rattle.close_rules.specs.op_types.declared.transaction_result.TransactionOutcome.TheVariants as outcome
+use Rattle.close_rules.specs.op_types.declared.transaction_result.TransactionResultPair.{TransactionResultPair}
+use Rattle.close_rules.specs.xdr_core.Leaves.{i64, fixed}
+use Rattle.close_rules.specs.xdr_core.Combinators.{constant, list}
+use Rattle.close_rules.specs.xdr_core.Xdr.{list_of}
+use Rattle.close_rules.specs.xdr_entries.Basic.{hash, account_id, claimable_balance_id, asset}
+use Rattle.close_rules.specs.xdr_results.Answers as answer
+use Rattle.close_rules.specs.xdr_results.Results.{operation_result_tr, operation_result, inner_transaction_outcome}
+use Rattle.close_rules.specs.xdr_results.Results.{inner_transaction_result, inner_transaction_result_pair, transaction_outcome}
+use Rattle.close_rules.specs.xdr_results.Results.{transaction_result, transaction_result_pair, transaction_result_set}
+use Rattle.bucket_levels.specs.entry_map.EntryMap.{EntryMap}
+use Rattle.close_rules.specs.entry_slots.Accounts.{account_at}
+use Rattle.close_rules.specs.entry_slots.Tests.{Tests, first_fault}
+use Rattle.close_rules.specs.sponsor_rules.declared.context.Ctx.{Ctx}
+use Rattle.close_rules.specs.sponsor_rules.Signers.{map_after_removing_preauth}
+use Rattle.close_rules.specs.signer_check.declared.held.HeldSignature.{HeldSignature}
+use Rattle.close_rules.specs.fee_rules.Turns.{apply_order_of}
+use Rattle.close_rules.specs.op_form.declared.levels.ThresholdLevel.TheVariants.{Low}
+use Rattle.close_rules.specs.op_form.DefaultResults.{default_result}
+use Rattle.close_rules.specs.op_laws.Laws.{AllLawful}
+use Rattle.close_rules.specs.op_laws.Steps.{TransactionLaws, LegalSettles}
+use Rattle.close_rules.specs.value_hashes.Hashes.{signed_hash_of, transaction_hash_of}
+use Rattle.close_rules.specs.tx_apply.Operations.{operations_of}
+use Rattle.close_rules.specs.tx_apply.Checks as checks
+use Rattle.close_rules.specs.tx_apply.FeeBump as bump
+use Rattle.close_rules.specs.op_types.InnerOutcome.{inner_outcome}
+use Rattle.close_rules.specs.tx_apply.InnerResult.{inner_pair, bump_outcome}
+use Rattle.close_rules.specs.tx_apply.Running.{placed, done_by, done_at, Ran, run}
+use Rattle.close_rules.specs.tx_apply.Set.{Setting, ctx_in, all_held, envelope_applied, result_pair, all_applied}
+use Rattle.close_rules.specs.tx_apply.Set.{envelopes_in_order}
+use Rattle.close_rules.specs.tx_apply.Set.{fees_taken_of}
+use Rattle.close_rules.specs.tx_apply.Signing.{Auth, Auths, source_of, auth_of, auths_of, auth_result, auth_results, are_used}
+use Rattle.close_rules.specs.tx_apply.Transaction as spec
+use Rattle.close_rules.proofs.tx_apply_proofs.Conserving.{all_at}
 use Rattle.close_rules.specs.Close.{setting_in}
 use Rattle.close_laws.specs.Results.{ResultsAreSpelled}
 use Rattle.close_laws.proofs.SpelledSets.{set_spelled, envelopes_few, body_spelled}

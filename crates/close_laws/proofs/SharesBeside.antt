@@ -4,42 +4,42 @@ use Rattle.std.proofs.Common.{Option, Some, None}
 use Rattle.std.specs.Prelude.{ℤ, pos, neg_ℤ}
 use Rattle.std.specs.List.{filter}
 use Rattle.std.specs.FinMap.{get}
-use Rattle.ledger_types.specs.declared.ids.AccountId.{AccountId}
-use Rattle.ledger_types.specs.declared.account.AccountEntry.{AccountEntry}
-use Rattle.ledger_types.specs.declared.asset.Asset.{Asset}
-use Rattle.ledger_types.specs.declared.asset.Asset.TheVariants as asset
-use Rattle.ledger_types.specs.declared.asset.TrustLineAsset.{TrustLineAsset}
-use Rattle.ledger_types.specs.declared.asset.TrustLineAsset.TheVariants as line
-use Rattle.ledger_types.specs.declared.trust_line.TrustLineEntry.{TrustLineEntry}
-use Rattle.ledger_types.specs.declared.offer.OfferEntry.{OfferEntry}
-use Rattle.ledger_types.specs.declared.entry.LedgerEntry.{LedgerEntry}
-use Rattle.ledger_types.specs.declared.key.LedgerKey.{LedgerKey}
-use Rattle.ledger_types.specs.declared.key.LedgerKey.TheVariants as key
-use Rattle.ledger_types.specs.Keys.{key_of}
-use Rattle.entry_map.specs.EntryMap.{EntryMap, put}
-use Rattle.entry_slots.specs.Accounts.{with_account}
-use Rattle.entry_slots.specs.Lines.{with_line}
-use Rattle.entry_sums.proofs.Lookups.{put_elsewhere}
-use Rattle.sponsor_rules.specs.declared.count.Count.TheVariants.{Sponsoring}
-use Rattle.sponsor_rules.specs.Counting.{with_more}
-use Rattle.sponsor_rules.specs.Payers.{is_same_account}
-use Rattle.sponsor_rules.specs.Paying.{map_after_charging}
-use Rattle.sponsor_rules.specs.Removing.{map_after_removing}
-use Rattle.sponsor_rules.proofs.Keeping.{with_count_means}
-use Rattle.offer_book.specs.Book.{offers_by}
-use Rattle.legal_rules.specs.Binding.{bound_account, bound_line, binding, releasing}
-use Rattle.legal_rules.specs.Holdings.{IsKeyed}
-use Rattle.legal_rules.specs.OfferLiabilities.{bound_of}
-use Rattle.legal_rules.specs.ShareLaws.{with_uses, map_with_uses_at, map_with_uses}
-use Rattle.legal_rules.specs.Trades.{holder}
-use Rattle.legal_rules.proofs.Leaving.{keyed_put}
-use Rattle.trade_cross.specs.Cancelling.{map_after_cancelling}
-use Rattle.trade_cross.specs.Crossing.{offer_key}
-use Rattle.pool_shares.proofs.Beside.{IsNoAccount, account_beside, account_keyed, line_beside, line_keyed}
-use Rattle.pool_shares.proofs.Beside.{removing_beside, removing_keyed}
-use Rattle.op_form.specs.Assets.{line_asset_of}
-use Rattle.op_flags.specs.LineFlags.{with_flags, map_after_revoking, map_after_flagging}
-use Rattle.op_flags.specs.Revoking.{trades_in, map_after_cancelling_all, map_without_offers}
+use Rattle.close_rules.specs.ledger_types.declared.ids.AccountId.{AccountId}
+use Rattle.close_rules.specs.ledger_types.declared.account.AccountEntry.{AccountEntry}
+use Rattle.close_rules.specs.ledger_types.declared.asset.Asset.{Asset}
+use Rattle.close_rules.specs.ledger_types.declared.asset.Asset.TheVariants as asset
+use Rattle.close_rules.specs.ledger_types.declared.asset.TrustLineAsset.{TrustLineAsset}
+use Rattle.close_rules.specs.ledger_types.declared.asset.TrustLineAsset.TheVariants as line
+use Rattle.close_rules.specs.ledger_types.declared.trust_line.TrustLineEntry.{TrustLineEntry}
+use Rattle.close_rules.specs.ledger_types.declared.offer.OfferEntry.{OfferEntry}
+use Rattle.close_rules.specs.ledger_types.declared.entry.LedgerEntry.{LedgerEntry}
+use Rattle.close_rules.specs.ledger_types.declared.key.LedgerKey.{LedgerKey}
+use Rattle.close_rules.specs.ledger_types.declared.key.LedgerKey.TheVariants as key
+use Rattle.close_rules.specs.ledger_types.Keys.{key_of}
+use Rattle.bucket_levels.specs.entry_map.EntryMap.{EntryMap, put}
+use Rattle.close_rules.specs.entry_slots.Accounts.{with_account}
+use Rattle.close_rules.specs.entry_slots.Lines.{with_line}
+use Rattle.close_rules.proofs.entry_sums_proofs.Lookups.{put_elsewhere}
+use Rattle.close_rules.specs.sponsor_rules.declared.count.Count.TheVariants.{Sponsoring}
+use Rattle.close_rules.specs.sponsor_rules.Counting.{with_more}
+use Rattle.close_rules.specs.sponsor_rules.Payers.{is_same_account}
+use Rattle.close_rules.specs.sponsor_rules.Paying.{map_after_charging}
+use Rattle.close_rules.specs.sponsor_rules.Removing.{map_after_removing}
+use Rattle.close_rules.proofs.sponsor_rules_proofs.Keeping.{with_count_means}
+use Rattle.close_rules.specs.offer_book.Book.{offers_by}
+use Rattle.close_rules.specs.legal_rules.Binding.{bound_account, bound_line, binding, releasing}
+use Rattle.close_rules.specs.legal_rules.Holdings.{IsKeyed}
+use Rattle.close_rules.specs.legal_rules.OfferLiabilities.{bound_of}
+use Rattle.close_rules.specs.legal_rules.ShareLaws.{with_uses, map_with_uses_at, map_with_uses}
+use Rattle.close_rules.specs.legal_rules.Trades.{holder}
+use Rattle.close_rules.proofs.legal_rules_proofs.Leaving.{keyed_put}
+use Rattle.close_rules.specs.trade_cross.Cancelling.{map_after_cancelling}
+use Rattle.close_rules.specs.trade_cross.Crossing.{offer_key}
+use Rattle.close_rules.proofs.pool_shares_proofs.Beside.{IsNoAccount, account_beside, account_keyed, line_beside, line_keyed}
+use Rattle.close_rules.proofs.pool_shares_proofs.Beside.{removing_beside, removing_keyed}
+use Rattle.close_rules.specs.op_form.Assets.{line_asset_of}
+use Rattle.close_rules.specs.op_flags.LineFlags.{with_flags, map_after_revoking, map_after_flagging}
+use Rattle.close_rules.specs.op_flags.Revoking.{trades_in, map_after_cancelling_all, map_without_offers}
 
 -- the keys of pools and of lines of their shares
 abbrev pub IsOfPools : LedgerKey → Type 0

@@ -4,37 +4,37 @@ use Rattle.std.proofs.Common.{if◌then◌else◌, ◌⊎◌, inl, inr, Option, 
 use Rattle.std.specs.Prelude.{ℤ, pos, neg_ℤ, ◌≤ℤ◌}
 use Rattle.std.specs.Ordering.{eq_by_cmp}
 use Rattle.std.specs.FinMap.{get}
-use Rattle.ledger_types.specs.declared.ids.AccountId.{AccountId}
-use Rattle.ledger_types.specs.declared.ids.Hash.{Hash}
-use Rattle.ledger_types.specs.declared.asset.TrustLineAsset.TheVariants as line
-use Rattle.ledger_types.specs.declared.trust_line.TrustLineEntry.{TrustLineEntry}
-use Rattle.ledger_types.specs.declared.liquidity_pool.LiquidityPoolEntry.{LiquidityPoolEntry}
-use Rattle.ledger_types.specs.declared.entry.LedgerEntry.{LedgerEntry}
-use Rattle.ledger_types.specs.declared.key.LedgerKey.{LedgerKey}
-use Rattle.ledger_types.specs.declared.key.LedgerKey.TheVariants as key
-use Rattle.ledger_types.specs.KeyOrder.{key_cmp}
-use Rattle.ledger_types.specs.Keys.{key_of}
-use Rattle.entry_map.specs.EntryMap.{EntryMap, erase}
-use Rattle.entry_map.proofs.KeyMaps.{same_keys, same_itself}
-use Rattle.entry_slots.specs.EntrySponsor.{sponsor_of}
-use Rattle.entry_slots.specs.Lines.{line_of, line_at}
-use Rattle.entry_slots.specs.Pools.{pool_at, with_pool}
-use Rattle.entry_sums.proofs.Lookups.{erase_there, erase_elsewhere, erase_each}
-use Rattle.sponsor_rules.specs.Charge.{charge_of}
-use Rattle.sponsor_rules.specs.Removing.{map_without_charge, map_after_removing_entry, map_after_removing}
-use Rattle.legal_rules.specs.Holdings.{IsKeyed}
-use Rattle.legal_rules.specs.Legal.{view}
-use Rattle.legal_rules.specs.Owing.{AreEntriesLegal, nothing_owed}
-use Rattle.legal_rules.specs.ShareLaws.{with_lines, map_with_uses}
-use Rattle.legal_rules.proofs.LinesLeft.{line_legal}
-use Rattle.trade_cross.specs.Holdings.{paying}
-use Rattle.pool_shares.specs.ShareLines.{has_no_line}
-use Rattle.pool_shares.specs.Withdrawing.{Part, with_change, share_key, map_after_withdrawing}
-use Rattle.pool_shares.specs.Premises.{ArePoolsSound}
-use Rattle.pool_shares.proofs.Beside.{paying_beside, paying_keyed, pool_beside, pool_keyed, removing_beside}
-use Rattle.pool_shares.proofs.Beside.{removing_keyed}
-use Rattle.pool_shares.proofs.Sound.{entries_sound}
-use Rattle.op_flags.specs.RevokedShares as revoking
+use Rattle.close_rules.specs.ledger_types.declared.ids.AccountId.{AccountId}
+use Rattle.close_rules.specs.ledger_types.declared.ids.Hash.{Hash}
+use Rattle.close_rules.specs.ledger_types.declared.asset.TrustLineAsset.TheVariants as line
+use Rattle.close_rules.specs.ledger_types.declared.trust_line.TrustLineEntry.{TrustLineEntry}
+use Rattle.close_rules.specs.ledger_types.declared.liquidity_pool.LiquidityPoolEntry.{LiquidityPoolEntry}
+use Rattle.close_rules.specs.ledger_types.declared.entry.LedgerEntry.{LedgerEntry}
+use Rattle.close_rules.specs.ledger_types.declared.key.LedgerKey.{LedgerKey}
+use Rattle.close_rules.specs.ledger_types.declared.key.LedgerKey.TheVariants as key
+use Rattle.close_rules.specs.ledger_types.KeyOrder.{key_cmp}
+use Rattle.close_rules.specs.ledger_types.Keys.{key_of}
+use Rattle.bucket_levels.specs.entry_map.EntryMap.{EntryMap, erase}
+use Rattle.bucket_levels.proofs.entry_map_proofs.KeyMaps.{same_keys, same_itself}
+use Rattle.close_rules.specs.entry_slots.EntrySponsor.{sponsor_of}
+use Rattle.close_rules.specs.entry_slots.Lines.{line_of, line_at}
+use Rattle.close_rules.specs.entry_slots.Pools.{pool_at, with_pool}
+use Rattle.close_rules.proofs.entry_sums_proofs.Lookups.{erase_there, erase_elsewhere, erase_each}
+use Rattle.close_rules.specs.sponsor_rules.Charge.{charge_of}
+use Rattle.close_rules.specs.sponsor_rules.Removing.{map_without_charge, map_after_removing_entry, map_after_removing}
+use Rattle.close_rules.specs.legal_rules.Holdings.{IsKeyed}
+use Rattle.close_rules.specs.legal_rules.Legal.{view}
+use Rattle.close_rules.specs.legal_rules.Owing.{AreEntriesLegal, nothing_owed}
+use Rattle.close_rules.specs.legal_rules.ShareLaws.{with_lines, map_with_uses}
+use Rattle.close_rules.proofs.legal_rules_proofs.LinesLeft.{line_legal}
+use Rattle.close_rules.specs.trade_cross.Holdings.{paying}
+use Rattle.close_rules.specs.pool_shares.ShareLines.{has_no_line}
+use Rattle.close_rules.specs.pool_shares.Withdrawing.{Part, with_change, share_key, map_after_withdrawing}
+use Rattle.close_rules.specs.pool_shares.Premises.{ArePoolsSound}
+use Rattle.close_rules.proofs.pool_shares_proofs.Beside.{paying_beside, paying_keyed, pool_beside, pool_keyed, removing_beside}
+use Rattle.close_rules.proofs.pool_shares_proofs.Beside.{removing_keyed}
+use Rattle.close_rules.proofs.pool_shares_proofs.Sound.{entries_sound}
+use Rattle.close_rules.specs.op_flags.RevokedShares as revoking
 use Rattle.close_laws.proofs.Bytes.{AreBytes}
 use Rattle.close_laws.proofs.BytesPools.{same_pool, may_give, shares_bytes, share_line_removed}
 use Rattle.close_laws.proofs.SharesBeside.{IsOfPools, KeepsPools, keeps_twice, no_account, uses_keep}

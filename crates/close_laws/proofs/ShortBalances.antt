@@ -3,31 +3,31 @@ use Rattle.std.proofs.Common.{◌≡◌, ℕ, ◌<◌, ◌≤◌, List, [], ◌+
 use Rattle.std.proofs.lemmas.Int.{ints}
 use Rattle.std.specs.Prelude.{◌≤ℤ◌, FitsSigned}
 use Rattle.std.specs.Int.{w32, w64}
-use Rattle.ledger_types.specs.declared.ids.ClaimableBalanceId.{ClaimableBalanceId}
-use Rattle.ledger_types.specs.declared.asset.Asset.{Asset}
-use Rattle.ledger_types.specs.declared.asset.Asset.TheVariants as asset
-use Rattle.ledger_types.specs.declared.asset.TrustLineAsset.{TrustLineAsset}
-use Rattle.ledger_types.specs.declared.asset.TrustLineAsset.TheVariants as line
-use Rattle.ledger_types.specs.declared.trust_line.TrustLineEntry.{TrustLineEntry}
-use Rattle.ledger_types.specs.declared.trust_line.TrustLineEntryExtensionV1.{TrustLineEntryExtensionV1}
-use Rattle.ledger_types.specs.declared.trust_line.TrustLineEntryExtensionV2.{TrustLineEntryExtensionV2}
-use Rattle.ledger_types.specs.declared.claimable_balance.Claimant.{Claimant}
-use Rattle.ledger_types.specs.declared.claimable_balance.ClaimableBalanceEntry.{ClaimableBalanceEntry}
-use Rattle.ledger_types.specs.declared.claimable_balance.ClaimableBalanceEntryExtensionV1.{
+use Rattle.close_rules.specs.ledger_types.declared.ids.ClaimableBalanceId.{ClaimableBalanceId}
+use Rattle.close_rules.specs.ledger_types.declared.asset.Asset.{Asset}
+use Rattle.close_rules.specs.ledger_types.declared.asset.Asset.TheVariants as asset
+use Rattle.close_rules.specs.ledger_types.declared.asset.TrustLineAsset.{TrustLineAsset}
+use Rattle.close_rules.specs.ledger_types.declared.asset.TrustLineAsset.TheVariants as line
+use Rattle.close_rules.specs.ledger_types.declared.trust_line.TrustLineEntry.{TrustLineEntry}
+use Rattle.close_rules.specs.ledger_types.declared.trust_line.TrustLineEntryExtensionV1.{TrustLineEntryExtensionV1}
+use Rattle.close_rules.specs.ledger_types.declared.trust_line.TrustLineEntryExtensionV2.{TrustLineEntryExtensionV2}
+use Rattle.close_rules.specs.ledger_types.declared.claimable_balance.Claimant.{Claimant}
+use Rattle.close_rules.specs.ledger_types.declared.claimable_balance.ClaimableBalanceEntry.{ClaimableBalanceEntry}
+use Rattle.close_rules.specs.ledger_types.declared.claimable_balance.ClaimableBalanceEntryExtensionV1.{
   ClaimableBalanceEntryExtensionV1,
 }
-use Rattle.xdr_core.specs.Leaves.{i32, i64}
-use Rattle.xdr_core.specs.Combinators.{constant}
-use Rattle.xdr_core.specs.Xdr.{extension_of}
-use Rattle.xdr_entries.specs.Basic as basic
-use Rattle.xdr_entries.specs.Entries.{line_v2_fields, trust_line_extension_v2, line_v1_fields, trust_line_extension_v1}
-use Rattle.xdr_entries.specs.Entries.{line_fields, trust_line_entry, claimant_fields, claimant, balance_v1_fields}
-use Rattle.xdr_entries.specs.Entries.{claimable_balance_extension_v1, balance_fields, claimable_balance_entry}
-use Rattle.valid_values.specs.Predicates.{is_valid_stored_predicate}
-use Rattle.entry_slots.specs.LineExtensions.{line_liabilities, line_liabilities_in, line_second_in, use_count}
-use Rattle.entry_slots.specs.LineExtensions.{use_count_in}
-use Rattle.reserve_rules.specs.Reserve.{greatest_i64}
-use Rattle.legal_rules.specs.Ranges.{balance_flags}
+use Rattle.close_rules.specs.xdr_core.Leaves.{i32, i64}
+use Rattle.close_rules.specs.xdr_core.Combinators.{constant}
+use Rattle.close_rules.specs.xdr_core.Xdr.{extension_of}
+use Rattle.close_rules.specs.xdr_entries.Basic as basic
+use Rattle.close_rules.specs.xdr_entries.Entries.{line_v2_fields, trust_line_extension_v2, line_v1_fields, trust_line_extension_v1}
+use Rattle.close_rules.specs.xdr_entries.Entries.{line_fields, trust_line_entry, claimant_fields, claimant, balance_v1_fields}
+use Rattle.close_rules.specs.xdr_entries.Entries.{claimable_balance_extension_v1, balance_fields, claimable_balance_entry}
+use Rattle.close_rules.specs.valid_values.Predicates.{is_valid_stored_predicate}
+use Rattle.close_rules.specs.entry_slots.LineExtensions.{line_liabilities, line_liabilities_in, line_second_in, use_count}
+use Rattle.close_rules.specs.entry_slots.LineExtensions.{use_count_in}
+use Rattle.close_rules.specs.reserve_rules.Reserve.{greatest_i64}
+use Rattle.close_rules.specs.legal_rules.Ranges.{balance_flags}
 use Rattle.close_rules.specs.State.{IsSpelled}
 use Rattle.close_laws.proofs.Bytes.{IsClaimant, AreLineBytes, AreBalanceBytes}
 use Rattle.close_laws.proofs.Short as short

@@ -2,29 +2,29 @@
 use Rattle.std.proofs.Common.{ℕ, ◌<◌, ◌≤◌, List, ◌++◌, length, All}
 use Rattle.std.proofs.Common.{Option, Some, None, ℤ, pos, arith}
 use Rattle.std.specs.Prelude.{◌≤ℤ◌}
-use Rattle.ledger_types.specs.declared.ids.AccountId.{AccountId}
-use Rattle.ledger_types.specs.declared.signer.Signer.{Signer}
-use Rattle.ledger_types.specs.declared.account.AccountEntry.{AccountEntry}
-use Rattle.ledger_types.specs.declared.account.AccountEntryExtensionV1.{AccountEntryExtensionV1}
-use Rattle.ledger_types.specs.declared.account.AccountEntryExtensionV2.{AccountEntryExtensionV2}
-use Rattle.ledger_types.specs.declared.data_entry.DataEntry.{DataEntry}
-use Rattle.ledger_types.specs.declared.entry.LedgerEntry.{LedgerEntry}
-use Rattle.ledger_types.specs.declared.entry.LedgerEntryBody.{LedgerEntryBody}
-use Rattle.ledger_types.specs.declared.entry.LedgerEntryBody.TheVariants as body
-use Rattle.ledger_types.specs.declared.entry.LedgerEntryExtensionV1.{LedgerEntryExtensionV1}
-use Rattle.xdr_core.specs.Leaves.{i32}
-use Rattle.xdr_core.specs.Xdr.{optional, extension_of}
-use Rattle.xdr_entries.specs.Basic.{account_id, signer_key, signer}
-use Rattle.xdr_entries.specs.Entries.{account_extension_v2, account_extension_v1, account_head, account_tail}
-use Rattle.xdr_entries.specs.Entries.{account_entry}
-use Rattle.xdr_entries.specs.Entries.{account_v2_fields, account_v1_fields, account_fields, data_fields}
-use Rattle.xdr_entries.specs.Entries.{entry_v1_fields}
-use Rattle.xdr_entries.specs.Entries.{entry_fields, data_entry, ledger_entry_body, ledger_entry_extension_v1}
-use Rattle.xdr_entries.specs.Entries.{ledger_entry}
-use Rattle.entry_slots.specs.AccountExtensions.{liabilities_in, second_in, sponsored_in, sponsoring_in}
-use Rattle.entry_slots.specs.EntrySponsor.{sponsor_in}
-use Rattle.reserve_rules.specs.Reserve.{greatest_i64}
-use Rattle.entry_changes.specs.Spellable.{IsEntrySpellable}
+use Rattle.close_rules.specs.ledger_types.declared.ids.AccountId.{AccountId}
+use Rattle.close_rules.specs.ledger_types.declared.signer.Signer.{Signer}
+use Rattle.close_rules.specs.ledger_types.declared.account.AccountEntry.{AccountEntry}
+use Rattle.close_rules.specs.ledger_types.declared.account.AccountEntryExtensionV1.{AccountEntryExtensionV1}
+use Rattle.close_rules.specs.ledger_types.declared.account.AccountEntryExtensionV2.{AccountEntryExtensionV2}
+use Rattle.close_rules.specs.ledger_types.declared.data_entry.DataEntry.{DataEntry}
+use Rattle.close_rules.specs.ledger_types.declared.entry.LedgerEntry.{LedgerEntry}
+use Rattle.close_rules.specs.ledger_types.declared.entry.LedgerEntryBody.{LedgerEntryBody}
+use Rattle.close_rules.specs.ledger_types.declared.entry.LedgerEntryBody.TheVariants as body
+use Rattle.close_rules.specs.ledger_types.declared.entry.LedgerEntryExtensionV1.{LedgerEntryExtensionV1}
+use Rattle.close_rules.specs.xdr_core.Leaves.{i32}
+use Rattle.close_rules.specs.xdr_core.Xdr.{optional, extension_of}
+use Rattle.close_rules.specs.xdr_entries.Basic.{account_id, signer_key, signer}
+use Rattle.close_rules.specs.xdr_entries.Entries.{account_extension_v2, account_extension_v1, account_head, account_tail}
+use Rattle.close_rules.specs.xdr_entries.Entries.{account_entry}
+use Rattle.close_rules.specs.xdr_entries.Entries.{account_v2_fields, account_v1_fields, account_fields, data_fields}
+use Rattle.close_rules.specs.xdr_entries.Entries.{entry_v1_fields}
+use Rattle.close_rules.specs.xdr_entries.Entries.{entry_fields, data_entry, ledger_entry_body, ledger_entry_extension_v1}
+use Rattle.close_rules.specs.xdr_entries.Entries.{ledger_entry}
+use Rattle.close_rules.specs.entry_slots.AccountExtensions.{liabilities_in, second_in, sponsored_in, sponsoring_in}
+use Rattle.close_rules.specs.entry_slots.EntrySponsor.{sponsor_in}
+use Rattle.close_rules.specs.reserve_rules.Reserve.{greatest_i64}
+use Rattle.close_rules.specs.entry_changes.Spellable.{IsEntrySpellable}
 use Rattle.close_rules.specs.State.{IsSpelled}
 use Rattle.close_laws.proofs.Bytes.{IsIdIf, sponsors_in, AreAccountBytes, AreDataBytes, AreBodyBytes}
 use Rattle.close_laws.proofs.Bytes.{AreEntryBytes}

@@ -1,13 +1,13 @@
 -- A header that can be written is short.
 use Rattle.std.proofs.Common.{ℕ, ◌+◌, ◌*◌, ◌<◌, Some, None, ℤ, pos, arith}
-use Rattle.ledger_types.specs.declared.header.LedgerHeader.{LedgerHeader}
-use Rattle.xdr_core.specs.Leaves.{u32, u64, i64, var}
-use Rattle.xdr_core.specs.Combinators.{◌⨾◌, Fields, struct_of, whole, times, extension, constant}
-use Rattle.xdr_core.specs.Xdr.{Xdr, list_of, extension_of}
-use Rattle.xdr_entries.specs.Basic.{hash}
-use Rattle.xdr_header.specs.Header.{ledger_close_value_signature, value_signature_fields, stellar_value, value_fields}
-use Rattle.xdr_header.specs.Header.{ledger_header_extension_v1, header_v1_fields, limits, limits_fields, counts}
-use Rattle.xdr_header.specs.Header.{counts_fields, ledger_header, header_fields}
+use Rattle.close_rules.specs.ledger_types.declared.header.LedgerHeader.{LedgerHeader}
+use Rattle.close_rules.specs.xdr_core.Leaves.{u32, u64, i64, var}
+use Rattle.close_rules.specs.xdr_core.Combinators.{◌⨾◌, Fields, struct_of, whole, times, extension, constant}
+use Rattle.close_rules.specs.xdr_core.Xdr.{Xdr, list_of, extension_of}
+use Rattle.close_rules.specs.xdr_entries.Basic.{hash}
+use Rattle.close_rules.specs.xdr_header.Header.{ledger_close_value_signature, value_signature_fields, stellar_value, value_fields}
+use Rattle.close_rules.specs.xdr_header.Header.{ledger_header_extension_v1, header_v1_fields, limits, limits_fields, counts}
+use Rattle.close_rules.specs.xdr_header.Header.{counts_fields, ledger_header, header_fields}
 use Rattle.close_rules.specs.State.{IsSpelled}
 use Rattle.close_laws.proofs.Short as short
 use Rattle.close_laws.proofs.Short.{IsShort}

@@ -3,17 +3,17 @@ use Rattle.std.proofs.Common.{◌≤◌, subst, Option, ℤ, pos, arith}
 use Rattle.std.proofs.lemmas.Int.{ints}
 use Rattle.std.specs.Prelude.{◌≤ℤ◌, FitsSigned}
 use Rattle.std.specs.Int.{w64}
-use Rattle.ledger_types.specs.declared.ids.AccountId.{AccountId}
-use Rattle.ledger_types.specs.declared.ids.Hash.{Hash}
-use Rattle.ledger_types.specs.declared.signer.Signer.{Signer}
-use Rattle.ledger_types.specs.declared.signer.SignerKey.{SignerKey}
-use Rattle.ledger_types.specs.declared.signer.SignerKey.TheVariants as signing
-use Rattle.ledger_types.specs.declared.price.Liabilities.{Liabilities}
-use Rattle.xdr_core.specs.Combinators.{constant}
-use Rattle.xdr_core.specs.Xdr.{optional}
-use Rattle.xdr_entries.specs.Basic.{hash, hash_fields, account_id, account_id_fields, signer_key, signer, signer_fields}
-use Rattle.xdr_entries.specs.Basic.{liabilities, liabilities_fields}
-use Rattle.reserve_rules.specs.Reserve.{greatest_i64}
+use Rattle.close_rules.specs.ledger_types.declared.ids.AccountId.{AccountId}
+use Rattle.close_rules.specs.ledger_types.declared.ids.Hash.{Hash}
+use Rattle.close_rules.specs.ledger_types.declared.signer.Signer.{Signer}
+use Rattle.close_rules.specs.ledger_types.declared.signer.SignerKey.{SignerKey}
+use Rattle.close_rules.specs.ledger_types.declared.signer.SignerKey.TheVariants as signing
+use Rattle.close_rules.specs.ledger_types.declared.price.Liabilities.{Liabilities}
+use Rattle.close_rules.specs.xdr_core.Combinators.{constant}
+use Rattle.close_rules.specs.xdr_core.Xdr.{optional}
+use Rattle.close_rules.specs.xdr_entries.Basic.{hash, hash_fields, account_id, account_id_fields, signer_key, signer, signer_fields}
+use Rattle.close_rules.specs.xdr_entries.Basic.{liabilities, liabilities_fields}
+use Rattle.close_rules.specs.reserve_rules.Reserve.{greatest_i64}
 use Rattle.close_rules.specs.State.{IsSpelled}
 use Rattle.close_laws.proofs.Bytes.{IsId, IsIdIf, id_of_some}
 use Rattle.close_laws.proofs.Short as short

@@ -1,11 +1,11 @@
 -- Offers are short.
 use Rattle.std.proofs.Common.{◌<◌, ◌≤◌, ℕ, pos, arith}
-use Rattle.ledger_types.specs.declared.price.Price.{Price}
-use Rattle.ledger_types.specs.declared.offer.OfferEntry.{OfferEntry}
-use Rattle.xdr_core.specs.Leaves.{i32}
-use Rattle.xdr_entries.specs.Basic as basic
-use Rattle.xdr_entries.specs.Basic.{price_fields}
-use Rattle.xdr_entries.specs.Entries.{offer_fields, offer_entry}
+use Rattle.close_rules.specs.ledger_types.declared.price.Price.{Price}
+use Rattle.close_rules.specs.ledger_types.declared.offer.OfferEntry.{OfferEntry}
+use Rattle.close_rules.specs.xdr_core.Leaves.{i32}
+use Rattle.close_rules.specs.xdr_entries.Basic as basic
+use Rattle.close_rules.specs.xdr_entries.Basic.{price_fields}
+use Rattle.close_rules.specs.xdr_entries.Entries.{offer_fields, offer_entry}
 use Rattle.close_rules.specs.State.{IsSpelled}
 use Rattle.close_laws.proofs.Bytes.{AreOfferBytes}
 use Rattle.close_laws.proofs.Short as short

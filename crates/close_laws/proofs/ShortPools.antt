@@ -1,11 +1,11 @@
 -- Pools are short.
 use Rattle.std.specs.Prelude.{ℤ, pos, ◌≤ℤ◌}
-use Rattle.ledger_types.specs.declared.asset.PoolParams.{PoolParams}
-use Rattle.ledger_types.specs.declared.liquidity_pool.LiquidityPoolEntry.{LiquidityPoolEntry}
-use Rattle.xdr_core.specs.Leaves.{i32}
-use Rattle.xdr_core.specs.Combinators.{constant}
-use Rattle.xdr_entries.specs.Basic as basic
-use Rattle.xdr_entries.specs.Entries.{pool_fields, liquidity_pool_entry}
+use Rattle.close_rules.specs.ledger_types.declared.asset.PoolParams.{PoolParams}
+use Rattle.close_rules.specs.ledger_types.declared.liquidity_pool.LiquidityPoolEntry.{LiquidityPoolEntry}
+use Rattle.close_rules.specs.xdr_core.Leaves.{i32}
+use Rattle.close_rules.specs.xdr_core.Combinators.{constant}
+use Rattle.close_rules.specs.xdr_entries.Basic as basic
+use Rattle.close_rules.specs.xdr_entries.Entries.{pool_fields, liquidity_pool_entry}
 use Rattle.close_rules.specs.State.{IsSpelled}
 use Rattle.close_laws.proofs.Bytes.{ArePoolBytes}
 use Rattle.close_laws.proofs.Short as short

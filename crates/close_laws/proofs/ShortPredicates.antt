@@ -4,14 +4,14 @@ use Rattle.std.proofs.Common.{Bool, true, false, ◌&&◌, refl, subst, ◌++◌
 use Rattle.std.proofs.lemmas.List.Elements.{All-nil, All-cons, All-head, All-tail}
 use Rattle.std.specs.Prelude.{FitsSigned}
 use Rattle.std.specs.Int.{w64}
-use Rattle.ledger_types.specs.declared.predicate.ClaimPredicate.{ClaimPredicate}
-use Rattle.ledger_types.specs.declared.predicate.ClaimPredicate.TheViews.{out-ClaimPredicate}
-use Rattle.ledger_types.specs.declared.predicate.ClaimPredicate.TheOpen.{ClaimPredicate-F}
-use Rattle.xdr_core.specs.Leaves.{i32, i64}
-use Rattle.xdr_core.specs.Combinators.{option, refused}
-use Rattle.xdr_core.specs.Xdr.{optional, list_of}
-use Rattle.xdr_entries.specs.Predicates.{level, predicate_below}
-use Rattle.valid_values.specs.Predicates.{both, is_valid_level, is_valid_below}
+use Rattle.close_rules.specs.ledger_types.declared.predicate.ClaimPredicate.{ClaimPredicate}
+use Rattle.close_rules.specs.ledger_types.declared.predicate.ClaimPredicate.TheViews.{out-ClaimPredicate}
+use Rattle.close_rules.specs.ledger_types.declared.predicate.ClaimPredicate.TheOpen.{ClaimPredicate-F}
+use Rattle.close_rules.specs.xdr_core.Leaves.{i32, i64}
+use Rattle.close_rules.specs.xdr_core.Combinators.{option, refused}
+use Rattle.close_rules.specs.xdr_core.Xdr.{optional, list_of}
+use Rattle.close_rules.specs.xdr_entries.Predicates.{level, predicate_below}
+use Rattle.close_rules.specs.valid_values.Predicates.{both, is_valid_level, is_valid_below}
 use Rattle.close_rules.specs.State.{IsSpelled}
 use Rattle.close_laws.proofs.Spelled.{each_spelled}
 use Rattle.close_laws.proofs.Short as short

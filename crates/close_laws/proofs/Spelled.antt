@@ -2,8 +2,8 @@
 use Rattle.std.proofs.Common.{ℕ, ◌≤◌, List, [], ◌∷◌, length, All}
 use Rattle.std.proofs.lemmas.List.Elements.{All-nil, All-cons}
 use Rattle.std.specs.List.{AllByRecursion}
-use Rattle.xdr_core.specs.Combinators.{list}
-use Rattle.xdr_core.specs.Xdr.{Xdr, list_of}
+use Rattle.close_rules.specs.xdr_core.Combinators.{list}
+use Rattle.close_rules.specs.xdr_core.Xdr.{Xdr, list_of}
 use Rattle.close_rules.specs.State.{IsSpelled}
 
 -- ---- lists

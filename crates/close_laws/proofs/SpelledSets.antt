@@ -3,29 +3,29 @@ use Rattle.std.proofs.Common.{◌≤◌, List, length, All, arith}
 use Rattle.std.proofs.lemmas.Int.{ints}
 use Rattle.std.specs.Prelude.{ℤ, ◌≤ℤ◌, FitsSigned}
 use Rattle.std.specs.Int.{w64}
-use Rattle.reserve_rules.specs.Reserve.{greatest_i64}
-use Rattle.op_types.specs.declared.operation.Operation.{Operation}
-use Rattle.op_types.specs.declared.operation.OperationBody.{OperationBody}
-use Rattle.op_types.specs.declared.operation.OperationBody.TheVariants as body
-use Rattle.op_types.specs.declared.transaction.Transaction.{Transaction}
-use Rattle.op_types.specs.declared.transaction.TransactionV0.{TransactionV0}
-use Rattle.op_types.specs.declared.transaction.TransactionV1Envelope.{TransactionV1Envelope}
-use Rattle.op_types.specs.declared.transaction.TransactionEnvelope.{TransactionEnvelope}
-use Rattle.op_types.specs.declared.transaction.TransactionEnvelope.TheVariants as envelope
-use Rattle.op_types.specs.declared.transaction.TransactionSet.{TransactionSet}
-use Rattle.xdr_core.specs.Leaves.{i64}
-use Rattle.xdr_core.specs.Xdr.{list_of}
-use Rattle.xdr_entries.specs.Entries.{claimant}
-use Rattle.xdr_tx.specs.Operations.{operation, operation_body, bump_sequence_op, change_trust_op}
-use Rattle.xdr_tx.specs.Operations.{create_claimable_balance_op}
-use Rattle.xdr_tx.specs.Transactions.{behind_source, transaction, transaction_v0, transaction_v1_envelope}
-use Rattle.xdr_tx.specs.Transactions.{transaction_v0_envelope, fee_bump_transaction, fee_bump_envelope}
-use Rattle.xdr_tx.specs.Transactions.{transaction_envelope, transaction_set}
-use Rattle.xdr_header.specs.declared.record.CloseRecord.{CloseRecord}
-use Rattle.xdr_header.specs.Records.{close_record}
-use Rattle.op_laws.specs.Laws.{IsFit}
-use Rattle.tx_apply.specs.Operations.{operations_of}
-use Rattle.tx_apply.specs.Laws.{AreFit, AreAllFit}
+use Rattle.close_rules.specs.reserve_rules.Reserve.{greatest_i64}
+use Rattle.close_rules.specs.op_types.declared.operation.Operation.{Operation}
+use Rattle.close_rules.specs.op_types.declared.operation.OperationBody.{OperationBody}
+use Rattle.close_rules.specs.op_types.declared.operation.OperationBody.TheVariants as body
+use Rattle.close_rules.specs.op_types.declared.transaction.Transaction.{Transaction}
+use Rattle.close_rules.specs.op_types.declared.transaction.TransactionV0.{TransactionV0}
+use Rattle.close_rules.specs.op_types.declared.transaction.TransactionV1Envelope.{TransactionV1Envelope}
+use Rattle.close_rules.specs.op_types.declared.transaction.TransactionEnvelope.{TransactionEnvelope}
+use Rattle.close_rules.specs.op_types.declared.transaction.TransactionEnvelope.TheVariants as envelope
+use Rattle.close_rules.specs.op_types.declared.transaction.TransactionSet.{TransactionSet}
+use Rattle.close_rules.specs.xdr_core.Leaves.{i64}
+use Rattle.close_rules.specs.xdr_core.Xdr.{list_of}
+use Rattle.close_rules.specs.xdr_entries.Entries.{claimant}
+use Rattle.close_rules.specs.xdr_tx.Operations.{operation, operation_body, bump_sequence_op, change_trust_op}
+use Rattle.close_rules.specs.xdr_tx.Operations.{create_claimable_balance_op}
+use Rattle.close_rules.specs.xdr_tx.Transactions.{behind_source, transaction, transaction_v0, transaction_v1_envelope}
+use Rattle.close_rules.specs.xdr_tx.Transactions.{transaction_v0_envelope, fee_bump_transaction, fee_bump_envelope}
+use Rattle.close_rules.specs.xdr_tx.Transactions.{transaction_envelope, transaction_set}
+use Rattle.close_rules.specs.xdr_header.declared.record.CloseRecord.{CloseRecord}
+use Rattle.close_rules.specs.xdr_header.Records.{close_record}
+use Rattle.close_rules.specs.op_laws.Laws.{IsFit}
+use Rattle.close_rules.specs.tx_apply.Operations.{operations_of}
+use Rattle.close_rules.specs.tx_apply.Laws.{AreFit, AreAllFit}
 use Rattle.close_rules.specs.State.{IsSpelled}
 use Rattle.close_laws.proofs.Spelled.{each_spelled, few_spelled}
 

@@ -3,18 +3,18 @@ use Rattle.std.proofs.Common.{◌≡◌, ℕ, zero, suc, ◌+◌, ◌-◌, ◌*�
 use Rattle.std.proofs.Common.{refl, sym, ap, ◌∙◌, subst, arith, append-nil}
 use Rattle.std.specs.List.{flat_map}
 use Rattle.std.proofs.lemmas.List.Sums.{sum_by-cons}
-use Rattle.ledger_types.specs.declared.header.LedgerHeader.{LedgerHeader}
-use Rattle.xdr_core.specs.Leaves.{mark}
-use Rattle.xdr_core.specs.Place.{start_of}
-use Rattle.xdr_core.specs.Combinators.{constant}
-use Rattle.xdr_header.specs.declared.image.StartImage.{StartImage}
-use Rattle.xdr_header.specs.Image.{start_image, file, files}
-use Rattle.xdr_header.specs.Header.{ledger_header}
-use Rattle.xdr_header.proofs.HeaderLaws.{ledger_header_laws}
-use Rattle.entry_map.specs.EntryMap.{EntryMap}
-use Rattle.legal_rules.specs.Headers.{IsHeaderInRange}
-use Rattle.legal_rules.specs.Legal.{IsLegal}
-use Rattle.bucket_core.specs.File.{file_of}
+use Rattle.close_rules.specs.ledger_types.declared.header.LedgerHeader.{LedgerHeader}
+use Rattle.close_rules.specs.xdr_core.Leaves.{mark}
+use Rattle.close_rules.specs.xdr_core.Place.{start_of}
+use Rattle.close_rules.specs.xdr_core.Combinators.{constant}
+use Rattle.close_rules.specs.xdr_header.declared.image.StartImage.{StartImage}
+use Rattle.close_rules.specs.xdr_header.Image.{start_image, file, files}
+use Rattle.close_rules.specs.xdr_header.Header.{ledger_header}
+use Rattle.close_rules.proofs.xdr_header_proofs.HeaderLaws.{ledger_header_laws}
+use Rattle.bucket_levels.specs.entry_map.EntryMap.{EntryMap}
+use Rattle.close_rules.specs.legal_rules.Headers.{IsHeaderInRange}
+use Rattle.close_rules.specs.legal_rules.Legal.{IsLegal}
+use Rattle.bucket_levels.specs.bucket_core.File.{file_of}
 use Rattle.bucket_levels.specs.Pairs.{Pair}
 use Rattle.bucket_levels.specs.Size.{file_total, pair_size}
 use Rattle.close_rules.specs.State.{ClosingState, IsClosingState, IsSpelled, max_file_total}

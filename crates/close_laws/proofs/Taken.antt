@@ -1,11 +1,11 @@
 -- Bytes that are taken are a record that closes a ledger.
 use Rattle.std.proofs.Common.{◌≡◌, ℕ, refl, subst, List, Ok, Err}
-use Rattle.xdr_core.specs.declared.fault.XdrFault.{XdrFault}
-use Rattle.xdr_core.specs.Format.{IsBytes}
-use Rattle.xdr_core.specs.Place.{Reading, start_of, ◌>>=◌}
-use Rattle.xdr_header.specs.declared.record.CloseRecord.{CloseRecord}
-use Rattle.xdr_header.specs.Records.{close_record}
-use Rattle.xdr_header.proofs.HeaderLaws.{close_record_laws}
+use Rattle.close_rules.specs.xdr_core.declared.fault.XdrFault.{XdrFault}
+use Rattle.close_rules.specs.xdr_core.Format.{IsBytes}
+use Rattle.close_rules.specs.xdr_core.Place.{Reading, start_of, ◌>>=◌}
+use Rattle.close_rules.specs.xdr_header.declared.record.CloseRecord.{CloseRecord}
+use Rattle.close_rules.specs.xdr_header.Records.{close_record}
+use Rattle.close_rules.proofs.xdr_header_proofs.HeaderLaws.{close_record_laws}
 use Rattle.close_rules.specs.State.{IsSpelled}
 use Rattle.close_rules.specs.Refusals.{ended, record_in}
 use Rattle.close_laws.specs.Closes.{TakenIsClosable}

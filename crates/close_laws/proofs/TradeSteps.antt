@@ -2,11 +2,11 @@
 -- together.
 use Rattle.std.proofs.Common.{◌≡◌, refl, [], ◌∷◌, Some, None, Result, Ok, Err, Bool, true, false}
 use Rattle.std.proofs.Common.{if◌then◌else◌}
-use Rattle.op_types.specs.declared.operation_result.OperationResult.{OperationResult}
-use Rattle.entry_map.specs.EntryMap.{EntryMap}
-use Rattle.entry_slots.specs.Tests.{Tests, first_fault}
-use Rattle.op_form.specs.Done.{Attempt}
-use Rattle.op_form.specs.Steps.{unless_result, unless_refused, after_step}
+use Rattle.close_rules.specs.op_types.declared.operation_result.OperationResult.{OperationResult}
+use Rattle.bucket_levels.specs.entry_map.EntryMap.{EntryMap}
+use Rattle.close_rules.specs.entry_slots.Tests.{Tests, first_fault}
+use Rattle.close_rules.specs.op_form.Done.{Attempt}
+use Rattle.close_rules.specs.op_form.Steps.{unless_result, unless_refused, after_step}
 use Rattle.close_laws.proofs.AnswerSteps.{IsAnswer, Answers, IsDone, AllAnswer}
 use Rattle.close_laws.proofs.Bytes.{AreBytes}
 use Rattle.close_laws.proofs.BytesMaps.{AreBytesIf}

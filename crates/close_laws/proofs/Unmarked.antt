@@ -7,15 +7,15 @@ use Rattle.std.specs.FinMap.{get, entries, entries_sorted, from_sorted, entries-
 use Rattle.std.specs.FinMap.{get-entries}
 use Rattle.std.specs.FinMap.{same_map}
 use Rattle.std.specs.FinMap.Entries.{find, is_sorted, below_all}
-use Rattle.ledger_types.specs.declared.entry.LedgerEntry.{LedgerEntry}
-use Rattle.ledger_types.specs.declared.key.LedgerKey.{LedgerKey}
-use Rattle.ledger_types.specs.KeyOrder.{key_cmp}
-use Rattle.ledger_types.proofs.KeyOrdering.{keys_total, keys_exact}
-use Rattle.entry_map.specs.EntryMap.{EntryMap}
-use Rattle.entry_map.specs.Batch.{parts_of}
-use Rattle.entry_sums.specs.Sums.{Weight, sum_over, total}
-use Rattle.entry_sums.proofs.Lists.{Pairs}
-use Rattle.entry_changes.specs.Next.{stamped, IsNextAt, AreNextEntries}
+use Rattle.close_rules.specs.ledger_types.declared.entry.LedgerEntry.{LedgerEntry}
+use Rattle.close_rules.specs.ledger_types.declared.key.LedgerKey.{LedgerKey}
+use Rattle.close_rules.specs.ledger_types.KeyOrder.{key_cmp}
+use Rattle.close_rules.proofs.ledger_types_proofs.KeyOrdering.{keys_total, keys_exact}
+use Rattle.bucket_levels.specs.entry_map.EntryMap.{EntryMap}
+use Rattle.bucket_levels.specs.entry_map.Batch.{parts_of}
+use Rattle.close_rules.specs.entry_sums.Sums.{Weight, sum_over, total}
+use Rattle.close_rules.proofs.entry_sums_proofs.Lists.{Pairs}
+use Rattle.close_rules.specs.entry_changes.Next.{stamped, IsNextAt, AreNextEntries}
 
 -- ---- alike
 

@@ -7,12 +7,12 @@ use Rattle.std.proofs.lemmas.Option.{slice_get-get_or}
 use Rattle.std.specs.Prelude.{slice_get, nat_lt}
 use Rattle.std.specs.List.{find, range_with_len}
 use Rattle.std.specs.Option.{option_or}
-use Rattle.ledger_types.specs.declared.header.LedgerHeader.{LedgerHeader}
-use Rattle.ledger_types.specs.declared.header.LedgerUpgrade.{LedgerUpgrade}
-use Rattle.ledger_types.specs.declared.header.LedgerUpgrade.TheVariants as upgrade
-use Rattle.xdr_header.specs.declared.record.CloseRecord.{CloseRecord}
-use Rattle.header_chain.specs.Upgrades.{upgrade_in, type_of, is_bad_value, is_bad_behind, type_before, is_bad_at}
-use Rattle.header_chain.specs.Upgrades.{is_out_of_profile, first_place}
+use Rattle.close_rules.specs.ledger_types.declared.header.LedgerHeader.{LedgerHeader}
+use Rattle.close_rules.specs.ledger_types.declared.header.LedgerUpgrade.{LedgerUpgrade}
+use Rattle.close_rules.specs.ledger_types.declared.header.LedgerUpgrade.TheVariants as upgrade
+use Rattle.close_rules.specs.xdr_header.declared.record.CloseRecord.{CloseRecord}
+use Rattle.close_rules.specs.header_chain.Upgrades.{upgrade_in, type_of, is_bad_value, is_bad_behind, type_before, is_bad_at}
+use Rattle.close_rules.specs.header_chain.Upgrades.{is_out_of_profile, first_place}
 use Rattle.close_rules.specs.State.{ClosingState}
 use Rattle.close_rules.specs.Refusals.{record_fault, term_fault, upgrade_fault, set_fault}
 

@@ -3,30 +3,30 @@ use Rattle.std.proofs.Common.{◌≡◌, refl, ap, ◌∙◌, ℕ, ◌≤◌, le
 use Rattle.std.proofs.lemmas.Int.{ints}
 use Rattle.std.specs.Prelude.{ℤ, pos, ◌+ℤ◌, ◌≤ℤ◌, if◌then◌else◌}
 use Rattle.std.specs.FinMap.{get}
-use Rattle.ledger_types.specs.declared.ids.AccountId.{AccountId}
-use Rattle.ledger_types.specs.declared.asset.Asset.{Asset}
-use Rattle.ledger_types.specs.declared.asset.Asset.TheVariants as asset
-use Rattle.ledger_types.specs.declared.asset.PoolParams.{PoolParams}
-use Rattle.ledger_types.specs.declared.asset.TrustLineAsset.{TrustLineAsset}
-use Rattle.ledger_types.specs.declared.asset.TrustLineAsset.TheVariants as line
-use Rattle.ledger_types.specs.declared.header.LedgerHeader.{LedgerHeader}
-use Rattle.ledger_types.specs.declared.entry.LedgerEntry.{LedgerEntry}
-use Rattle.ledger_types.specs.declared.entry.LedgerEntryBody.{LedgerEntryBody}
-use Rattle.ledger_types.specs.declared.entry.LedgerEntryBody.TheVariants as body
-use Rattle.ledger_types.specs.declared.key.LedgerKey.{LedgerKey}
-use Rattle.ledger_types.specs.declared.key.LedgerKey.TheVariants as key
-use Rattle.entry_map.specs.EntryMap.{EntryMap}
-use Rattle.entry_map.proofs.KeyMaps.{same_itself}
-use Rattle.entry_sums.proofs.Lookups.{apart_keys}
-use Rattle.entry_sums.proofs.Summing.{total_at_most}
-use Rattle.sponsor_rules.specs.Charge.{line_multiplicity, owner_of}
-use Rattle.sponsor_rules.specs.Payers.{is_same_account}
-use Rattle.legal_rules.specs.Books.{Subentries, Uses, counted, stated, stated_at}
-use Rattle.legal_rules.specs.Bounds.{AreSubentriesFew}
-use Rattle.legal_rules.specs.EntryKeys.{is_key, for_key, for_account}
-use Rattle.legal_rules.specs.Legal.{view, IsLegal}
-use Rattle.legal_rules.specs.PoolShares.{Pools, needed_line, uses_of, uses_by, uses}
-use Rattle.legal_rules.specs.Reserves.{subentries_in}
+use Rattle.close_rules.specs.ledger_types.declared.ids.AccountId.{AccountId}
+use Rattle.close_rules.specs.ledger_types.declared.asset.Asset.{Asset}
+use Rattle.close_rules.specs.ledger_types.declared.asset.Asset.TheVariants as asset
+use Rattle.close_rules.specs.ledger_types.declared.asset.PoolParams.{PoolParams}
+use Rattle.close_rules.specs.ledger_types.declared.asset.TrustLineAsset.{TrustLineAsset}
+use Rattle.close_rules.specs.ledger_types.declared.asset.TrustLineAsset.TheVariants as line
+use Rattle.close_rules.specs.ledger_types.declared.header.LedgerHeader.{LedgerHeader}
+use Rattle.close_rules.specs.ledger_types.declared.entry.LedgerEntry.{LedgerEntry}
+use Rattle.close_rules.specs.ledger_types.declared.entry.LedgerEntryBody.{LedgerEntryBody}
+use Rattle.close_rules.specs.ledger_types.declared.entry.LedgerEntryBody.TheVariants as body
+use Rattle.close_rules.specs.ledger_types.declared.key.LedgerKey.{LedgerKey}
+use Rattle.close_rules.specs.ledger_types.declared.key.LedgerKey.TheVariants as key
+use Rattle.bucket_levels.specs.entry_map.EntryMap.{EntryMap}
+use Rattle.bucket_levels.proofs.entry_map_proofs.KeyMaps.{same_itself}
+use Rattle.close_rules.proofs.entry_sums_proofs.Lookups.{apart_keys}
+use Rattle.close_rules.proofs.entry_sums_proofs.Summing.{total_at_most}
+use Rattle.close_rules.specs.sponsor_rules.Charge.{line_multiplicity, owner_of}
+use Rattle.close_rules.specs.sponsor_rules.Payers.{is_same_account}
+use Rattle.close_rules.specs.legal_rules.Books.{Subentries, Uses, counted, stated, stated_at}
+use Rattle.close_rules.specs.legal_rules.Bounds.{AreSubentriesFew}
+use Rattle.close_rules.specs.legal_rules.EntryKeys.{is_key, for_key, for_account}
+use Rattle.close_rules.specs.legal_rules.Legal.{view, IsLegal}
+use Rattle.close_rules.specs.legal_rules.PoolShares.{Pools, needed_line, uses_of, uses_by, uses}
+use Rattle.close_rules.specs.legal_rules.Reserves.{subentries_in}
 
 -- ---- what one line of pool shares counts
 

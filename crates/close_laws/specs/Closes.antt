@@ -1,6 +1,6 @@
 -- That a close has one answer, and leaves a state from which the next ledger closes.
 use Rattle.std.specs.Prelude.{◌≡◌, ◌≤◌, ℕ, List, length, Result}
-use Rattle.xdr_header.specs.declared.record.CloseRecord.{CloseRecord}
+use Rattle.close_rules.specs.xdr_header.declared.record.CloseRecord.{CloseRecord}
 use Rattle.close_rules.specs.declared.close_fault.CloseFault.{CloseFault}
 use Rattle.bucket_levels.specs.Size.{file_total}
 use Rattle.close_rules.specs.State.{ClosingState, IsClosingState, max_file_total}

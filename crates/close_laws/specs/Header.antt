@@ -1,9 +1,9 @@
 -- That the header behind a close can be written.
-use Rattle.ledger_types.specs.declared.ids.Hash.{Hash}
-use Rattle.xdr_header.specs.declared.record.CloseRecord.{CloseRecord}
-use Rattle.xdr_entries.specs.Basic.{hash}
-use Rattle.xdr_header.specs.Header.{ledger_header}
-use Rattle.header_chain.specs.SkipList.{finished}
+use Rattle.close_rules.specs.ledger_types.declared.ids.Hash.{Hash}
+use Rattle.close_rules.specs.xdr_header.declared.record.CloseRecord.{CloseRecord}
+use Rattle.close_rules.specs.xdr_entries.Basic.{hash}
+use Rattle.close_rules.specs.xdr_header.Header.{ledger_header}
+use Rattle.close_rules.specs.header_chain.SkipList.{finished}
 use Rattle.close_rules.specs.State.{ClosingState, IsSpelled}
 use Rattle.close_rules.specs.Close.{upgraded_header}
 use Rattle.close_laws.specs.Legal.{IsClosable}

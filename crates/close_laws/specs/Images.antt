@@ -1,9 +1,9 @@
 -- That a start image is judged to be one thing, and that the image of a state is judged to be that state.
 use Rattle.std.specs.Prelude.{◌≡◌, Result, Ok}
-use Rattle.ledger_types.specs.declared.ids.Hash.{Hash}
-use Rattle.xdr_header.specs.declared.image.StartImage.{StartImage}
-use Rattle.xdr_header.specs.Image.{start_image}
-use Rattle.xdr_header.specs.Header.{ledger_header}
+use Rattle.close_rules.specs.ledger_types.declared.ids.Hash.{Hash}
+use Rattle.close_rules.specs.xdr_header.declared.image.StartImage.{StartImage}
+use Rattle.close_rules.specs.xdr_header.Image.{start_image}
+use Rattle.close_rules.specs.xdr_header.Header.{ledger_header}
 use Rattle.close_rules.specs.declared.image_fault.ImageFault.{ImageFault}
 use Rattle.close_rules.specs.State.{ClosingState, IsClosingState}
 use Rattle.close_rules.specs.Images.{IsJudged, AreFilesOf}

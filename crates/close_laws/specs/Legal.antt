@@ -1,13 +1,13 @@
 -- That a close leaves a legal state.
 use Rattle.std.specs.Prelude.{◌≡◌, ◌+◌, ◌≤◌, None, length}
-use Rattle.ledger_types.specs.declared.ids.Hash.{Hash}
-use Rattle.xdr_header.specs.declared.record.CloseRecord.{CloseRecord}
-use Rattle.xdr_header.specs.Records.{close_record}
-use Rattle.entry_map.specs.EntryMap.{EntryMap}
-use Rattle.entry_changes.specs.Next.{AreNextEntries}
-use Rattle.legal_rules.specs.Legal.{IsLegal}
-use Rattle.entry_changes.specs.Spellable.{AreSpellable}
-use Rattle.header_chain.specs.SkipList.{finished}
+use Rattle.close_rules.specs.ledger_types.declared.ids.Hash.{Hash}
+use Rattle.close_rules.specs.xdr_header.declared.record.CloseRecord.{CloseRecord}
+use Rattle.close_rules.specs.xdr_header.Records.{close_record}
+use Rattle.bucket_levels.specs.entry_map.EntryMap.{EntryMap}
+use Rattle.close_rules.specs.entry_changes.Next.{AreNextEntries}
+use Rattle.close_rules.specs.legal_rules.Legal.{IsLegal}
+use Rattle.close_rules.specs.entry_changes.Spellable.{AreSpellable}
+use Rattle.close_rules.specs.header_chain.SkipList.{finished}
 use Rattle.close_rules.specs.State.{ClosingState, IsClosingState, IsSpelled}
 use Rattle.close_rules.specs.Refusals.{record_fault}
 use Rattle.close_rules.specs.Close.{applied_in, upgraded_header}

@@ -3,3 +3,34 @@ pub mod Results
 pub mod Header
 pub mod Closes
 pub mod Images
+pub use Rattle.close_rules.specs.bucket_items
+pub use Rattle.bucket_levels.specs as bucket_levels
+pub use Rattle.close_rules.specs as close_rules
+pub use Rattle.close_rules.specs.entry_changes
+pub use Rattle.bucket_levels.specs.entry_map
+pub use Rattle.close_rules.specs.entry_slots
+pub use Rattle.close_rules.specs.fee_rules
+pub use Rattle.close_rules.specs.header_chain
+pub use Rattle.close_rules.specs.ledger_types
+pub use Rattle.close_rules.specs.legal_rules
+pub use Rattle.close_rules.specs.offer_book
+pub use Rattle.close_rules.specs.offer_exchange
+pub use Rattle.close_rules.specs.op_account
+pub use Rattle.close_rules.specs.op_claim
+pub use Rattle.close_rules.specs.op_flags
+pub use Rattle.close_rules.specs.op_form
+pub use Rattle.close_rules.specs.op_laws
+pub use Rattle.close_rules.specs.op_offers
+pub use Rattle.close_rules.specs.op_options
+pub use Rattle.close_rules.specs.op_payment
+pub use Rattle.close_rules.specs.op_pool
+pub use Rattle.close_rules.specs.op_sponsor
+pub use Rattle.close_rules.specs.op_trust
+pub use Rattle.close_rules.specs.op_types
+pub use Rattle.close_rules.specs.pool_shares
+pub use Rattle.close_rules.specs.signer_check
+pub use Rattle.close_rules.specs.sponsor_rules
+pub use Rattle.close_rules.specs.trade_cross
+pub use Rattle.close_rules.specs.tx_apply
+pub use Rattle.close_rules.specs.value_hashes
+pub use Rattle.close_rules.specs.xdr_header

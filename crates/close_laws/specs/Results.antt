@@ -1,6 +1,6 @@
 -- That what a close answers can be written.
-use Rattle.xdr_header.specs.declared.record.CloseRecord.{CloseRecord}
-use Rattle.xdr_results.specs.Results.{transaction_result_set}
+use Rattle.close_rules.specs.xdr_header.declared.record.CloseRecord.{CloseRecord}
+use Rattle.close_rules.specs.xdr_results.Results.{transaction_result_set}
 use Rattle.close_rules.specs.State.{ClosingState}
 use Rattle.close_rules.specs.Close.{applied_in, result_set}
 use Rattle.close_laws.specs.Legal.{IsClosable}

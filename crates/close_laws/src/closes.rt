@@ -3,8 +3,8 @@
 ghost use Rattle.close_laws.specs.Closes as spec;
 
 use bucket_levels::steps_stand;
-use op_laws::steps::{legal_settles, settled_legal, transaction_laws};
-use tx_apply::sets_conserve;
+use close_rules::op_laws::steps::{legal_settles, settled_legal, transaction_laws};
+use close_rules::tx_apply::sets_conserve;
 
 /// Bytes that are taken, no more than a record may have, are a record that closes a ledger.
 pub fn taken_is_closable()

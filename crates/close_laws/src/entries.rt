@@ -2,8 +2,8 @@
 
 ghost use Rattle.close_laws.specs.Legal as legal;
 
-use op_laws::steps::{legal_settles, settled_legal, transaction_laws};
-use tx_apply::sets_conserve;
+use close_rules::op_laws::steps::{legal_settles, settled_legal, transaction_laws};
+use close_rules::tx_apply::sets_conserve;
 
 /// A close leaves a legal state.
 pub fn next_is_legal()

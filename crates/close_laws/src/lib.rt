@@ -6,3 +6,6 @@ pub mod entries;
 pub mod header;
 pub mod images;
 pub mod results;
+
+pub use close_rules;
+pub use close_rules::tx_apply;

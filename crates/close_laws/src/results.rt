@@ -2,7 +2,7 @@
 
 ghost use Rattle.close_laws.specs.Results as spec;
 
-use op_laws::steps::{legal_settles, transaction_laws};
+use close_rules::op_laws::steps::{legal_settles, transaction_laws};
 
 /// The results of a set can be written.
 pub fn results_are_spelled()

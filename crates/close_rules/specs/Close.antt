@@ -1,13 +1,13 @@
 -- What a close does to the state behind a ledger (LedgerManagerImpl::closeLedger in stellar-core).
 use Rattle.std.specs.Prelude.{◌≡◌, ℕ, ◌+◌, ◌<◌, ◌≤◌, List, map, Some, None, Result, Ok, Err}
 use Rattle.ledger_types.specs.declared.header.LedgerHeader.{LedgerHeader}
-use Rattle.op_types.specs.declared.transaction_result.TransactionResultPair.{TransactionResultPair}
-use Rattle.op_types.specs.declared.transaction_result.TransactionResultSet.{TransactionResultSet}
+use Rattle.tx_apply.specs.op_types.declared.transaction_result.TransactionResultPair.{TransactionResultPair}
+use Rattle.tx_apply.specs.op_types.declared.transaction_result.TransactionResultSet.{TransactionResultSet}
 use Rattle.xdr_core.specs.Format.{IsBytes}
-use Rattle.xdr_header.specs.declared.record.CloseRecord.{CloseRecord}
-use Rattle.value_hashes.specs.Hashes.{ledger_hash_of, results_hash_of}
+use Rattle.header_chain.specs.xdr_header.declared.record.CloseRecord.{CloseRecord}
+use Rattle.tx_apply.specs.value_hashes.Hashes.{ledger_hash_of, results_hash_of}
 use Rattle.entry_changes.specs.Next.{AreNextEntries}
-use Rattle.bucket_core.specs.Bucket.{Contents, version_of}
+use Rattle.bucket_levels.specs.bucket_core.Bucket.{Contents, version_of}
 use Rattle.bucket_levels.specs.Pairs.{Pair}
 use Rattle.bucket_levels.specs.Fresh.{IsFresh}
 use Rattle.bucket_levels.specs.Step.{IsStep}

@@ -4,15 +4,15 @@ use Rattle.std.specs.Prelude.{◌≡◌, ◌≢◌, ◌⊎◌, ◌+ℤ◌, List,
 use Rattle.std.specs.FinMap.{get}
 use Rattle.ledger_types.specs.declared.asset.Asset.TheVariants as asset
 use Rattle.ledger_types.specs.declared.header.LedgerHeader.{LedgerHeader}
-use Rattle.entry_map.specs.EntryMap.{EntryMap}
-use Rattle.entry_sums.specs.Sums.{total, EachEntry}
-use Rattle.legal_rules.specs.Books.{Subentries, Sponsoring, Sponsored, Selling, Buying, Shares, ShareLines, Uses}
-use Rattle.legal_rules.specs.Supply.{held}
-use Rattle.legal_rules.specs.OfferIds.{AreOffersApart}
-use Rattle.legal_rules.specs.Needs.{needed_keys}
-use Rattle.legal_rules.specs.Bounds.{AreSubentriesFew, DoReservesFit, IsFilledOrEmpty}
-use Rattle.legal_rules.specs.Ranges.{IsEntryInRange}
-use Rattle.legal_rules.specs.Legal.{pools_in, IsBooked, AreLinesAuthorized}
+use Rattle.bucket_levels.specs.entry_map.EntryMap.{EntryMap}
+use Rattle.entry_changes.specs.entry_sums.Sums.{total, EachEntry}
+use Rattle.tx_apply.specs.legal_rules.Books.{Subentries, Sponsoring, Sponsored, Selling, Buying, Shares, ShareLines, Uses}
+use Rattle.tx_apply.specs.legal_rules.Supply.{held}
+use Rattle.tx_apply.specs.legal_rules.OfferIds.{AreOffersApart}
+use Rattle.tx_apply.specs.legal_rules.Needs.{needed_keys}
+use Rattle.tx_apply.specs.legal_rules.Bounds.{AreSubentriesFew, DoReservesFit, IsFilledOrEmpty}
+use Rattle.tx_apply.specs.legal_rules.Ranges.{IsEntryInRange}
+use Rattle.tx_apply.specs.legal_rules.Legal.{pools_in, IsBooked, AreLinesAuthorized}
 use Rattle.close_rules.specs.declared.image_fault.ImageRule.{ImageRule}
 use Rattle.close_rules.specs.declared.image_fault.ImageRule.TheVariants as rule
 

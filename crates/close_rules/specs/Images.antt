@@ -6,12 +6,12 @@ use Rattle.ledger_types.specs.declared.ids.Hash.{Hash}
 use Rattle.ledger_types.specs.declared.header.LedgerHeader.{LedgerHeader}
 use Rattle.xdr_core.specs.declared.fault.XdrFault.{XdrFault}
 use Rattle.xdr_core.specs.Place.{Reading, start_of}
-use Rattle.xdr_header.specs.declared.image.StartImage.{StartImage}
-use Rattle.xdr_header.specs.Header.{ledger_header}
-use Rattle.entry_map.specs.EntryMap.{EntryMap}
-use Rattle.legal_rules.specs.Headers.{header_flags}
-use Rattle.op_form.specs.Sequences.{last_seq}
-use Rattle.bucket_core.specs.File.{file_of, HasFile}
+use Rattle.header_chain.specs.xdr_header.declared.image.StartImage.{StartImage}
+use Rattle.header_chain.specs.xdr_header.Header.{ledger_header}
+use Rattle.bucket_levels.specs.entry_map.EntryMap.{EntryMap}
+use Rattle.tx_apply.specs.legal_rules.Headers.{header_flags}
+use Rattle.tx_apply.specs.op_form.Sequences.{last_seq}
+use Rattle.bucket_levels.specs.bucket_core.File.{file_of, HasFile}
 use Rattle.bucket_levels.specs.Spills.{level_count}
 use Rattle.bucket_levels.specs.Pairs.{Pair}
 use Rattle.bucket_levels.specs.Size.{file_total}

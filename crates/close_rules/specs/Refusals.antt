@@ -8,12 +8,12 @@ use Rattle.ledger_types.specs.declared.ids.Hash.{Hash}
 use Rattle.xdr_core.specs.declared.fault.XdrFault.{XdrFault}
 use Rattle.xdr_core.specs.declared.fault.XdrKind.TheVariants.{Trailing}
 use Rattle.xdr_core.specs.Place.{Place, start_of, fault_at, ◌>>=◌}
-use Rattle.xdr_header.specs.declared.record.CloseRecord.{CloseRecord}
-use Rattle.xdr_header.specs.Records.{close_record}
-use Rattle.value_hashes.specs.Hashes.{ledger_hash_of}
-use Rattle.entry_slots.specs.Tests.{Tests, first_fault}
-use Rattle.fee_rules.specs.SetHash.{hash_of_set}
-use Rattle.op_form.specs.Sequences.{last_seq}
+use Rattle.header_chain.specs.xdr_header.declared.record.CloseRecord.{CloseRecord}
+use Rattle.header_chain.specs.xdr_header.Records.{close_record}
+use Rattle.tx_apply.specs.value_hashes.Hashes.{ledger_hash_of}
+use Rattle.tx_apply.specs.entry_slots.Tests.{Tests, first_fault}
+use Rattle.tx_apply.specs.fee_rules.SetHash.{hash_of_set}
+use Rattle.tx_apply.specs.op_form.Sequences.{last_seq}
 use Rattle.header_chain.specs.Upgrades.{upgrade_in, first_place, is_bad_at, is_out_of_profile}
 use Rattle.tx_apply.specs.Set.{missing_place}
 use Rattle.close_rules.specs.declared.close_fault.CloseFault.{CloseFault}

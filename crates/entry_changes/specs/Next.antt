@@ -1,11 +1,11 @@
 -- The entries behind a close: those before it, with what the close changed.
 use Rattle.std.specs.Prelude.{◌≡◌, ◌≢◌, ◌⊎◌, ℕ, Option, Some, None}
 use Rattle.std.specs.FinMap.{get}
-use Rattle.ledger_types.specs.declared.key.LedgerKey.{LedgerKey}
-use Rattle.ledger_types.specs.declared.entry.LedgerEntry.{LedgerEntry}
-use Rattle.entry_map.specs.declared.batch.Batch.{Batch}
-use Rattle.entry_map.specs.EntryMap.{EntryMap}
-use Rattle.entry_map.specs.Batch.{parts_of, IsBatch}
+use Rattle.xdr_entries.specs.ledger_types.declared.key.LedgerKey.{LedgerKey}
+use Rattle.xdr_entries.specs.ledger_types.declared.entry.LedgerEntry.{LedgerEntry}
+use Rattle.entry_sums.specs.entry_map.declared.batch.Batch.{Batch}
+use Rattle.entry_sums.specs.entry_map.EntryMap.{EntryMap}
+use Rattle.entry_sums.specs.entry_map.Batch.{parts_of, IsBatch}
 
 -- an entry with the number of the ledger that changed it
 abbrev pub stamped : (seq : ℕ) → LedgerEntry → LedgerEntry

@@ -1,8 +1,8 @@
 -- Entries that can stand in a bucket's file.
 use Rattle.std.specs.Prelude.{ℕ, ◌≤◌, length}
-use Rattle.ledger_types.specs.declared.entry.LedgerEntry.{LedgerEntry}
+use Rattle.xdr_entries.specs.ledger_types.declared.entry.LedgerEntry.{LedgerEntry}
 use Rattle.xdr_entries.specs.Entries.{ledger_entry}
-use Rattle.entry_map.specs.EntryMap.{EntryMap}
+use Rattle.entry_sums.specs.entry_map.EntryMap.{EntryMap}
 use Rattle.entry_sums.specs.Sums.{EachEntry}
 
 -- the greatest length of an entry, which stands in its item behind a discriminant of four bytes

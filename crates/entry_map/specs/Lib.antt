@@ -8,3 +8,4 @@ pub mod Book
 pub mod Order
 pub mod Places
 pub mod Indexes
+pub use Rattle.ledger_types.specs as ledger_types

@@ -1,6 +1,6 @@
 //! What changed between two maps of entries.
 
-use item_list::ItemList;
+use ledger_types::item_list::ItemList;
 use ledger_types::{LedgerEntry, LedgerKey};
 
 /// What changed, each list in the order of keys.

@@ -12,7 +12,7 @@ use crate::batch::Batch;
 use crate::key_map::KeyMap;
 use crate::layer::Layer;
 use crate::lookup::entry_at;
-use item_list::ItemList;
+use ledger_types::item_list::ItemList;
 use ledger_types::{LedgerEntry, LedgerKey};
 use std::alloc::{AllocError, Global};
 

@@ -8,7 +8,7 @@ ghost use Rattle.ledger_types.specs.Keys.{key_of};
 ghost use Rattle.entry_map.specs.Layers.{IsKeyedLayer, IsNextKey};
 
 use crate::key_map::KeyMap;
-use item_list::Boxed;
+use ledger_types::item_list::Boxed;
 use ledger_types::{LedgerEntry, LedgerKey};
 use std::alloc::{AllocError, Global};
 use std::marker::Model;

@@ -19,4 +19,5 @@ pub use base::Base;
 pub use batch::Batch;
 pub use entries::Entries;
 pub use index::OfferIndex;
+pub use ledger_types;
 pub use map_base::MapBase;

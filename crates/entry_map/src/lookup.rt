@@ -8,7 +8,7 @@ ghost use Rattle.entry_map.specs.Layers.{under, under_one, change_of, newest_cha
 
 use crate::base::Base;
 use crate::layer::Layer;
-use item_list::Boxed;
+use ledger_types::item_list::Boxed;
 use ledger_types::{LedgerEntry, LedgerKey};
 use std::alloc::AllocError;
 

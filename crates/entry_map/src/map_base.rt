@@ -10,7 +10,7 @@ ghost use Rattle.ledger_types.specs.KeyOrder.{key_cmp};
 use crate::base::Base;
 use crate::index::OfferIndex;
 use crate::key_map::KeyMap;
-use item_list::Boxed;
+use ledger_types::item_list::Boxed;
 use ledger_types::{LedgerEntry, LedgerKey};
 use std::alloc::AllocError;
 use std::marker::Model;

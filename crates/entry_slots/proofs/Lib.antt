@@ -1,1 +1,2 @@
 pub mod RecordedSponsor
+pub use Rattle.entry_map.proofs as entry_map_proofs

@@ -3,12 +3,12 @@ use Rattle.std.specs.Prelude.{ℕ, pos, Bool, ◌&&◌, List, map, Option, Some,
 use Rattle.std.specs.List.{slice_get}
 use Rattle.std.specs.Option.{option_and_then}
 use Rattle.std.specs.Ordering.{int_eq}
-use Rattle.ledger_types.specs.declared.ids.AccountId.{AccountId}
-use Rattle.ledger_types.specs.declared.price.Liabilities.{Liabilities}
-use Rattle.ledger_types.specs.declared.signer.Signer.{Signer}
-use Rattle.ledger_types.specs.declared.account.AccountEntry.{AccountEntry}
-use Rattle.ledger_types.specs.declared.account.AccountEntryExtensionV1.{AccountEntryExtensionV1}
-use Rattle.ledger_types.specs.declared.account.AccountEntryExtensionV2.{AccountEntryExtensionV2}
+use Rattle.entry_map.specs.ledger_types.declared.ids.AccountId.{AccountId}
+use Rattle.entry_map.specs.ledger_types.declared.price.Liabilities.{Liabilities}
+use Rattle.entry_map.specs.ledger_types.declared.signer.Signer.{Signer}
+use Rattle.entry_map.specs.ledger_types.declared.account.AccountEntry.{AccountEntry}
+use Rattle.entry_map.specs.ledger_types.declared.account.AccountEntryExtensionV1.{AccountEntryExtensionV1}
+use Rattle.entry_map.specs.ledger_types.declared.account.AccountEntryExtensionV2.{AccountEntryExtensionV2}
 
 -- ---- liabilities
 

@@ -1,7 +1,7 @@
 -- What of an account has a fixed width.
 use Rattle.std.specs.Prelude.{Option, Some, None}
-use Rattle.ledger_types.specs.declared.ids.AccountId.{AccountId}
-use Rattle.ledger_types.specs.declared.account.AccountEntry.{AccountEntry}
+use Rattle.entry_map.specs.ledger_types.declared.ids.AccountId.{AccountId}
+use Rattle.entry_map.specs.ledger_types.declared.account.AccountEntry.{AccountEntry}
 use Rattle.entry_map.specs.EntryMap.{EntryMap}
 use Rattle.entry_slots.specs.AccountExtensions.{account_liabilities, num_sponsored, num_sponsoring}
 use Rattle.entry_slots.specs.Accounts.{account_at}

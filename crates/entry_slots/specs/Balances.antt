@@ -1,12 +1,12 @@
 -- Claimable balances among the entries of a ledger.
 use Rattle.std.specs.Prelude.{Option, Some, None}
 use Rattle.std.specs.FinMap.{get}
-use Rattle.ledger_types.specs.declared.ids.ClaimableBalanceId.{ClaimableBalanceId}
-use Rattle.ledger_types.specs.declared.claimable_balance.ClaimableBalanceEntry.{ClaimableBalanceEntry}
-use Rattle.ledger_types.specs.declared.entry.LedgerEntry.{LedgerEntry}
-use Rattle.ledger_types.specs.declared.entry.LedgerEntryBody.{LedgerEntryBody}
-use Rattle.ledger_types.specs.declared.entry.LedgerEntryBody.TheVariants as body
-use Rattle.ledger_types.specs.declared.key.LedgerKey.TheVariants as key
+use Rattle.entry_map.specs.ledger_types.declared.ids.ClaimableBalanceId.{ClaimableBalanceId}
+use Rattle.entry_map.specs.ledger_types.declared.claimable_balance.ClaimableBalanceEntry.{ClaimableBalanceEntry}
+use Rattle.entry_map.specs.ledger_types.declared.entry.LedgerEntry.{LedgerEntry}
+use Rattle.entry_map.specs.ledger_types.declared.entry.LedgerEntryBody.{LedgerEntryBody}
+use Rattle.entry_map.specs.ledger_types.declared.entry.LedgerEntryBody.TheVariants as body
+use Rattle.entry_map.specs.ledger_types.declared.key.LedgerKey.TheVariants as key
 use Rattle.entry_map.specs.EntryMap.{EntryMap, put}
 use Rattle.entry_slots.specs.declared.balances.BalanceSlot.{BalanceSlot}
 

@@ -1,8 +1,8 @@
 -- Who is recorded as paying an entry's reserve (CAP-0033).
 use Rattle.std.specs.Prelude.{Option, Some, None}
-use Rattle.ledger_types.specs.declared.ids.AccountId.{AccountId}
-use Rattle.ledger_types.specs.declared.entry.LedgerEntry.{LedgerEntry}
-use Rattle.ledger_types.specs.declared.entry.LedgerEntryExtensionV1.{LedgerEntryExtensionV1}
+use Rattle.entry_map.specs.ledger_types.declared.ids.AccountId.{AccountId}
+use Rattle.entry_map.specs.ledger_types.declared.entry.LedgerEntry.{LedgerEntry}
+use Rattle.entry_map.specs.ledger_types.declared.entry.LedgerEntryExtensionV1.{LedgerEntryExtensionV1}
 
 abbrev pub sponsor_in : Option LedgerEntryExtensionV1 → Option AccountId
 sponsor_in None = None

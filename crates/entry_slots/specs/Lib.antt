@@ -9,3 +9,5 @@ pub mod AccountExtensions
 pub mod LineExtensions
 pub mod EntrySponsor
 pub mod Tests
+pub use Rattle.entry_map.specs as entry_map
+pub use Rattle.entry_map.specs.ledger_types

@@ -1,10 +1,10 @@
 -- What trust lines' extensions say (CAP-0003, CAP-0038). What isn't there reads as zeros.
 use Rattle.std.specs.Prelude.{ℤ, pos, Option, Some, None, if◌then◌else◌}
 use Rattle.std.specs.Ordering.{int_eq}
-use Rattle.ledger_types.specs.declared.price.Liabilities.{Liabilities}
-use Rattle.ledger_types.specs.declared.trust_line.TrustLineEntry.{TrustLineEntry}
-use Rattle.ledger_types.specs.declared.trust_line.TrustLineEntryExtensionV1.{TrustLineEntryExtensionV1}
-use Rattle.ledger_types.specs.declared.trust_line.TrustLineEntryExtensionV2.{TrustLineEntryExtensionV2}
+use Rattle.entry_map.specs.ledger_types.declared.price.Liabilities.{Liabilities}
+use Rattle.entry_map.specs.ledger_types.declared.trust_line.TrustLineEntry.{TrustLineEntry}
+use Rattle.entry_map.specs.ledger_types.declared.trust_line.TrustLineEntryExtensionV1.{TrustLineEntryExtensionV1}
+use Rattle.entry_map.specs.ledger_types.declared.trust_line.TrustLineEntryExtensionV2.{TrustLineEntryExtensionV2}
 use Rattle.entry_slots.specs.AccountExtensions.{no_liabilities, is_nothing}
 
 -- ---- liabilities

@@ -1,12 +1,12 @@
 -- Offers among the entries of a ledger.
 use Rattle.std.specs.Prelude.{ℤ, Option, Some, None}
 use Rattle.std.specs.FinMap.{get}
-use Rattle.ledger_types.specs.declared.ids.AccountId.{AccountId}
-use Rattle.ledger_types.specs.declared.offer.OfferEntry.{OfferEntry}
-use Rattle.ledger_types.specs.declared.entry.LedgerEntry.{LedgerEntry}
-use Rattle.ledger_types.specs.declared.entry.LedgerEntryBody.{LedgerEntryBody}
-use Rattle.ledger_types.specs.declared.entry.LedgerEntryBody.TheVariants as body
-use Rattle.ledger_types.specs.declared.key.LedgerKey.TheVariants as key
+use Rattle.entry_map.specs.ledger_types.declared.ids.AccountId.{AccountId}
+use Rattle.entry_map.specs.ledger_types.declared.offer.OfferEntry.{OfferEntry}
+use Rattle.entry_map.specs.ledger_types.declared.entry.LedgerEntry.{LedgerEntry}
+use Rattle.entry_map.specs.ledger_types.declared.entry.LedgerEntryBody.{LedgerEntryBody}
+use Rattle.entry_map.specs.ledger_types.declared.entry.LedgerEntryBody.TheVariants as body
+use Rattle.entry_map.specs.ledger_types.declared.key.LedgerKey.TheVariants as key
 use Rattle.entry_map.specs.EntryMap.{EntryMap, put}
 pub use Rattle.entry_map.specs.Book.{offer_in, offer_of}
 use Rattle.entry_slots.specs.declared.offers.OfferSlot.{OfferSlot}

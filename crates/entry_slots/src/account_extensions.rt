@@ -3,10 +3,10 @@
 ghost use Rattle.std.specs.Prelude.{◌≡◌, None, map, IfOk};
 ghost use Rattle.entry_slots.specs.AccountExtensions as spec;
 
-use item_list::ItemList;
-use ledger_types::{
+use entry_map::ledger_types::{
     AccountEntry, AccountEntryExtensionV1, AccountEntryExtensionV2, AccountId, Liabilities, Signer,
 };
+use item_list::ItemList;
 use std::alloc::AllocError;
 
 /// What is said by an extension that isn't there.

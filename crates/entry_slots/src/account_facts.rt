@@ -7,8 +7,8 @@ ghost use Rattle.entry_slots.specs.AccountFacts as spec;
 
 use crate::account_extensions::{account_liabilities, num_sponsored, num_sponsoring};
 use crate::accounts::account_in;
+use entry_map::ledger_types::{AccountEntry, AccountId, LedgerEntry, LedgerKey, Liabilities};
 use entry_map::{Base, Entries};
-use ledger_types::{AccountEntry, AccountId, LedgerEntry, LedgerKey, Liabilities};
 use std::alloc::AllocError;
 
 /// What of an account has a fixed width, and what its extensions say.

@@ -2,15 +2,15 @@
 
 ghost use Rattle.std.specs.Prelude.{◌≡◌, IfOk, IfSome, OnOk};
 ghost use Rattle.std.specs.Option.{option_copied};
-ghost use Rattle.ledger_types.specs.declared.key.LedgerKey.TheVariants as key;
+ghost use Rattle.entry_map.specs.ledger_types.declared.key.LedgerKey.TheVariants as key;
 ghost use Rattle.entry_map.specs.EntryMap.{put, erase};
 ghost use Rattle.entry_map.specs.Undo.{with_current};
 ghost use Rattle.entry_slots.specs.Accounts as spec;
 
-use entry_map::{Base, Entries};
-use ledger_types::{
+use entry_map::ledger_types::{
     AccountEntry, AccountId, LedgerEntry, LedgerEntryBody, LedgerEntryExtensionV1, LedgerKey,
 };
+use entry_map::{Base, Entries};
 use std::alloc::AllocError;
 
 /// The entry of an account, taken apart.

@@ -1,16 +1,16 @@
 //! Data among the entries of a ledger.
 
 ghost use Rattle.std.specs.Prelude.{◌≡◌, IfOk, IfSome, OnOk};
-ghost use Rattle.ledger_types.specs.declared.key.LedgerKey.TheVariants as key;
+ghost use Rattle.entry_map.specs.ledger_types.declared.key.LedgerKey.TheVariants as key;
 ghost use Rattle.entry_map.specs.EntryMap.{put, erase};
 ghost use Rattle.entry_map.specs.Undo.{with_current};
 ghost use Rattle.entry_slots.specs.DataEntries as spec;
 
-use entry_map::{Base, Entries};
-use item_list::ItemList;
-use ledger_types::{
+use entry_map::ledger_types::{
     AccountId, DataEntry, LedgerEntry, LedgerEntryBody, LedgerEntryExtensionV1, LedgerKey,
 };
+use entry_map::{Base, Entries};
+use item_list::ItemList;
 use std::alloc::AllocError;
 
 /// An entry of data, taken apart.

@@ -3,7 +3,7 @@
 ghost use Rattle.std.specs.Prelude.{◌≡◌};
 ghost use Rattle.entry_slots.specs.EntrySponsor as spec;
 
-use ledger_types::{AccountId, LedgerEntry, LedgerEntryExtensionV1};
+use entry_map::ledger_types::{AccountId, LedgerEntry, LedgerEntryExtensionV1};
 
 /// Who is recorded as paying the entry's reserve, if somebody is (sponsoringID of LedgerEntryExtensionV1, CAP-0033).
 pub fn sponsor_in(ext: &Option<LedgerEntryExtensionV1>) -> Option<AccountId>

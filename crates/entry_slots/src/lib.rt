@@ -23,6 +23,8 @@ pub use accounts::{
 };
 pub use balances::{BalanceSlot, balance_slot_in, erase_balance, load_balance, store_balance};
 pub use data_entries::{DataSlot, data_slot_in, erase_data, load_data, store_data};
+pub use entry_map;
+pub use entry_map::ledger_types;
 pub use entry_sponsor::{set_sponsor, sponsor_in};
 pub use line_extensions::{line_liabilities, set_line_liabilities, set_use_count, use_count};
 pub use lines::{LineSlot, erase_line, line_slot_in, load_line, store_line};

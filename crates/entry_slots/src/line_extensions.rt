@@ -4,7 +4,7 @@ ghost use Rattle.std.specs.Prelude.{◌≡◌, Some};
 ghost use Rattle.entry_slots.specs.LineExtensions as spec;
 
 use crate::account_extensions::{NO_LIABILITIES, is_nothing};
-use ledger_types::{
+use entry_map::ledger_types::{
     Liabilities, TrustLineEntry, TrustLineEntryExtensionV1, TrustLineEntryExtensionV2,
 };
 

@@ -1,15 +1,15 @@
 //! Offers among the entries of a ledger.
 
 ghost use Rattle.std.specs.Prelude.{◌≡◌, IfOk, IfSome, OnOk};
-ghost use Rattle.ledger_types.specs.declared.key.LedgerKey.TheVariants as key;
+ghost use Rattle.entry_map.specs.ledger_types.declared.key.LedgerKey.TheVariants as key;
 ghost use Rattle.entry_map.specs.EntryMap.{put, erase};
 ghost use Rattle.entry_map.specs.Undo.{with_current};
 ghost use Rattle.entry_slots.specs.Offers as spec;
 
-use entry_map::{Base, Entries};
-use ledger_types::{
+use entry_map::ledger_types::{
     AccountId, LedgerEntry, LedgerEntryBody, LedgerEntryExtensionV1, LedgerKey, OfferEntry,
 };
+use entry_map::{Base, Entries};
 use std::alloc::AllocError;
 
 /// The entry of an offer, taken apart.

@@ -6,11 +6,11 @@ use Rattle.std.specs.Ordering.{eq_by_cmp}
 use Rattle.std.specs.FinMap.{get, insert, entries, entries_sorted, entries-insert, get-entries, get-insert}
 use Rattle.std.specs.FinMap.{same_map}
 use Rattle.std.specs.FinMap.Entries.{put as put_in}
-use Rattle.ledger_types.specs.declared.entry.LedgerEntry.{LedgerEntry}
-use Rattle.ledger_types.specs.declared.key.LedgerKey.{LedgerKey}
-use Rattle.ledger_types.specs.Keys.{key_of}
-use Rattle.ledger_types.specs.KeyOrder.{key_cmp}
-use Rattle.ledger_types.proofs.KeyOrdering.{keys_total, keys_exact}
+use Rattle.entry_map.specs.ledger_types.declared.entry.LedgerEntry.{LedgerEntry}
+use Rattle.entry_map.specs.ledger_types.declared.key.LedgerKey.{LedgerKey}
+use Rattle.entry_map.specs.ledger_types.Keys.{key_of}
+use Rattle.entry_map.specs.ledger_types.KeyOrder.{key_cmp}
+use Rattle.entry_map.proofs.ledger_types_proofs.KeyOrdering.{keys_total, keys_exact}
 use Rattle.entry_map.specs.EntryMap.{EntryMap, erase}
 use Rattle.entry_map.proofs.KeyMaps.{same_keys}
 use Rattle.entry_sums.specs.Sums.{Weight, sum_over, total, part, EachEntry}

@@ -1,9 +1,9 @@
 -- How sums over entries, and what holds of each, change with one entry.
 use Rattle.std.specs.Prelude.{◌≡◌, ◌≢◌, pos, ◌+ℤ◌, ◌≤ℤ◌, Some}
 use Rattle.std.specs.FinMap.{get}
-use Rattle.ledger_types.specs.declared.entry.LedgerEntry.{LedgerEntry}
-use Rattle.ledger_types.specs.declared.key.LedgerKey.{LedgerKey}
-use Rattle.ledger_types.specs.Keys.{key_of}
+use Rattle.entry_map.specs.ledger_types.declared.entry.LedgerEntry.{LedgerEntry}
+use Rattle.entry_map.specs.ledger_types.declared.key.LedgerKey.{LedgerKey}
+use Rattle.entry_map.specs.ledger_types.Keys.{key_of}
 use Rattle.entry_map.specs.EntryMap.{EntryMap, put, erase}
 use Rattle.entry_sums.specs.Sums.{Weight, total, part, EachEntry}
 

@@ -7,3 +7,4 @@ pub mod Tables
 pub mod Above
 pub mod Batches
 pub mod Stamped
+pub use Rattle.shared_tree.proofs as shared_tree_proofs

@@ -1,16 +1,16 @@
 -- The entries behind a close, and the bucket of what it changed.
 use Rattle.std.proofs.Common.{◌≡◌, ◌≢◌, ◌⊎◌, inl, inr, ℕ, Option, Some, None, refl, sym, ap, subst, ◌∙◌}
 use Rattle.std.specs.FinMap.{get}
-use Rattle.ledger_types.specs.declared.entry.LedgerEntry.{LedgerEntry}
-use Rattle.ledger_types.specs.declared.key.LedgerKey.{LedgerKey}
-use Rattle.ledger_types.specs.Keys.{key_of}
-use Rattle.entry_map.specs.EntryMap.{EntryMap}
-use Rattle.entry_map.specs.Batch.{parts_of}
-use Rattle.entry_sums.specs.Sums.{EachEntry}
-use Rattle.entry_changes.specs.Next.{stamped, IsNextAt, AreNextEntries}
-use Rattle.entry_table.proofs.Batches.{same_parts}
-use Rattle.bucket_core.specs.Bucket.{Change, Init, Live, Dead, Contents, version_of}
-use Rattle.bucket_levels.specs.Fresh.{BecameOf, IsFresh}
+use Rattle.close_laws.specs.ledger_types.declared.entry.LedgerEntry.{LedgerEntry}
+use Rattle.close_laws.specs.ledger_types.declared.key.LedgerKey.{LedgerKey}
+use Rattle.close_laws.specs.ledger_types.Keys.{key_of}
+use Rattle.close_laws.specs.entry_map.EntryMap.{EntryMap}
+use Rattle.close_laws.specs.entry_map.Batch.{parts_of}
+use Rattle.replay.specs.entry_sums.Sums.{EachEntry}
+use Rattle.close_laws.specs.entry_changes.Next.{stamped, IsNextAt, AreNextEntries}
+use Rattle.replay.proofs.entry_table_proofs.Batches.{same_parts}
+use Rattle.replay.specs.bucket_core.Bucket.{Change, Init, Live, Dead, Contents, version_of}
+use Rattle.close_laws.specs.bucket_levels.Fresh.{BecameOf, IsFresh}
 use Rattle.existence_laws.proofs.Maps.{value_is, map_over}
 
 -- whether two entries are the same but for the ledgers of their last changes

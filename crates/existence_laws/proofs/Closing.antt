@@ -1,20 +1,20 @@
 -- Bytes do something to a state.
 use Rattle.std.proofs.Common.{◌≡◌, ℕ, ◌+◌, ◌≤◌, List, length, Option, Some, None, Result, Ok, Err, inl, inr, refl}
 use Rattle.std.proofs.lemmas.Bool.{cases_lt}
-use Rattle.xdr_core.specs.declared.fault.XdrFault.{XdrFault}
-use Rattle.xdr_core.specs.Format.{IsBytes}
-use Rattle.xdr_header.specs.declared.record.CloseRecord.{CloseRecord}
-use Rattle.bucket_levels.specs.Hash.{list_hash}
-use Rattle.bucket_levels.specs.Size.{file_total}
-use Rattle.header_chain.specs.SkipList.{finished}
-use Rattle.close_rules.specs.declared.close_fault.CloseFault.{CloseFault}
-use Rattle.close_rules.specs.declared.close_fault.CloseFault.TheVariants as fault
-use Rattle.close_rules.specs.State.{ClosingState, IsClosingState, max_file_total}
-use Rattle.close_rules.specs.Refusals.{record_in, record_fault}
-use Rattle.close_rules.specs.Close.{PreparedClose, applied_in, upgraded_header, IsClosed, IsTaken, ClosesWith, IsClose}
+use Rattle.replay.specs.xdr_core.declared.fault.XdrFault.{XdrFault}
+use Rattle.replay.specs.xdr_core.Format.{IsBytes}
+use Rattle.close_laws.specs.xdr_header.declared.record.CloseRecord.{CloseRecord}
+use Rattle.close_laws.specs.bucket_levels.Hash.{list_hash}
+use Rattle.close_laws.specs.bucket_levels.Size.{file_total}
+use Rattle.close_laws.specs.header_chain.SkipList.{finished}
+use Rattle.close_laws.specs.close_rules.declared.close_fault.CloseFault.{CloseFault}
+use Rattle.close_laws.specs.close_rules.declared.close_fault.CloseFault.TheVariants as fault
+use Rattle.close_laws.specs.close_rules.State.{ClosingState, IsClosingState, max_file_total}
+use Rattle.close_laws.specs.close_rules.Refusals.{record_in, record_fault}
+use Rattle.close_laws.specs.close_rules.Close.{PreparedClose, applied_in, upgraded_header, IsClosed, IsTaken, ClosesWith, IsClose}
 use Rattle.close_laws.specs.Legal.{IsClosable, NextIsLegal}
 use Rattle.close_laws.specs.Closes.{TakenIsClosable}
-use Rattle.run_outcome.specs.Outcome.{max_record_len}
+use Rattle.replay.specs.run_outcome.Outcome.{max_record_len}
 use Rattle.existence_laws.specs.Existence.{EachClose}
 use Rattle.existence_laws.proofs.Steps.{some_step}
 use Rattle.existence_laws.proofs.Changes.{some_next, some_fresh}

@@ -5,27 +5,27 @@ use Rattle.std.specs.Prelude.{All}
 use Rattle.std.proofs.Math.Seq.{take-append_seam}
 use Rattle.std.proofs.lemmas.List.Elements.{All-head, All-tail}
 use Rattle.byteorder.specs.Endian.{big_bytes}
-use Rattle.xdr_core.specs.Format.{IsBytes}
-use Rattle.xdr_core.specs.Place.{start_of}
-use Rattle.xdr_core.proofs.Steps.{IsBytes-take, IsBytes-drop}
-use Rattle.xdr_header.proofs.ImageLaws.{start_image_laws}
-use Rattle.close_rules.specs.declared.close_fault.CloseFault.{CloseFault}
-use Rattle.close_rules.specs.declared.image_fault.ImageFault.{ImageFault}
-use Rattle.close_rules.specs.State.{ClosingState, IsClosingState}
-use Rattle.close_rules.specs.Close.{PreparedClose, IsClose}
-use Rattle.close_rules.specs.Images.{IsJudged}
+use Rattle.replay.specs.xdr_core.Format.{IsBytes}
+use Rattle.replay.specs.xdr_core.Place.{start_of}
+use Rattle.replay.proofs.xdr_core_proofs.Steps.{IsBytes-take, IsBytes-drop}
+use Rattle.close_laws.proofs.xdr_header_proofs.ImageLaws.{start_image_laws}
+use Rattle.close_laws.specs.close_rules.declared.close_fault.CloseFault.{CloseFault}
+use Rattle.close_laws.specs.close_rules.declared.image_fault.ImageFault.{ImageFault}
+use Rattle.close_laws.specs.close_rules.State.{ClosingState, IsClosingState}
+use Rattle.close_laws.specs.close_rules.Close.{PreparedClose, IsClose}
+use Rattle.close_laws.specs.close_rules.Images.{IsJudged}
 use Rattle.close_laws.specs.Closes.{TakenIsClosable, NextIsClosing}
-use Rattle.ledger_close.proofs.Installs.{installed_state}
-use Rattle.run_outcome.specs.Outcome.{max_record_len, lines_of, AreClosed}
-use Rattle.outside.specs.Disk.{Image}
-use Rattle.gate_journal.specs.Records.{block, blocks}
-use Rattle.gate_journal.specs.declared.fault.StoreFault.{StoreFault}
-use Rattle.gate_journal.specs.declared.fault.StoreFault.TheVariants as store
+use Rattle.replay.proofs.ledger_close_proofs.Installs.{installed_state}
+use Rattle.replay.specs.run_outcome.Outcome.{max_record_len, lines_of, AreClosed}
+use Rattle.image_store.specs.outside.Disk.{Image}
+use Rattle.image_store.specs.gate_journal.Records.{block, blocks}
+use Rattle.image_store.specs.gate_journal.declared.fault.StoreFault.{StoreFault}
+use Rattle.image_store.specs.gate_journal.declared.fault.StoreFault.TheVariants as store
 use Rattle.image_store.specs.ImageFiles.{head_len, image_in}
 use Rattle.image_store.proofs.Pieces.{last_bytes}
 use Rattle.image_store.specs.Laws.{EachOpens}
 use Rattle.image_store.specs.Opening.{Kept, Holds, IsOpening}
-use Rattle.stored_outcome.specs.Opening.{BreaksRule}
+use Rattle.replay.specs.stored_outcome.Opening.{BreaksRule}
 use Rattle.existence_laws.specs.Existence.{EachClose, EachImage, Opened, EachContent}
 use Rattle.existence_laws.proofs.Starting.{judged_state, header_bytes, files_bytes}
 

@@ -10,9 +10,9 @@ use Rattle.std.proofs.lemmas.Int.{ints}
 use Rattle.std.proofs.lemmas.List.Elements.{All-nil, All-cons, All-head, All-tail}
 use Rattle.std.proofs.lemmas.List.Kept.{AllPairs-cons}
 use base.Stored.{Gv, gnil, gnum, gcons}
-use Rattle.ledger_types.specs.declared.key.LedgerKey.{LedgerKey}
-use Rattle.ledger_types.specs.KeyOrder.{key_cmp}
-use Rattle.entry_map.proofs.KeyMaps.{same_keys, same_itself}
+use Rattle.close_laws.specs.ledger_types.declared.key.LedgerKey.{LedgerKey}
+use Rattle.close_laws.specs.ledger_types.KeyOrder.{key_cmp}
+use Rattle.close_laws.proofs.entry_map_proofs.KeyMaps.{same_keys, same_itself}
 
 abbrev pub Decided : Type 0 → Type 0
 Decided A = A ⊎ (A → ⊥)

@@ -1,10 +1,10 @@
 -- What is asked of each entry of a map is decided entry by entry.
 use Rattle.std.proofs.Common.{◌≡◌, ◌≢◌, inl, inr, Option, Some, None, refl, subst}
 use Rattle.std.specs.FinMap.{get, keys}
-use Rattle.ledger_types.specs.declared.entry.LedgerEntry.{LedgerEntry}
-use Rattle.ledger_types.specs.declared.key.LedgerKey.{LedgerKey}
-use Rattle.entry_map.specs.EntryMap.{EntryMap}
-use Rattle.entry_sums.specs.Sums.{EachEntry}
+use Rattle.close_laws.specs.ledger_types.declared.entry.LedgerEntry.{LedgerEntry}
+use Rattle.close_laws.specs.ledger_types.declared.key.LedgerKey.{LedgerKey}
+use Rattle.close_laws.specs.entry_map.EntryMap.{EntryMap}
+use Rattle.replay.specs.entry_sums.Sums.{EachEntry}
 use Rattle.existence_laws.proofs.Maps.{value_is, no_value}
 use Rattle.existence_laws.proofs.Decided.{Decided, decided_as, all_keys}
 

@@ -3,20 +3,20 @@ use Rattle.std.proofs.Common.{◌≡◌, inl, inr, ℕ, ◌*◌, ◌≤◌, List
 use Rattle.std.proofs.Common.{ap, subst, ◌∙◌, arith}
 use Rattle.std.specs.List.{flat_map}
 use Rattle.std.proofs.lemmas.List.Elements.{All-nil, All-cons, All-head, All-tail}
-use Rattle.xdr_core.specs.Format.{IsBytes}
-use Rattle.xdr_header.specs.declared.image.StartImage.{StartImage}
-use Rattle.bucket_core.specs.declared.fault.BucketFault.{BucketFault}
-use Rattle.bucket_core.specs.Bucket.{Contents}
-use Rattle.bucket_core.specs.Faults.{first_fault}
-use Rattle.bucket_core.specs.File.{file_of, HasFile}
-use Rattle.bucket_core.specs.Reading.{contents_of}
-use Rattle.bucket_core.proofs.Files.{no_fault_is_file, file_has_no_fault, files_tell_apart}
-use Rattle.bucket_levels.specs.Pairs.{Pair}
-use Rattle.bucket_levels.specs.Size.{file_total}
-use Rattle.bucket_levels.specs.Spills.{level_count}
-use Rattle.close_rules.specs.State.{max_file_total}
-use Rattle.close_rules.specs.Images.{AreFilesOf, HasFiles}
-use Rattle.ledger_close.proofs.Files.{HasBoth, files_in, levels_are_one}
+use Rattle.replay.specs.xdr_core.Format.{IsBytes}
+use Rattle.close_laws.specs.xdr_header.declared.image.StartImage.{StartImage}
+use Rattle.replay.specs.bucket_core.declared.fault.BucketFault.{BucketFault}
+use Rattle.replay.specs.bucket_core.Bucket.{Contents}
+use Rattle.replay.specs.bucket_core.Faults.{first_fault}
+use Rattle.replay.specs.bucket_core.File.{file_of, HasFile}
+use Rattle.replay.specs.bucket_core.Reading.{contents_of}
+use Rattle.replay.proofs.bucket_core_proofs.Files.{no_fault_is_file, file_has_no_fault, files_tell_apart}
+use Rattle.close_laws.specs.bucket_levels.Pairs.{Pair}
+use Rattle.close_laws.specs.bucket_levels.Size.{file_total}
+use Rattle.close_laws.specs.bucket_levels.Spills.{level_count}
+use Rattle.close_laws.specs.close_rules.State.{max_file_total}
+use Rattle.close_laws.specs.close_rules.Images.{AreFilesOf, HasFiles}
+use Rattle.replay.proofs.ledger_close_proofs.Files.{HasBoth, files_in, levels_are_one}
 use Rattle.existence_laws.proofs.Decided.{Decided, decided_as, both, below, same_number}
 
 -- ---- one file

@@ -1,22 +1,22 @@
 -- An image is judged.
 use Rattle.std.proofs.Common.{◌≡◌, inl, inr, ◌*◌, ◌^◌, pos, List, Option, Some, None, Result, Ok, Err, All, refl}
-use Rattle.ledger_types.specs.contracts.ids.Hash as hash
-use Rattle.ledger_types.specs.declared.ids.Hash.{Hash}
-use Rattle.ledger_types.specs.declared.header.LedgerHeader.{LedgerHeader}
-use Rattle.xdr_core.specs.Format.{IsBytes}
-use Rattle.xdr_header.specs.declared.image.StartImage.{StartImage}
-use Rattle.entry_map.specs.EntryMap.{EntryMap}
-use Rattle.legal_rules.specs.Headers.{header_flags}
-use Rattle.bucket_levels.specs.Pairs.{Pair}
-use Rattle.bucket_levels.specs.Hash.{list_hash}
-use Rattle.close_rules.specs.declared.image_fault.ImageFault.{ImageFault}
-use Rattle.close_rules.specs.declared.image_fault.ImageFault.TheVariants as fault
-use Rattle.close_rules.specs.declared.image_fault.ImageRule.{ImageRule}
-use Rattle.close_rules.specs.declared.image_fault.ImageRule.TheVariants as rule
-use Rattle.close_rules.specs.State.{ClosingState}
-use Rattle.close_rules.specs.EntryRules.{entry_rules}
-use Rattle.close_rules.specs.Images.{header_in, AreFieldsInRange, HasHeader, HasLevels, HasEntries, state_of}
-use Rattle.close_rules.specs.Images.{BreaksEntries, IsJudged}
+use Rattle.close_laws.specs.ledger_types.contracts.ids.Hash as hash
+use Rattle.close_laws.specs.ledger_types.declared.ids.Hash.{Hash}
+use Rattle.close_laws.specs.ledger_types.declared.header.LedgerHeader.{LedgerHeader}
+use Rattle.replay.specs.xdr_core.Format.{IsBytes}
+use Rattle.close_laws.specs.xdr_header.declared.image.StartImage.{StartImage}
+use Rattle.close_laws.specs.entry_map.EntryMap.{EntryMap}
+use Rattle.close_laws.specs.legal_rules.Headers.{header_flags}
+use Rattle.close_laws.specs.bucket_levels.Pairs.{Pair}
+use Rattle.close_laws.specs.bucket_levels.Hash.{list_hash}
+use Rattle.close_laws.specs.close_rules.declared.image_fault.ImageFault.{ImageFault}
+use Rattle.close_laws.specs.close_rules.declared.image_fault.ImageFault.TheVariants as fault
+use Rattle.close_laws.specs.close_rules.declared.image_fault.ImageRule.{ImageRule}
+use Rattle.close_laws.specs.close_rules.declared.image_fault.ImageRule.TheVariants as rule
+use Rattle.close_laws.specs.close_rules.State.{ClosingState}
+use Rattle.close_laws.specs.close_rules.EntryRules.{entry_rules}
+use Rattle.close_laws.specs.close_rules.Images.{header_in, AreFieldsInRange, HasHeader, HasLevels, HasEntries, state_of}
+use Rattle.close_laws.specs.close_rules.Images.{BreaksEntries, IsJudged}
 use Rattle.existence_laws.specs.Existence.{EachImage}
 use Rattle.existence_laws.proofs.Decided.{Decided, decided_as, both, below, below_int, same_number, same_value}
 use Rattle.existence_laws.proofs.FilesOfLevels.{some_files}

@@ -6,11 +6,11 @@ use Rattle.std.specs.List.{list_any}
 use Rattle.std.specs.Ordering.{eq_by_cmp}
 use Rattle.std.specs.FinMap.{empty, get, insert, keys, get-empty, get-insert, contains_key-keys}
 use Rattle.std.proofs.lemmas.List.Folds.{list_any-append}
-use Rattle.ledger_types.specs.declared.key.LedgerKey.{LedgerKey}
-use Rattle.ledger_types.specs.KeyOrder.{key_cmp}
-use Rattle.ledger_types.proofs.KeyOrdering.{keys_total}
-use Rattle.entry_map.specs.KeyMaps.{KeyedMap}
-use Rattle.entry_map.proofs.KeyMaps.{same_keys}
+use Rattle.close_laws.specs.ledger_types.declared.key.LedgerKey.{LedgerKey}
+use Rattle.close_laws.specs.ledger_types.KeyOrder.{key_cmp}
+use Rattle.close_laws.proofs.ledger_types_proofs.KeyOrdering.{keys_total}
+use Rattle.close_laws.specs.entry_map.KeyMaps.{KeyedMap}
+use Rattle.close_laws.proofs.entry_map_proofs.KeyMaps.{same_keys}
 
 -- what stands in two equal options
 pub value_is : {V : Type 0} (x y : V) → Some x ≡ Some y → x ≡ y

@@ -6,17 +6,17 @@ use Rattle.std.specs.Ordering.{eq_by_cmp}
 use Rattle.std.specs.FinMap.{get, keys}
 use Rattle.std.proofs.lemmas.List.Elements.{All-nil, All-cons, All-head, All-tail}
 use Rattle.std.proofs.lemmas.List.Folds.{list_any-append}
-use Rattle.ledger_types.specs.declared.entry.LedgerEntry.{LedgerEntry}
-use Rattle.ledger_types.specs.declared.key.LedgerKey.{LedgerKey}
-use Rattle.ledger_types.specs.KeyOrder.{key_cmp}
-use Rattle.ledger_types.specs.Keys.{key_of}
-use Rattle.entry_map.specs.EntryMap.{EntryMap, IsKeyed}
-use Rattle.bucket_core.specs.Bucket.{Change, Init, Live, Dead, Contents, change_at, IsUnderKey}
-use Rattle.bucket_core.specs.File.{HasFile}
-use Rattle.bucket_levels.specs.Pairs.{Pair, pair_at}
-use Rattle.bucket_levels.specs.Meaning.{in_front, entry_after, entry_by, changes_of, files_of, MayStandOn}
-use Rattle.bucket_levels.specs.Meaning.{AreMarkedWell, StandFor, AreWellMarked}
-use Rattle.ledger_close.proofs.Files.{HasBoth}
+use Rattle.close_laws.specs.ledger_types.declared.entry.LedgerEntry.{LedgerEntry}
+use Rattle.close_laws.specs.ledger_types.declared.key.LedgerKey.{LedgerKey}
+use Rattle.close_laws.specs.ledger_types.KeyOrder.{key_cmp}
+use Rattle.close_laws.specs.ledger_types.Keys.{key_of}
+use Rattle.close_laws.specs.entry_map.EntryMap.{EntryMap, IsKeyed}
+use Rattle.replay.specs.bucket_core.Bucket.{Change, Init, Live, Dead, Contents, change_at, IsUnderKey}
+use Rattle.replay.specs.bucket_core.File.{HasFile}
+use Rattle.close_laws.specs.bucket_levels.Pairs.{Pair, pair_at}
+use Rattle.close_laws.specs.bucket_levels.Meaning.{in_front, entry_after, entry_by, changes_of, files_of, MayStandOn}
+use Rattle.close_laws.specs.bucket_levels.Meaning.{AreMarkedWell, StandFor, AreWellMarked}
+use Rattle.replay.proofs.ledger_close_proofs.Files.{HasBoth}
 use Rattle.existence_laws.proofs.Maps.{value_is, no_value, neither}
 use Rattle.existence_laws.proofs.Decided.{Decided, decided_as, both, all_keys}
 

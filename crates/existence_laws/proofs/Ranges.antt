@@ -3,41 +3,41 @@ use Rattle.std.proofs.Common.{◌≡◌, ◌≢◌, inl, inr, ℕ, ◌%◌, ◌�
 use Rattle.std.specs.Coded.{coded_option}
 use Rattle.std.specs.declared.cmp.Ordering.{Ordering}
 use Rattle.std.specs.declared.cmp.Ordering.TheVariants.{Less, Equal, Greater}
-use Rattle.ledger_types.specs.contracts.ids.AccountId as account_id
-use Rattle.ledger_types.specs.contracts.ids.Hash as hash
-use Rattle.ledger_types.specs.contracts.signer.SignerKey as signer_key
-use Rattle.ledger_types.specs.contracts.asset.Asset as an_asset
-use Rattle.ledger_types.specs.declared.ids.AccountId.{AccountId}
-use Rattle.ledger_types.specs.declared.asset.TrustLineAsset.{TrustLineAsset}
-use Rattle.ledger_types.specs.declared.asset.TrustLineAsset.TheVariants as line
-use Rattle.ledger_types.specs.declared.signer.Signer.{Signer}
-use Rattle.ledger_types.specs.declared.signer.SignerKey.TheVariants as signer
-use Rattle.ledger_types.specs.declared.account.AccountEntry.{AccountEntry}
-use Rattle.ledger_types.specs.declared.trust_line.TrustLineEntry.{TrustLineEntry}
-use Rattle.ledger_types.specs.declared.offer.OfferEntry.{OfferEntry}
-use Rattle.ledger_types.specs.declared.data_entry.DataEntry.{DataEntry}
-use Rattle.ledger_types.specs.declared.claimable_balance.Claimant.{Claimant}
-use Rattle.ledger_types.specs.declared.claimable_balance.ClaimableBalanceEntry.{ClaimableBalanceEntry}
-use Rattle.ledger_types.specs.declared.liquidity_pool.LiquidityPoolEntry.{LiquidityPoolEntry}
-use Rattle.ledger_types.specs.declared.entry.LedgerEntry.{LedgerEntry}
-use Rattle.ledger_types.specs.declared.entry.LedgerEntryBody.{LedgerEntryBody}
-use Rattle.ledger_types.specs.declared.entry.LedgerEntryBody.TheVariants as body
-use Rattle.ledger_types.specs.KeyOrder.{asset_cmp, signer_key_cmp}
-use Rattle.valid_values.specs.Texts.{is_valid_text}
-use Rattle.valid_values.specs.Assets.{is_valid_code, is_valid_asset}
-use Rattle.valid_values.specs.Predicates.{is_valid_stored_predicate}
-use Rattle.hash_ids.specs.Ids.{pool_id_of}
-use Rattle.entry_slots.specs.AccountExtensions.{account_liabilities, sponsorship_of}
-use Rattle.entry_slots.specs.LineExtensions.{line_liabilities, use_count}
-use Rattle.entry_slots.specs.EntrySponsor.{sponsor_of}
-use Rattle.reserve_rules.specs.Reserve.{greatest_i64, IsInRange, IsLineInRange}
-use Rattle.sponsor_rules.specs.Charge.{owner_of}
-use Rattle.legal_rules.specs.OfferLiabilities.{bound_of}
-use Rattle.legal_rules.specs.Ranges.{has_flag, AreAccountFlags, AreSignersInRange, IsAccountInRange, IsHeldIn}
-use Rattle.legal_rules.specs.Ranges.{AreLineFlags, IsTrustLineInRange, IsOfferInRange, IsDataInRange}
-use Rattle.legal_rules.specs.Ranges.{balance_flags}
-use Rattle.legal_rules.specs.Ranges.{AreClaimantsInRange, IsBalanceInRange, IsPoolInRange, IsBodyInRange, IsPaidRightly}
-use Rattle.legal_rules.specs.Ranges.{IsEntryInRange}
+use Rattle.close_laws.specs.ledger_types.contracts.ids.AccountId as account_id
+use Rattle.close_laws.specs.ledger_types.contracts.ids.Hash as hash
+use Rattle.close_laws.specs.ledger_types.contracts.signer.SignerKey as signer_key
+use Rattle.close_laws.specs.ledger_types.contracts.asset.Asset as an_asset
+use Rattle.close_laws.specs.ledger_types.declared.ids.AccountId.{AccountId}
+use Rattle.close_laws.specs.ledger_types.declared.asset.TrustLineAsset.{TrustLineAsset}
+use Rattle.close_laws.specs.ledger_types.declared.asset.TrustLineAsset.TheVariants as line
+use Rattle.close_laws.specs.ledger_types.declared.signer.Signer.{Signer}
+use Rattle.close_laws.specs.ledger_types.declared.signer.SignerKey.TheVariants as signer
+use Rattle.close_laws.specs.ledger_types.declared.account.AccountEntry.{AccountEntry}
+use Rattle.close_laws.specs.ledger_types.declared.trust_line.TrustLineEntry.{TrustLineEntry}
+use Rattle.close_laws.specs.ledger_types.declared.offer.OfferEntry.{OfferEntry}
+use Rattle.close_laws.specs.ledger_types.declared.data_entry.DataEntry.{DataEntry}
+use Rattle.close_laws.specs.ledger_types.declared.claimable_balance.Claimant.{Claimant}
+use Rattle.close_laws.specs.ledger_types.declared.claimable_balance.ClaimableBalanceEntry.{ClaimableBalanceEntry}
+use Rattle.close_laws.specs.ledger_types.declared.liquidity_pool.LiquidityPoolEntry.{LiquidityPoolEntry}
+use Rattle.close_laws.specs.ledger_types.declared.entry.LedgerEntry.{LedgerEntry}
+use Rattle.close_laws.specs.ledger_types.declared.entry.LedgerEntryBody.{LedgerEntryBody}
+use Rattle.close_laws.specs.ledger_types.declared.entry.LedgerEntryBody.TheVariants as body
+use Rattle.close_laws.specs.ledger_types.KeyOrder.{asset_cmp, signer_key_cmp}
+use Rattle.replay.specs.valid_values.Texts.{is_valid_text}
+use Rattle.replay.specs.valid_values.Assets.{is_valid_code, is_valid_asset}
+use Rattle.replay.specs.valid_values.Predicates.{is_valid_stored_predicate}
+use Rattle.replay.specs.hash_ids.Ids.{pool_id_of}
+use Rattle.close_laws.specs.entry_slots.AccountExtensions.{account_liabilities, sponsorship_of}
+use Rattle.close_laws.specs.entry_slots.LineExtensions.{line_liabilities, use_count}
+use Rattle.close_laws.specs.entry_slots.EntrySponsor.{sponsor_of}
+use Rattle.replay.specs.reserve_rules.Reserve.{greatest_i64, IsInRange, IsLineInRange}
+use Rattle.close_laws.specs.sponsor_rules.Charge.{owner_of}
+use Rattle.close_laws.specs.legal_rules.OfferLiabilities.{bound_of}
+use Rattle.close_laws.specs.legal_rules.Ranges.{has_flag, AreAccountFlags, AreSignersInRange, IsAccountInRange, IsHeldIn}
+use Rattle.close_laws.specs.legal_rules.Ranges.{AreLineFlags, IsTrustLineInRange, IsOfferInRange, IsDataInRange}
+use Rattle.close_laws.specs.legal_rules.Ranges.{balance_flags}
+use Rattle.close_laws.specs.legal_rules.Ranges.{AreClaimantsInRange, IsBalanceInRange, IsPoolInRange, IsBodyInRange, IsPaidRightly}
+use Rattle.close_laws.specs.legal_rules.Ranges.{IsEntryInRange}
 use Rattle.existence_laws.proofs.Decided.{Decided, decided_as, both, implied, opposite, below, same_number, is_true}
 use Rattle.existence_laws.proofs.Decided.{below_int, same_int, same_value, each, each_pair}
 

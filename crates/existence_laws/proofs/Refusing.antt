@@ -4,15 +4,15 @@ use Rattle.std.proofs.Common.{if◌then◌else◌}
 use Rattle.std.specs.Prelude.{slice_get}
 use Rattle.std.specs.List.{AllByRecursion}
 use Rattle.std.specs.Option.{option_or}
-use Rattle.xdr_header.specs.declared.record.CloseRecord.{CloseRecord}
-use Rattle.entry_slots.specs.Tests.{Tests, first_fault}
-use Rattle.header_chain.specs.Upgrades.{upgrade_in, first_place, is_bad_at, is_out_of_profile}
-use Rattle.tx_apply.specs.Set.{missing_place}
-use Rattle.close_rules.specs.declared.close_fault.CloseFault.{CloseFault}
-use Rattle.close_rules.specs.declared.close_fault.CloseFault.TheVariants as fault
-use Rattle.close_rules.specs.State.{ClosingState}
-use Rattle.close_rules.specs.Refusals.{term_tests, term_fault, upgrade_fault, set_fault, record_fault}
-use Rattle.close_rules.specs.Close.{IsRefused, IsClose}
+use Rattle.close_laws.specs.xdr_header.declared.record.CloseRecord.{CloseRecord}
+use Rattle.close_laws.specs.entry_slots.Tests.{Tests, first_fault}
+use Rattle.close_laws.specs.header_chain.Upgrades.{upgrade_in, first_place, is_bad_at, is_out_of_profile}
+use Rattle.close_laws.specs.tx_apply.Set.{missing_place}
+use Rattle.close_laws.specs.close_rules.declared.close_fault.CloseFault.{CloseFault}
+use Rattle.close_laws.specs.close_rules.declared.close_fault.CloseFault.TheVariants as fault
+use Rattle.close_laws.specs.close_rules.State.{ClosingState}
+use Rattle.close_laws.specs.close_rules.Refusals.{term_tests, term_fault, upgrade_fault, set_fault, record_fault}
+use Rattle.close_laws.specs.close_rules.Close.{IsRefused, IsClose}
 
 -- a fault of a record that was read, and not of what it leads to
 abbrev IsOfRecord : CloseFault → Type 0

@@ -5,34 +5,34 @@ use Rattle.std.proofs.lemmas.Int.{ints}
 use Rattle.std.specs.Prelude.{ℤ, ◌+ℤ◌, ◌≤ℤ◌, if◌then◌else◌}
 use Rattle.std.specs.Ordering.{is_eq, int_cmp}
 use Rattle.std.specs.FinMap.{get}
-use Rattle.ledger_types.specs.declared.asset.Asset.TheVariants as asset
-use Rattle.ledger_types.specs.declared.trust_line.TrustLineEntry.{TrustLineEntry}
-use Rattle.ledger_types.specs.declared.header.LedgerHeader.{LedgerHeader}
-use Rattle.ledger_types.specs.declared.entry.LedgerEntryBody.{LedgerEntryBody}
-use Rattle.ledger_types.specs.declared.entry.LedgerEntryBody.TheVariants as body
-use Rattle.ledger_types.specs.Keys.{key_of}
-use Rattle.entry_map.specs.EntryMap.{EntryMap, IsKeyed}
-use Rattle.entry_slots.specs.AccountExtensions.{num_sponsoring}
-use Rattle.entry_slots.specs.Lines.{line_of}
-use Rattle.entry_sums.specs.Sums.{total, EachEntry}
-use Rattle.entry_sums.proofs.Summing.{total_none}
-use Rattle.legal_rules.specs.Books.{counted, stated, stated_at}
-use Rattle.legal_rules.specs.Bounds.{AreSubentriesFew, DoReservesFit, IsFilledOrEmpty}
-use Rattle.legal_rules.specs.Legal.{view, pools_in, IsBooked, IsAuthorized, AreLinesAuthorized}
-use Rattle.legal_rules.specs.Needs.{keys_in, needed_keys}
-use Rattle.legal_rules.specs.OfferIds.{offer_with_in, offer_with, AreOffersApart}
-use Rattle.legal_rules.specs.Ranges.{IsEntryInRange}
-use Rattle.legal_rules.specs.Supply.{held}
-use Rattle.legal_rules.specs.Trades.{holder}
-use Rattle.close_rules.specs.declared.image_fault.ImageRule.{ImageRule}
-use Rattle.close_rules.specs.declared.image_fault.ImageRule.TheVariants as rule
-use Rattle.close_rules.specs.EntryRules.{AreInRange, AreOwned, AreLiable, AreSubentriesCounted, AreSponsorsCounted}
-use Rattle.close_rules.specs.EntryRules.{ArePoolsCounted, AreLumensCounted, Keeps, entry_rules, IsFirstBroken}
-use Rattle.image_rules.specs.declared.books.Book.{Book}
-use Rattle.image_rules.specs.declared.books.Book.TheVariants as book
-use Rattle.image_rules.specs.Books.{kind_of}
-use Rattle.image_rules.proofs.Booked.{IsRight, keyed_each, booked_of_right}
-use Rattle.image_rules.proofs.Distinct.{same_id}
+use Rattle.close_laws.specs.ledger_types.declared.asset.Asset.TheVariants as asset
+use Rattle.close_laws.specs.ledger_types.declared.trust_line.TrustLineEntry.{TrustLineEntry}
+use Rattle.close_laws.specs.ledger_types.declared.header.LedgerHeader.{LedgerHeader}
+use Rattle.close_laws.specs.ledger_types.declared.entry.LedgerEntryBody.{LedgerEntryBody}
+use Rattle.close_laws.specs.ledger_types.declared.entry.LedgerEntryBody.TheVariants as body
+use Rattle.close_laws.specs.ledger_types.Keys.{key_of}
+use Rattle.close_laws.specs.entry_map.EntryMap.{EntryMap, IsKeyed}
+use Rattle.close_laws.specs.entry_slots.AccountExtensions.{num_sponsoring}
+use Rattle.close_laws.specs.entry_slots.Lines.{line_of}
+use Rattle.replay.specs.entry_sums.Sums.{total, EachEntry}
+use Rattle.replay.proofs.entry_sums_proofs.Summing.{total_none}
+use Rattle.close_laws.specs.legal_rules.Books.{counted, stated, stated_at}
+use Rattle.close_laws.specs.legal_rules.Bounds.{AreSubentriesFew, DoReservesFit, IsFilledOrEmpty}
+use Rattle.close_laws.specs.legal_rules.Legal.{view, pools_in, IsBooked, IsAuthorized, AreLinesAuthorized}
+use Rattle.close_laws.specs.legal_rules.Needs.{keys_in, needed_keys}
+use Rattle.close_laws.specs.legal_rules.OfferIds.{offer_with_in, offer_with, AreOffersApart}
+use Rattle.close_laws.specs.legal_rules.Ranges.{IsEntryInRange}
+use Rattle.close_laws.specs.legal_rules.Supply.{held}
+use Rattle.close_laws.specs.legal_rules.Trades.{holder}
+use Rattle.close_laws.specs.close_rules.declared.image_fault.ImageRule.{ImageRule}
+use Rattle.close_laws.specs.close_rules.declared.image_fault.ImageRule.TheVariants as rule
+use Rattle.close_laws.specs.close_rules.EntryRules.{AreInRange, AreOwned, AreLiable, AreSubentriesCounted, AreSponsorsCounted}
+use Rattle.close_laws.specs.close_rules.EntryRules.{ArePoolsCounted, AreLumensCounted, Keeps, entry_rules, IsFirstBroken}
+use Rattle.replay.specs.image_rules.declared.books.Book.{Book}
+use Rattle.replay.specs.image_rules.declared.books.Book.TheVariants as book
+use Rattle.replay.specs.image_rules.Books.{kind_of}
+use Rattle.replay.proofs.image_rules_proofs.Booked.{IsRight, keyed_each, booked_of_right}
+use Rattle.replay.proofs.image_rules_proofs.Distinct.{same_id}
 use Rattle.existence_laws.proofs.Decided.{Decided, decided_as, both, either, opposite, below, below_int, same_number}
 use Rattle.existence_laws.proofs.Decided.{all_three, same_int, above_none, each}
 use Rattle.existence_laws.proofs.Entries.{each_entry, stands}

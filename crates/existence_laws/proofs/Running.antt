@@ -2,19 +2,19 @@
 use Rattle.std.proofs.Common.{◌≡◌, ℕ, zero, suc, ◌+◌, ◌≤◌, List, [], ◌∷◌, ◌++◌, length, Result, Ok, Err, refl, sym}
 use Rattle.std.proofs.Common.{ap, subst, arith}
 use Rattle.std.proofs.lemmas.List.{length-append}
-use Rattle.xdr_core.specs.declared.fault.XdrFault.{XdrFault}
-use Rattle.xdr_core.specs.Format.{IsBytes}
-use Rattle.xdr_core.specs.Leaves.{mark}
-use Rattle.xdr_core.specs.Place.{Place, Reading}
-use Rattle.xdr_core.proofs.FormatLaws.{mark_laws}
-use Rattle.close_rules.specs.declared.close_fault.CloseFault.{CloseFault}
-use Rattle.close_rules.specs.State.{ClosingState, IsClosingState}
-use Rattle.close_rules.specs.Close.{PreparedClose, IsClose}
+use Rattle.replay.specs.xdr_core.declared.fault.XdrFault.{XdrFault}
+use Rattle.replay.specs.xdr_core.Format.{IsBytes}
+use Rattle.replay.specs.xdr_core.Leaves.{mark}
+use Rattle.replay.specs.xdr_core.Place.{Place, Reading}
+use Rattle.replay.proofs.xdr_core_proofs.FormatLaws.{mark_laws}
+use Rattle.close_laws.specs.close_rules.declared.close_fault.CloseFault.{CloseFault}
+use Rattle.close_laws.specs.close_rules.State.{ClosingState, IsClosingState}
+use Rattle.close_laws.specs.close_rules.Close.{PreparedClose, IsClose}
 use Rattle.close_laws.specs.Closes.{TakenIsClosable, NextIsClosing}
-use Rattle.ledger_close.proofs.Installs.{installed_state}
-use Rattle.run_outcome.specs.declared.status.Status.TheVariants as status
-use Rattle.run_outcome.specs.Lines.{end_line, refused_line}
-use Rattle.run_outcome.specs.Outcome.{Outcome, silent, behind, max_record_len, framed, lines_of, IsStopped, IsRun}
+use Rattle.replay.proofs.ledger_close_proofs.Installs.{installed_state}
+use Rattle.replay.specs.run_outcome.declared.status.Status.TheVariants as status
+use Rattle.replay.specs.run_outcome.Lines.{end_line, refused_line}
+use Rattle.replay.specs.run_outcome.Outcome.{Outcome, silent, behind, max_record_len, framed, lines_of, IsStopped, IsRun}
 use Rattle.replay.proofs.Marking.{read_mark, framed_above}
 use Rattle.replay.proofs.Runs.{ended_run, prepended}
 use Rattle.existence_laws.specs.Existence.{EachClose, EachRun}

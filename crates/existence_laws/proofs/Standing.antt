@@ -1,11 +1,11 @@
 -- Levels stand for some entries.
 use Rattle.std.proofs.Common.{List, [], ◌∷◌, None, Some, Option, sym, ap, ◌∙◌}
 use Rattle.std.specs.FinMap.{empty, get, get-empty}
-use Rattle.ledger_types.specs.KeyOrder.{key_cmp}
-use Rattle.entry_map.specs.EntryMap.{EntryMap}
-use Rattle.bucket_core.specs.Bucket.{Change, Contents}
-use Rattle.bucket_levels.specs.Pairs.{Pair}
-use Rattle.bucket_levels.specs.Meaning.{in_front, entry_by, changes_of, files_of, StandFor}
+use Rattle.close_laws.specs.ledger_types.KeyOrder.{key_cmp}
+use Rattle.close_laws.specs.entry_map.EntryMap.{EntryMap}
+use Rattle.replay.specs.bucket_core.Bucket.{Change, Contents}
+use Rattle.close_laws.specs.bucket_levels.Pairs.{Pair}
+use Rattle.close_laws.specs.bucket_levels.Meaning.{in_front, entry_by, changes_of, files_of, StandFor}
 use Rattle.existence_laws.proofs.Maps.{MapOf, map_over}
 
 -- what files say, the newest first

@@ -2,26 +2,26 @@
 use Rattle.std.proofs.Common.{◌≡◌, ℕ, zero, suc, ◌-◌, List, [], ◌∷◌, length, All, Some, Result, Ok, Err, refl, sym}
 use Rattle.std.proofs.Common.{subst}
 use Rattle.std.proofs.lemmas.List.Elements.{All-nil, All-cons}
-use Rattle.ledger_types.specs.declared.ids.Hash.{Hash}
-use Rattle.ledger_types.specs.declared.header.LedgerHeader.{LedgerHeader}
-use Rattle.xdr_core.specs.declared.fault.XdrFault.{XdrFault}
-use Rattle.xdr_core.specs.Format.{IsBytes}
-use Rattle.xdr_core.specs.Leaves.{mark}
-use Rattle.xdr_core.specs.Place.{Place, Reading, start_of}
-use Rattle.xdr_header.specs.declared.image.StartImage.{StartImage}
-use Rattle.xdr_header.specs.Header.{ledger_header}
-use Rattle.xdr_header.specs.Image.{file, files, start_image}
-use Rattle.xdr_header.proofs.HeaderLaws.{ledger_header_laws}
-use Rattle.xdr_header.proofs.ImageLaws.{start_image_laws}
-use Rattle.hash_ids.specs.Ids.{network_id_of}
-use Rattle.value_hashes.specs.Hashes.{ledger_hash_of}
-use Rattle.close_rules.specs.declared.image_fault.ImageFault.{ImageFault}
-use Rattle.close_rules.specs.declared.image_fault.ImageFault.TheVariants as fault
-use Rattle.close_rules.specs.State.{ClosingState, IsClosingState, IsSpelled}
-use Rattle.close_rules.specs.Images.{header_in, if_whole, read_whole, IsJudged}
-use Rattle.ledger_close.proofs.Judged.{IsWhole, is_kept}
-use Rattle.run_outcome.specs.declared.status.Status.TheVariants as status
-use Rattle.run_outcome.specs.Outcome.{Outcome, silent, IsStarted, IsOutcomeOf}
+use Rattle.close_laws.specs.ledger_types.declared.ids.Hash.{Hash}
+use Rattle.close_laws.specs.ledger_types.declared.header.LedgerHeader.{LedgerHeader}
+use Rattle.replay.specs.xdr_core.declared.fault.XdrFault.{XdrFault}
+use Rattle.replay.specs.xdr_core.Format.{IsBytes}
+use Rattle.replay.specs.xdr_core.Leaves.{mark}
+use Rattle.replay.specs.xdr_core.Place.{Place, Reading, start_of}
+use Rattle.close_laws.specs.xdr_header.declared.image.StartImage.{StartImage}
+use Rattle.close_laws.specs.xdr_header.Header.{ledger_header}
+use Rattle.close_laws.specs.xdr_header.Image.{file, files, start_image}
+use Rattle.close_laws.proofs.xdr_header_proofs.HeaderLaws.{ledger_header_laws}
+use Rattle.close_laws.proofs.xdr_header_proofs.ImageLaws.{start_image_laws}
+use Rattle.replay.specs.hash_ids.Ids.{network_id_of}
+use Rattle.close_laws.specs.value_hashes.Hashes.{ledger_hash_of}
+use Rattle.close_laws.specs.close_rules.declared.image_fault.ImageFault.{ImageFault}
+use Rattle.close_laws.specs.close_rules.declared.image_fault.ImageFault.TheVariants as fault
+use Rattle.close_laws.specs.close_rules.State.{ClosingState, IsClosingState, IsSpelled}
+use Rattle.close_laws.specs.close_rules.Images.{header_in, if_whole, read_whole, IsJudged}
+use Rattle.replay.proofs.ledger_close_proofs.Judged.{IsWhole, is_kept}
+use Rattle.replay.specs.run_outcome.declared.status.Status.TheVariants as status
+use Rattle.replay.specs.run_outcome.Outcome.{Outcome, silent, IsStarted, IsOutcomeOf}
 use Rattle.existence_laws.proofs.Maps.{value_is}
 use Rattle.existence_laws.specs.Existence.{EachRun, EachImage, EachOutcome}
 

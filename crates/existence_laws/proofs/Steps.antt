@@ -2,12 +2,12 @@
 use Rattle.std.proofs.Common.{ℕ, zero, suc, Bool, true, false, List, map, refl, sym, subst, zero-add}
 use Rattle.std.specs.List.{range_with_len}
 use Rattle.std.proofs.lemmas.List.FromFn.{length-map-range_with_len, get_or-map-range_with_len}
-use Rattle.bucket_core.specs.Bucket.{Contents}
-use Rattle.bucket_merge.specs.Walk.{merge_of}
-use Rattle.bucket_merge.proofs.Merging.{pass_is_merge}
-use Rattle.bucket_levels.specs.Spills.{level_count, spills}
-use Rattle.bucket_levels.specs.Pairs.{Pair, empty_pair, pair_at}
-use Rattle.bucket_levels.specs.Step.{base_at, snap_after, IsMergedIf, IsCurrAfter, IsPairAfter, IsStep}
+use Rattle.replay.specs.bucket_core.Bucket.{Contents}
+use Rattle.replay.specs.bucket_merge.Walk.{merge_of}
+use Rattle.replay.proofs.bucket_merge_proofs.Merging.{pass_is_merge}
+use Rattle.close_laws.specs.bucket_levels.Spills.{level_count, spills}
+use Rattle.close_laws.specs.bucket_levels.Pairs.{Pair, empty_pair, pair_at}
+use Rattle.close_laws.specs.bucket_levels.Step.{base_at, snap_after, IsMergedIf, IsCurrAfter, IsPairAfter, IsStep}
 
 abbrev merged_if : Bool → (level : ℕ) → (older newer was : Contents) → Contents
 merged_if true level older newer was = merge_of level older newer

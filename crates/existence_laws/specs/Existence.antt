@@ -1,18 +1,18 @@
 -- That a close, an image, an input and the content of a volume have an answer.
 use Rattle.std.specs.Prelude.{ℕ, ◌≤◌, List, length, All, Result, ◌⊎◌}
-use Rattle.ledger_types.specs.declared.ids.Hash.{Hash}
-use Rattle.xdr_core.specs.Format.{IsBytes}
-use Rattle.xdr_core.specs.Place.{Place}
-use Rattle.xdr_header.specs.declared.image.StartImage.{StartImage}
-use Rattle.close_rules.specs.declared.close_fault.CloseFault.{CloseFault}
-use Rattle.close_rules.specs.declared.image_fault.ImageFault.{ImageFault}
-use Rattle.close_rules.specs.State.{ClosingState, IsClosingState}
-use Rattle.close_rules.specs.Close.{PreparedClose, IsClose}
-use Rattle.close_rules.specs.Images.{IsJudged}
-use Rattle.run_outcome.specs.Outcome.{Outcome, max_record_len, IsRun, IsOutcome}
-use Rattle.outside.specs.Disk.{Image}
+use Rattle.close_laws.specs.ledger_types.declared.ids.Hash.{Hash}
+use Rattle.replay.specs.xdr_core.Format.{IsBytes}
+use Rattle.replay.specs.xdr_core.Place.{Place}
+use Rattle.close_laws.specs.xdr_header.declared.image.StartImage.{StartImage}
+use Rattle.close_laws.specs.close_rules.declared.close_fault.CloseFault.{CloseFault}
+use Rattle.close_laws.specs.close_rules.declared.image_fault.ImageFault.{ImageFault}
+use Rattle.close_laws.specs.close_rules.State.{ClosingState, IsClosingState}
+use Rattle.close_laws.specs.close_rules.Close.{PreparedClose, IsClose}
+use Rattle.close_laws.specs.close_rules.Images.{IsJudged}
+use Rattle.replay.specs.run_outcome.Outcome.{Outcome, max_record_len, IsRun, IsOutcome}
+use Rattle.image_store.specs.outside.Disk.{Image}
 use Rattle.image_store.specs.Opening.{HoldsNothing}
-use Rattle.stored_outcome.specs.Opening.{OpensTo, IsBadStore}
+use Rattle.replay.specs.stored_outcome.Opening.{OpensTo, IsBadStore}
 
 -- bytes, no more than a record may have, do something to each state from which a ledger closes
 abbrev pub EachClose : Type 0

@@ -8,8 +8,8 @@ use Rattle.ledger_types.specs.Keys.{key_of}
 use Rattle.entry_map.specs.declared.batch.Batch.{Batch}
 use Rattle.entry_map.specs.EntryMap.{EntryMap, IsKeyed}
 use Rattle.entry_map.specs.Noting.{no_changes}
-use Rattle.entry_changes.specs.Next.{IsExactBatch}
-use Rattle.entry_changes.specs.Spellable.{AreSpellable}
+use Rattle.entry_table.specs.entry_changes.Next.{IsExactBatch}
+use Rattle.entry_table.specs.entry_changes.Spellable.{AreSpellable}
 
 none_there : (k : LedgerKey) (e : LedgerEntry) → get (empty {X = LedgerEntry} {R = key_cmp}) k ≡ Some e → ⊥
 none_there k e h = cc (h, get-empty {X = LedgerEntry} key_cmp k)

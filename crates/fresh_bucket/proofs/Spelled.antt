@@ -17,12 +17,12 @@ use Rattle.xdr_entries.specs.Entries.{ledger_entry}
 use Rattle.xdr_entries.specs.Keys.{ledger_key, bucket_entry}
 use Rattle.entry_map.specs.declared.batch.Batch.{Batch}
 use Rattle.entry_map.specs.EntryMap.{EntryMap, IsKeyed}
-use Rattle.entry_changes.specs.Next.{IsExactBatch}
-use Rattle.entry_changes.specs.Spellable.{IsEntrySpellable, AreSpellable}
+use Rattle.entry_table.specs.entry_changes.Next.{IsExactBatch}
+use Rattle.entry_table.specs.entry_changes.Spellable.{IsEntrySpellable, AreSpellable}
 use Rattle.entry_table.specs.Rows.{value_at}
-use Rattle.bucket_items.specs.MarkedItem.{IsSpellable, record_of, max_item_len}
-use Rattle.bucket_items.proofs.EntryKeys.{entry_holds_key, entry_key_within, entry_key_sized}
-use Rattle.bucket_items.proofs.Holding.{i32_len}
+use Rattle.bucket_core.specs.bucket_items.MarkedItem.{IsSpellable, record_of, max_item_len}
+use Rattle.bucket_core.proofs.bucket_items_proofs.EntryKeys.{entry_holds_key, entry_key_within, entry_key_sized}
+use Rattle.bucket_core.proofs.bucket_items_proofs.Holding.{i32_len}
 use Rattle.bucket_core.specs.Bucket.{Change, IsUnderKey}
 use Rattle.bucket_core.specs.File.{item_of, items_of, file_of, HasFile}
 use Rattle.fresh_bucket.specs.Items.{IsItemRow, told, bucket_of}

@@ -13,7 +13,7 @@ use Rattle.entry_map.specs.declared.batch.Batch.{Batch}
 use Rattle.entry_map.specs.EntryMap.{EntryMap, IsKeyed}
 use Rattle.entry_map.specs.KeyMaps.{AreRising}
 use Rattle.entry_map.specs.Batch.{IsNew, IsChanged, IsGone, IsBatch}
-use Rattle.entry_changes.specs.Next.{IsExactBatch}
+use Rattle.entry_table.specs.entry_changes.Next.{IsExactBatch}
 use Rattle.entry_table.specs.Rows.{value_at, IsOverlaid}
 use Rattle.entry_table.proofs.Walks.{Sorted}
 use Rattle.entry_table.proofs.Batches.{same_parts}

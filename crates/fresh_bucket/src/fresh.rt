@@ -2,8 +2,8 @@
 
 ghost use Rattle.std.specs.Prelude.{◌≡◌, Some, IfOk};
 ghost use Rattle.entry_map.specs.EntryMap.{EntryMap, IsKeyed};
-ghost use Rattle.entry_changes.specs.Next.{IsExactBatch};
-ghost use Rattle.entry_changes.specs.Spellable.{AreSpellable};
+ghost use Rattle.entry_table.specs.entry_changes.Next.{IsExactBatch};
+ghost use Rattle.entry_table.specs.entry_changes.Spellable.{AreSpellable};
 ghost use Rattle.bucket_core.specs.Bucket.{version_of};
 ghost use Rattle.bucket_levels.specs.Fresh.{IsFresh};
 

@@ -4,7 +4,7 @@ ghost use Rattle.std.specs.Prelude.{◌≡◌, ◌++◌, ◌<◌, ◌^◌, map, 
 ghost use Rattle.std.specs.List.{flat_map};
 ghost use Rattle.ledger_types.specs.declared.bucket.BucketEntry.TheVariants as bucket;
 ghost use Rattle.xdr_entries.specs.Keys as spec;
-ghost use Rattle.bucket_items.specs.MarkedItem.{record_of, IsSpellable};
+ghost use Rattle.bucket_core.specs.bucket_items.MarkedItem.{record_of, IsSpellable};
 ghost use Rattle.fresh_bucket.specs.ItemRefs.{item_at, items_at};
 
 use crate::item_ref::ItemRef;

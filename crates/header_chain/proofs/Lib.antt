@@ -1,2 +1,3 @@
 pub mod Places
 pub mod Asked
+pub use Rattle.xdr_header.proofs as xdr_header_proofs

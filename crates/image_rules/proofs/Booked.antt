@@ -21,11 +21,11 @@ use Rattle.ledger_types.specs.declared.key.LedgerKey.TheVariants as key
 use Rattle.ledger_types.specs.Keys.{key_of, key_of_body}
 use Rattle.ledger_types.proofs.KeyOrdering.{keys_total}
 use Rattle.entry_map.specs.EntryMap.{EntryMap, IsKeyed}
-use Rattle.entry_sums.specs.Sums.{total, part, EachEntry}
-use Rattle.entry_sums.proofs.Summing.{total_none, total_only, total_plus, total_same}
-use Rattle.legal_rules.specs.EntryKeys.{for_account}
-use Rattle.legal_rules.specs.Legal.{view, pools_in, IsBooked}
-use Rattle.legal_rules.specs.Books.{counted, stated, stated_at}
+use Rattle.close_rules.specs.entry_sums.Sums.{total, part, EachEntry}
+use Rattle.close_rules.proofs.entry_sums_proofs.Summing.{total_none, total_only, total_plus, total_same}
+use Rattle.close_rules.specs.legal_rules.EntryKeys.{for_account}
+use Rattle.close_rules.specs.legal_rules.Legal.{view, pools_in, IsBooked}
+use Rattle.close_rules.specs.legal_rules.Books.{counted, stated, stated_at}
 use Rattle.close_rules.specs.EntryRules.{AreOwned}
 use Rattle.image_rules.specs.declared.books.Book.{Book}
 use Rattle.image_rules.specs.declared.books.Book.TheVariants as book

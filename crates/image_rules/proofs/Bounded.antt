@@ -11,8 +11,8 @@ use Rattle.ledger_types.specs.declared.entry.LedgerEntryBody.TheVariants as body
 use Rattle.ledger_types.specs.declared.liquidity_pool.LiquidityPoolEntry.{LiquidityPoolEntry}
 use Rattle.ledger_types.specs.KeyOrder.{asset_cmp}
 use Rattle.entry_map.specs.EntryMap.{EntryMap}
-use Rattle.legal_rules.specs.Ranges.{IsBodyInRange}
-use Rattle.legal_rules.specs.Supply.{of_asset, held_in}
+use Rattle.close_rules.specs.legal_rules.Ranges.{IsBodyInRange}
+use Rattle.close_rules.specs.legal_rules.Supply.{of_asset, held_in}
 use Rattle.close_rules.specs.EntryRules.{AreInRange}
 use Rattle.image_rules.specs.Terms.{AreTerms, HaveTerms}
 

@@ -8,7 +8,7 @@ use Rattle.std.specs.BTreeMap as tree
 use Rattle.ledger_types.specs.declared.key.LedgerKey.{LedgerKey}
 use Rattle.ledger_types.specs.KeyOrder.{key_cmp}
 use Rattle.entry_map.proofs.KeyMaps.{derived, derived_is, same_keys}
-use Rattle.legal_rules.specs.EntryKeys.{is_key, for_key}
+use Rattle.close_rules.specs.legal_rules.EntryKeys.{is_key, for_key}
 use Rattle.image_rules.specs.Counts.{greatest_count, CountMap, count_at, IsCountOf, Adds}
 
 -- ---- numbers

@@ -14,9 +14,9 @@ use Rattle.ledger_types.specs.declared.entry.LedgerEntry.{LedgerEntry}
 use Rattle.ledger_types.specs.declared.entry.LedgerEntryBody.{LedgerEntryBody}
 use Rattle.ledger_types.specs.declared.entry.LedgerEntryBody.TheVariants as body
 use Rattle.entry_map.specs.EntryMap.{EntryMap}
-use Rattle.entry_sums.specs.Sums.{Weight, sum_over, total}
-use Rattle.entry_sums.proofs.Lists.{Pairs}
-use Rattle.legal_rules.specs.OfferIds.{offer_with_in, offer_with, AreOffersApart}
+use Rattle.close_rules.specs.entry_sums.Sums.{Weight, sum_over, total}
+use Rattle.close_rules.proofs.entry_sums_proofs.Lists.{Pairs}
+use Rattle.close_rules.specs.legal_rules.OfferIds.{offer_with_in, offer_with, AreOffersApart}
 use Rattle.image_rules.specs.OfferSets.{id_among, Brings}
 use Rattle.image_rules.proofs.Listed.{sum_before, sum_more, sum_of_all}
 

@@ -18,8 +18,8 @@ use Rattle.ledger_types.specs.Keys.{key_of}
 use Rattle.ledger_types.specs.KeyOrder.{key_cmp}
 use Rattle.ledger_types.proofs.KeyOrdering.{keys_total}
 use Rattle.entry_map.specs.EntryMap.{EntryMap}
-use Rattle.entry_sums.specs.Sums.{Weight, sum_over, total, EachEntry}
-use Rattle.entry_sums.proofs.Lists.{Pairs}
+use Rattle.close_rules.specs.entry_sums.Sums.{Weight, sum_over, total, EachEntry}
+use Rattle.close_rules.proofs.entry_sums_proofs.Lists.{Pairs}
 
 -- ---- lists in the order of keys
 

@@ -26,19 +26,19 @@ use Rattle.ledger_types.specs.declared.entry.LedgerEntryBody.TheVariants as body
 use Rattle.ledger_types.specs.declared.key.LedgerKey.{LedgerKey}
 use Rattle.ledger_types.specs.declared.key.LedgerKey.TheVariants as key
 use Rattle.ledger_types.specs.Keys.{key_of, key_of_body}
-use Rattle.entry_sums.proofs.Lookups.{apart_keys}
+use Rattle.close_rules.proofs.entry_sums_proofs.Lookups.{apart_keys}
 use Rattle.entry_slots.specs.EntrySponsor.{sponsor_of}
 use Rattle.entry_slots.specs.AccountExtensions.{second_in, sponsorship_in, sponsorship_of}
 use Rattle.sponsor_rules.specs.Charge.{owner_of, multiplicity}
 use Rattle.sponsor_rules.specs.Payers.{is_same_account}
-use Rattle.sponsor_laws.specs.Sums.{is_there}
-use Rattle.legal_rules.specs.EntryKeys.{is_key, for_key, for_account}
-use Rattle.legal_rules.specs.OfferLiabilities.{bound_of}
-use Rattle.legal_rules.specs.Reserves.{is_for, for_each, signer_sponsors_in, subentries_in, sponsored_in_entry}
-use Rattle.legal_rules.specs.Needs.{account_keys, keys_in, share_keys, pool_keys, holding_keys, needed_keys}
-use Rattle.legal_rules.specs.Trades.{holder, sells, buys}
-use Rattle.legal_rules.specs.PoolShares.{Pools, pool_named, needed_line, shares_in, share_lines, uses_of, uses_by, uses}
-use Rattle.legal_rules.specs.Books.{View, counted}
+use Rattle.close_rules.specs.sponsor_laws.Sums.{is_there}
+use Rattle.close_rules.specs.legal_rules.EntryKeys.{is_key, for_key, for_account}
+use Rattle.close_rules.specs.legal_rules.OfferLiabilities.{bound_of}
+use Rattle.close_rules.specs.legal_rules.Reserves.{is_for, for_each, signer_sponsors_in, subentries_in, sponsored_in_entry}
+use Rattle.close_rules.specs.legal_rules.Needs.{account_keys, keys_in, share_keys, pool_keys, holding_keys, needed_keys}
+use Rattle.close_rules.specs.legal_rules.Trades.{holder, sells, buys}
+use Rattle.close_rules.specs.legal_rules.PoolShares.{Pools, pool_named, needed_line, shares_in, share_lines, uses_of, uses_by, uses}
+use Rattle.close_rules.specs.legal_rules.Books.{View, counted}
 use Rattle.image_rules.specs.declared.books.Book.{Book}
 use Rattle.image_rules.specs.declared.books.Book.TheVariants as book
 use Rattle.image_rules.specs.Books.{kind_of, itself, other_owner, own_count, counted_itself, counted_else}

@@ -8,15 +8,15 @@ use Rattle.ledger_types.specs.declared.key.LedgerKey.{LedgerKey}
 use Rattle.ledger_types.specs.declared.key.LedgerKey.TheVariants as key
 use Rattle.entry_map.specs.EntryMap.{EntryMap}
 use Rattle.entry_slots.specs.EntrySponsor.{sponsor_of}
-use Rattle.entry_sums.specs.Sums.{Weight, total}
+use Rattle.close_rules.specs.entry_sums.Sums.{Weight, total}
 use Rattle.sponsor_rules.specs.Charge.{multiplicity, owner_of}
-use Rattle.legal_rules.specs.EntryKeys.{for_account}
-use Rattle.legal_rules.specs.Reserves.{subentries_in, signer_sponsors_in, sponsored_in_entry, for_each}
-use Rattle.legal_rules.specs.Trades.{sells, buys}
-use Rattle.legal_rules.specs.PoolShares.{Pools, shares_in, share_lines, uses}
-use Rattle.legal_rules.specs.Legal.{pools_in}
-use Rattle.legal_rules.specs.Books.{Kind, Subentries, Sponsoring, Sponsored, Selling, Buying, Shares, ShareLines, Uses}
-use Rattle.legal_rules.specs.Books.{stated}
+use Rattle.close_rules.specs.legal_rules.EntryKeys.{for_account}
+use Rattle.close_rules.specs.legal_rules.Reserves.{subentries_in, signer_sponsors_in, sponsored_in_entry, for_each}
+use Rattle.close_rules.specs.legal_rules.Trades.{sells, buys}
+use Rattle.close_rules.specs.legal_rules.PoolShares.{Pools, shares_in, share_lines, uses}
+use Rattle.close_rules.specs.legal_rules.Legal.{pools_in}
+use Rattle.close_rules.specs.legal_rules.Books.{Kind, Subentries, Sponsoring, Sponsored, Selling, Buying, Shares, ShareLines, Uses}
+use Rattle.close_rules.specs.legal_rules.Books.{stated}
 use Rattle.image_rules.specs.declared.books.Book.{Book}
 use Rattle.image_rules.specs.declared.books.Book.TheVariants as book
 use Rattle.image_rules.specs.Counts.{CountMap, count_at, IsCountOf}

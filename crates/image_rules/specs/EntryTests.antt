@@ -1,6 +1,6 @@
 -- What is asked of each entry by itself.
 use Rattle.ledger_types.specs.declared.entry.LedgerEntry.{LedgerEntry}
-use Rattle.legal_rules.specs.Bounds.{AreSubentriesFew, DoReservesFit, IsFilledOrEmpty}
+use Rattle.close_rules.specs.legal_rules.Bounds.{AreSubentriesFew, DoReservesFit, IsFilledOrEmpty}
 use Rattle.image_rules.specs.declared.entry_tests.EntryTest.{EntryTest}
 use Rattle.image_rules.specs.declared.entry_tests.EntryTest.TheVariants as test
 use Rattle.image_rules.specs.PoolRanges.{IsEntryInRangeButId}

@@ -6,3 +6,4 @@ pub mod Books
 pub mod RuleLists
 pub mod Terms
 pub mod OfferSets
+pub use Rattle.close_rules.specs.entry_sums

@@ -3,7 +3,7 @@ use Rattle.std.specs.Prelude.{◌≡◌, ℤ, pos, ◌+ℤ◌, Bool, true, false
 use Rattle.std.specs.BTreeSet.{BTreeSet, contains}
 use Rattle.std.specs.Ordering.{int_cmp}
 use Rattle.ledger_types.specs.declared.entry.LedgerEntryBody.{LedgerEntryBody}
-use Rattle.legal_rules.specs.OfferIds.{offer_with_in}
+use Rattle.close_rules.specs.legal_rules.OfferIds.{offer_with_in}
 
 -- 1 for an id that is in a set
 abbrev pub id_among : BTreeSet ℤ → ℤ → ℤ

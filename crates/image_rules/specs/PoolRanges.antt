@@ -8,7 +8,7 @@ use Rattle.ledger_types.specs.declared.entry.LedgerEntryBody.TheVariants as body
 use Rattle.ledger_types.specs.KeyOrder.{asset_cmp}
 use Rattle.hash_ids.specs.Ids.{pool_id_of}
 use Rattle.entry_slots.specs.EntrySponsor.{sponsor_of}
-use Rattle.legal_rules.specs.Ranges.{IsBodyInRange, IsPaidRightly}
+use Rattle.close_rules.specs.legal_rules.Ranges.{IsBodyInRange, IsPaidRightly}
 
 pub record IsPoolInRangeButId (p : LiquidityPoolEntry) : Type 0 where
   pub fee : p.params.fee ≡ pos 30

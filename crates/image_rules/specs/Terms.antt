@@ -7,7 +7,7 @@ use Rattle.ledger_types.specs.declared.offer.OfferEntry.{OfferEntry}
 use Rattle.ledger_types.specs.KeyOrder.{asset_cmp}
 use Rattle.ledger_types.specs.Prices.{IsPriced}
 use Rattle.entry_map.specs.EntryMap.{EntryMap}
-use Rattle.entry_sums.specs.Sums.{EachEntry}
+use Rattle.close_rules.specs.entry_sums.Sums.{EachEntry}
 
 -- an amount of at least 0, and a price whose parts are at least 1
 pub record HasTerms (o : OfferEntry) : Type 0 where

@@ -3,10 +3,10 @@
 ghost use Rattle.std.specs.Prelude.{◌↔◌, ◌++◌, All, IsTrue, IfOk};
 ghost use Rattle.std.specs.FinMap.{get};
 ghost use Rattle.entry_slots.specs.Lines.{line_of};
-ghost use Rattle.entry_sums.specs.Sums.{EachEntry};
-ghost use Rattle.legal_rules.specs.Needs.{keys_in};
-ghost use Rattle.legal_rules.specs.Trades as spec;
-ghost use Rattle.legal_rules.specs.Legal.{IsAuthorized, AreLinesAuthorized};
+ghost use Rattle.close_rules.specs.entry_sums.Sums.{EachEntry};
+ghost use Rattle.close_rules.specs.legal_rules.Needs.{keys_in};
+ghost use Rattle.close_rules.specs.legal_rules.Trades as spec;
+ghost use Rattle.close_rules.specs.legal_rules.Legal.{IsAuthorized, AreLinesAuthorized};
 
 use crate::holders::holder;
 use entry_map::Base;

@@ -4,11 +4,11 @@
 
 ghost use Rattle.std.specs.Prelude.{◌≡◌, ◌+◌, ◌+ℤ◌, ◌↔◌, ℤ, pos, count_by, IsTrue, IfOk, OnOk};
 ghost use Rattle.ledger_types.specs.declared.entry.LedgerEntryBody.TheVariants as body;
-ghost use Rattle.sponsor_laws.specs.Sums.{is_there};
-ghost use Rattle.legal_rules.specs.Reserves.{for_each, signer_sponsors_in, sponsored_in_entry};
-ghost use Rattle.legal_rules.specs.Trades.{sells, buys};
-ghost use Rattle.legal_rules.specs.Books.{stated};
-ghost use Rattle.legal_rules.specs.Legal.{IsBooked, pools_in};
+ghost use Rattle.close_rules.specs.sponsor_laws.Sums.{is_there};
+ghost use Rattle.close_rules.specs.legal_rules.Reserves.{for_each, signer_sponsors_in, sponsored_in_entry};
+ghost use Rattle.close_rules.specs.legal_rules.Trades.{sells, buys};
+ghost use Rattle.close_rules.specs.legal_rules.Books.{stated};
+ghost use Rattle.close_rules.specs.legal_rules.Legal.{IsBooked, pools_in};
 ghost use Rattle.close_rules.specs.EntryRules.{AreOwned};
 ghost use Rattle.image_rules.specs.Terms.{AreTerms, HaveTerms};
 ghost use Rattle.image_rules.specs.Counts.{Adds, IsCountOf};

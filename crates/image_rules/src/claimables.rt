@@ -3,7 +3,7 @@
 ghost use Rattle.std.specs.Prelude.{◌≡◌, ◌≢◌, ◌↔◌, All, true, IsTrue};
 ghost use Rattle.std.specs.List.{AllPairs};
 ghost use Rattle.valid_values.specs.Predicates as predicate;
-ghost use Rattle.legal_rules.specs.Ranges.{balance_flags, AreClaimantsInRange, IsBalanceInRange};
+ghost use Rattle.close_rules.specs.legal_rules.Ranges.{balance_flags, AreClaimantsInRange, IsBalanceInRange};
 
 use ledger_types::{AccountId, ClaimableBalanceEntry, ClaimableBalanceEntryExtensionV1, Claimant};
 use valid_values::{is_valid_asset, is_valid_stored_predicate};

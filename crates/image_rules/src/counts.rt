@@ -3,7 +3,7 @@
 ghost use Rattle.std.specs.Prelude.{◌≡◌, ◌+◌, pos, min, OnOk, option_map, if◌then◌else◌};
 ghost use Rattle.ledger_types.specs.declared.key.LedgerKey.{LedgerKey as AKey};
 ghost use Rattle.ledger_types.specs.declared.key.LedgerKey.TheVariants as key;
-ghost use Rattle.legal_rules.specs.EntryKeys.{is_key, for_key, for_account};
+ghost use Rattle.close_rules.specs.legal_rules.EntryKeys.{is_key, for_key, for_account};
 ghost use Rattle.image_rules.specs.Counts.{greatest_count, count_at, Adds};
 
 use ledger_types::{AccountId, LedgerKey};

@@ -1,7 +1,7 @@
 //! What is asked of each entry by itself.
 
 ghost use Rattle.std.specs.Prelude.{◌↔◌, IsTrue};
-ghost use Rattle.entry_sums.specs.Sums.{EachEntry};
+ghost use Rattle.close_rules.specs.entry_sums.Sums.{EachEntry};
 ghost use Rattle.image_rules.specs.EntryTests.{Passes};
 
 use crate::pools::is_filled_or_empty;

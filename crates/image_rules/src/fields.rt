@@ -1,8 +1,8 @@
 //! The numbers of a header.
 
 ghost use Rattle.std.specs.Prelude.{◌≡◌, ◌*◌, ◌^◌, ◌≤◌, ◌↔◌, pos, ◌≤ℤ◌, IsTrue};
-ghost use Rattle.legal_rules.specs.Headers.{header_flags};
-ghost use Rattle.op_form.specs.Sequences.{last_seq};
+ghost use Rattle.close_rules.specs.legal_rules.Headers.{header_flags};
+ghost use Rattle.close_rules.specs.op_form.Sequences.{last_seq};
 ghost use Rattle.close_rules.specs.Images.{AreFieldsInRange};
 
 use close_rules::LAST_SEQ;

@@ -1,8 +1,8 @@
 //! Where accounts have what their offers trade (CAP-0003), and what they need for shares of pools (CAP-0038).
 
 ghost use Rattle.std.specs.Prelude.{◌≡◌};
-ghost use Rattle.legal_rules.specs.Trades as spec;
-ghost use Rattle.legal_rules.specs.PoolShares as shares;
+ghost use Rattle.close_rules.specs.legal_rules.Trades as spec;
+ghost use Rattle.close_rules.specs.legal_rules.PoolShares as shares;
 
 use ledger_types::{AccountId, Asset, LedgerKey, TrustLineAsset};
 

@@ -2,8 +2,8 @@
 
 ghost use Rattle.std.specs.Prelude.{◌≢◌, ◌↔◌, ◌%◌, ◌≤◌, pos, ◌+ℤ◌, ◌≤ℤ◌, IsTrue};
 ghost use Rattle.entry_slots.specs.LineExtensions as spec;
-ghost use Rattle.reserve_rules.specs.Reserve.{IsLineInRange};
-ghost use Rattle.legal_rules.specs.Ranges.{IsHeldIn, AreLineFlags, IsTrustLineInRange};
+ghost use Rattle.sponsor_rules.specs.reserve_rules.Reserve.{IsLineInRange};
+ghost use Rattle.close_rules.specs.legal_rules.Ranges.{IsHeldIn, AreLineFlags, IsTrustLineInRange};
 
 use crate::room::fits_within;
 use entry_slots::{line_liabilities, use_count};

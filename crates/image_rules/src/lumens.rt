@@ -2,8 +2,8 @@
 
 ghost use Rattle.std.specs.Prelude.{◌≡◌, ◌↔◌, pos, negsuc, ◌+ℤ◌, ◌≤ℤ◌, IsTrue};
 ghost use Rattle.ledger_types.specs.declared.asset.Asset.TheVariants.{Native};
-ghost use Rattle.entry_sums.specs.Sums.{total};
-ghost use Rattle.legal_rules.specs.Supply.{held, held_in, of_asset};
+ghost use Rattle.close_rules.specs.entry_sums.Sums.{total};
+ghost use Rattle.close_rules.specs.legal_rules.Supply.{held, held_in, of_asset};
 ghost use Rattle.close_rules.specs.EntryRules.{AreLumensCounted};
 ghost use Rattle.image_rules.specs.Terms.{AreTerms, HaveTerms};
 

@@ -1,7 +1,7 @@
 //! Offers have distinct ids.
 
 ghost use Rattle.std.specs.Prelude.{◌↔◌, IsTrue, IfOk};
-ghost use Rattle.legal_rules.specs.OfferIds.{AreOffersApart};
+ghost use Rattle.close_rules.specs.legal_rules.OfferIds.{AreOffersApart};
 ghost use Rattle.image_rules.specs.OfferSets.{Brings};
 
 use entry_table::EntryRow;

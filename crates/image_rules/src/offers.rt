@@ -3,8 +3,8 @@
 ghost use Rattle.std.specs.Prelude.{◌≡◌, ◌≢◌, ◌↔◌, ◌≤◌, pos, ◌≤ℤ◌, true, IsTrue};
 ghost use Rattle.ledger_types.specs.Prices.{IsPriced};
 ghost use Rattle.valid_values.specs.Assets as asset;
-ghost use Rattle.legal_rules.specs.OfferLiabilities.{bound_of};
-ghost use Rattle.legal_rules.specs.Ranges.{IsOfferInRange};
+ghost use Rattle.close_rules.specs.legal_rules.OfferLiabilities.{bound_of};
+ghost use Rattle.close_rules.specs.legal_rules.Ranges.{IsOfferInRange};
 ghost use Rattle.image_rules.specs.Terms.{HasTerms};
 
 use ledger_types::OfferEntry;

@@ -6,11 +6,11 @@ ghost use Rattle.std.specs.FinMap.{get};
 ghost use Rattle.ledger_types.specs.declared.key.LedgerKey.TheVariants as key;
 ghost use Rattle.ledger_types.specs.Keys.{key_of, key_of_body};
 ghost use Rattle.sponsor_rules.specs.Charge as charge;
-ghost use Rattle.legal_rules.specs.Reserves.{signer_sponsors_in};
-ghost use Rattle.entry_sums.specs.Sums.{EachEntry};
-ghost use Rattle.legal_rules.specs.Needs.{account_keys, keys_in, share_keys, pool_keys, holding_keys, needed_keys};
-ghost use Rattle.legal_rules.specs.Trades as spec;
-ghost use Rattle.legal_rules.specs.Legal.{pools_in};
+ghost use Rattle.close_rules.specs.legal_rules.Reserves.{signer_sponsors_in};
+ghost use Rattle.close_rules.specs.entry_sums.Sums.{EachEntry};
+ghost use Rattle.close_rules.specs.legal_rules.Needs.{account_keys, keys_in, share_keys, pool_keys, holding_keys, needed_keys};
+ghost use Rattle.close_rules.specs.legal_rules.Trades as spec;
+ghost use Rattle.close_rules.specs.legal_rules.Legal.{pools_in};
 ghost use Rattle.close_rules.specs.EntryRules.{AreOwned};
 
 use crate::holders::{holder, needed_line};

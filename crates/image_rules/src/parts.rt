@@ -4,8 +4,8 @@ ghost use Rattle.std.specs.Prelude.{◌≡◌, pos, count_by};
 ghost use Rattle.std.specs.Option.{option_copied};
 ghost use Rattle.entry_slots.specs.AccountExtensions.{second_in};
 ghost use Rattle.sponsor_rules.specs.Charge as charge;
-ghost use Rattle.sponsor_laws.specs.Sums.{is_there};
-ghost use Rattle.legal_rules.specs.Reserves as spec;
+ghost use Rattle.close_rules.specs.sponsor_laws.Sums.{is_there};
+ghost use Rattle.close_rules.specs.legal_rules.Reserves as spec;
 ghost use Rattle.image_rules.specs.Books as books;
 
 use ledger_types::{AccountEntry, AccountEntryExtensionV2, AccountId, LedgerEntryBody};

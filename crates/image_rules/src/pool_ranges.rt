@@ -4,7 +4,7 @@ ghost use Rattle.std.specs.Prelude.{◌≡◌, ◌↔◌, pos, ◌≤ℤ◌, IsT
 ghost use Rattle.std.specs.declared.cmp.Ordering.TheVariants.{Less};
 ghost use Rattle.ledger_types.specs.KeyOrder.{asset_cmp};
 ghost use Rattle.hash_ids.specs.Ids.{pool_id_of};
-ghost use Rattle.entry_sums.specs.Sums.{EachEntry};
+ghost use Rattle.close_rules.specs.entry_sums.Sums.{EachEntry};
 ghost use Rattle.image_rules.specs.PoolRanges.{IsPoolInRangeButId, HasPoolId};
 
 use entry_table::EntryRow;

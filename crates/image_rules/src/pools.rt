@@ -1,7 +1,7 @@
 //! Rule 12: shares of pools, their lines and what these use are counted, and each pool is filled or empty (CAP-0038).
 
 ghost use Rattle.std.specs.Prelude.{◌≡◌, ◌↔◌, pos, ◌<ℤ◌, IsTrue, IfOk};
-ghost use Rattle.legal_rules.specs.Bounds.{IsFilledOrEmpty};
+ghost use Rattle.close_rules.specs.legal_rules.Bounds.{IsFilledOrEmpty};
 ghost use Rattle.close_rules.specs.EntryRules.{AreOwned, ArePoolsCounted};
 ghost use Rattle.image_rules.specs.Terms.{HaveTerms};
 

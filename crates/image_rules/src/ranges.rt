@@ -1,9 +1,9 @@
 //! Rule 7: each entry is in its ranges.
 
 ghost use Rattle.std.specs.Prelude.{◌≢◌, ◌↔◌, None, IsTrue, IfOk};
-ghost use Rattle.reserve_rules.specs.Reserve.{IsInRange};
-ghost use Rattle.entry_sums.specs.Sums.{EachEntry};
-ghost use Rattle.legal_rules.specs.Ranges as spec;
+ghost use Rattle.sponsor_rules.specs.reserve_rules.Reserve.{IsInRange};
+ghost use Rattle.close_rules.specs.entry_sums.Sums.{EachEntry};
+ghost use Rattle.close_rules.specs.legal_rules.Ranges as spec;
 ghost use Rattle.close_rules.specs.EntryRules.{AreInRange};
 ghost use Rattle.image_rules.specs.PoolRanges.{IsBodyInRangeButId, IsEntryInRangeButId};
 

@@ -1,8 +1,8 @@
 //! What lines of pool shares count for their pools, and for the lines that their holders need (CAP-0038).
 
 ghost use Rattle.std.specs.Prelude.{◌≡◌, pos, ◌≤ℤ◌, Some, OnOk};
-ghost use Rattle.legal_rules.specs.PoolShares as spec;
-ghost use Rattle.legal_rules.specs.Legal.{pools_in};
+ghost use Rattle.close_rules.specs.legal_rules.PoolShares as spec;
+ghost use Rattle.close_rules.specs.legal_rules.Legal.{pools_in};
 ghost use Rattle.image_rules.specs.Terms.{AreTerms};
 ghost use Rattle.image_rules.specs.Counts.{Adds};
 

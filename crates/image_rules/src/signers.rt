@@ -3,7 +3,7 @@
 ghost use Rattle.std.specs.Prelude.{◌≢◌, ◌↔◌, All, Some, IsTrue};
 ghost use Rattle.std.specs.List.{AllPairs};
 ghost use Rattle.entry_slots.specs.AccountExtensions.{sponsorship_of};
-ghost use Rattle.legal_rules.specs.Ranges.{AreSignersInRange};
+ghost use Rattle.close_rules.specs.legal_rules.Ranges.{AreSignersInRange};
 ghost use Rattle.image_rules.specs.Signers.{IsSignerInRange, ArePayersOthers, IsBelow};
 
 use crate::parts::sponsorship;

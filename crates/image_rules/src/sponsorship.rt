@@ -1,7 +1,7 @@
 //! Rule 11: sponsored reserves are counted, for those who pay and those who are paid for.
 
 ghost use Rattle.std.specs.Prelude.{◌↔◌, IsTrue, IfOk};
-ghost use Rattle.legal_rules.specs.Bounds.{DoReservesFit};
+ghost use Rattle.close_rules.specs.legal_rules.Bounds.{DoReservesFit};
 ghost use Rattle.close_rules.specs.EntryRules.{AreOwned, AreSponsorsCounted};
 ghost use Rattle.image_rules.specs.Terms.{HaveTerms};
 

@@ -1,7 +1,7 @@
 //! Pools that stand, by their ids.
 
 ghost use Rattle.std.specs.Prelude.{◌≡◌, IfOk};
-ghost use Rattle.legal_rules.specs.Legal.{params_of, pools_in};
+ghost use Rattle.close_rules.specs.legal_rules.Legal.{params_of, pools_in};
 
 use entry_map::Base;
 use entry_table::EntryRow;

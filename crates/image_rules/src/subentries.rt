@@ -1,7 +1,7 @@
 //! Rule 10: subentries are counted, and few.
 
 ghost use Rattle.std.specs.Prelude.{◌↔◌, IsTrue, IfOk};
-ghost use Rattle.legal_rules.specs.Bounds.{AreSubentriesFew};
+ghost use Rattle.close_rules.specs.legal_rules.Bounds.{AreSubentriesFew};
 ghost use Rattle.close_rules.specs.EntryRules.{AreOwned, AreSubentriesCounted};
 ghost use Rattle.image_rules.specs.Terms.{HaveTerms};
 

@@ -10,3 +10,4 @@ pub mod Turned
 pub mod Rolled
 pub mod Created
 pub mod Unmounted
+pub use Rattle.gate_journal.proofs as gate_journal_proofs

@@ -5,3 +5,5 @@ pub mod Calls
 pub mod Turning
 pub mod Reading
 pub mod Laws
+pub use Rattle.gate_journal.specs as gate_journal
+pub use Rattle.outside.specs as outside

@@ -3,7 +3,7 @@ use Rattle.std.proofs.Common.{◌≡◌, ℕ, ◌+◌, List, None, Ok, inl, inr}
 use Rattle.xdr_core.specs.Format.{IsBytes}
 use Rattle.xdr_header.specs.declared.record.CloseRecord.{CloseRecord}
 use Rattle.entry_map.specs.EntryMap.{EntryMap}
-use Rattle.entry_changes.specs.Next.{AreNextEntries}
+use Rattle.entry_table.specs.entry_changes.Next.{AreNextEntries}
 use Rattle.close_rules.specs.Refusals.{record_in, record_fault}
 use Rattle.close_rules.specs.Close.{applied_in}
 use Rattle.ledger_close.specs.States.{LedgerAt}

@@ -10,7 +10,7 @@ use Rattle.ledger_types.specs.declared.header.StellarValue.{StellarValue}
 use Rattle.xdr_core.specs.Format.{IsBytes}
 use Rattle.xdr_header.specs.declared.record.CloseRecord.{CloseRecord}
 use Rattle.xdr_header.specs.Header.{ledger_header}
-use Rattle.xdr_results.specs.Results.{transaction_result_set}
+use Rattle.value_hashes.specs.xdr_results.Results.{transaction_result_set}
 use Rattle.value_hashes.specs.Hashes.{ledger_hash_of, results_hash_of}
 use Rattle.op_types.specs.declared.transaction_result.TransactionResultSet.{TransactionResultSet}
 use Rattle.op_types.specs.declared.transaction_result.TransactionResultPair.{TransactionResultPair}

@@ -16,14 +16,14 @@ use Rattle.xdr_core.specs.Leaves.{i32}
 use Rattle.xdr_core.specs.Place.{Place, start_of}
 use Rattle.xdr_header.specs.declared.image.StartImage.{StartImage}
 use Rattle.xdr_header.specs.Header.{ledger_header}
-use Rattle.xdr_entries.specs.Entries.{ledger_entry}
-use Rattle.xdr_entries.specs.Keys.{bucket_entry}
+use Rattle.bucket_core.specs.xdr_entries.Entries.{ledger_entry}
+use Rattle.bucket_core.specs.xdr_entries.Keys.{bucket_entry}
 use Rattle.value_hashes.specs.Hashes.{ledger_hash_of}
 use Rattle.entry_map.specs.EntryMap.{EntryMap}
-use Rattle.entry_changes.specs.Spellable.{IsEntrySpellable, AreSpellable}
-use Rattle.legal_rules.specs.Legal.{IsLegal}
-use Rattle.bucket_items.specs.MarkedItem.{IsSpellable}
-use Rattle.bucket_items.proofs.Holding.{i32_len}
+use Rattle.entry_table.specs.entry_changes.Spellable.{IsEntrySpellable, AreSpellable}
+use Rattle.close_laws.specs.legal_rules.Legal.{IsLegal}
+use Rattle.bucket_core.specs.bucket_items.MarkedItem.{IsSpellable}
+use Rattle.bucket_core.proofs.bucket_items_proofs.Holding.{i32_len}
 use Rattle.bucket_core.specs.Bucket.{Change, Init, Live, Dead, Contents, change_at}
 use Rattle.bucket_core.specs.File.{HasFile, items_of, item_of}
 use Rattle.bucket_core.proofs.Keyed.{found_is_each}

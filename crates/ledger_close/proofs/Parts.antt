@@ -14,8 +14,8 @@ use Rattle.xdr_core.specs.Combinators.{list}
 use Rattle.xdr_core.specs.declared.fault.XdrKind.{XdrKind}
 use Rattle.header_chain.specs.Upgrades.{upgraded_if, all_upgraded, upgrade_in, first_place, is_bad_at}
 use Rattle.header_chain.specs.Upgrades.{is_out_of_profile}
-use Rattle.entry_slots.specs.Tests.{Tests, first_fault}
-use Rattle.tx_apply.specs.Set.{missing_place}
+use Rattle.close_laws.specs.entry_slots.Tests.{Tests, first_fault}
+use Rattle.close_laws.specs.tx_apply.Set.{missing_place}
 use Rattle.close_rules.specs.declared.close_fault.CloseFault.{CloseFault}
 use Rattle.close_rules.specs.declared.close_fault.CloseFault.TheVariants as fault
 use Rattle.close_rules.specs.State.{ClosingState, IsSpelled}

@@ -10,12 +10,12 @@ use Rattle.entry_map.specs.EntryMap.{EntryMap, IsKeyed}
 use Rattle.entry_map.specs.Batch.{IsBatch}
 use Rattle.entry_map.specs.Indexes.{PlaceMap, IsIndexOf}
 use Rattle.entry_map.specs.Undo.{Undo, started}
-use Rattle.entry_sums.specs.Sums.{EachEntry}
-use Rattle.tx_apply.specs.declared.set.SetDone.{SetDone}
-use Rattle.tx_apply.specs.declared.fault.SetFault.{SetFault}
-use Rattle.tx_apply.specs.declared.fault.SetFault.TheVariants as set
-use Rattle.tx_apply.specs.Set.{IsAnswer, set_done, fee_pool_after, missing_place}
-use Rattle.tx_apply.specs.Laws.{IsConserved}
+use Rattle.image_rules.specs.entry_sums.Sums.{EachEntry}
+use Rattle.close_laws.specs.tx_apply.declared.set.SetDone.{SetDone}
+use Rattle.close_laws.specs.tx_apply.declared.fault.SetFault.{SetFault}
+use Rattle.close_laws.specs.tx_apply.declared.fault.SetFault.TheVariants as set
+use Rattle.close_laws.specs.tx_apply.Set.{IsAnswer, set_done, fee_pool_after, missing_place}
+use Rattle.close_laws.specs.tx_apply.Laws.{IsConserved}
 use Rattle.close_rules.specs.State.{ClosingState}
 use Rattle.close_rules.specs.Refusals.{set_fault}
 use Rattle.close_rules.specs.Close.{applied_in, setting_in}

@@ -8,8 +8,8 @@ use Rattle.xdr_header.specs.declared.image.StartImage.{StartImage}
 use Rattle.xdr_header.specs.Records.{close_record}
 use Rattle.ledger_types.specs.declared.ids.Hash.{Hash}
 use Rattle.header_chain.specs.Upgrades.{upgrade_in, all_upgraded}
-use Rattle.tx_apply.specs.declared.fault.SetFault.{SetFault}
-use Rattle.tx_apply.specs.declared.fault.SetFault.TheVariants as set
+use Rattle.close_laws.specs.tx_apply.declared.fault.SetFault.{SetFault}
+use Rattle.close_laws.specs.tx_apply.declared.fault.SetFault.TheVariants as set
 use Rattle.close_rules.specs.declared.close_fault.CloseFault.{CloseFault}
 use Rattle.close_rules.specs.declared.close_fault.CloseFault.TheVariants as fault
 use Rattle.close_rules.specs.declared.image_fault.ImageFault.{ImageFault}

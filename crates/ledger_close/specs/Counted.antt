@@ -3,7 +3,7 @@
 use Rattle.std.specs.Prelude.{◌≡◌, ◌≤◌, ℕ, ◌+◌, List, None, ◌⊎◌}
 use Rattle.xdr_header.specs.declared.record.CloseRecord.{CloseRecord}
 use Rattle.entry_map.specs.EntryMap.{EntryMap}
-use Rattle.entry_changes.specs.Next.{AreNextEntries}
+use Rattle.entry_table.specs.entry_changes.Next.{AreNextEntries}
 use Rattle.bucket_core.specs.Bucket.{Contents}
 use Rattle.bucket_levels.specs.Fresh.{IsFresh}
 use Rattle.bucket_levels.specs.Work.{work}

@@ -2,8 +2,8 @@
 use Rattle.std.specs.Prelude.{◌≡◌}
 use Rattle.ledger_types.specs.declared.header.LedgerHeader.{LedgerHeader}
 use Rattle.xdr_header.specs.declared.record.CloseRecord.{CloseRecord}
-use Rattle.tx_apply.specs.declared.set.SetDone.{SetDone}
-use Rattle.tx_apply.specs.Set.{fee_pool_after}
+use Rattle.close_laws.specs.tx_apply.declared.set.SetDone.{SetDone}
+use Rattle.close_laws.specs.tx_apply.Set.{fee_pool_after}
 use Rattle.close_rules.specs.State.{ClosingState}
 use Rattle.close_rules.specs.Close.{applied_in, setting_in}
 use Rattle.ledger_close.specs.declared.heading.Given.{Given}

@@ -7,3 +7,6 @@ pub mod Closing
 pub mod Counted
 pub mod ImageFiles
 pub mod Judging
+pub use Rattle.bucket_levels.specs as bucket_levels
+pub use Rattle.close_laws.specs as close_laws
+pub use Rattle.image_rules.specs as image_rules

@@ -1,7 +1,7 @@
 -- What the set of a record leaves.
 use Rattle.std.specs.Prelude.{◌≡◌, ◌+◌, None, Some, Result, Ok, Err}
 use Rattle.xdr_header.specs.declared.record.CloseRecord.{CloseRecord}
-use Rattle.entry_changes.specs.Next.{AreNextEntries, IsExactBatch}
+use Rattle.entry_table.specs.entry_changes.Next.{AreNextEntries, IsExactBatch}
 use Rattle.close_rules.specs.declared.close_fault.CloseFault.{CloseFault}
 use Rattle.close_rules.specs.State.{ClosingState}
 use Rattle.close_rules.specs.Refusals.{set_fault}

@@ -3,16 +3,16 @@
 ghost use Rattle.std.specs.Prelude.{◌≡◌, ◌<◌, ◌≤◌, length};
 ghost use Rattle.xdr_header.specs.Records.{close_record};
 ghost use Rattle.fee_rules.specs.Turns.{apply_order_of};
-ghost use Rattle.op_form.specs.Sequences.{last_seq};
+ghost use Rattle.close_laws.specs.op_form.Sequences.{last_seq};
 ghost use Rattle.close_rules.specs.State.{IsSpelled};
 ghost use Rattle.ledger_close.specs.Answers as answer;
 ghost use Rattle.ledger_close.specs.Worked as spec;
 
 use crate::ledger::Ledger;
+use close_laws::tx_apply::{SetDone, SetFault, apply_set_in_order};
 use close_rules::CloseFault;
 use entry_map::{Batch, Entries};
 use entry_table::EntryTable;
-use tx_apply::{SetDone, SetFault, apply_set_in_order};
 use xdr_header::CloseRecord;
 
 /// What a set leaves: its results with the fee pool and the ids, the entries behind the close, and what of them is

@@ -2,8 +2,8 @@
 
 ghost use Rattle.std.specs.Prelude.{◌≡◌, ◌<◌, IfOk, map};
 ghost use Rattle.xdr_header.specs.declared.record.CloseRecord.{CloseRecord as ARecord};
-ghost use Rattle.xdr_results.specs.Results.{transaction_result_set};
-ghost use Rattle.op_form.specs.Sequences.{last_seq};
+ghost use Rattle.value_hashes.specs.xdr_results.Results.{transaction_result_set};
+ghost use Rattle.close_laws.specs.op_form.Sequences.{last_seq};
 ghost use Rattle.bucket_levels.specs.Hash.{list_hash};
 ghost use Rattle.header_chain.specs.Upgrades.{upgrade_in, all_upgraded};
 ghost use Rattle.header_chain.specs.SkipList.{finished};
@@ -12,10 +12,10 @@ ghost use Rattle.ledger_close.specs.Heading as spec;
 
 use crate::ledger::Ledger;
 use bucket_levels::LevelStep;
+use close_laws::tx_apply::SetDone;
 use header_chain::finish;
 use ledger_types::{Hash, LedgerHeader, StellarValue};
 use std::alloc::{AllocError, Global};
-use tx_apply::SetDone;
 use value_hashes::results_hash;
 
 /// What a close gives a header, beside upgrades and the levels.

@@ -3,7 +3,7 @@
 ghost use Rattle.std.specs.Prelude.{◌≡◌, ◌≤◌, IfOk, ℕ, List, length, Ok};
 ghost use Rattle.std.specs.FinMap.{entries, get};
 ghost use Rattle.value_hashes.specs.Hashes.{ledger_hash_of};
-ghost use Rattle.op_form.specs.Sequences.{last_seq};
+ghost use Rattle.close_laws.specs.op_form.Sequences.{last_seq};
 ghost use Rattle.bucket_levels.specs.Pending.{AreRenewed};
 ghost use Rattle.close_rules.specs.Close.{IsClose};
 

@@ -2,9 +2,9 @@
 
 ghost use Rattle.std.specs.Prelude.{◌<◌, IfOk};
 ghost use Rattle.entry_map.specs.EntryMap.{EntryMap, IsKeyed};
-ghost use Rattle.entry_changes.specs.Next.{IsExactBatch};
-ghost use Rattle.entry_changes.specs.Spellable.{AreSpellable};
-ghost use Rattle.op_form.specs.Sequences.{last_seq};
+ghost use Rattle.entry_table.specs.entry_changes.Next.{IsExactBatch};
+ghost use Rattle.entry_table.specs.entry_changes.Spellable.{AreSpellable};
+ghost use Rattle.close_laws.specs.op_form.Sequences.{last_seq};
 ghost use Rattle.ledger_close.specs.Counted.{AreStepsTo};
 ghost use Rattle.ledger_close.specs.Leveled.{IsLeveled};
 

@@ -12,6 +12,7 @@ mod merges;
 mod prepare;
 mod refusals;
 
+pub use close_laws;
 pub use close_rules::{CloseFault, ImageFault, ImageRule};
 pub use ledger::Ledger;
 pub use prepare::Prepared;

@@ -5,7 +5,7 @@ ghost use Rattle.value_hashes.specs.Hashes.{ledger_hash_of};
 ghost use Rattle.fee_rules.specs.SetHash.{hash_of_set};
 ghost use Rattle.close_rules.specs.State.{ClosingState, IsSpelled};
 ghost use Rattle.xdr_header.specs.Records.{close_record};
-ghost use Rattle.op_form.specs.Sequences.{last_seq};
+ghost use Rattle.close_laws.specs.op_form.Sequences.{last_seq};
 ghost use Rattle.close_rules.specs.Refusals as spec;
 ghost use Rattle.ledger_close.specs.Answers as answer;
 

@@ -2,19 +2,19 @@
 use Rattle.std.proofs.Common.{◌≡◌, ◌≢◌, refl, sym, ap, subst, ◌∙◌, ℕ, ◌+◌, ◌-◌, ◌≤◌, List, Option, Some, None}
 use Rattle.std.proofs.Common.{arith}
 use Rattle.std.specs.Prelude.{pos, ◌+ℤ◌, ◌≤ℤ◌}
-use Rattle.ledger_types.specs.declared.price.Liabilities.{Liabilities}
-use Rattle.ledger_types.specs.declared.signer.Signer.{Signer}
-use Rattle.ledger_types.specs.declared.account.AccountEntry.{AccountEntry}
-use Rattle.ledger_types.specs.declared.account.AccountEntryExtensionV2.{AccountEntryExtensionV2}
+use Rattle.hash_ids.specs.ledger_types.declared.price.Liabilities.{Liabilities}
+use Rattle.hash_ids.specs.ledger_types.declared.signer.Signer.{Signer}
+use Rattle.hash_ids.specs.ledger_types.declared.account.AccountEntry.{AccountEntry}
+use Rattle.hash_ids.specs.ledger_types.declared.account.AccountEntryExtensionV2.{AccountEntryExtensionV2}
 use Rattle.valid_values.specs.Texts.{is_valid_text}
-use Rattle.entry_slots.specs.AccountExtensions.{second_in, sponsored_in, sponsoring_in, sponsorship_in}
-use Rattle.entry_slots.specs.AccountExtensions.{account_liabilities}
-use Rattle.entry_slots.specs.AccountExtensions.{num_sponsoring}
-use Rattle.entry_slots.specs.EntrySponsor.{sponsor_of}
-use Rattle.reserve_rules.specs.Reserve.{greatest_i64, IsInRange}
-use Rattle.sponsor_rules.specs.declared.count.Count.{Count}
-use Rattle.sponsor_rules.specs.declared.count.Count.TheVariants as count
-use Rattle.sponsor_rules.specs.Counting.{count_in, with_new_count}
+use Rattle.sponsor_laws.specs.entry_slots.AccountExtensions.{second_in, sponsored_in, sponsoring_in, sponsorship_in}
+use Rattle.sponsor_laws.specs.entry_slots.AccountExtensions.{account_liabilities}
+use Rattle.sponsor_laws.specs.entry_slots.AccountExtensions.{num_sponsoring}
+use Rattle.sponsor_laws.specs.entry_slots.EntrySponsor.{sponsor_of}
+use Rattle.sponsor_laws.specs.reserve_rules.Reserve.{greatest_i64, IsInRange}
+use Rattle.sponsor_laws.specs.sponsor_rules.declared.count.Count.{Count}
+use Rattle.sponsor_laws.specs.sponsor_rules.declared.count.Count.TheVariants as count
+use Rattle.sponsor_laws.specs.sponsor_rules.Counting.{count_in, with_new_count}
 use Rattle.sponsor_laws.specs.Sums.{signer_sponsors}
 use Rattle.legal_rules.specs.Ranges.{AreAccountFlags, AreSignersInRange, IsAccountInRange}
 use Rattle.legal_rules.specs.Owing.{IsEntryLegal}

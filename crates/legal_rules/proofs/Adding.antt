@@ -4,21 +4,21 @@ use Rattle.std.proofs.lemmas.Int.{ints}
 use borrow.Author.Tests.{ltb-false}
 use Rattle.std.specs.Prelude.{ℤ, pos, neg_ℤ, ◌+ℤ◌, ◌≤ℤ◌}
 use Rattle.std.specs.FinMap.{get}
-use Rattle.ledger_types.specs.declared.ids.AccountId.{AccountId}
-use Rattle.ledger_types.specs.declared.account.AccountEntry.{AccountEntry}
-use Rattle.ledger_types.specs.declared.entry.LedgerEntry.{LedgerEntry}
-use Rattle.ledger_types.specs.declared.key.LedgerKey.{LedgerKey}
-use Rattle.ledger_types.specs.declared.key.LedgerKey.TheVariants as key
-use Rattle.ledger_types.specs.Keys.{key_of}
-use Rattle.entry_map.specs.EntryMap.{EntryMap, put}
-use Rattle.entry_slots.specs.Accounts.{account_at, HasAccount}
-use Rattle.entry_slots.specs.EntrySponsor.{sponsor_of, with_sponsor}
-use Rattle.sponsor_rules.specs.declared.context.Ctx.{Ctx}
-use Rattle.sponsor_rules.specs.declared.count.Count.TheVariants as count
-use Rattle.sponsor_rules.specs.Adding.{sponsored_entry, map_after_counting, map_after_adding_subentry}
-use Rattle.sponsor_rules.specs.Counting.{count_if}
-use Rattle.sponsor_rules.specs.Paying.{map_after_charging, with_subentry}
-use Rattle.sponsor_rules.specs.Payers.{open_sponsor, payer_of, payer_by, is_full, is_over, subentry_tests_at}
+use Rattle.hash_ids.specs.ledger_types.declared.ids.AccountId.{AccountId}
+use Rattle.hash_ids.specs.ledger_types.declared.account.AccountEntry.{AccountEntry}
+use Rattle.hash_ids.specs.ledger_types.declared.entry.LedgerEntry.{LedgerEntry}
+use Rattle.hash_ids.specs.ledger_types.declared.key.LedgerKey.{LedgerKey}
+use Rattle.hash_ids.specs.ledger_types.declared.key.LedgerKey.TheVariants as key
+use Rattle.hash_ids.specs.ledger_types.Keys.{key_of}
+use Rattle.entry_sums.specs.entry_map.EntryMap.{EntryMap, put}
+use Rattle.sponsor_laws.specs.entry_slots.Accounts.{account_at, HasAccount}
+use Rattle.sponsor_laws.specs.entry_slots.EntrySponsor.{sponsor_of, with_sponsor}
+use Rattle.sponsor_laws.specs.sponsor_rules.declared.context.Ctx.{Ctx}
+use Rattle.sponsor_laws.specs.sponsor_rules.declared.count.Count.TheVariants as count
+use Rattle.sponsor_laws.specs.sponsor_rules.Adding.{sponsored_entry, map_after_counting, map_after_adding_subentry}
+use Rattle.sponsor_laws.specs.sponsor_rules.Counting.{count_if}
+use Rattle.sponsor_laws.specs.sponsor_rules.Paying.{map_after_charging, with_subentry}
+use Rattle.sponsor_laws.specs.sponsor_rules.Payers.{open_sponsor, payer_of, payer_by, is_full, is_over, subentry_tests_at}
 use Rattle.sponsor_laws.proofs.Bounds.{done_by, have_passed, HavePassed}
 use Rattle.entry_sums.specs.Sums.{total}
 use Rattle.entry_sums.proofs.Lookups.{put_elsewhere}

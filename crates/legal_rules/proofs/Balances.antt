@@ -4,23 +4,23 @@ use Rattle.std.proofs.Common.{arith}
 use Rattle.std.proofs.lemmas.Int.{ints}
 use Rattle.std.specs.Prelude.{ℤ, pos, neg_ℤ, ◌+ℤ◌, ◌≤ℤ◌}
 use Rattle.std.specs.FinMap.{get}
-use Rattle.ledger_types.specs.declared.ids.AccountId.{AccountId}
-use Rattle.ledger_types.specs.declared.claimable_balance.ClaimableBalanceEntry.{ClaimableBalanceEntry}
-use Rattle.ledger_types.specs.declared.entry.LedgerEntry.{LedgerEntry}
-use Rattle.ledger_types.specs.declared.entry.LedgerEntryBody.{LedgerEntryBody}
-use Rattle.ledger_types.specs.declared.entry.LedgerEntryBody.TheVariants as body
-use Rattle.ledger_types.specs.declared.key.LedgerKey.{LedgerKey}
-use Rattle.ledger_types.specs.declared.key.LedgerKey.TheVariants as key
-use Rattle.ledger_types.specs.Keys.{key_of, key_of_body}
-use Rattle.entry_map.specs.EntryMap.{EntryMap, put, erase}
-use Rattle.entry_slots.specs.Accounts.{HasAccount}
-use Rattle.entry_slots.specs.EntrySponsor.{sponsor_of, with_sponsor}
-use Rattle.sponsor_rules.specs.declared.charge.Charge.TheVariants as charge
-use Rattle.sponsor_rules.specs.declared.context.Ctx.{Ctx}
-use Rattle.sponsor_rules.specs.Adding.{map_after_adding_balance}
-use Rattle.sponsor_rules.specs.Charge.{charge_of, multiplicity, multiplicity_in, owner_of, owner_in}
-use Rattle.sponsor_rules.specs.Paying.{map_after_charging, map_after_releasing}
-use Rattle.sponsor_rules.specs.Payers.{payer_tests_at}
+use Rattle.hash_ids.specs.ledger_types.declared.ids.AccountId.{AccountId}
+use Rattle.hash_ids.specs.ledger_types.declared.claimable_balance.ClaimableBalanceEntry.{ClaimableBalanceEntry}
+use Rattle.hash_ids.specs.ledger_types.declared.entry.LedgerEntry.{LedgerEntry}
+use Rattle.hash_ids.specs.ledger_types.declared.entry.LedgerEntryBody.{LedgerEntryBody}
+use Rattle.hash_ids.specs.ledger_types.declared.entry.LedgerEntryBody.TheVariants as body
+use Rattle.hash_ids.specs.ledger_types.declared.key.LedgerKey.{LedgerKey}
+use Rattle.hash_ids.specs.ledger_types.declared.key.LedgerKey.TheVariants as key
+use Rattle.hash_ids.specs.ledger_types.Keys.{key_of, key_of_body}
+use Rattle.entry_sums.specs.entry_map.EntryMap.{EntryMap, put, erase}
+use Rattle.sponsor_laws.specs.entry_slots.Accounts.{HasAccount}
+use Rattle.sponsor_laws.specs.entry_slots.EntrySponsor.{sponsor_of, with_sponsor}
+use Rattle.sponsor_laws.specs.sponsor_rules.declared.charge.Charge.TheVariants as charge
+use Rattle.sponsor_laws.specs.sponsor_rules.declared.context.Ctx.{Ctx}
+use Rattle.sponsor_laws.specs.sponsor_rules.Adding.{map_after_adding_balance}
+use Rattle.sponsor_laws.specs.sponsor_rules.Charge.{charge_of, multiplicity, multiplicity_in, owner_of, owner_in}
+use Rattle.sponsor_laws.specs.sponsor_rules.Paying.{map_after_charging, map_after_releasing}
+use Rattle.sponsor_laws.specs.sponsor_rules.Payers.{payer_tests_at}
 use Rattle.sponsor_laws.proofs.Bounds.{done_by, payer_passed}
 use Rattle.entry_sums.specs.Sums.{total}
 use Rattle.legal_rules.specs.EntryKeys.{is_key}

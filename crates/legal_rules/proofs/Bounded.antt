@@ -1,13 +1,13 @@
 -- An account that stands in a state is in range and within bounds.
 use Rattle.std.proofs.Common.{◌≡◌, ℕ, ◌+◌, ◌≤◌}
 use Rattle.std.specs.Prelude.{ℤ}
-use Rattle.ledger_types.specs.declared.ids.AccountId.{AccountId}
-use Rattle.ledger_types.specs.declared.account.AccountEntry.{AccountEntry}
-use Rattle.ledger_types.specs.declared.key.LedgerKey.TheVariants as key
+use Rattle.hash_ids.specs.ledger_types.declared.ids.AccountId.{AccountId}
+use Rattle.hash_ids.specs.ledger_types.declared.account.AccountEntry.{AccountEntry}
+use Rattle.hash_ids.specs.ledger_types.declared.key.LedgerKey.TheVariants as key
 use Rattle.std.proofs.Common.{Some}
-use Rattle.entry_map.specs.EntryMap.{EntryMap}
-use Rattle.entry_slots.specs.AccountExtensions.{num_sponsoring}
-use Rattle.entry_slots.specs.Accounts.{account_at}
+use Rattle.entry_sums.specs.entry_map.EntryMap.{EntryMap}
+use Rattle.sponsor_laws.specs.entry_slots.AccountExtensions.{num_sponsoring}
+use Rattle.sponsor_laws.specs.entry_slots.Accounts.{account_at}
 use Rattle.legal_rules.specs.Books.{View}
 use Rattle.legal_rules.specs.Ranges.{IsAccountInRange}
 use Rattle.legal_rules.specs.Owing.{Owed, IsEntryLegal, IsLegalOwing}

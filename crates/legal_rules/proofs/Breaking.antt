@@ -8,15 +8,15 @@ use Rattle.std.proofs.lemmas.List.Elements.{All-head}
 use Rattle.std.specs.Prelude.{ℤ, pos, ◌+ℤ◌, ◌≤ℤ◌, ◌<ℤ◌}
 use Rattle.std.specs.Ordering.{is_eq, int_cmp}
 use Rattle.std.specs.FinMap.{get}
-use Rattle.ledger_types.specs.declared.entry.LedgerEntry.{LedgerEntry}
-use Rattle.ledger_types.specs.declared.entry.LedgerEntryBody.TheVariants as body
-use Rattle.ledger_types.specs.declared.header.LedgerHeader.{LedgerHeader}
-use Rattle.ledger_types.specs.declared.key.LedgerKey.{LedgerKey}
-use Rattle.ledger_types.specs.declared.key.LedgerKey.TheVariants as key
-use Rattle.ledger_types.specs.declared.asset.Asset.TheVariants as asset
-use Rattle.ledger_types.specs.Keys.{key_of}
-use Rattle.entry_map.proofs.KeyMaps.{same_itself}
-use Rattle.entry_slots.specs.Lines.{line_of}
+use Rattle.hash_ids.specs.ledger_types.declared.entry.LedgerEntry.{LedgerEntry}
+use Rattle.hash_ids.specs.ledger_types.declared.entry.LedgerEntryBody.TheVariants as body
+use Rattle.hash_ids.specs.ledger_types.declared.header.LedgerHeader.{LedgerHeader}
+use Rattle.hash_ids.specs.ledger_types.declared.key.LedgerKey.{LedgerKey}
+use Rattle.hash_ids.specs.ledger_types.declared.key.LedgerKey.TheVariants as key
+use Rattle.hash_ids.specs.ledger_types.declared.asset.Asset.TheVariants as asset
+use Rattle.hash_ids.specs.ledger_types.Keys.{key_of}
+use Rattle.entry_sums.proofs.entry_map_proofs.KeyMaps.{same_itself}
+use Rattle.sponsor_laws.specs.entry_slots.Lines.{line_of}
 use Rattle.entry_sums.proofs.Lookups.{put_there}
 use Rattle.legal_rules.specs.Books.{Kind, Subentries, Sponsoring, Sponsored, Selling, Buying, Shares, ShareLines, Uses}
 use Rattle.legal_rules.specs.Books.{counted, stated_at}

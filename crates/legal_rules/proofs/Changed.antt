@@ -6,26 +6,26 @@ use Rattle.std.specs.Prelude.{ℤ, pos, ◌+ℤ◌, ◌-ℤ◌, ◌≤ℤ◌, if
 use Rattle.std.specs.Ordering.{int_eq}
 use Rattle.std.specs.List.{count_by}
 use Rattle.std.specs.FinMap.{get}
-use Rattle.ledger_types.specs.declared.ids.Hash.{Hash}
-use Rattle.ledger_types.specs.declared.price.Liabilities.{Liabilities}
-use Rattle.ledger_types.specs.declared.account.AccountEntry.{AccountEntry}
-use Rattle.ledger_types.specs.declared.trust_line.TrustLineEntry.{TrustLineEntry}
-use Rattle.ledger_types.specs.declared.trust_line.TrustLineEntryExtensionV1.{TrustLineEntryExtensionV1}
-use Rattle.ledger_types.specs.declared.trust_line.TrustLineEntryExtensionV2.{TrustLineEntryExtensionV2}
-use Rattle.ledger_types.specs.declared.liquidity_pool.LiquidityPoolEntry.{LiquidityPoolEntry}
-use Rattle.ledger_types.specs.declared.entry.LedgerEntry.{LedgerEntry}
-use Rattle.ledger_types.specs.declared.entry.LedgerEntryBody.{LedgerEntryBody}
-use Rattle.ledger_types.specs.declared.entry.LedgerEntryBody.TheVariants as body
-use Rattle.ledger_types.specs.declared.key.LedgerKey.{LedgerKey}
-use Rattle.ledger_types.specs.declared.key.LedgerKey.TheVariants as key
-use Rattle.ledger_types.specs.Keys.{key_of_body}
-use Rattle.entry_map.specs.EntryMap.{EntryMap, put}
-use Rattle.entry_slots.specs.EntrySponsor.{sponsor_of}
-use Rattle.entry_slots.specs.LineExtensions.{line_liabilities, line_liabilities_in, line_second_in, use_count_in}
-use Rattle.entry_slots.specs.LineExtensions.{use_count}
-use Rattle.entry_slots.specs.LineExtensions.{with_use_count, with_use_count_in, with_use_count_of}
-use Rattle.entry_slots.specs.AccountExtensions.{no_liabilities}
-use Rattle.entry_slots.specs.Pools.{pool_in, pool_of, pool_at, with_pool, with_pool_in, with_pool_of}
+use Rattle.hash_ids.specs.ledger_types.declared.ids.Hash.{Hash}
+use Rattle.hash_ids.specs.ledger_types.declared.price.Liabilities.{Liabilities}
+use Rattle.hash_ids.specs.ledger_types.declared.account.AccountEntry.{AccountEntry}
+use Rattle.hash_ids.specs.ledger_types.declared.trust_line.TrustLineEntry.{TrustLineEntry}
+use Rattle.hash_ids.specs.ledger_types.declared.trust_line.TrustLineEntryExtensionV1.{TrustLineEntryExtensionV1}
+use Rattle.hash_ids.specs.ledger_types.declared.trust_line.TrustLineEntryExtensionV2.{TrustLineEntryExtensionV2}
+use Rattle.hash_ids.specs.ledger_types.declared.liquidity_pool.LiquidityPoolEntry.{LiquidityPoolEntry}
+use Rattle.hash_ids.specs.ledger_types.declared.entry.LedgerEntry.{LedgerEntry}
+use Rattle.hash_ids.specs.ledger_types.declared.entry.LedgerEntryBody.{LedgerEntryBody}
+use Rattle.hash_ids.specs.ledger_types.declared.entry.LedgerEntryBody.TheVariants as body
+use Rattle.hash_ids.specs.ledger_types.declared.key.LedgerKey.{LedgerKey}
+use Rattle.hash_ids.specs.ledger_types.declared.key.LedgerKey.TheVariants as key
+use Rattle.hash_ids.specs.ledger_types.Keys.{key_of_body}
+use Rattle.entry_sums.specs.entry_map.EntryMap.{EntryMap, put}
+use Rattle.sponsor_laws.specs.entry_slots.EntrySponsor.{sponsor_of}
+use Rattle.sponsor_laws.specs.entry_slots.LineExtensions.{line_liabilities, line_liabilities_in, line_second_in, use_count_in}
+use Rattle.sponsor_laws.specs.entry_slots.LineExtensions.{use_count}
+use Rattle.sponsor_laws.specs.entry_slots.LineExtensions.{with_use_count, with_use_count_in, with_use_count_of}
+use Rattle.sponsor_laws.specs.entry_slots.AccountExtensions.{no_liabilities}
+use Rattle.sponsor_laws.specs.entry_slots.Pools.{pool_in, pool_of, pool_at, with_pool, with_pool_in, with_pool_of}
 use Rattle.sponsor_laws.specs.Sums.{is_there}
 use Rattle.legal_rules.specs.EntryKeys.{is_key, for_key, for_account}
 use Rattle.legal_rules.specs.Reserves.{is_for}
@@ -37,10 +37,10 @@ use Rattle.legal_rules.specs.ChangeLaws.{KeepsBooks, AccountChanged, KeepsLineBo
 use Rattle.legal_rules.specs.ChangeLaws.{UsesCounted}
 use Rattle.std.specs.Prelude.{if◌then◌else◌}
 use Rattle.std.specs.Ordering.{is_eq}
-use Rattle.ledger_types.specs.KeyOrder.{asset_cmp}
-use Rattle.ledger_types.specs.declared.asset.PoolParams.{PoolParams}
+use Rattle.hash_ids.specs.ledger_types.KeyOrder.{asset_cmp}
+use Rattle.hash_ids.specs.ledger_types.declared.asset.PoolParams.{PoolParams}
 use Rattle.legal_rules.specs.Supply.{of_asset, held_in}
-use Rattle.entry_slots.specs.Pools.{pool_at, with_pool}
+use Rattle.sponsor_laws.specs.entry_slots.Pools.{pool_at, with_pool}
 use Rattle.legal_rules.specs.Ranges.{IsPoolInRange}
 use Rattle.legal_rules.specs.Bounds.{IsFilledOrEmpty}
 use Rattle.legal_rules.specs.ChangeLaws.{KeepsParams, PoolChanged}

@@ -4,36 +4,36 @@ use Rattle.std.proofs.Common.{◌||◌, [], ◌∷◌, Option, Some, None, Ok, a
 use Rattle.std.proofs.lemmas.Int.{ints}
 use Rattle.std.specs.Prelude.{ℤ, pos, ◌+ℤ◌, ◌≤ℤ◌}
 use Rattle.std.specs.FinMap.{get}
-use Rattle.ledger_types.specs.declared.ids.AccountId.{AccountId}
-use Rattle.ledger_types.specs.declared.asset.Asset.{Asset}
-use Rattle.ledger_types.specs.declared.account.AccountEntry.{AccountEntry}
-use Rattle.ledger_types.specs.declared.entry.LedgerEntry.{LedgerEntry}
-use Rattle.ledger_types.specs.declared.key.LedgerKey.{LedgerKey}
-use Rattle.ledger_types.specs.declared.key.LedgerKey.TheVariants as key
-use Rattle.ledger_types.specs.Keys.{key_of}
-use Rattle.entry_map.specs.EntryMap.{EntryMap, put, erase}
-use Rattle.entry_slots.specs.Accounts.{account_of, account_at, with_account}
-use Rattle.entry_slots.specs.EntrySponsor.{with_sponsor}
-use Rattle.entry_slots.specs.Tests.{Tests, first_fault}
+use Rattle.hash_ids.specs.ledger_types.declared.ids.AccountId.{AccountId}
+use Rattle.hash_ids.specs.ledger_types.declared.asset.Asset.{Asset}
+use Rattle.hash_ids.specs.ledger_types.declared.account.AccountEntry.{AccountEntry}
+use Rattle.hash_ids.specs.ledger_types.declared.entry.LedgerEntry.{LedgerEntry}
+use Rattle.hash_ids.specs.ledger_types.declared.key.LedgerKey.{LedgerKey}
+use Rattle.hash_ids.specs.ledger_types.declared.key.LedgerKey.TheVariants as key
+use Rattle.hash_ids.specs.ledger_types.Keys.{key_of}
+use Rattle.entry_sums.specs.entry_map.EntryMap.{EntryMap, put, erase}
+use Rattle.sponsor_laws.specs.entry_slots.Accounts.{account_of, account_at, with_account}
+use Rattle.sponsor_laws.specs.entry_slots.EntrySponsor.{with_sponsor}
+use Rattle.sponsor_laws.specs.entry_slots.Tests.{Tests, first_fault}
 use Rattle.entry_sums.specs.Sums.{part}
 use Rattle.entry_sums.proofs.Lookups.{put_elsewhere, erase_elsewhere, erase_each}
-use Rattle.reserve_rules.specs.Reserve.{available}
-use Rattle.sponsor_rules.specs.declared.context.Ctx.{Ctx}
-use Rattle.sponsor_rules.specs.declared.fault.AddFault.{AddFault}
-use Rattle.sponsor_rules.specs.declared.fault.AddFault.TheVariants.{TooManySubentries, TooManySponsoring, LowReserve}
-use Rattle.sponsor_rules.specs.declared.count.Count.TheVariants as count
-use Rattle.sponsor_rules.specs.Counting.{with_more, with_less}
-use Rattle.sponsor_rules.specs.Moving.{map_with_recorded, map_with_sponsor, map_with_other_payer}
-use Rattle.sponsor_rules.specs.Moving.{map_after_moving_between}
-use Rattle.sponsor_rules.specs.Paying.{map_after_charging, map_after_releasing, map_after_exchange, with_other_payer}
-use Rattle.sponsor_rules.specs.Paying.{with_subentry, without_subentry}
-use Rattle.sponsor_rules.specs.Adding.{sponsored_entry, map_after_counting, map_after_adding_subentry}
-use Rattle.sponsor_rules.specs.Payers.{is_same_account, is_full, is_over, is_short, payer_of, payer_tests_at}
-use Rattle.sponsor_rules.specs.Payers.{move_tests_at}
-use Rattle.sponsor_rules.specs.Payers.{subentry_tests_at, payer_by, open_sponsor}
-use Rattle.sponsor_rules.proofs.Ids.{same_account, apart_accounts}
-use Rattle.sponsor_rules.proofs.Keeping.{with_count_keeps, means_kept}
-use Rattle.sponsor_rules.specs.Keeping.{KeepsMeans}
+use Rattle.sponsor_laws.specs.reserve_rules.Reserve.{available}
+use Rattle.sponsor_laws.specs.sponsor_rules.declared.context.Ctx.{Ctx}
+use Rattle.sponsor_laws.specs.sponsor_rules.declared.fault.AddFault.{AddFault}
+use Rattle.sponsor_laws.specs.sponsor_rules.declared.fault.AddFault.TheVariants.{TooManySubentries, TooManySponsoring, LowReserve}
+use Rattle.sponsor_laws.specs.sponsor_rules.declared.count.Count.TheVariants as count
+use Rattle.sponsor_laws.specs.sponsor_rules.Counting.{with_more, with_less}
+use Rattle.sponsor_laws.specs.sponsor_rules.Moving.{map_with_recorded, map_with_sponsor, map_with_other_payer}
+use Rattle.sponsor_laws.specs.sponsor_rules.Moving.{map_after_moving_between}
+use Rattle.sponsor_laws.specs.sponsor_rules.Paying.{map_after_charging, map_after_releasing, map_after_exchange, with_other_payer}
+use Rattle.sponsor_laws.specs.sponsor_rules.Paying.{with_subentry, without_subentry}
+use Rattle.sponsor_laws.specs.sponsor_rules.Adding.{sponsored_entry, map_after_counting, map_after_adding_subentry}
+use Rattle.sponsor_laws.specs.sponsor_rules.Payers.{is_same_account, is_full, is_over, is_short, payer_of, payer_tests_at}
+use Rattle.sponsor_laws.specs.sponsor_rules.Payers.{move_tests_at}
+use Rattle.sponsor_laws.specs.sponsor_rules.Payers.{subentry_tests_at, payer_by, open_sponsor}
+use Rattle.sponsor_laws.proofs.sponsor_rules_proofs.Ids.{same_account, apart_accounts}
+use Rattle.sponsor_laws.proofs.sponsor_rules_proofs.Keeping.{with_count_keeps, means_kept}
+use Rattle.sponsor_laws.specs.sponsor_rules.Keeping.{KeepsMeans}
 use Rattle.legal_rules.specs.Supply.{held}
 use Rattle.legal_rules.proofs.Places.{account_after, account_elsewhere}
 use Rattle.legal_rules.proofs.ReservesLeft.{pays_more, pays_less, pays_from, other_payer_charged, available_still}

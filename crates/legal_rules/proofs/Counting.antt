@@ -4,17 +4,17 @@ use Rattle.std.proofs.Common.{nat_eq, arith}
 use borrow.Author.Tests.{eqb-true}
 use Rattle.std.proofs.lemmas.Int.{ints}
 use Rattle.std.specs.Prelude.{ℤ, pos, neg_ℤ, ◌+ℤ◌, ◌-ℤ◌, if◌then◌else◌}
-use Rattle.ledger_types.specs.declared.ids.AccountId.{AccountId}
-use Rattle.ledger_types.specs.declared.account.AccountEntry.{AccountEntry}
-use Rattle.ledger_types.specs.declared.entry.LedgerEntry.{LedgerEntry}
-use Rattle.ledger_types.specs.declared.key.LedgerKey.{LedgerKey}
-use Rattle.ledger_types.specs.declared.key.LedgerKey.TheVariants as key
-use Rattle.entry_slots.specs.AccountExtensions.{second_in, num_sponsoring}
-use Rattle.entry_slots.specs.AccountExtensions.{num_sponsored}
-use Rattle.sponsor_rules.specs.declared.count.Count.{Count}
-use Rattle.sponsor_rules.specs.declared.count.Count.TheVariants as count
-use Rattle.sponsor_rules.specs.Counting.{count_in, with_count, with_new_count, with_more, with_less}
-use Rattle.sponsor_rules.proofs.Keeping.{with_count_means}
+use Rattle.hash_ids.specs.ledger_types.declared.ids.AccountId.{AccountId}
+use Rattle.hash_ids.specs.ledger_types.declared.account.AccountEntry.{AccountEntry}
+use Rattle.hash_ids.specs.ledger_types.declared.entry.LedgerEntry.{LedgerEntry}
+use Rattle.hash_ids.specs.ledger_types.declared.key.LedgerKey.{LedgerKey}
+use Rattle.hash_ids.specs.ledger_types.declared.key.LedgerKey.TheVariants as key
+use Rattle.sponsor_laws.specs.entry_slots.AccountExtensions.{second_in, num_sponsoring}
+use Rattle.sponsor_laws.specs.entry_slots.AccountExtensions.{num_sponsored}
+use Rattle.sponsor_laws.specs.sponsor_rules.declared.count.Count.{Count}
+use Rattle.sponsor_laws.specs.sponsor_rules.declared.count.Count.TheVariants as count
+use Rattle.sponsor_laws.specs.sponsor_rules.Counting.{count_in, with_count, with_new_count, with_more, with_less}
+use Rattle.sponsor_laws.proofs.sponsor_rules_proofs.Keeping.{with_count_means}
 use Rattle.legal_rules.specs.EntryKeys.{is_key}
 use Rattle.legal_rules.specs.Books.{Kind, Subentries, Sponsoring, Sponsored, Selling, Buying, Shares, ShareLines, Uses}
 use Rattle.legal_rules.specs.Books.{View, counted}

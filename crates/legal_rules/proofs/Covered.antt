@@ -6,20 +6,20 @@ use Rattle.std.proofs.lemmas.List.Sums.{count_by-le-length}
 use Rattle.std.specs.Prelude.{ℤ, pos, ◌+ℤ◌, ◌-ℤ◌, ◌*ℤ◌, ◌≤ℤ◌, if◌then◌else◌}
 use Rattle.std.specs.List.{count_by}
 use Rattle.std.specs.FinMap.{get}
-use Rattle.ledger_types.specs.declared.ids.AccountId.{AccountId}
-use Rattle.ledger_types.specs.declared.account.AccountEntry.{AccountEntry}
-use Rattle.ledger_types.specs.declared.entry.LedgerEntry.{LedgerEntry}
-use Rattle.ledger_types.specs.declared.entry.LedgerEntryBody.{LedgerEntryBody}
-use Rattle.ledger_types.specs.declared.entry.LedgerEntryBody.TheVariants as body
-use Rattle.ledger_types.specs.declared.key.LedgerKey.{LedgerKey}
-use Rattle.ledger_types.specs.declared.key.LedgerKey.TheVariants as key
-use Rattle.ledger_types.specs.Keys.{key_of, key_of_body}
-use Rattle.entry_map.specs.EntryMap.{EntryMap}
-use Rattle.entry_slots.specs.Accounts.{account_at}
-use Rattle.entry_slots.specs.AccountExtensions.{account_liabilities, num_sponsoring, num_sponsored}
-use Rattle.entry_slots.specs.EntrySponsor.{sponsor_of}
-use Rattle.reserve_rules.specs.Reserve.{min_balance, available}
-use Rattle.sponsor_rules.specs.Charge.{multiplicity, owner_of}
+use Rattle.hash_ids.specs.ledger_types.declared.ids.AccountId.{AccountId}
+use Rattle.hash_ids.specs.ledger_types.declared.account.AccountEntry.{AccountEntry}
+use Rattle.hash_ids.specs.ledger_types.declared.entry.LedgerEntry.{LedgerEntry}
+use Rattle.hash_ids.specs.ledger_types.declared.entry.LedgerEntryBody.{LedgerEntryBody}
+use Rattle.hash_ids.specs.ledger_types.declared.entry.LedgerEntryBody.TheVariants as body
+use Rattle.hash_ids.specs.ledger_types.declared.key.LedgerKey.{LedgerKey}
+use Rattle.hash_ids.specs.ledger_types.declared.key.LedgerKey.TheVariants as key
+use Rattle.hash_ids.specs.ledger_types.Keys.{key_of, key_of_body}
+use Rattle.entry_sums.specs.entry_map.EntryMap.{EntryMap}
+use Rattle.sponsor_laws.specs.entry_slots.Accounts.{account_at}
+use Rattle.sponsor_laws.specs.entry_slots.AccountExtensions.{account_liabilities, num_sponsoring, num_sponsored}
+use Rattle.sponsor_laws.specs.entry_slots.EntrySponsor.{sponsor_of}
+use Rattle.sponsor_laws.specs.reserve_rules.Reserve.{min_balance, available}
+use Rattle.sponsor_laws.specs.sponsor_rules.Charge.{multiplicity, owner_of}
 use Rattle.sponsor_laws.specs.Sums.{is_there, signer_sponsors}
 use Rattle.entry_sums.specs.Sums.{Weight, total, part, EachEntry}
 use Rattle.entry_sums.proofs.Lookups.{apart_keys}

@@ -3,20 +3,20 @@ use Rattle.std.proofs.Common.{◌≡◌, ◌≢◌, refl, subst, ◌∙◌, ℕ,
 use Rattle.std.proofs.lemmas.Int.{ints}
 use Rattle.std.specs.Prelude.{ℤ, pos, neg_ℤ, ◌+ℤ◌, ◌≤ℤ◌, if◌then◌else◌}
 use Rattle.std.specs.FinMap.{get}
-use Rattle.ledger_types.specs.declared.ids.AccountId.{AccountId}
-use Rattle.ledger_types.specs.declared.account.AccountEntry.{AccountEntry}
-use Rattle.ledger_types.specs.declared.key.LedgerKey.{LedgerKey}
-use Rattle.ledger_types.specs.declared.key.LedgerKey.TheVariants as key
-use Rattle.entry_map.specs.EntryMap.{EntryMap}
-use Rattle.entry_map.proofs.KeyMaps.{same_itself}
-use Rattle.entry_slots.specs.AccountExtensions.{num_sponsored}
+use Rattle.hash_ids.specs.ledger_types.declared.ids.AccountId.{AccountId}
+use Rattle.hash_ids.specs.ledger_types.declared.account.AccountEntry.{AccountEntry}
+use Rattle.hash_ids.specs.ledger_types.declared.key.LedgerKey.{LedgerKey}
+use Rattle.hash_ids.specs.ledger_types.declared.key.LedgerKey.TheVariants as key
+use Rattle.entry_sums.specs.entry_map.EntryMap.{EntryMap}
+use Rattle.entry_sums.proofs.entry_map_proofs.KeyMaps.{same_itself}
+use Rattle.sponsor_laws.specs.entry_slots.AccountExtensions.{num_sponsored}
 use Rattle.entry_sums.specs.Sums.{total}
 use Rattle.entry_sums.proofs.Summing.{total_not_below}
 use Rattle.sponsor_laws.specs.Sums.{is_there}
-use Rattle.sponsor_rules.specs.declared.count.Count.{Count}
-use Rattle.sponsor_rules.specs.declared.count.Count.TheVariants as count
-use Rattle.sponsor_rules.specs.Paying.{map_after_releasing, without_subentry}
-use Rattle.sponsor_rules.specs.Removing.{map_after_discounting}
+use Rattle.sponsor_laws.specs.sponsor_rules.declared.count.Count.{Count}
+use Rattle.sponsor_laws.specs.sponsor_rules.declared.count.Count.TheVariants as count
+use Rattle.sponsor_laws.specs.sponsor_rules.Paying.{map_after_releasing, without_subentry}
+use Rattle.sponsor_laws.specs.sponsor_rules.Removing.{map_after_discounting}
 use Rattle.legal_rules.specs.EntryKeys.{is_key, for_key, for_account}
 use Rattle.legal_rules.specs.Books.{Kind, Subentries, Sponsoring, Sponsored, View, counted, stated_at}
 use Rattle.legal_rules.specs.Owing.{Owed, nothing_owed, plus, less, in_book, IsEntryLegal, IsLegalOwing}

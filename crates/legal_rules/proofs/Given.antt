@@ -9,19 +9,19 @@ use Rattle.std.specs.Prelude.{ℤ, pos, ◌+ℤ◌, ◌-ℤ◌, ◌≤ℤ◌, if
 use Rattle.std.specs.Option.{option_map}
 use Rattle.std.specs.List.{count_by, find}
 use Rattle.std.specs.FinMap.{get}
-use Rattle.ledger_types.specs.declared.ids.AccountId.{AccountId}
-use Rattle.ledger_types.specs.declared.account.AccountEntry.{AccountEntry}
-use Rattle.ledger_types.specs.declared.header.LedgerHeader.{LedgerHeader}
-use Rattle.ledger_types.specs.declared.key.LedgerKey.TheVariants as key
-use Rattle.entry_map.specs.EntryMap.{EntryMap}
-use Rattle.entry_map.proofs.KeyMaps.{same_itself}
-use Rattle.entry_slots.specs.Accounts.{account_at, HasAccount}
-use Rattle.entry_slots.specs.AccountExtensions.{num_sponsoring, num_sponsored}
-use Rattle.entry_slots.specs.EntrySponsor.{sponsor_of}
-use Rattle.sponsor_rules.specs.declared.context.Sponsorship.{Sponsorship}
-use Rattle.sponsor_rules.specs.Charge.{multiplicity}
-use Rattle.sponsor_rules.specs.Payers.{is_same_account, open_sponsor}
-use Rattle.sponsor_rules.proofs.Ids.{same_account}
+use Rattle.hash_ids.specs.ledger_types.declared.ids.AccountId.{AccountId}
+use Rattle.hash_ids.specs.ledger_types.declared.account.AccountEntry.{AccountEntry}
+use Rattle.hash_ids.specs.ledger_types.declared.header.LedgerHeader.{LedgerHeader}
+use Rattle.hash_ids.specs.ledger_types.declared.key.LedgerKey.TheVariants as key
+use Rattle.entry_sums.specs.entry_map.EntryMap.{EntryMap}
+use Rattle.entry_sums.proofs.entry_map_proofs.KeyMaps.{same_itself}
+use Rattle.sponsor_laws.specs.entry_slots.Accounts.{account_at, HasAccount}
+use Rattle.sponsor_laws.specs.entry_slots.AccountExtensions.{num_sponsoring, num_sponsored}
+use Rattle.sponsor_laws.specs.entry_slots.EntrySponsor.{sponsor_of}
+use Rattle.sponsor_laws.specs.sponsor_rules.declared.context.Sponsorship.{Sponsorship}
+use Rattle.sponsor_laws.specs.sponsor_rules.Charge.{multiplicity}
+use Rattle.sponsor_laws.specs.sponsor_rules.Payers.{is_same_account, open_sponsor}
+use Rattle.sponsor_laws.proofs.sponsor_rules_proofs.Ids.{same_account}
 use Rattle.sponsor_laws.specs.Sums.{signer_sponsors}
 use Rattle.legal_rules.specs.EntryKeys.{is_key, for_account}
 use Rattle.legal_rules.specs.Reserves.{is_for}

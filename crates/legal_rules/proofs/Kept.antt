@@ -4,22 +4,22 @@ use Rattle.std.proofs.Common.{arith}
 use Rattle.std.proofs.lemmas.Int.{ints}
 use Rattle.std.specs.Prelude.{ℤ, pos, neg_ℤ, ◌+ℤ◌, ◌-ℤ◌, ◌≤ℤ◌}
 use Rattle.std.specs.FinMap.{get}
-use Rattle.ledger_types.specs.declared.ids.AccountId.{AccountId}
-use Rattle.ledger_types.specs.declared.data_entry.DataEntry.{DataEntry}
-use Rattle.ledger_types.specs.declared.header.LedgerHeader.{LedgerHeader}
-use Rattle.ledger_types.specs.declared.entry.LedgerEntry.{LedgerEntry}
-use Rattle.ledger_types.specs.declared.entry.LedgerEntryBody.{LedgerEntryBody}
-use Rattle.ledger_types.specs.declared.entry.LedgerEntryBody.TheVariants as body
-use Rattle.ledger_types.specs.declared.key.LedgerKey.{LedgerKey}
-use Rattle.ledger_types.specs.declared.key.LedgerKey.TheVariants as key
-use Rattle.ledger_types.specs.Keys.{key_of_body}
-use Rattle.entry_map.specs.EntryMap.{EntryMap}
-use Rattle.entry_slots.specs.Accounts.{account_in}
-use Rattle.entry_slots.specs.EntrySponsor.{sponsor_of}
-use Rattle.sponsor_rules.specs.Adding.{map_after_adding, map_after_adding_by}
-use Rattle.sponsor_rules.specs.Payers.{payer_of}
-use Rattle.sponsor_rules.specs.Removing.{map_without_charge, map_after_removing_entry}
-use Rattle.entry_map.specs.EntryMap.{erase}
+use Rattle.hash_ids.specs.ledger_types.declared.ids.AccountId.{AccountId}
+use Rattle.hash_ids.specs.ledger_types.declared.data_entry.DataEntry.{DataEntry}
+use Rattle.hash_ids.specs.ledger_types.declared.header.LedgerHeader.{LedgerHeader}
+use Rattle.hash_ids.specs.ledger_types.declared.entry.LedgerEntry.{LedgerEntry}
+use Rattle.hash_ids.specs.ledger_types.declared.entry.LedgerEntryBody.{LedgerEntryBody}
+use Rattle.hash_ids.specs.ledger_types.declared.entry.LedgerEntryBody.TheVariants as body
+use Rattle.hash_ids.specs.ledger_types.declared.key.LedgerKey.{LedgerKey}
+use Rattle.hash_ids.specs.ledger_types.declared.key.LedgerKey.TheVariants as key
+use Rattle.hash_ids.specs.ledger_types.Keys.{key_of_body}
+use Rattle.entry_sums.specs.entry_map.EntryMap.{EntryMap}
+use Rattle.sponsor_laws.specs.entry_slots.Accounts.{account_in}
+use Rattle.sponsor_laws.specs.entry_slots.EntrySponsor.{sponsor_of}
+use Rattle.sponsor_laws.specs.sponsor_rules.Adding.{map_after_adding, map_after_adding_by}
+use Rattle.sponsor_laws.specs.sponsor_rules.Payers.{payer_of}
+use Rattle.sponsor_laws.specs.sponsor_rules.Removing.{map_without_charge, map_after_removing_entry}
+use Rattle.entry_sums.specs.entry_map.EntryMap.{erase}
 use Rattle.legal_rules.specs.EntryKeys.{is_key}
 use Rattle.legal_rules.specs.Books.{Kind, Subentries, Sponsoring, Sponsored, View}
 use Rattle.legal_rules.specs.Supply.{held, held_in}
@@ -27,9 +27,9 @@ use Rattle.legal_rules.specs.Legal.{view, pools_in, IsLegal}
 use Rattle.legal_rules.specs.Owing.{weighed, nothing_owed, plus, less, beside_reserves, IsEntryLegal, IsLegalOwing}
 use Rattle.legal_rules.specs.EntryLaws.{SubentryAdded, BalanceAdded, AccountAdded, SubentryRemoved, BalanceRemoved}
 use Rattle.legal_rules.specs.EntryLaws.{EntryMoved, new_data, AddingDataKeeps, RemovingDataKeeps, MovingKeeps}
-use Rattle.sponsor_rules.specs.Charge.{charge_of}
-use Rattle.sponsor_rules.specs.declared.charge.Charge.TheVariants as charge
-use Rattle.ledger_types.specs.declared.entry.LedgerEntryBody.{LedgerEntryBody}
+use Rattle.sponsor_laws.specs.sponsor_rules.Charge.{charge_of}
+use Rattle.sponsor_laws.specs.sponsor_rules.declared.charge.Charge.TheVariants as charge
+use Rattle.hash_ids.specs.ledger_types.declared.entry.LedgerEntryBody.{LedgerEntryBody}
 use Rattle.legal_rules.specs.Supply.{held_in}
 use Rattle.legal_rules.proofs.Adding.{subentry_added}
 use Rattle.legal_rules.proofs.Balances.{balance_added, balance_removed}

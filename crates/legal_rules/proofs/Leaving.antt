@@ -4,24 +4,24 @@ use Rattle.std.proofs.Common.{Option, Some, None, arith}
 use Rattle.std.proofs.lemmas.Int.{ints}
 use Rattle.std.specs.Prelude.{ℤ, pos, ◌+ℤ◌, ◌≤ℤ◌}
 use Rattle.std.specs.FinMap.{get}
-use Rattle.ledger_types.specs.declared.ids.AccountId.{AccountId}
-use Rattle.ledger_types.specs.declared.asset.Asset.{Asset}
-use Rattle.ledger_types.specs.declared.account.AccountEntry.{AccountEntry}
-use Rattle.ledger_types.specs.declared.entry.LedgerEntry.{LedgerEntry}
-use Rattle.ledger_types.specs.declared.entry.LedgerEntryBody.{LedgerEntryBody}
-use Rattle.ledger_types.specs.declared.entry.LedgerEntryBody.TheVariants as body
-use Rattle.ledger_types.specs.declared.key.LedgerKey.{LedgerKey}
-use Rattle.ledger_types.specs.declared.key.LedgerKey.TheVariants as key
-use Rattle.ledger_types.specs.Keys.{key_of}
-use Rattle.entry_map.specs.EntryMap.{EntryMap, put}
-use Rattle.entry_map.proofs.KeyMaps.{same_keys, same_itself}
-use Rattle.entry_slots.specs.Accounts.{account_in, account_of, account_at, with_account, with_account_in}
-use Rattle.entry_slots.specs.Accounts.{with_account_of}
-use Rattle.entry_slots.specs.Accounts.{HasAccount}
+use Rattle.hash_ids.specs.ledger_types.declared.ids.AccountId.{AccountId}
+use Rattle.hash_ids.specs.ledger_types.declared.asset.Asset.{Asset}
+use Rattle.hash_ids.specs.ledger_types.declared.account.AccountEntry.{AccountEntry}
+use Rattle.hash_ids.specs.ledger_types.declared.entry.LedgerEntry.{LedgerEntry}
+use Rattle.hash_ids.specs.ledger_types.declared.entry.LedgerEntryBody.{LedgerEntryBody}
+use Rattle.hash_ids.specs.ledger_types.declared.entry.LedgerEntryBody.TheVariants as body
+use Rattle.hash_ids.specs.ledger_types.declared.key.LedgerKey.{LedgerKey}
+use Rattle.hash_ids.specs.ledger_types.declared.key.LedgerKey.TheVariants as key
+use Rattle.hash_ids.specs.ledger_types.Keys.{key_of}
+use Rattle.entry_sums.specs.entry_map.EntryMap.{EntryMap, put}
+use Rattle.entry_sums.proofs.entry_map_proofs.KeyMaps.{same_keys, same_itself}
+use Rattle.sponsor_laws.specs.entry_slots.Accounts.{account_in, account_of, account_at, with_account, with_account_in}
+use Rattle.sponsor_laws.specs.entry_slots.Accounts.{with_account_of}
+use Rattle.sponsor_laws.specs.entry_slots.Accounts.{HasAccount}
 use Rattle.entry_sums.proofs.Lookups.{put_each, put_there, put_elsewhere}
-use Rattle.reserve_rules.specs.Reserve.{available}
-use Rattle.sponsor_rules.specs.Payers.{is_same_account}
-use Rattle.sponsor_rules.proofs.Ids.{same_account, apart_accounts}
+use Rattle.sponsor_laws.specs.reserve_rules.Reserve.{available}
+use Rattle.sponsor_laws.specs.sponsor_rules.Payers.{is_same_account}
+use Rattle.sponsor_laws.proofs.sponsor_rules_proofs.Ids.{same_account, apart_accounts}
 use Rattle.legal_rules.specs.EntryKeys.{is_key}
 use Rattle.legal_rules.proofs.Places.{account_after, account_elsewhere}
 use Rattle.legal_rules.proofs.Steps.{account_entry, with_account_is, with_body}

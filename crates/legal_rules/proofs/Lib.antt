@@ -50,3 +50,5 @@ pub mod LinesLeft
 pub mod MayOwe
 pub mod Counted
 pub mod Freed
+pub use Rattle.entry_sums.proofs as entry_sums_proofs
+pub use Rattle.sponsor_laws.proofs as sponsor_laws_proofs

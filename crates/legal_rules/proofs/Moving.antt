@@ -5,29 +5,29 @@ use Rattle.std.proofs.Common.{arith}
 use Rattle.std.proofs.lemmas.Int.{ints}
 use Rattle.std.specs.Prelude.{ℤ, neg_ℤ, ◌+ℤ◌, if◌then◌else◌}
 use Rattle.std.specs.FinMap.{get}
-use Rattle.ledger_types.specs.declared.ids.AccountId.{AccountId}
-use Rattle.ledger_types.specs.declared.account.AccountEntry.{AccountEntry}
-use Rattle.ledger_types.specs.declared.claimable_balance.ClaimableBalanceEntry.{ClaimableBalanceEntry}
-use Rattle.ledger_types.specs.declared.entry.LedgerEntry.{LedgerEntry}
-use Rattle.ledger_types.specs.declared.entry.LedgerEntryBody.{LedgerEntryBody}
-use Rattle.ledger_types.specs.declared.entry.LedgerEntryBody.TheVariants as body
-use Rattle.ledger_types.specs.declared.key.LedgerKey.{LedgerKey}
-use Rattle.ledger_types.specs.declared.key.LedgerKey.TheVariants as key
-use Rattle.ledger_types.specs.Keys.{key_of_body}
-use Rattle.entry_map.specs.EntryMap.{EntryMap}
-use Rattle.entry_slots.specs.Accounts.{account_at, HasAccount}
-use Rattle.entry_slots.specs.EntrySponsor.{sponsor_of, with_sponsor}
-use Rattle.sponsor_rules.specs.declared.charge.Charge.{Charge}
-use Rattle.sponsor_rules.specs.declared.charge.Charge.TheVariants as charge
-use Rattle.sponsor_rules.specs.declared.context.Ctx.{Ctx}
-use Rattle.sponsor_rules.specs.Charge.{charge_of, multiplicity, multiplicity_in, owner_of, owner_in}
-use Rattle.sponsor_rules.specs.Moving.{map_with_recorded, map_with_sponsor, map_with_other_payer}
-use Rattle.sponsor_rules.specs.Moving.{map_after_moving_between}
-use Rattle.sponsor_rules.specs.Moving.{map_after_moving_owned, map_after_moving_balance, map_after_moving_by}
-use Rattle.sponsor_rules.specs.Moving.{map_after_moving_entry, map_after_moving}
-use Rattle.sponsor_rules.specs.Paying.{map_after_exchange, with_other_payer}
-use Rattle.sponsor_rules.specs.Payers.{is_same_account, payer_other_than, move_tests_at, payer_tests_at}
-use Rattle.sponsor_rules.proofs.Ids.{apart_accounts}
+use Rattle.hash_ids.specs.ledger_types.declared.ids.AccountId.{AccountId}
+use Rattle.hash_ids.specs.ledger_types.declared.account.AccountEntry.{AccountEntry}
+use Rattle.hash_ids.specs.ledger_types.declared.claimable_balance.ClaimableBalanceEntry.{ClaimableBalanceEntry}
+use Rattle.hash_ids.specs.ledger_types.declared.entry.LedgerEntry.{LedgerEntry}
+use Rattle.hash_ids.specs.ledger_types.declared.entry.LedgerEntryBody.{LedgerEntryBody}
+use Rattle.hash_ids.specs.ledger_types.declared.entry.LedgerEntryBody.TheVariants as body
+use Rattle.hash_ids.specs.ledger_types.declared.key.LedgerKey.{LedgerKey}
+use Rattle.hash_ids.specs.ledger_types.declared.key.LedgerKey.TheVariants as key
+use Rattle.hash_ids.specs.ledger_types.Keys.{key_of_body}
+use Rattle.entry_sums.specs.entry_map.EntryMap.{EntryMap}
+use Rattle.sponsor_laws.specs.entry_slots.Accounts.{account_at, HasAccount}
+use Rattle.sponsor_laws.specs.entry_slots.EntrySponsor.{sponsor_of, with_sponsor}
+use Rattle.sponsor_laws.specs.sponsor_rules.declared.charge.Charge.{Charge}
+use Rattle.sponsor_laws.specs.sponsor_rules.declared.charge.Charge.TheVariants as charge
+use Rattle.sponsor_laws.specs.sponsor_rules.declared.context.Ctx.{Ctx}
+use Rattle.sponsor_laws.specs.sponsor_rules.Charge.{charge_of, multiplicity, multiplicity_in, owner_of, owner_in}
+use Rattle.sponsor_laws.specs.sponsor_rules.Moving.{map_with_recorded, map_with_sponsor, map_with_other_payer}
+use Rattle.sponsor_laws.specs.sponsor_rules.Moving.{map_after_moving_between}
+use Rattle.sponsor_laws.specs.sponsor_rules.Moving.{map_after_moving_owned, map_after_moving_balance, map_after_moving_by}
+use Rattle.sponsor_laws.specs.sponsor_rules.Moving.{map_after_moving_entry, map_after_moving}
+use Rattle.sponsor_laws.specs.sponsor_rules.Paying.{map_after_exchange, with_other_payer}
+use Rattle.sponsor_laws.specs.sponsor_rules.Payers.{is_same_account, payer_other_than, move_tests_at, payer_tests_at}
+use Rattle.sponsor_laws.proofs.sponsor_rules_proofs.Ids.{apart_accounts}
 use Rattle.sponsor_laws.specs.Laws.{PayerStands}
 use Rattle.sponsor_laws.proofs.Bounds.{done_by, payer_passed}
 use Rattle.sponsor_laws.proofs.Moving.{other_is}

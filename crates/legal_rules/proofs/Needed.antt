@@ -8,20 +8,20 @@ use Rattle.std.proofs.lemmas.List.Sums.{get_or-le-sum_by}
 use Rattle.std.specs.Prelude.{ℤ, pos, ◌+ℤ◌, ◌≤ℤ◌, if◌then◌else◌}
 use Rattle.std.specs.List.{count_by, flat_map}
 use Rattle.std.specs.FinMap.{get}
-use Rattle.ledger_types.specs.declared.ids.AccountId.{AccountId}
-use Rattle.ledger_types.specs.declared.asset.PoolParams.{PoolParams}
-use Rattle.ledger_types.specs.declared.asset.TrustLineAsset.{TrustLineAsset}
-use Rattle.ledger_types.specs.declared.asset.TrustLineAsset.TheVariants as line
-use Rattle.ledger_types.specs.declared.entry.LedgerEntry.{LedgerEntry}
-use Rattle.ledger_types.specs.declared.entry.LedgerEntryBody.{LedgerEntryBody}
-use Rattle.ledger_types.specs.declared.entry.LedgerEntryBody.TheVariants as body
-use Rattle.ledger_types.specs.declared.key.LedgerKey.{LedgerKey}
-use Rattle.ledger_types.specs.declared.key.LedgerKey.TheVariants as key
-use Rattle.ledger_types.specs.Keys.{key_of, key_of_body}
-use Rattle.entry_map.specs.EntryMap.{EntryMap}
-use Rattle.entry_map.proofs.KeyMaps.{same_itself}
-use Rattle.entry_slots.specs.EntrySponsor.{sponsor_of}
-use Rattle.sponsor_rules.specs.Charge.{line_multiplicity, multiplicity, owner_of}
+use Rattle.hash_ids.specs.ledger_types.declared.ids.AccountId.{AccountId}
+use Rattle.hash_ids.specs.ledger_types.declared.asset.PoolParams.{PoolParams}
+use Rattle.hash_ids.specs.ledger_types.declared.asset.TrustLineAsset.{TrustLineAsset}
+use Rattle.hash_ids.specs.ledger_types.declared.asset.TrustLineAsset.TheVariants as line
+use Rattle.hash_ids.specs.ledger_types.declared.entry.LedgerEntry.{LedgerEntry}
+use Rattle.hash_ids.specs.ledger_types.declared.entry.LedgerEntryBody.{LedgerEntryBody}
+use Rattle.hash_ids.specs.ledger_types.declared.entry.LedgerEntryBody.TheVariants as body
+use Rattle.hash_ids.specs.ledger_types.declared.key.LedgerKey.{LedgerKey}
+use Rattle.hash_ids.specs.ledger_types.declared.key.LedgerKey.TheVariants as key
+use Rattle.hash_ids.specs.ledger_types.Keys.{key_of, key_of_body}
+use Rattle.entry_sums.specs.entry_map.EntryMap.{EntryMap}
+use Rattle.entry_sums.proofs.entry_map_proofs.KeyMaps.{same_itself}
+use Rattle.sponsor_laws.specs.entry_slots.EntrySponsor.{sponsor_of}
+use Rattle.sponsor_laws.specs.sponsor_rules.Charge.{line_multiplicity, multiplicity, owner_of}
 use Rattle.entry_sums.specs.Sums.{total, EachEntry}
 use Rattle.entry_sums.proofs.Summing.{part_at_most}
 use Rattle.legal_rules.specs.EntryKeys.{is_key, for_key, for_account}

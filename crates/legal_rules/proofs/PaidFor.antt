@@ -4,18 +4,18 @@ use Rattle.std.proofs.lemmas.Int.{ints}
 use Rattle.std.specs.Prelude.{ℤ, pos, ◌+ℤ◌, ◌≤ℤ◌, if◌then◌else◌}
 use Rattle.std.specs.List.{count_by}
 use Rattle.std.specs.FinMap.{get}
-use Rattle.ledger_types.specs.declared.ids.AccountId.{AccountId}
-use Rattle.ledger_types.specs.declared.account.AccountEntry.{AccountEntry}
-use Rattle.ledger_types.specs.declared.entry.LedgerEntry.{LedgerEntry}
-use Rattle.ledger_types.specs.declared.key.LedgerKey.{LedgerKey}
-use Rattle.ledger_types.specs.declared.key.LedgerKey.TheVariants as key
-use Rattle.entry_map.specs.EntryMap.{EntryMap}
-use Rattle.entry_map.proofs.KeyMaps.{same_itself}
-use Rattle.entry_slots.specs.Accounts.{account_at}
-use Rattle.entry_slots.specs.AccountExtensions.{num_sponsored}
-use Rattle.entry_slots.specs.EntrySponsor.{sponsor_of}
-use Rattle.sponsor_rules.specs.Charge.{multiplicity, owner_of}
-use Rattle.sponsor_rules.specs.declared.count.Count.TheVariants as count
+use Rattle.hash_ids.specs.ledger_types.declared.ids.AccountId.{AccountId}
+use Rattle.hash_ids.specs.ledger_types.declared.account.AccountEntry.{AccountEntry}
+use Rattle.hash_ids.specs.ledger_types.declared.entry.LedgerEntry.{LedgerEntry}
+use Rattle.hash_ids.specs.ledger_types.declared.key.LedgerKey.{LedgerKey}
+use Rattle.hash_ids.specs.ledger_types.declared.key.LedgerKey.TheVariants as key
+use Rattle.entry_sums.specs.entry_map.EntryMap.{EntryMap}
+use Rattle.entry_sums.proofs.entry_map_proofs.KeyMaps.{same_itself}
+use Rattle.sponsor_laws.specs.entry_slots.Accounts.{account_at}
+use Rattle.sponsor_laws.specs.entry_slots.AccountExtensions.{num_sponsored}
+use Rattle.sponsor_laws.specs.entry_slots.EntrySponsor.{sponsor_of}
+use Rattle.sponsor_laws.specs.sponsor_rules.Charge.{multiplicity, owner_of}
+use Rattle.sponsor_laws.specs.sponsor_rules.declared.count.Count.TheVariants as count
 use Rattle.sponsor_laws.specs.Sums.{is_there}
 use Rattle.legal_rules.specs.EntryKeys.{is_key, for_account}
 use Rattle.legal_rules.specs.Reserves.{signer_sponsors_in, for_each}

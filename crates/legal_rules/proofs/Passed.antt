@@ -1,6 +1,6 @@
 -- Tests that let a change through.
 use Rattle.std.proofs.Common.{◌≡◌, refl, Bool, true, false, ◌||◌, ◌∷◌, Some, None, Ok}
-use Rattle.entry_slots.specs.Tests.{Tests, first_fault, unless_fault, unless_first}
+use Rattle.sponsor_laws.specs.entry_slots.Tests.{Tests, first_fault, unless_fault, unless_first}
 
 -- a change that was let through
 pub passed : {F M : Type 0} (tests : Tests F) (m new : M) → unless_first tests m ≡ Ok new

@@ -3,21 +3,21 @@ use Rattle.std.proofs.Common.{◌≡◌, ◌≢◌, refl, sym, ap, subst, ◌∙
 use Rattle.std.proofs.Common.{arith}
 use Rattle.std.specs.Prelude.{ℤ, pos, neg_ℤ, ◌+ℤ◌}
 use Rattle.std.specs.FinMap.{get}
-use Rattle.ledger_types.specs.declared.ids.AccountId.{AccountId}
-use Rattle.ledger_types.specs.declared.account.AccountEntry.{AccountEntry}
-use Rattle.ledger_types.specs.declared.entry.LedgerEntry.{LedgerEntry}
-use Rattle.ledger_types.specs.declared.key.LedgerKey.{LedgerKey}
-use Rattle.ledger_types.specs.declared.key.LedgerKey.TheVariants as key
-use Rattle.entry_map.specs.EntryMap.{EntryMap}
-use Rattle.entry_slots.specs.Accounts.{account_of, account_at, with_account}
-use Rattle.entry_slots.specs.AccountExtensions.{num_sponsoring, num_sponsored}
-use Rattle.sponsor_rules.specs.declared.count.Count.TheVariants as count
-use Rattle.sponsor_rules.specs.Counting.{with_more, with_less}
-use Rattle.sponsor_rules.specs.Payers.{is_same_account}
-use Rattle.sponsor_rules.specs.Paying.{map_after_charging, map_after_releasing, map_after_exchange, with_more_paid}
-use Rattle.sponsor_rules.specs.Paying.{with_less_paid, with_subentry, without_subentry, with_other_payer}
-use Rattle.sponsor_rules.proofs.Ids.{same_account, apart_accounts}
-use Rattle.sponsor_rules.proofs.Keeping.{with_count_keeps, at_most}
+use Rattle.hash_ids.specs.ledger_types.declared.ids.AccountId.{AccountId}
+use Rattle.hash_ids.specs.ledger_types.declared.account.AccountEntry.{AccountEntry}
+use Rattle.hash_ids.specs.ledger_types.declared.entry.LedgerEntry.{LedgerEntry}
+use Rattle.hash_ids.specs.ledger_types.declared.key.LedgerKey.{LedgerKey}
+use Rattle.hash_ids.specs.ledger_types.declared.key.LedgerKey.TheVariants as key
+use Rattle.entry_sums.specs.entry_map.EntryMap.{EntryMap}
+use Rattle.sponsor_laws.specs.entry_slots.Accounts.{account_of, account_at, with_account}
+use Rattle.sponsor_laws.specs.entry_slots.AccountExtensions.{num_sponsoring, num_sponsored}
+use Rattle.sponsor_laws.specs.sponsor_rules.declared.count.Count.TheVariants as count
+use Rattle.sponsor_laws.specs.sponsor_rules.Counting.{with_more, with_less}
+use Rattle.sponsor_laws.specs.sponsor_rules.Payers.{is_same_account}
+use Rattle.sponsor_laws.specs.sponsor_rules.Paying.{map_after_charging, map_after_releasing, map_after_exchange, with_more_paid}
+use Rattle.sponsor_laws.specs.sponsor_rules.Paying.{with_less_paid, with_subentry, without_subentry, with_other_payer}
+use Rattle.sponsor_laws.proofs.sponsor_rules_proofs.Ids.{same_account, apart_accounts}
+use Rattle.sponsor_laws.proofs.sponsor_rules_proofs.Keeping.{with_count_keeps, at_most}
 use Rattle.legal_rules.specs.Books.{Subentries, Sponsoring, Sponsored, View}
 use Rattle.entry_sums.specs.Sums.{total}
 use Rattle.legal_rules.specs.OfferIds.{offer_with}

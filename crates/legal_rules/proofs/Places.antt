@@ -3,14 +3,14 @@ use Rattle.std.proofs.Common.{◌≡◌, ◌≢◌, sym, ap, ◌∙◌, Some, No
 use Rattle.std.proofs.lemmas.Int.{ints}
 use Rattle.std.specs.Prelude.{ℤ, pos, ◌+ℤ◌}
 use Rattle.std.specs.FinMap.{get}
-use Rattle.ledger_types.specs.declared.ids.AccountId.{AccountId}
-use Rattle.ledger_types.specs.declared.account.AccountEntry.{AccountEntry}
-use Rattle.ledger_types.specs.declared.entry.LedgerEntry.{LedgerEntry}
-use Rattle.ledger_types.specs.declared.key.LedgerKey.{LedgerKey}
-use Rattle.ledger_types.specs.declared.key.LedgerKey.TheVariants as key
-use Rattle.ledger_types.specs.Keys.{key_of}
-use Rattle.entry_map.specs.EntryMap.{EntryMap, put}
-use Rattle.entry_slots.specs.Accounts.{account_of, account_at, with_account}
+use Rattle.hash_ids.specs.ledger_types.declared.ids.AccountId.{AccountId}
+use Rattle.hash_ids.specs.ledger_types.declared.account.AccountEntry.{AccountEntry}
+use Rattle.hash_ids.specs.ledger_types.declared.entry.LedgerEntry.{LedgerEntry}
+use Rattle.hash_ids.specs.ledger_types.declared.key.LedgerKey.{LedgerKey}
+use Rattle.hash_ids.specs.ledger_types.declared.key.LedgerKey.TheVariants as key
+use Rattle.hash_ids.specs.ledger_types.Keys.{key_of}
+use Rattle.entry_sums.specs.entry_map.EntryMap.{EntryMap, put}
+use Rattle.sponsor_laws.specs.entry_slots.Accounts.{account_of, account_at, with_account}
 use Rattle.entry_sums.specs.Sums.{EachEntry, total, part}
 use Rattle.entry_sums.proofs.Lookups.{put_there, put_elsewhere}
 use Rattle.entry_sums.proofs.Summing.{total_put}

@@ -4,15 +4,15 @@ use Rattle.std.proofs.lemmas.Int.{ints}
 use Rattle.std.specs.Prelude.{ℤ, pos, neg_ℤ, ◌+ℤ◌, ◌≤ℤ◌, if◌then◌else◌}
 use Rattle.std.specs.Ordering.{is_eq, int_cmp}
 use Rattle.std.specs.FinMap.{get}
-use Rattle.ledger_types.specs.declared.ids.Hash.{Hash}
-use Rattle.ledger_types.specs.declared.offer.OfferEntry.{OfferEntry}
-use Rattle.ledger_types.specs.declared.entry.LedgerEntry.{LedgerEntry}
-use Rattle.ledger_types.specs.declared.entry.LedgerEntryBody.{LedgerEntryBody}
-use Rattle.ledger_types.specs.declared.entry.LedgerEntryBody.TheVariants as body
-use Rattle.ledger_types.specs.declared.key.LedgerKey.{LedgerKey}
-use Rattle.ledger_types.specs.declared.key.LedgerKey.TheVariants as key
-use Rattle.ledger_types.specs.Keys.{key_of}
-use Rattle.entry_map.specs.EntryMap.{EntryMap, put, erase}
+use Rattle.hash_ids.specs.ledger_types.declared.ids.Hash.{Hash}
+use Rattle.hash_ids.specs.ledger_types.declared.offer.OfferEntry.{OfferEntry}
+use Rattle.hash_ids.specs.ledger_types.declared.entry.LedgerEntry.{LedgerEntry}
+use Rattle.hash_ids.specs.ledger_types.declared.entry.LedgerEntryBody.{LedgerEntryBody}
+use Rattle.hash_ids.specs.ledger_types.declared.entry.LedgerEntryBody.TheVariants as body
+use Rattle.hash_ids.specs.ledger_types.declared.key.LedgerKey.{LedgerKey}
+use Rattle.hash_ids.specs.ledger_types.declared.key.LedgerKey.TheVariants as key
+use Rattle.hash_ids.specs.ledger_types.Keys.{key_of}
+use Rattle.entry_sums.specs.entry_map.EntryMap.{EntryMap, put, erase}
 use Rattle.entry_sums.specs.Sums.{Weight, total, part}
 use Rattle.entry_sums.proofs.Lookups.{put_each, erase_each, put_elsewhere, erase_elsewhere}
 use Rattle.entry_sums.proofs.Summing.{total_put, total_erase}

@@ -4,19 +4,19 @@ use Rattle.std.proofs.Common.{Option, Some, None, arith}
 use Rattle.std.proofs.lemmas.Int.{ints}
 use Rattle.std.specs.Prelude.{ℤ, pos, neg_ℤ, ◌+ℤ◌, ◌-ℤ◌, ◌*ℤ◌, ◌≤ℤ◌}
 use Rattle.std.specs.Ordering.{is_lt, int_cmp}
-use Rattle.ledger_types.specs.declared.ids.AccountId.{AccountId}
-use Rattle.ledger_types.specs.declared.account.AccountEntry.{AccountEntry}
-use Rattle.entry_slots.specs.AccountExtensions.{account_liabilities, num_sponsoring, num_sponsored}
-use Rattle.reserve_rules.specs.Reserve.{available}
-use Rattle.sponsor_rules.specs.declared.count.Count.{Count}
-use Rattle.sponsor_rules.specs.declared.count.Count.TheVariants as count
-use Rattle.sponsor_rules.specs.Counting.{count_in, with_count, with_more, with_less}
-use Rattle.sponsor_rules.specs.Keeping.{KeepsMeans}
-use Rattle.sponsor_rules.specs.Paying.{with_subentry, without_subentry}
-use Rattle.sponsor_rules.specs.Paying.{with_other_payer}
-use Rattle.sponsor_rules.specs.Payers.{is_short}
-use Rattle.sponsor_rules.proofs.Keeping.{with_count_is, with_count_keeps, with_count_means, means_kept}
-use Rattle.sponsor_rules.proofs.Keeping.{means_kept_twice}
+use Rattle.hash_ids.specs.ledger_types.declared.ids.AccountId.{AccountId}
+use Rattle.hash_ids.specs.ledger_types.declared.account.AccountEntry.{AccountEntry}
+use Rattle.sponsor_laws.specs.entry_slots.AccountExtensions.{account_liabilities, num_sponsoring, num_sponsored}
+use Rattle.sponsor_laws.specs.reserve_rules.Reserve.{available}
+use Rattle.sponsor_laws.specs.sponsor_rules.declared.count.Count.{Count}
+use Rattle.sponsor_laws.specs.sponsor_rules.declared.count.Count.TheVariants as count
+use Rattle.sponsor_laws.specs.sponsor_rules.Counting.{count_in, with_count, with_more, with_less}
+use Rattle.sponsor_laws.specs.sponsor_rules.Keeping.{KeepsMeans}
+use Rattle.sponsor_laws.specs.sponsor_rules.Paying.{with_subentry, without_subentry}
+use Rattle.sponsor_laws.specs.sponsor_rules.Paying.{with_other_payer}
+use Rattle.sponsor_laws.specs.sponsor_rules.Payers.{is_short}
+use Rattle.sponsor_laws.proofs.sponsor_rules_proofs.Keeping.{with_count_is, with_count_keeps, with_count_means, means_kept}
+use Rattle.sponsor_laws.proofs.sponsor_rules_proofs.Keeping.{means_kept_twice}
 use Rattle.sponsor_laws.proofs.Accounts.{with_count-keeps}
 use Rattle.legal_rules.proofs.Multiples.{still_available, covers}
 use Rattle.legal_rules.proofs.Leaving.{IsNext}

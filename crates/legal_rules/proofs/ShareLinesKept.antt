@@ -5,30 +5,30 @@ use Rattle.std.proofs.lemmas.List.Elements.{All-nil, All-cons, All-head, All-tai
 use Rattle.std.proofs.lemmas.Int.{ints}
 use Rattle.std.specs.Prelude.{◌%◌, ℤ, pos, neg_ℤ, ◌+ℤ◌, ◌-ℤ◌, ◌≤ℤ◌, if◌then◌else◌}
 use Rattle.std.specs.FinMap.{get}
-use Rattle.ledger_types.specs.declared.ids.AccountId.{AccountId}
-use Rattle.ledger_types.specs.declared.ids.Hash.{Hash}
-use Rattle.ledger_types.specs.declared.asset.Asset.{Asset}
-use Rattle.ledger_types.specs.declared.asset.Asset.TheVariants as asset
-use Rattle.ledger_types.specs.declared.asset.PoolParams.{PoolParams}
-use Rattle.ledger_types.specs.declared.asset.TrustLineAsset.{TrustLineAsset}
-use Rattle.ledger_types.specs.declared.asset.TrustLineAsset.TheVariants as line
-use Rattle.ledger_types.specs.declared.trust_line.TrustLineEntry.{TrustLineEntry}
-use Rattle.ledger_types.specs.declared.liquidity_pool.LiquidityPoolEntry.{LiquidityPoolEntry}
-use Rattle.ledger_types.specs.declared.entry.LedgerEntry.{LedgerEntry}
-use Rattle.ledger_types.specs.declared.entry.LedgerEntryBody.{LedgerEntryBody}
-use Rattle.ledger_types.specs.declared.entry.LedgerEntryBody.TheVariants as body
-use Rattle.ledger_types.specs.declared.key.LedgerKey.{LedgerKey}
-use Rattle.ledger_types.specs.declared.key.LedgerKey.TheVariants as key
-use Rattle.ledger_types.specs.Keys.{key_of, key_of_body}
-use Rattle.entry_map.specs.EntryMap.{EntryMap, put}
-use Rattle.entry_slots.specs.Accounts.{HasAccount}
-use Rattle.entry_slots.specs.Lines.{line_in, line_of, line_at, with_line}
-use Rattle.entry_slots.specs.LineExtensions.{line_liabilities, use_count, with_use_count}
-use Rattle.entry_slots.specs.Pools.{pool_in, pool_of, pool_at}
-use Rattle.sponsor_rules.specs.declared.context.Ctx.{Ctx}
-use Rattle.sponsor_rules.specs.Adding.{map_after_adding}
-use Rattle.sponsor_rules.specs.Removing.{map_after_removing}
-use Rattle.sponsor_rules.specs.Payers.{is_same_account}
+use Rattle.hash_ids.specs.ledger_types.declared.ids.AccountId.{AccountId}
+use Rattle.hash_ids.specs.ledger_types.declared.ids.Hash.{Hash}
+use Rattle.hash_ids.specs.ledger_types.declared.asset.Asset.{Asset}
+use Rattle.hash_ids.specs.ledger_types.declared.asset.Asset.TheVariants as asset
+use Rattle.hash_ids.specs.ledger_types.declared.asset.PoolParams.{PoolParams}
+use Rattle.hash_ids.specs.ledger_types.declared.asset.TrustLineAsset.{TrustLineAsset}
+use Rattle.hash_ids.specs.ledger_types.declared.asset.TrustLineAsset.TheVariants as line
+use Rattle.hash_ids.specs.ledger_types.declared.trust_line.TrustLineEntry.{TrustLineEntry}
+use Rattle.hash_ids.specs.ledger_types.declared.liquidity_pool.LiquidityPoolEntry.{LiquidityPoolEntry}
+use Rattle.hash_ids.specs.ledger_types.declared.entry.LedgerEntry.{LedgerEntry}
+use Rattle.hash_ids.specs.ledger_types.declared.entry.LedgerEntryBody.{LedgerEntryBody}
+use Rattle.hash_ids.specs.ledger_types.declared.entry.LedgerEntryBody.TheVariants as body
+use Rattle.hash_ids.specs.ledger_types.declared.key.LedgerKey.{LedgerKey}
+use Rattle.hash_ids.specs.ledger_types.declared.key.LedgerKey.TheVariants as key
+use Rattle.hash_ids.specs.ledger_types.Keys.{key_of, key_of_body}
+use Rattle.entry_sums.specs.entry_map.EntryMap.{EntryMap, put}
+use Rattle.sponsor_laws.specs.entry_slots.Accounts.{HasAccount}
+use Rattle.sponsor_laws.specs.entry_slots.Lines.{line_in, line_of, line_at, with_line}
+use Rattle.sponsor_laws.specs.entry_slots.LineExtensions.{line_liabilities, use_count, with_use_count}
+use Rattle.sponsor_laws.specs.entry_slots.Pools.{pool_in, pool_of, pool_at}
+use Rattle.sponsor_laws.specs.sponsor_rules.declared.context.Ctx.{Ctx}
+use Rattle.sponsor_laws.specs.sponsor_rules.Adding.{map_after_adding}
+use Rattle.sponsor_laws.specs.sponsor_rules.Removing.{map_after_removing}
+use Rattle.sponsor_laws.specs.sponsor_rules.Payers.{is_same_account}
 use Rattle.entry_sums.specs.Sums.{total, EachEntry}
 use Rattle.entry_sums.proofs.Lookups.{put_get, apart_keys}
 use Rattle.entry_sums.proofs.Summing.{total_none, total_not_below}

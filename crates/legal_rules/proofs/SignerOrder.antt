@@ -13,12 +13,12 @@ use Rattle.std.specs.List.{insert, remove, AllPairs}
 use Rattle.std.specs.Ordering.{is_lt, ordering_reverse}
 use Rattle.std.specs.declared.cmp.Ordering.{Ordering}
 use Rattle.std.specs.declared.cmp.Ordering.TheVariants.{Less, Equal, Greater}
-use Rattle.ledger_types.specs.declared.ids.AccountId.{AccountId}
-use Rattle.ledger_types.specs.declared.signer.Signer.{Signer}
-use Rattle.ledger_types.specs.declared.signer.SignerKey.TheVariants as signer
-use Rattle.ledger_types.specs.KeyOrder.{signer_key_cmp}
-use Rattle.ledger_types.proofs.KeyOrdering.{signer_keys_total, signer_keys_exact}
-use Rattle.sponsor_rules.specs.SignerPlace.{place_for}
+use Rattle.hash_ids.specs.ledger_types.declared.ids.AccountId.{AccountId}
+use Rattle.hash_ids.specs.ledger_types.declared.signer.Signer.{Signer}
+use Rattle.hash_ids.specs.ledger_types.declared.signer.SignerKey.TheVariants as signer
+use Rattle.hash_ids.specs.ledger_types.KeyOrder.{signer_key_cmp}
+use Rattle.hash_ids.proofs.ledger_types_proofs.KeyOrdering.{signer_keys_total, signer_keys_exact}
+use Rattle.sponsor_laws.specs.sponsor_rules.SignerPlace.{place_for}
 use Rattle.legal_rules.specs.Ranges.{AreSignersInRange}
 use Rattle.legal_rules.specs.SignerLaws.{IsNewSigner}
 

@@ -7,30 +7,30 @@ use Rattle.std.proofs.lemmas.List.Sums.{get_or-le-sum_by}
 use Rattle.std.specs.Prelude.{ℤ, pos, neg_ℤ, ◌+ℤ◌, ◌-ℤ◌, ◌≤ℤ◌, if◌then◌else◌}
 use Rattle.std.specs.List.{count_by, insert, remove}
 use Rattle.std.specs.FinMap.{get}
-use Rattle.ledger_types.specs.declared.ids.AccountId.{AccountId}
-use Rattle.ledger_types.specs.declared.signer.Signer.{Signer}
-use Rattle.ledger_types.specs.declared.signer.SignerKey.{SignerKey}
-use Rattle.ledger_types.specs.declared.account.AccountEntry.{AccountEntry}
-use Rattle.ledger_types.specs.declared.entry.LedgerEntry.{LedgerEntry}
-use Rattle.ledger_types.specs.declared.key.LedgerKey.TheVariants as key
-use Rattle.entry_map.specs.EntryMap.{EntryMap}
-use Rattle.entry_map.proofs.KeyMaps.{same_itself}
-use Rattle.entry_slots.specs.Accounts.{account_at, with_account, HasAccount}
-use Rattle.entry_slots.specs.AccountExtensions.{num_sponsored, signer_sponsor}
-use Rattle.entry_slots.specs.EntrySponsor.{sponsor_of}
-use Rattle.entry_slots.specs.Tests.{unless_first}
-use Rattle.sponsor_rules.specs.declared.context.Ctx.{Ctx}
-use Rattle.sponsor_rules.specs.declared.count.Count.TheVariants as count
-use Rattle.sponsor_rules.specs.Counting.{with_more, with_less}
-use Rattle.sponsor_rules.specs.Paying.{map_after_charging, map_after_releasing, map_after_exchange, with_more_paid}
-use Rattle.sponsor_rules.specs.Paying.{with_less_paid, with_subentry, without_subentry, with_other_payer}
-use Rattle.sponsor_rules.specs.Payers.{open_sponsor, payer_other_than, is_full, is_over, subentry_tests_at}
-use Rattle.sponsor_rules.specs.Payers.{payer_tests_at, move_tests_at}
-use Rattle.sponsor_rules.specs.SignerPlace.{place_of, place_for, found_at, found_signer, with_signer, without_signer}
-use Rattle.sponsor_rules.specs.SignerPlace.{with_signer_sponsor}
-use Rattle.sponsor_rules.specs.Signers.{map_with_signer, with_counted_signer, without_counted_signer, with_moved_signer}
-use Rattle.sponsor_rules.specs.Signers.{map_without_signer, map_after_moving_signer_between, map_after_moving_found}
-use Rattle.sponsor_rules.proofs.Keeping.{with_count_is}
+use Rattle.hash_ids.specs.ledger_types.declared.ids.AccountId.{AccountId}
+use Rattle.hash_ids.specs.ledger_types.declared.signer.Signer.{Signer}
+use Rattle.hash_ids.specs.ledger_types.declared.signer.SignerKey.{SignerKey}
+use Rattle.hash_ids.specs.ledger_types.declared.account.AccountEntry.{AccountEntry}
+use Rattle.hash_ids.specs.ledger_types.declared.entry.LedgerEntry.{LedgerEntry}
+use Rattle.hash_ids.specs.ledger_types.declared.key.LedgerKey.TheVariants as key
+use Rattle.entry_sums.specs.entry_map.EntryMap.{EntryMap}
+use Rattle.entry_sums.proofs.entry_map_proofs.KeyMaps.{same_itself}
+use Rattle.sponsor_laws.specs.entry_slots.Accounts.{account_at, with_account, HasAccount}
+use Rattle.sponsor_laws.specs.entry_slots.AccountExtensions.{num_sponsored, signer_sponsor}
+use Rattle.sponsor_laws.specs.entry_slots.EntrySponsor.{sponsor_of}
+use Rattle.sponsor_laws.specs.entry_slots.Tests.{unless_first}
+use Rattle.sponsor_laws.specs.sponsor_rules.declared.context.Ctx.{Ctx}
+use Rattle.sponsor_laws.specs.sponsor_rules.declared.count.Count.TheVariants as count
+use Rattle.sponsor_laws.specs.sponsor_rules.Counting.{with_more, with_less}
+use Rattle.sponsor_laws.specs.sponsor_rules.Paying.{map_after_charging, map_after_releasing, map_after_exchange, with_more_paid}
+use Rattle.sponsor_laws.specs.sponsor_rules.Paying.{with_less_paid, with_subentry, without_subentry, with_other_payer}
+use Rattle.sponsor_laws.specs.sponsor_rules.Payers.{open_sponsor, payer_other_than, is_full, is_over, subentry_tests_at}
+use Rattle.sponsor_laws.specs.sponsor_rules.Payers.{payer_tests_at, move_tests_at}
+use Rattle.sponsor_laws.specs.sponsor_rules.SignerPlace.{place_of, place_for, found_at, found_signer, with_signer, without_signer}
+use Rattle.sponsor_laws.specs.sponsor_rules.SignerPlace.{with_signer_sponsor}
+use Rattle.sponsor_laws.specs.sponsor_rules.Signers.{map_with_signer, with_counted_signer, without_counted_signer, with_moved_signer}
+use Rattle.sponsor_laws.specs.sponsor_rules.Signers.{map_without_signer, map_after_moving_signer_between, map_after_moving_found}
+use Rattle.sponsor_laws.proofs.sponsor_rules_proofs.Keeping.{with_count_is}
 use Rattle.sponsor_laws.specs.Sums.{is_there, signer_sponsors}
 use Rattle.sponsor_laws.specs.Laws.{PayerStands}
 use Rattle.sponsor_laws.proofs.Accounts.{KeepsParts, keeps_all, keeps_twice, with_count-keeps}

@@ -3,14 +3,14 @@ use Rattle.std.proofs.Common.{◌≡◌, refl, sym, ap, ◌∙◌, ℕ, ◌+◌,
 use Rattle.std.proofs.lemmas.Int.{ints}
 use Rattle.std.specs.Prelude.{ℤ, pos, neg_ℤ, ◌+ℤ◌, ◌-ℤ◌, if◌then◌else◌}
 use Rattle.std.specs.List.{count_by}
-use Rattle.ledger_types.specs.declared.ids.AccountId.{AccountId}
-use Rattle.ledger_types.specs.declared.entry.LedgerEntry.{LedgerEntry}
-use Rattle.ledger_types.specs.declared.key.LedgerKey.{LedgerKey}
-use Rattle.ledger_types.specs.declared.key.LedgerKey.TheVariants as key
-use Rattle.ledger_types.specs.Keys.{key_of}
-use Rattle.entry_slots.specs.EntrySponsor.{sponsor_of, with_sponsor}
-use Rattle.entry_slots.proofs.RecordedSponsor.{recorded_sponsor}
-use Rattle.sponsor_rules.specs.Charge.{multiplicity, owner_of}
+use Rattle.hash_ids.specs.ledger_types.declared.ids.AccountId.{AccountId}
+use Rattle.hash_ids.specs.ledger_types.declared.entry.LedgerEntry.{LedgerEntry}
+use Rattle.hash_ids.specs.ledger_types.declared.key.LedgerKey.{LedgerKey}
+use Rattle.hash_ids.specs.ledger_types.declared.key.LedgerKey.TheVariants as key
+use Rattle.hash_ids.specs.ledger_types.Keys.{key_of}
+use Rattle.sponsor_laws.specs.entry_slots.EntrySponsor.{sponsor_of, with_sponsor}
+use Rattle.sponsor_laws.proofs.entry_slots_proofs.RecordedSponsor.{recorded_sponsor}
+use Rattle.sponsor_laws.specs.sponsor_rules.Charge.{multiplicity, owner_of}
 use Rattle.sponsor_laws.specs.Sums.{is_there}
 use Rattle.legal_rules.specs.EntryKeys.{is_key, for_account}
 use Rattle.legal_rules.specs.Reserves.{signer_sponsors_in, for_each}

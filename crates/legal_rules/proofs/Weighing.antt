@@ -2,11 +2,11 @@
 use Rattle.std.proofs.Common.{◌≡◌, ◌≢◌, refl, sym, ap, ◌∙◌, Option, Some, None}
 use Rattle.std.specs.Prelude.{ℤ, pos, ◌+ℤ◌, if◌then◌else◌}
 use Rattle.std.specs.FinMap.{get}
-use Rattle.ledger_types.specs.declared.entry.LedgerEntry.{LedgerEntry}
-use Rattle.ledger_types.specs.declared.key.LedgerKey.{LedgerKey}
-use Rattle.ledger_types.specs.Keys.{key_of}
-use Rattle.entry_map.specs.EntryMap.{EntryMap}
-use Rattle.entry_map.proofs.KeyMaps.{same_itself}
+use Rattle.hash_ids.specs.ledger_types.declared.entry.LedgerEntry.{LedgerEntry}
+use Rattle.hash_ids.specs.ledger_types.declared.key.LedgerKey.{LedgerKey}
+use Rattle.hash_ids.specs.ledger_types.Keys.{key_of}
+use Rattle.entry_sums.specs.entry_map.EntryMap.{EntryMap}
+use Rattle.entry_sums.proofs.entry_map_proofs.KeyMaps.{same_itself}
 use Rattle.entry_sums.specs.Sums.{Weight, total, part, EachEntry}
 use Rattle.entry_sums.proofs.Lookups.{apart_keys}
 use Rattle.entry_sums.proofs.Summing.{total_plus, total_only}

@@ -1,27 +1,27 @@
 -- One state with an entry of every kind.
 use Rattle.std.proofs.Common.{◌≡◌, ◌≢◌, refl, ap, ℕ, ◌≤◌, Bool, true, false, [], ◌∷◌, All, Some}
-use Rattle.ledger_types.specs.declared.ids.AccountId.{AccountId}
-use Rattle.ledger_types.specs.declared.signer.Signer.{Signer}
-use Rattle.ledger_types.specs.declared.signer.SignerKey.TheVariants as signer
-use Rattle.ledger_types.specs.declared.claimable_balance.Claimant.{Claimant}
-use Rattle.ledger_types.specs.declared.predicate.ClaimPredicate.TheVariants.{Unconditional}
+use Rattle.hash_ids.specs.ledger_types.declared.ids.AccountId.{AccountId}
+use Rattle.hash_ids.specs.ledger_types.declared.signer.Signer.{Signer}
+use Rattle.hash_ids.specs.ledger_types.declared.signer.SignerKey.TheVariants as signer
+use Rattle.hash_ids.specs.ledger_types.declared.claimable_balance.Claimant.{Claimant}
+use Rattle.hash_ids.specs.ledger_types.declared.predicate.ClaimPredicate.TheVariants.{Unconditional}
 use Rattle.std.specs.List.{AllPairs}
-use Rattle.ledger_types.specs.declared.predicate.ClaimPredicate.TheViews.{out-ClaimPredicate}
+use Rattle.hash_ids.specs.ledger_types.declared.predicate.ClaimPredicate.TheViews.{out-ClaimPredicate}
 use Rattle.std.specs.Prelude.{replicate, get_or}
 use Rattle.std.proofs.Common.{zero, suc, Option, None, inl, arith}
 use Rattle.std.proofs.lemmas.Int.{ints}
 use Rattle.std.proofs.lemmas.List.Elements.{All-nil, All-cons}
 use Rattle.std.specs.Prelude.{ℤ, pos, ◌+ℤ◌, ◌-ℤ◌, ◌≤ℤ◌, if◌then◌else◌}
 use Rattle.std.specs.Ordering.{is_eq, int_cmp}
-use Rattle.ledger_types.specs.declared.asset.Asset.TheVariants as asset
-use Rattle.ledger_types.specs.declared.entry.LedgerEntry.{LedgerEntry}
-use Rattle.ledger_types.specs.declared.entry.LedgerEntryBody.TheVariants as body
-use Rattle.ledger_types.specs.declared.key.LedgerKey.TheVariants as key
-use Rattle.ledger_types.specs.Keys.{key_of}
+use Rattle.hash_ids.specs.ledger_types.declared.asset.Asset.TheVariants as asset
+use Rattle.hash_ids.specs.ledger_types.declared.entry.LedgerEntry.{LedgerEntry}
+use Rattle.hash_ids.specs.ledger_types.declared.entry.LedgerEntryBody.TheVariants as body
+use Rattle.hash_ids.specs.ledger_types.declared.key.LedgerKey.TheVariants as key
+use Rattle.hash_ids.specs.ledger_types.Keys.{key_of}
 use Rattle.valid_values.specs.Texts.{is_valid_text}
 use Rattle.valid_values.specs.Assets.{is_valid_code, is_valid_asset}
 use Rattle.valid_values.specs.Predicates.{is_valid_below, is_valid_stored_predicate}
-use Rattle.entry_map.proofs.KeyMaps.{same_itself}
+use Rattle.entry_sums.proofs.entry_map_proofs.KeyMaps.{same_itself}
 use Rattle.legal_rules.specs.Books.{Kind, Subentries, Sponsoring, Sponsored, Selling, Buying, Shares, ShareLines, Uses}
 use Rattle.offer_exchange.specs.Exchange.{liabilities, wheat_stays}
 use Rattle.legal_rules.specs.OfferIds.{offer_with}

@@ -1,18 +1,18 @@
 -- Liabilities that are acquired and released where an offer's owner holds its assets (CAP-0003;
 -- acquireOrReleaseLiabilities in stellar-core).
 use Rattle.std.specs.Prelude.{◌≡◌, ◌≢◌, ◌%◌, ℤ, pos, neg_ℤ, ◌+ℤ◌, Option, Some, None}
-use Rattle.ledger_types.specs.declared.price.Liabilities.{Liabilities}
-use Rattle.ledger_types.specs.declared.account.AccountEntry.{AccountEntry}
-use Rattle.ledger_types.specs.declared.trust_line.TrustLineEntry.{TrustLineEntry}
-use Rattle.ledger_types.specs.declared.offer.OfferEntry.{OfferEntry}
-use Rattle.ledger_types.specs.declared.key.LedgerKey.{LedgerKey}
-use Rattle.ledger_types.specs.declared.key.LedgerKey.TheVariants as key
-use Rattle.entry_map.specs.EntryMap.{EntryMap}
-use Rattle.entry_slots.specs.Accounts.{account_at, with_account}
-use Rattle.entry_slots.specs.AccountExtensions.{account_liabilities, with_account_liabilities}
-use Rattle.entry_slots.specs.Lines.{line_at, with_line}
-use Rattle.entry_slots.specs.LineExtensions.{line_liabilities, with_line_liabilities}
-use Rattle.reserve_rules.specs.Reserve.{IsInRange, IsLineInRange}
+use Rattle.hash_ids.specs.ledger_types.declared.price.Liabilities.{Liabilities}
+use Rattle.hash_ids.specs.ledger_types.declared.account.AccountEntry.{AccountEntry}
+use Rattle.hash_ids.specs.ledger_types.declared.trust_line.TrustLineEntry.{TrustLineEntry}
+use Rattle.hash_ids.specs.ledger_types.declared.offer.OfferEntry.{OfferEntry}
+use Rattle.hash_ids.specs.ledger_types.declared.key.LedgerKey.{LedgerKey}
+use Rattle.hash_ids.specs.ledger_types.declared.key.LedgerKey.TheVariants as key
+use Rattle.entry_sums.specs.entry_map.EntryMap.{EntryMap}
+use Rattle.sponsor_laws.specs.entry_slots.Accounts.{account_at, with_account}
+use Rattle.sponsor_laws.specs.entry_slots.AccountExtensions.{account_liabilities, with_account_liabilities}
+use Rattle.sponsor_laws.specs.entry_slots.Lines.{line_at, with_line}
+use Rattle.sponsor_laws.specs.entry_slots.LineExtensions.{line_liabilities, with_line_liabilities}
+use Rattle.sponsor_laws.specs.reserve_rules.Reserve.{IsInRange, IsLineInRange}
 use Rattle.legal_rules.specs.OfferLiabilities.{bound_of}
 use Rattle.legal_rules.specs.Trades.{holder}
 

@@ -1,15 +1,15 @@
 -- The books of a ledger: numbers that some entries state and that all entries together count. Each is named by what it
 -- is of and by the key of the entry that states it.
 use Rattle.std.specs.Prelude.{ℤ, pos, ◌+ℤ◌, Option, Some, None}
-use Rattle.ledger_types.specs.declared.asset.Asset.{Asset}
-use Rattle.ledger_types.specs.declared.entry.LedgerEntry.{LedgerEntry}
-use Rattle.ledger_types.specs.declared.entry.LedgerEntryBody.{LedgerEntryBody}
-use Rattle.ledger_types.specs.declared.entry.LedgerEntryBody.TheVariants as body
-use Rattle.ledger_types.specs.declared.key.LedgerKey.{LedgerKey}
-use Rattle.entry_slots.specs.AccountExtensions.{account_liabilities, num_sponsoring, num_sponsored}
-use Rattle.entry_slots.specs.LineExtensions.{line_liabilities, use_count}
-use Rattle.entry_slots.specs.EntrySponsor.{sponsor_of}
-use Rattle.sponsor_rules.specs.Charge.{multiplicity, owner_of}
+use Rattle.hash_ids.specs.ledger_types.declared.asset.Asset.{Asset}
+use Rattle.hash_ids.specs.ledger_types.declared.entry.LedgerEntry.{LedgerEntry}
+use Rattle.hash_ids.specs.ledger_types.declared.entry.LedgerEntryBody.{LedgerEntryBody}
+use Rattle.hash_ids.specs.ledger_types.declared.entry.LedgerEntryBody.TheVariants as body
+use Rattle.hash_ids.specs.ledger_types.declared.key.LedgerKey.{LedgerKey}
+use Rattle.sponsor_laws.specs.entry_slots.AccountExtensions.{account_liabilities, num_sponsoring, num_sponsored}
+use Rattle.sponsor_laws.specs.entry_slots.LineExtensions.{line_liabilities, use_count}
+use Rattle.sponsor_laws.specs.entry_slots.EntrySponsor.{sponsor_of}
+use Rattle.sponsor_laws.specs.sponsor_rules.Charge.{multiplicity, owner_of}
 use Rattle.entry_sums.specs.Sums.{Weight}
 use Rattle.legal_rules.specs.EntryKeys.{for_account}
 use Rattle.legal_rules.specs.Reserves.{subentries_in, signer_sponsors_in, sponsored_in_entry, for_each}

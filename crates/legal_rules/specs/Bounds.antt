@@ -1,8 +1,8 @@
 -- The bounds of what is counted.
 use Rattle.std.specs.Prelude.{◌≡◌, ◌+◌, ◌≤◌, pos, ◌<ℤ◌, ◌⊎◌}
-use Rattle.ledger_types.specs.declared.entry.LedgerEntryBody.{LedgerEntryBody}
-use Rattle.ledger_types.specs.declared.entry.LedgerEntryBody.TheVariants as body
-use Rattle.entry_slots.specs.AccountExtensions.{num_sponsoring}
+use Rattle.hash_ids.specs.ledger_types.declared.entry.LedgerEntryBody.{LedgerEntryBody}
+use Rattle.hash_ids.specs.ledger_types.declared.entry.LedgerEntryBody.TheVariants as body
+use Rattle.sponsor_laws.specs.entry_slots.AccountExtensions.{num_sponsoring}
 
 -- an account has at most 1000 subentries
 abbrev pub AreSubentriesFew : LedgerEntryBody → Type 0

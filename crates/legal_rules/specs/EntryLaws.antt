@@ -1,31 +1,31 @@
 -- That entries which are added, removed and moved keep a state legal, but for what they count beside their reserves.
 use Rattle.std.specs.Prelude.{◌≡◌, ℕ, ℤ, pos, neg_ℤ, ◌+ℤ◌, ◌≤◌, ◌≤ℤ◌, List, [], Option, Some, None, Ok}
 use Rattle.std.specs.FinMap.{get}
-use Rattle.ledger_types.specs.declared.ids.AccountId.{AccountId}
-use Rattle.ledger_types.specs.declared.account.AccountEntry.{AccountEntry}
-use Rattle.ledger_types.specs.declared.data_entry.DataEntry.{DataEntry}
-use Rattle.ledger_types.specs.declared.header.LedgerHeader.{LedgerHeader}
-use Rattle.ledger_types.specs.declared.entry.LedgerEntry.{LedgerEntry}
-use Rattle.ledger_types.specs.declared.entry.LedgerEntryBody.TheVariants as body
-use Rattle.ledger_types.specs.declared.key.LedgerKey.{LedgerKey}
-use Rattle.ledger_types.specs.declared.key.LedgerKey.TheVariants as key
-use Rattle.ledger_types.specs.Keys.{key_of}
-use Rattle.entry_map.specs.EntryMap.{EntryMap}
-use Rattle.entry_slots.specs.Accounts.{account_at, HasAccount}
-use Rattle.entry_slots.specs.AccountExtensions.{num_sponsoring}
-use Rattle.entry_slots.specs.EntrySponsor.{sponsor_of}
-use Rattle.reserve_rules.specs.Reserve.{room}
-use Rattle.sponsor_rules.specs.declared.charge.Charge.TheVariants as charge
-use Rattle.sponsor_rules.specs.declared.context.Ctx.{Ctx}
-use Rattle.sponsor_rules.specs.Adding.{map_after_adding}
-use Rattle.sponsor_rules.specs.Charge.{charge_of}
-use Rattle.sponsor_rules.specs.Moving.{map_after_moving}
-use Rattle.sponsor_rules.specs.Payers.{payer_of}
-use Rattle.sponsor_rules.specs.Removing.{map_after_removing}
+use Rattle.hash_ids.specs.ledger_types.declared.ids.AccountId.{AccountId}
+use Rattle.hash_ids.specs.ledger_types.declared.account.AccountEntry.{AccountEntry}
+use Rattle.hash_ids.specs.ledger_types.declared.data_entry.DataEntry.{DataEntry}
+use Rattle.hash_ids.specs.ledger_types.declared.header.LedgerHeader.{LedgerHeader}
+use Rattle.hash_ids.specs.ledger_types.declared.entry.LedgerEntry.{LedgerEntry}
+use Rattle.hash_ids.specs.ledger_types.declared.entry.LedgerEntryBody.TheVariants as body
+use Rattle.hash_ids.specs.ledger_types.declared.key.LedgerKey.{LedgerKey}
+use Rattle.hash_ids.specs.ledger_types.declared.key.LedgerKey.TheVariants as key
+use Rattle.hash_ids.specs.ledger_types.Keys.{key_of}
+use Rattle.entry_sums.specs.entry_map.EntryMap.{EntryMap}
+use Rattle.sponsor_laws.specs.entry_slots.Accounts.{account_at, HasAccount}
+use Rattle.sponsor_laws.specs.entry_slots.AccountExtensions.{num_sponsoring}
+use Rattle.sponsor_laws.specs.entry_slots.EntrySponsor.{sponsor_of}
+use Rattle.sponsor_laws.specs.reserve_rules.Reserve.{room}
+use Rattle.sponsor_laws.specs.sponsor_rules.declared.charge.Charge.TheVariants as charge
+use Rattle.sponsor_laws.specs.sponsor_rules.declared.context.Ctx.{Ctx}
+use Rattle.sponsor_laws.specs.sponsor_rules.Adding.{map_after_adding}
+use Rattle.sponsor_laws.specs.sponsor_rules.Charge.{charge_of}
+use Rattle.sponsor_laws.specs.sponsor_rules.Moving.{map_after_moving}
+use Rattle.sponsor_laws.specs.sponsor_rules.Payers.{payer_of}
+use Rattle.sponsor_laws.specs.sponsor_rules.Removing.{map_after_removing}
 use Rattle.sponsor_laws.specs.Laws.{PayerStands}
 use Rattle.entry_sums.specs.Sums.{total}
 use Rattle.legal_rules.specs.Books.{Subentries, Sponsoring, Sponsored, View}
-use Rattle.ledger_types.specs.declared.claimable_balance.ClaimableBalanceEntry.{ClaimableBalanceEntry}
+use Rattle.hash_ids.specs.ledger_types.declared.claimable_balance.ClaimableBalanceEntry.{ClaimableBalanceEntry}
 use Rattle.legal_rules.specs.Supply.{of_asset, held}
 use Rattle.legal_rules.specs.OfferIds.{offer_with}
 use Rattle.legal_rules.specs.Ranges.{IsBodyInRange, IsDataInRange}

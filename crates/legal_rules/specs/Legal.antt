@@ -1,18 +1,18 @@
 -- When the state of a ledger, a header and the map of its entries, is legal.
 use Rattle.std.specs.Prelude.{◌≡◌, ◌≢◌, ◌%◌, ◌+ℤ◌, ◌++◌, All, Option, Some, None}
 use Rattle.std.specs.FinMap.{get}
-use Rattle.ledger_types.specs.declared.asset.Asset.TheVariants as asset
-use Rattle.ledger_types.specs.declared.asset.PoolParams.{PoolParams}
-use Rattle.ledger_types.specs.declared.trust_line.TrustLineEntry.{TrustLineEntry}
-use Rattle.ledger_types.specs.declared.header.LedgerHeader.{LedgerHeader}
-use Rattle.ledger_types.specs.declared.entry.LedgerEntry.{LedgerEntry}
-use Rattle.ledger_types.specs.declared.entry.LedgerEntryBody.{LedgerEntryBody}
-use Rattle.ledger_types.specs.declared.entry.LedgerEntryBody.TheVariants as body
-use Rattle.ledger_types.specs.declared.key.LedgerKey.{LedgerKey}
-use Rattle.ledger_types.specs.declared.key.LedgerKey.TheVariants as key
-use Rattle.ledger_types.specs.Keys.{key_of}
-use Rattle.entry_map.specs.EntryMap.{EntryMap}
-use Rattle.entry_slots.specs.Lines.{line_of}
+use Rattle.hash_ids.specs.ledger_types.declared.asset.Asset.TheVariants as asset
+use Rattle.hash_ids.specs.ledger_types.declared.asset.PoolParams.{PoolParams}
+use Rattle.hash_ids.specs.ledger_types.declared.trust_line.TrustLineEntry.{TrustLineEntry}
+use Rattle.hash_ids.specs.ledger_types.declared.header.LedgerHeader.{LedgerHeader}
+use Rattle.hash_ids.specs.ledger_types.declared.entry.LedgerEntry.{LedgerEntry}
+use Rattle.hash_ids.specs.ledger_types.declared.entry.LedgerEntryBody.{LedgerEntryBody}
+use Rattle.hash_ids.specs.ledger_types.declared.entry.LedgerEntryBody.TheVariants as body
+use Rattle.hash_ids.specs.ledger_types.declared.key.LedgerKey.{LedgerKey}
+use Rattle.hash_ids.specs.ledger_types.declared.key.LedgerKey.TheVariants as key
+use Rattle.hash_ids.specs.ledger_types.Keys.{key_of}
+use Rattle.entry_sums.specs.entry_map.EntryMap.{EntryMap}
+use Rattle.sponsor_laws.specs.entry_slots.Lines.{line_of}
 use Rattle.entry_sums.specs.Sums.{total, EachEntry}
 use Rattle.legal_rules.specs.Books.{Kind, Subentries, Sponsoring, Sponsored, Selling, Buying, Shares, ShareLines, Uses}
 use Rattle.legal_rules.specs.Books.{View, counted, stated_at}

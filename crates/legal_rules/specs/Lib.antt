@@ -27,3 +27,7 @@ pub mod WholeStates
 pub mod ShareLaws
 pub mod Holdings
 pub mod OneMore
+pub use Rattle.entry_sums.specs as entry_sums
+pub use Rattle.sponsor_laws.specs as sponsor_laws
+pub use Rattle.valid_values.specs as valid_values
+pub use Rattle.hash_ids.specs.xdr_core

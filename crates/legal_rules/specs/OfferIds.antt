@@ -1,9 +1,9 @@
 -- Offers have distinct ids.
 use Rattle.std.specs.Prelude.{ℤ, pos, ◌≤ℤ◌, if◌then◌else◌}
 use Rattle.std.specs.Ordering.{is_eq, int_cmp}
-use Rattle.ledger_types.specs.declared.entry.LedgerEntryBody.{LedgerEntryBody}
-use Rattle.ledger_types.specs.declared.entry.LedgerEntryBody.TheVariants as body
-use Rattle.entry_map.specs.EntryMap.{EntryMap}
+use Rattle.hash_ids.specs.ledger_types.declared.entry.LedgerEntryBody.{LedgerEntryBody}
+use Rattle.hash_ids.specs.ledger_types.declared.entry.LedgerEntryBody.TheVariants as body
+use Rattle.entry_sums.specs.entry_map.EntryMap.{EntryMap}
 use Rattle.entry_sums.specs.Sums.{Weight, total}
 
 -- 1 for an offer with this id

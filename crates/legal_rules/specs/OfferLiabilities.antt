@@ -1,6 +1,6 @@
 -- What an offer binds of what its owner has: the wheat that it would give, and of what its owner has room for the
 -- sheep that it would take in (CAP-0003; OfferExchange in stellar-core).
-use Rattle.ledger_types.specs.declared.offer.OfferEntry.{OfferEntry}
+use Rattle.hash_ids.specs.ledger_types.declared.offer.OfferEntry.{OfferEntry}
 use Rattle.offer_exchange.specs.Exchange.{Amounts}
 use Rattle.offer_exchange.specs.Calls.{bound_by}
 

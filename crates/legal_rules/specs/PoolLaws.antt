@@ -1,14 +1,14 @@
 -- That pools which are made and removed keep a state legal (CAP-0038).
 use Rattle.std.specs.Prelude.{◌≡◌, ℕ, pos, Some, None}
 use Rattle.std.specs.FinMap.{get}
-use Rattle.ledger_types.specs.declared.ids.Hash.{Hash}
-use Rattle.ledger_types.specs.declared.liquidity_pool.LiquidityPoolEntry.{LiquidityPoolEntry}
-use Rattle.ledger_types.specs.declared.header.LedgerHeader.{LedgerHeader}
-use Rattle.ledger_types.specs.declared.entry.LedgerEntry.{LedgerEntry}
-use Rattle.ledger_types.specs.declared.entry.LedgerEntryBody.TheVariants as body
-use Rattle.ledger_types.specs.declared.key.LedgerKey.TheVariants as key
-use Rattle.entry_map.specs.EntryMap.{EntryMap, put, erase}
-use Rattle.entry_slots.specs.Pools.{pool_at}
+use Rattle.hash_ids.specs.ledger_types.declared.ids.Hash.{Hash}
+use Rattle.hash_ids.specs.ledger_types.declared.liquidity_pool.LiquidityPoolEntry.{LiquidityPoolEntry}
+use Rattle.hash_ids.specs.ledger_types.declared.header.LedgerHeader.{LedgerHeader}
+use Rattle.hash_ids.specs.ledger_types.declared.entry.LedgerEntry.{LedgerEntry}
+use Rattle.hash_ids.specs.ledger_types.declared.entry.LedgerEntryBody.TheVariants as body
+use Rattle.hash_ids.specs.ledger_types.declared.key.LedgerKey.TheVariants as key
+use Rattle.entry_sums.specs.entry_map.EntryMap.{EntryMap, put, erase}
+use Rattle.sponsor_laws.specs.entry_slots.Pools.{pool_at}
 use Rattle.legal_rules.specs.Ranges.{IsPoolInRange}
 use Rattle.legal_rules.specs.Legal.{IsLegal}
 

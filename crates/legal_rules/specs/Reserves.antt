@@ -1,14 +1,14 @@
 -- What an entry counts for the reserves of accounts (CAP-0033).
 use Rattle.std.specs.Prelude.{ℕ, ◌+◌, ℤ, pos, Bool, false, List, [], length, Option, Some, None, if◌then◌else◌}
 use Rattle.std.specs.List.{count_by}
-use Rattle.ledger_types.specs.declared.ids.AccountId.{AccountId}
-use Rattle.ledger_types.specs.declared.entry.LedgerEntry.{LedgerEntry}
-use Rattle.ledger_types.specs.declared.entry.LedgerEntryBody.{LedgerEntryBody}
-use Rattle.ledger_types.specs.declared.entry.LedgerEntryBody.TheVariants as body
-use Rattle.ledger_types.specs.declared.key.LedgerKey.{LedgerKey}
-use Rattle.ledger_types.specs.declared.key.LedgerKey.TheVariants as key
-use Rattle.entry_slots.specs.EntrySponsor.{sponsor_of}
-use Rattle.sponsor_rules.specs.Charge.{multiplicity}
+use Rattle.hash_ids.specs.ledger_types.declared.ids.AccountId.{AccountId}
+use Rattle.hash_ids.specs.ledger_types.declared.entry.LedgerEntry.{LedgerEntry}
+use Rattle.hash_ids.specs.ledger_types.declared.entry.LedgerEntryBody.{LedgerEntryBody}
+use Rattle.hash_ids.specs.ledger_types.declared.entry.LedgerEntryBody.TheVariants as body
+use Rattle.hash_ids.specs.ledger_types.declared.key.LedgerKey.{LedgerKey}
+use Rattle.hash_ids.specs.ledger_types.declared.key.LedgerKey.TheVariants as key
+use Rattle.sponsor_laws.specs.entry_slots.EntrySponsor.{sponsor_of}
+use Rattle.sponsor_laws.specs.sponsor_rules.Charge.{multiplicity}
 use Rattle.sponsor_laws.specs.Sums.{is_there, signer_sponsors}
 use Rattle.legal_rules.specs.EntryKeys.{is_key}
 

@@ -2,27 +2,27 @@
 -- that they need, and that a state is legal again once these are counted (CAP-0038).
 use Rattle.std.specs.Prelude.{◌≡◌, ◌≢◌, ℕ, ◌≤◌, ℤ, pos, neg_ℤ, ◌+ℤ◌, All, Option, Some, None, Ok}
 use Rattle.std.specs.FinMap.{get}
-use Rattle.ledger_types.specs.declared.ids.AccountId.{AccountId}
-use Rattle.ledger_types.specs.declared.ids.Hash.{Hash}
-use Rattle.ledger_types.specs.declared.asset.Asset.{Asset}
-use Rattle.ledger_types.specs.declared.asset.PoolParams.{PoolParams}
-use Rattle.ledger_types.specs.declared.asset.TrustLineAsset.TheVariants as line
-use Rattle.ledger_types.specs.declared.trust_line.TrustLineEntry.{TrustLineEntry}
-use Rattle.ledger_types.specs.declared.liquidity_pool.LiquidityPoolEntry.{LiquidityPoolEntry}
-use Rattle.ledger_types.specs.declared.header.LedgerHeader.{LedgerHeader}
-use Rattle.ledger_types.specs.declared.entry.LedgerEntry.{LedgerEntry}
-use Rattle.ledger_types.specs.declared.entry.LedgerEntryExtensionV1.{LedgerEntryExtensionV1}
-use Rattle.ledger_types.specs.declared.entry.LedgerEntryBody.TheVariants as body
-use Rattle.ledger_types.specs.declared.key.LedgerKey.{LedgerKey}
-use Rattle.ledger_types.specs.declared.key.LedgerKey.TheVariants as key
-use Rattle.entry_map.specs.EntryMap.{EntryMap}
-use Rattle.entry_slots.specs.Accounts.{HasAccount}
-use Rattle.entry_slots.specs.Lines.{line_at, with_line}
-use Rattle.entry_slots.specs.LineExtensions.{use_count, with_use_count}
-use Rattle.entry_slots.specs.Pools.{pool_at, with_pool}
-use Rattle.sponsor_rules.specs.declared.context.Ctx.{Ctx}
-use Rattle.sponsor_rules.specs.Adding.{map_after_adding}
-use Rattle.sponsor_rules.specs.Removing.{map_after_removing}
+use Rattle.hash_ids.specs.ledger_types.declared.ids.AccountId.{AccountId}
+use Rattle.hash_ids.specs.ledger_types.declared.ids.Hash.{Hash}
+use Rattle.hash_ids.specs.ledger_types.declared.asset.Asset.{Asset}
+use Rattle.hash_ids.specs.ledger_types.declared.asset.PoolParams.{PoolParams}
+use Rattle.hash_ids.specs.ledger_types.declared.asset.TrustLineAsset.TheVariants as line
+use Rattle.hash_ids.specs.ledger_types.declared.trust_line.TrustLineEntry.{TrustLineEntry}
+use Rattle.hash_ids.specs.ledger_types.declared.liquidity_pool.LiquidityPoolEntry.{LiquidityPoolEntry}
+use Rattle.hash_ids.specs.ledger_types.declared.header.LedgerHeader.{LedgerHeader}
+use Rattle.hash_ids.specs.ledger_types.declared.entry.LedgerEntry.{LedgerEntry}
+use Rattle.hash_ids.specs.ledger_types.declared.entry.LedgerEntryExtensionV1.{LedgerEntryExtensionV1}
+use Rattle.hash_ids.specs.ledger_types.declared.entry.LedgerEntryBody.TheVariants as body
+use Rattle.hash_ids.specs.ledger_types.declared.key.LedgerKey.{LedgerKey}
+use Rattle.hash_ids.specs.ledger_types.declared.key.LedgerKey.TheVariants as key
+use Rattle.entry_sums.specs.entry_map.EntryMap.{EntryMap}
+use Rattle.sponsor_laws.specs.entry_slots.Accounts.{HasAccount}
+use Rattle.sponsor_laws.specs.entry_slots.Lines.{line_at, with_line}
+use Rattle.sponsor_laws.specs.entry_slots.LineExtensions.{use_count, with_use_count}
+use Rattle.sponsor_laws.specs.entry_slots.Pools.{pool_at, with_pool}
+use Rattle.sponsor_laws.specs.sponsor_rules.declared.context.Ctx.{Ctx}
+use Rattle.sponsor_laws.specs.sponsor_rules.Adding.{map_after_adding}
+use Rattle.sponsor_laws.specs.sponsor_rules.Removing.{map_after_removing}
 use Rattle.legal_rules.specs.EntryKeys.{for_key}
 use Rattle.legal_rules.specs.PoolShares.{needed_line}
 use Rattle.legal_rules.specs.Books.{Shares, ShareLines, Uses, View}

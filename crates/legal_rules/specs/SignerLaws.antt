@@ -1,16 +1,16 @@
 -- That signers which are added, removed and moved keep a state legal.
 use Rattle.std.specs.Prelude.{◌≡◌, ◌≢◌, ℤ, ◌≤◌, All, List, Option, Ok, ◌<◌, length}
-use Rattle.ledger_types.specs.declared.ids.AccountId.{AccountId}
-use Rattle.ledger_types.specs.declared.header.LedgerHeader.{LedgerHeader}
-use Rattle.ledger_types.specs.declared.signer.Signer.{Signer}
-use Rattle.ledger_types.specs.declared.signer.SignerKey.{SignerKey}
-use Rattle.ledger_types.specs.declared.signer.SignerKey.TheVariants as signer
-use Rattle.ledger_types.specs.declared.account.AccountEntry.{AccountEntry}
+use Rattle.hash_ids.specs.ledger_types.declared.ids.AccountId.{AccountId}
+use Rattle.hash_ids.specs.ledger_types.declared.header.LedgerHeader.{LedgerHeader}
+use Rattle.hash_ids.specs.ledger_types.declared.signer.Signer.{Signer}
+use Rattle.hash_ids.specs.ledger_types.declared.signer.SignerKey.{SignerKey}
+use Rattle.hash_ids.specs.ledger_types.declared.signer.SignerKey.TheVariants as signer
+use Rattle.hash_ids.specs.ledger_types.declared.account.AccountEntry.{AccountEntry}
 use Rattle.std.specs.Prelude.{ℕ, Some}
-use Rattle.entry_map.specs.EntryMap.{EntryMap}
-use Rattle.entry_slots.specs.Accounts.{account_at}
-use Rattle.sponsor_rules.specs.declared.context.Ctx.{Ctx}
-use Rattle.sponsor_rules.specs.Signers.{map_after_adding_signer, map_after_removing_signer, map_after_moving_signer}
+use Rattle.entry_sums.specs.entry_map.EntryMap.{EntryMap}
+use Rattle.sponsor_laws.specs.entry_slots.Accounts.{account_at}
+use Rattle.sponsor_laws.specs.sponsor_rules.declared.context.Ctx.{Ctx}
+use Rattle.sponsor_laws.specs.sponsor_rules.Signers.{map_after_adding_signer, map_after_removing_signer, map_after_moving_signer}
 use Rattle.sponsor_laws.specs.Laws.{PayerStands}
 use Rattle.legal_rules.specs.Books.{View}
 use Rattle.legal_rules.specs.EntryLaws.{AreReservesSettled}

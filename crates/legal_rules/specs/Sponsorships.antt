@@ -1,11 +1,11 @@
 -- Open sponsorships, and whose entries they may pay for (CAP-0033).
 use Rattle.std.specs.Prelude.{◌≡◌, ◌≢◌, All, Some}
 use Rattle.std.specs.List.{AllPairs}
-use Rattle.ledger_types.specs.declared.ids.AccountId.{AccountId}
-use Rattle.entry_map.specs.EntryMap.{EntryMap}
-use Rattle.entry_slots.specs.Accounts.{HasAccount}
-use Rattle.sponsor_rules.specs.declared.context.Ctx.{Ctx}
-use Rattle.sponsor_rules.specs.Payers.{open_sponsor}
+use Rattle.hash_ids.specs.ledger_types.declared.ids.AccountId.{AccountId}
+use Rattle.entry_sums.specs.entry_map.EntryMap.{EntryMap}
+use Rattle.sponsor_laws.specs.entry_slots.Accounts.{HasAccount}
+use Rattle.sponsor_laws.specs.sponsor_rules.declared.context.Ctx.{Ctx}
+use Rattle.sponsor_laws.specs.sponsor_rules.Payers.{open_sponsor}
 
 -- what holds of the sponsorships that are open: no account is sponsored in two of them or by itself, and each sponsor
 -- stands

@@ -1,14 +1,14 @@
 -- Where offers bind what their sellers hold (CAP-0003).
 use Rattle.std.specs.Prelude.{ℤ, pos, Option, Some, None, if◌then◌else◌}
-use Rattle.ledger_types.specs.declared.ids.AccountId.{AccountId}
-use Rattle.ledger_types.specs.declared.asset.Asset.{Asset}
-use Rattle.ledger_types.specs.declared.asset.Asset.TheVariants as asset
-use Rattle.ledger_types.specs.declared.asset.TrustLineAsset.TheVariants as line
-use Rattle.ledger_types.specs.declared.entry.LedgerEntryBody.{LedgerEntryBody}
-use Rattle.ledger_types.specs.declared.entry.LedgerEntryBody.TheVariants as body
-use Rattle.ledger_types.specs.declared.key.LedgerKey.{LedgerKey}
-use Rattle.ledger_types.specs.declared.key.LedgerKey.TheVariants as key
-use Rattle.sponsor_rules.specs.Payers.{is_same_account}
+use Rattle.hash_ids.specs.ledger_types.declared.ids.AccountId.{AccountId}
+use Rattle.hash_ids.specs.ledger_types.declared.asset.Asset.{Asset}
+use Rattle.hash_ids.specs.ledger_types.declared.asset.Asset.TheVariants as asset
+use Rattle.hash_ids.specs.ledger_types.declared.asset.TrustLineAsset.TheVariants as line
+use Rattle.hash_ids.specs.ledger_types.declared.entry.LedgerEntryBody.{LedgerEntryBody}
+use Rattle.hash_ids.specs.ledger_types.declared.entry.LedgerEntryBody.TheVariants as body
+use Rattle.hash_ids.specs.ledger_types.declared.key.LedgerKey.{LedgerKey}
+use Rattle.hash_ids.specs.ledger_types.declared.key.LedgerKey.TheVariants as key
+use Rattle.sponsor_laws.specs.sponsor_rules.Payers.{is_same_account}
 use Rattle.legal_rules.specs.EntryKeys.{for_key}
 use Rattle.legal_rules.specs.OfferLiabilities.{bound_of}
 

@@ -1,28 +1,28 @@
 -- A small legal state with an entry of every kind, and changes of it of which each breaks one rule.
 use Rattle.std.specs.Prelude.{◌≡◌, ℕ, ◌*◌, ◌+◌, ◌^◌, ℤ, pos, List, [], ◌∷◌, Option, Some, None, replicate}
 use Rattle.std.specs.FinMap.{empty}
-use Rattle.ledger_types.specs.declared.ids.AccountId.{AccountId}
-use Rattle.ledger_types.specs.declared.ids.Hash.{Hash}
-use Rattle.ledger_types.specs.declared.asset.Asset.{Asset}
-use Rattle.ledger_types.specs.declared.asset.Asset.TheVariants as asset
-use Rattle.ledger_types.specs.declared.asset.TrustLineAsset.TheVariants as line
-use Rattle.ledger_types.specs.declared.signer.SignerKey.TheVariants as signer
-use Rattle.ledger_types.specs.declared.account.AccountEntry.{AccountEntry}
-use Rattle.ledger_types.specs.declared.account.AccountEntryExtensionV1.{AccountEntryExtensionV1}
-use Rattle.ledger_types.specs.declared.trust_line.TrustLineEntry.{TrustLineEntry}
-use Rattle.ledger_types.specs.declared.trust_line.TrustLineEntryExtensionV1.{TrustLineEntryExtensionV1}
-use Rattle.ledger_types.specs.declared.offer.OfferEntry.{OfferEntry}
-use Rattle.ledger_types.specs.declared.data_entry.DataEntry.{DataEntry}
-use Rattle.ledger_types.specs.declared.claimable_balance.ClaimableBalanceEntry.{ClaimableBalanceEntry}
-use Rattle.ledger_types.specs.declared.liquidity_pool.LiquidityPoolEntry.{LiquidityPoolEntry}
-use Rattle.ledger_types.specs.declared.header.LedgerHeader.{LedgerHeader}
-use Rattle.ledger_types.specs.declared.entry.LedgerEntry.{LedgerEntry}
-use Rattle.ledger_types.specs.declared.entry.LedgerEntryBody.{LedgerEntryBody}
-use Rattle.ledger_types.specs.declared.entry.LedgerEntryBody.TheVariants as body
-use Rattle.ledger_types.specs.declared.predicate.ClaimPredicate.TheVariants.{Unconditional}
+use Rattle.hash_ids.specs.ledger_types.declared.ids.AccountId.{AccountId}
+use Rattle.hash_ids.specs.ledger_types.declared.ids.Hash.{Hash}
+use Rattle.hash_ids.specs.ledger_types.declared.asset.Asset.{Asset}
+use Rattle.hash_ids.specs.ledger_types.declared.asset.Asset.TheVariants as asset
+use Rattle.hash_ids.specs.ledger_types.declared.asset.TrustLineAsset.TheVariants as line
+use Rattle.hash_ids.specs.ledger_types.declared.signer.SignerKey.TheVariants as signer
+use Rattle.hash_ids.specs.ledger_types.declared.account.AccountEntry.{AccountEntry}
+use Rattle.hash_ids.specs.ledger_types.declared.account.AccountEntryExtensionV1.{AccountEntryExtensionV1}
+use Rattle.hash_ids.specs.ledger_types.declared.trust_line.TrustLineEntry.{TrustLineEntry}
+use Rattle.hash_ids.specs.ledger_types.declared.trust_line.TrustLineEntryExtensionV1.{TrustLineEntryExtensionV1}
+use Rattle.hash_ids.specs.ledger_types.declared.offer.OfferEntry.{OfferEntry}
+use Rattle.hash_ids.specs.ledger_types.declared.data_entry.DataEntry.{DataEntry}
+use Rattle.hash_ids.specs.ledger_types.declared.claimable_balance.ClaimableBalanceEntry.{ClaimableBalanceEntry}
+use Rattle.hash_ids.specs.ledger_types.declared.liquidity_pool.LiquidityPoolEntry.{LiquidityPoolEntry}
+use Rattle.hash_ids.specs.ledger_types.declared.header.LedgerHeader.{LedgerHeader}
+use Rattle.hash_ids.specs.ledger_types.declared.entry.LedgerEntry.{LedgerEntry}
+use Rattle.hash_ids.specs.ledger_types.declared.entry.LedgerEntryBody.{LedgerEntryBody}
+use Rattle.hash_ids.specs.ledger_types.declared.entry.LedgerEntryBody.TheVariants as body
+use Rattle.hash_ids.specs.ledger_types.declared.predicate.ClaimPredicate.TheVariants.{Unconditional}
 use Rattle.hash_ids.specs.Ids.{pool_id_of}
-use Rattle.entry_map.specs.EntryMap.{EntryMap, put}
-use Rattle.reserve_rules.specs.Reserve.{greatest_i64}
+use Rattle.entry_sums.specs.entry_map.EntryMap.{EntryMap, put}
+use Rattle.sponsor_laws.specs.reserve_rules.Reserve.{greatest_i64}
 use Rattle.legal_rules.specs.OfferLiabilities.{bound_of}
 use Rattle.legal_rules.specs.Legal.{IsLegal}
 

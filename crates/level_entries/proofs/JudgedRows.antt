@@ -16,9 +16,9 @@ use Rattle.std.proofs.lemmas.List.{drop_more, length-drop}
 use Rattle.entry_table.specs.Rows.{value_at, putting, IsOverlaid}
 use Rattle.entry_table.proofs.Turns.{nothing_left, overlaid}
 use Rattle.entry_table.proofs.Passes.{pass_ended}
-use Rattle.shared_tree.specs.Rows.{all_changed}
-use Rattle.shared_tree.proofs.Parts.{turned}
-use Rattle.shared_tree.proofs.Changed.{below_less}
+use Rattle.entry_table.specs.shared_tree.Rows.{all_changed}
+use Rattle.entry_table.proofs.shared_tree_proofs.Parts.{turned}
+use Rattle.entry_table.proofs.shared_tree_proofs.Changed.{below_less}
 use Rattle.entry_table.proofs.Walks.{both, first, second, is_less, none_found, Sorted, Above}
 use Rattle.bucket_items.specs.Item.{item_type}
 use Rattle.bucket_items.specs.KeyText.{IsKeyText, OrdersKeys}

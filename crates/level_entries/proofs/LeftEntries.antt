@@ -18,8 +18,8 @@ use Rattle.ledger_types.specs.declared.bucket.BucketEntry.TheVariants as bucket
 use Rattle.ledger_types.specs.KeyOrder.{key_cmp}
 use Rattle.ledger_types.specs.Keys.{key_of}
 use Rattle.ledger_types.proofs.KeyOrdering.{keys_total}
-use Rattle.entry_map.specs.EntryMap.{EntryMap}
-use Rattle.entry_map.specs.KeyMaps.{AreRising}
+use Rattle.bucket_levels.specs.entry_map.EntryMap.{EntryMap}
+use Rattle.bucket_levels.specs.entry_map.KeyMaps.{AreRising}
 use Rattle.entry_table.specs.Rows.{value_at, with_key}
 use Rattle.entry_table.proofs.Walks.{first, second, less, none_found, Sorted, Above}
 use Rattle.bucket_core.specs.Bucket.{Change, Contents, IsUnderKey}

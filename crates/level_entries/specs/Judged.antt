@@ -1,6 +1,6 @@
 -- What is told of levels: the entries for which they stand, or that they are marked wrongly.
 use Rattle.std.specs.Prelude.{List, Option, Some, None}
-use Rattle.entry_map.specs.EntryMap.{EntryMap}
+use Rattle.bucket_levels.specs.entry_map.EntryMap.{EntryMap}
 use Rattle.bucket_levels.specs.Pairs.{Pair}
 use Rattle.bucket_levels.specs.Meaning.{StandFor, AreWellMarked}
 

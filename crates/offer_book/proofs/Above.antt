@@ -7,8 +7,8 @@ use Rattle.std.specs.Ordering.{is_lt, is_eq, eq_by_cmp}
 use Rattle.std.specs.Cmp.{tied_itself}
 use Rattle.std.specs.FinMap.{find, entries, entries_sorted, get-entries}
 use Rattle.std.specs.FinMap.Entries.{is_sorted, below_all}
-use Rattle.shared_tree.proofs.Parts.{both, first, second, is_less, greater, turned}
-use Rattle.shared_tree.proofs.Changed.{none_above, below_less, below_tied}
+use Rattle.entry_map.proofs.shared_tree_proofs.Parts.{both, first, second, is_less, greater, turned}
+use Rattle.entry_map.proofs.shared_tree_proofs.Changed.{none_above, below_less, below_tied}
 use Rattle.ledger_types.specs.declared.entry.LedgerEntry.{LedgerEntry}
 use Rattle.ledger_types.specs.declared.key.LedgerKey.{LedgerKey}
 use Rattle.ledger_types.specs.Keys.{key_of}

@@ -13,20 +13,20 @@ use Rattle.entry_map.specs.EntryMap.{EntryMap, put}
 use Rattle.entry_slots.specs.Accounts.{account_at, HasAccount}
 use Rattle.entry_slots.specs.Balances.{balance_at, balance_in, balance_of}
 use Rattle.entry_slots.specs.EntrySponsor.{with_sponsor}
-use Rattle.entry_sums.specs.Sums.{part}
-use Rattle.reserve_rules.specs.Reserve.{available}
+use Rattle.trade_cross.specs.entry_sums.Sums.{part}
+use Rattle.sponsor_rules.specs.reserve_rules.Reserve.{available}
 use Rattle.sponsor_rules.specs.declared.context.Ctx.{Ctx}
 use Rattle.sponsor_rules.specs.Adding.{map_after_adding_balance}
 use Rattle.sponsor_rules.specs.Payers.{payer_by, payer_tests_at}
 use Rattle.sponsor_rules.specs.Paying.{map_after_charging}
-use Rattle.legal_rules.specs.Ranges.{balance_flags}
-use Rattle.legal_rules.specs.Supply.{held}
+use Rattle.trade_cross.specs.legal_rules.Ranges.{balance_flags}
+use Rattle.trade_cross.specs.legal_rules.Supply.{held}
 use Rattle.op_form.specs.Flags.{flagged_ext}
-use Rattle.legal_rules.proofs.ChargesLeft.{charging_kept, payer_had, put_beside}
-use Rattle.legal_rules.specs.Holdings.{IsKeyed, under_key}
-use Rattle.legal_rules.proofs.Holdings.{none_before, still_holds, put_holds}
-use Rattle.legal_rules.proofs.Leaving.{Leaves, keeps_then, accounts_kept, keyed_put}
-use Rattle.legal_rules.proofs.Passed.{passed}
+use Rattle.trade_cross.proofs.legal_rules_proofs.ChargesLeft.{charging_kept, payer_had, put_beside}
+use Rattle.trade_cross.specs.legal_rules.Holdings.{IsKeyed, under_key}
+use Rattle.trade_cross.proofs.legal_rules_proofs.Holdings.{none_before, still_holds, put_holds}
+use Rattle.trade_cross.proofs.legal_rules_proofs.Leaving.{Leaves, keeps_then, accounts_kept, keyed_put}
+use Rattle.trade_cross.proofs.legal_rules_proofs.Passed.{passed}
 use Rattle.ledger_types.specs.declared.entry.LedgerEntryBody.{LedgerEntryBody}
 use Rattle.ledger_types.specs.declared.entry.LedgerEntryBody.TheVariants as body
 use Rattle.ledger_types.specs.declared.key.LedgerKey.TheVariants as key

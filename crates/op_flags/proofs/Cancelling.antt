@@ -14,12 +14,12 @@ use Rattle.entry_map.specs.EntryMap.{EntryMap}
 use Rattle.entry_map.specs.Undo.{Undo, with_current}
 use Rattle.entry_map.proofs.KeyMaps.{same_keys, same_itself}
 use Rattle.entry_slots.specs.Offers.{offer_of, offer_at}
-use Rattle.legal_rules.specs.Books.{View}
-use Rattle.legal_rules.specs.EntryKeys.{is_key}
-use Rattle.legal_rules.specs.Holdings.{none_more}
-use Rattle.legal_rules.specs.OneMore.{IsOwedRightly}
-use Rattle.legal_rules.specs.Owing.{Owed, IsLegalOwing}
-use Rattle.legal_rules.proofs.Leaving.{Leaves, leaves_itself, keeps_both}
+use Rattle.trade_cross.specs.legal_rules.Books.{View}
+use Rattle.trade_cross.specs.legal_rules.EntryKeys.{is_key}
+use Rattle.trade_cross.specs.legal_rules.Holdings.{none_more}
+use Rattle.trade_cross.specs.legal_rules.OneMore.{IsOwedRightly}
+use Rattle.trade_cross.specs.legal_rules.Owing.{Owed, IsLegalOwing}
+use Rattle.trade_cross.proofs.legal_rules_proofs.Leaving.{Leaves, leaves_itself, keeps_both}
 use Rattle.trade_cross.specs.Cancelling.{map_after_cancelling}
 use Rattle.trade_cross.specs.Crossable.{IsCrossable}
 use Rattle.trade_cross.specs.Crossing.{offer_key}

@@ -4,7 +4,7 @@ use Rattle.std.proofs.Common.{bit_xor, arith}
 use Rattle.std.proofs.lemmas.Nat.{or_lt, xor_lt, and_le_l}
 use Rattle.ledger_types.specs.declared.asset.Asset.{Asset}
 use Rattle.ledger_types.specs.declared.asset.Asset.TheVariants as asset
-use Rattle.legal_rules.specs.Ranges.{AreLineFlags}
+use Rattle.trade_cross.specs.legal_rules.Ranges.{AreLineFlags}
 use Rattle.op_form.specs.Assets.{is_native, line_asset_of}
 use Rattle.op_form.specs.Flags.{has_any}
 

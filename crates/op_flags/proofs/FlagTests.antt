@@ -13,9 +13,9 @@ use Rattle.op_types.specs.declared.trust_ops.SetTrustLineFlagsOp.{SetTrustLineFl
 use Rattle.op_types.specs.declared.trust_results.SetTrustLineFlagsResult.TheVariants as set
 use Rattle.entry_map.specs.EntryMap.{EntryMap}
 use Rattle.entry_slots.specs.Tests.{Tests, first_fault}
-use Rattle.legal_rules.specs.Legal.{view}
-use Rattle.legal_rules.specs.Owing.{AreEntriesLegal}
-use Rattle.legal_rules.proofs.Passed.{first_passed, neither}
+use Rattle.trade_cross.specs.legal_rules.Legal.{view}
+use Rattle.trade_cross.specs.legal_rules.Owing.{AreEntriesLegal}
+use Rattle.trade_cross.proofs.legal_rules_proofs.Passed.{first_passed, neither}
 use Rattle.op_form.specs.Assets.{is_native, line_of_asset}
 use Rattle.op_form.specs.Flags.{has_any, is_auth_revocable}
 use Rattle.op_flags.specs.AllowTrust as allowing

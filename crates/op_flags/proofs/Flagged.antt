@@ -12,17 +12,17 @@ use Rattle.ledger_types.specs.declared.key.LedgerKey.{LedgerKey}
 use Rattle.entry_map.specs.EntryMap.{EntryMap}
 use Rattle.entry_slots.specs.LineExtensions.{line_liabilities}
 use Rattle.entry_slots.specs.Lines.{line_at, with_line}
-use Rattle.legal_rules.specs.Books.{Kind, Shares, View}
-use Rattle.legal_rules.specs.ChangeLaws.{KeepsLineBooks, in_shares}
-use Rattle.legal_rules.specs.EntryKeys.{is_key, for_key}
-use Rattle.legal_rules.specs.Owing.{nothing_owed, plus, IsEntryLegal, IsBoundRightly, IsLegalOwing}
-use Rattle.legal_rules.specs.PoolShares.{pool_named}
-use Rattle.legal_rules.specs.Ranges.{AreLineFlags, IsTrustLineInRange}
-use Rattle.legal_rules.specs.Supply.{of_line}
-use Rattle.legal_rules.proofs.Changed.{line_changed}
-use Rattle.legal_rules.proofs.LinesLeft.{IsLegalLine, line_legal}
-use Rattle.legal_rules.proofs.Numbers.{kept_sum}
-use Rattle.legal_rules.proofs.Steps.{legal_as}
+use Rattle.trade_cross.specs.legal_rules.Books.{Kind, Shares, View}
+use Rattle.trade_cross.specs.legal_rules.ChangeLaws.{KeepsLineBooks, in_shares}
+use Rattle.trade_cross.specs.legal_rules.EntryKeys.{is_key, for_key}
+use Rattle.trade_cross.specs.legal_rules.Owing.{nothing_owed, plus, IsEntryLegal, IsBoundRightly, IsLegalOwing}
+use Rattle.trade_cross.specs.legal_rules.PoolShares.{pool_named}
+use Rattle.trade_cross.specs.legal_rules.Ranges.{AreLineFlags, IsTrustLineInRange}
+use Rattle.trade_cross.specs.legal_rules.Supply.{of_line}
+use Rattle.trade_cross.proofs.legal_rules_proofs.Changed.{line_changed}
+use Rattle.trade_cross.proofs.legal_rules_proofs.LinesLeft.{IsLegalLine, line_legal}
+use Rattle.trade_cross.proofs.legal_rules_proofs.Numbers.{kept_sum}
+use Rattle.trade_cross.proofs.legal_rules_proofs.Steps.{legal_as}
 use Rattle.pool_shares.proofs.Counted.{no_line_changed}
 use Rattle.op_form.specs.Assets.{is_native, line_asset_of}
 use Rattle.op_form.specs.Flags.{has_any}

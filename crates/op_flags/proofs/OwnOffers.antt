@@ -21,9 +21,9 @@ use Rattle.entry_map.specs.EntryMap.{EntryMap, IsKeyed}
 use Rattle.entry_map.proofs.Layers.{some_is}
 use Rattle.entry_slots.specs.Offers.{offer_at}
 use Rattle.offer_book.specs.Book.{offers_by, AreNumbered}
-use Rattle.legal_rules.specs.Books.{View}
-use Rattle.legal_rules.specs.Owing.{Owed, IsLegalOwing}
-use Rattle.legal_rules.specs.Ranges.{IsBodyInRange, IsOfferInRange}
+use Rattle.trade_cross.specs.legal_rules.Books.{View}
+use Rattle.trade_cross.specs.legal_rules.Owing.{Owed, IsLegalOwing}
+use Rattle.trade_cross.specs.legal_rules.Ranges.{IsBodyInRange, IsOfferInRange}
 use Rattle.trade_cross.specs.Crossable.{IsCrossable}
 use Rattle.trade_cross.proofs.Book.{each_offer}
 use Rattle.trade_cross.proofs.BooksSound.{offers_sound}

@@ -25,19 +25,19 @@ use Rattle.entry_map.proofs.KeyMaps.{same_keys}
 use Rattle.entry_map.proofs.Pairs.{tie}
 use Rattle.entry_slots.specs.LineExtensions.{line_liabilities}
 use Rattle.entry_slots.specs.Lines.{line_at}
-use Rattle.entry_sums.specs.Sums.{total}
-use Rattle.entry_sums.proofs.Summing.{total_none}
+use Rattle.trade_cross.specs.entry_sums.Sums.{total}
+use Rattle.trade_cross.proofs.entry_sums_proofs.Summing.{total_none}
 use Rattle.sponsor_rules.specs.Payers.{is_same_account}
 use Rattle.offer_book.specs.Book.{offers_by}
-use Rattle.legal_rules.specs.Books.{Selling, Buying, View, counted, stated, stated_at}
-use Rattle.legal_rules.specs.EntryKeys.{is_key, for_key}
-use Rattle.legal_rules.specs.Holdings.{none_more}
-use Rattle.legal_rules.specs.OfferLiabilities.{bound_of}
-use Rattle.legal_rules.specs.Owing.{nothing_owed, IsEntryLegal, IsLegalOwing}
-use Rattle.legal_rules.specs.Trades.{holder, sells, buys}
-use Rattle.legal_rules.proofs.Leaving.{Leaves}
-use Rattle.legal_rules.proofs.Liable.{line_entry}
-use Rattle.legal_rules.proofs.Weighing.{total_of}
+use Rattle.trade_cross.specs.legal_rules.Books.{Selling, Buying, View, counted, stated, stated_at}
+use Rattle.trade_cross.specs.legal_rules.EntryKeys.{is_key, for_key}
+use Rattle.trade_cross.specs.legal_rules.Holdings.{none_more}
+use Rattle.trade_cross.specs.legal_rules.OfferLiabilities.{bound_of}
+use Rattle.trade_cross.specs.legal_rules.Owing.{nothing_owed, IsEntryLegal, IsLegalOwing}
+use Rattle.trade_cross.specs.legal_rules.Trades.{holder, sells, buys}
+use Rattle.trade_cross.proofs.legal_rules_proofs.Leaving.{Leaves}
+use Rattle.trade_cross.proofs.legal_rules_proofs.Liable.{line_entry}
+use Rattle.trade_cross.proofs.legal_rules_proofs.Weighing.{total_of}
 use Rattle.trade_cross.specs.Crossing.{offer_key}
 use Rattle.trade_cross.proofs.Passing.{IsOwnKey, holder_own}
 use Rattle.op_form.specs.Assets.{line_asset_of}
@@ -45,7 +45,7 @@ use Rattle.op_flags.specs.Revoking.{trades_in, map_after_cancelling_all, map_wit
 use Rattle.op_flags.specs.Standing.{AreStanding}
 use Rattle.op_flags.proofs.Cancelling.{IsGone, all_legal, all_left, all_stood, all_gone}
 use Rattle.op_flags.proofs.OwnOffers.{filtered_standing, offers_standing, holds_of_own}
-use Rattle.legal_rules.proofs.MayOwe.{nothing_right}
+use Rattle.trade_cross.proofs.legal_rules_proofs.MayOwe.{nothing_right}
 
 -- ---- which line holds an asset
 

@@ -18,10 +18,10 @@ use Rattle.entry_slots.specs.declared.lines.LineSlot.{LineSlot}
 use Rattle.entry_slots.specs.EntrySponsor.{sponsor_in, sponsor_of}
 use Rattle.entry_slots.specs.Lines.{line_at, line_slot_by, line_slot_of, line_slot_at}
 use Rattle.entry_slots.specs.Pools.{pool_at}
-use Rattle.legal_rules.specs.Legal.{view}
-use Rattle.legal_rules.specs.Owing.{nothing_owed, AreEntriesLegal}
-use Rattle.legal_rules.specs.Ranges.{IsPoolInRange}
-use Rattle.legal_rules.proofs.LinesLeft.{IsLegalLine, line_legal}
+use Rattle.trade_cross.specs.legal_rules.Legal.{view}
+use Rattle.trade_cross.specs.legal_rules.Owing.{nothing_owed, AreEntriesLegal}
+use Rattle.trade_cross.specs.legal_rules.Ranges.{IsPoolInRange}
+use Rattle.trade_cross.proofs.legal_rules_proofs.LinesLeft.{IsLegalLine, line_legal}
 use Rattle.trade_cross.specs.Places.{DoesFit}
 use Rattle.pool_shares.specs.Fits.{DoesPoolFit, DoShareLinesFit}
 use Rattle.pool_shares.specs.Premises.{ArePoolsSound}

@@ -29,29 +29,29 @@ use Rattle.entry_slots.specs.Balances.{balance_at}
 use Rattle.entry_slots.specs.EntrySponsor.{sponsor_of}
 use Rattle.entry_slots.specs.Lines.{line_at}
 use Rattle.entry_slots.specs.Pools.{pool_at}
-use Rattle.entry_sums.specs.Sums.{total}
+use Rattle.trade_cross.specs.entry_sums.Sums.{total}
 use Rattle.sponsor_rules.specs.declared.context.Ctx.{Ctx}
 use Rattle.sponsor_rules.specs.declared.count.Count.TheVariants as count
 use Rattle.sponsor_rules.specs.Adding.{map_after_adding, map_after_adding_balance}
 use Rattle.sponsor_rules.specs.Payers.{open_sponsor, payer_by, payer_of}
-use Rattle.legal_rules.specs.Books.{Uses, View, stated_at}
-use Rattle.legal_rules.specs.Holdings.{IsKeyed, none_more, under_key}
-use Rattle.legal_rules.specs.Legal.{view}
-use Rattle.legal_rules.specs.Owing.{nothing_owed, IsLegalOwing, AreEntriesLegal}
-use Rattle.legal_rules.specs.PoolShares.{needed_line}
-use Rattle.legal_rules.specs.Ranges.{IsHeldIn, AreClaimantsInRange, IsBalanceInRange}
-use Rattle.legal_rules.specs.Supply.{of_asset, held}
-use Rattle.legal_rules.proofs.Kept.{balance_added_so, plus_none}
-use Rattle.legal_rules.proofs.Leaving.{Leaves}
-use Rattle.legal_rules.proofs.Legality.{entries_legal}
-use Rattle.legal_rules.proofs.Liable.{line_entry, with_line_body}
-use Rattle.legal_rules.proofs.LinesLeft.{line_legal, line_named}
-use Rattle.legal_rules.proofs.Needed.{for_own}
-use Rattle.legal_rules.proofs.PaidFor.{nothing_settled}
-use Rattle.legal_rules.proofs.Passed.{first_passed}
-use Rattle.legal_rules.proofs.Removing.{owns}
-use Rattle.legal_rules.proofs.Standing.{counted_stands}
-use Rattle.legal_rules.proofs.Subentries.{subentry_of}
+use Rattle.trade_cross.specs.legal_rules.Books.{Uses, View, stated_at}
+use Rattle.trade_cross.specs.legal_rules.Holdings.{IsKeyed, none_more, under_key}
+use Rattle.trade_cross.specs.legal_rules.Legal.{view}
+use Rattle.trade_cross.specs.legal_rules.Owing.{nothing_owed, IsLegalOwing, AreEntriesLegal}
+use Rattle.trade_cross.specs.legal_rules.PoolShares.{needed_line}
+use Rattle.trade_cross.specs.legal_rules.Ranges.{IsHeldIn, AreClaimantsInRange, IsBalanceInRange}
+use Rattle.trade_cross.specs.legal_rules.Supply.{of_asset, held}
+use Rattle.trade_cross.proofs.legal_rules_proofs.Kept.{balance_added_so, plus_none}
+use Rattle.trade_cross.proofs.legal_rules_proofs.Leaving.{Leaves}
+use Rattle.trade_cross.proofs.legal_rules_proofs.Legality.{entries_legal}
+use Rattle.trade_cross.proofs.legal_rules_proofs.Liable.{line_entry, with_line_body}
+use Rattle.trade_cross.proofs.legal_rules_proofs.LinesLeft.{line_legal, line_named}
+use Rattle.trade_cross.proofs.legal_rules_proofs.Needed.{for_own}
+use Rattle.trade_cross.proofs.legal_rules_proofs.PaidFor.{nothing_settled}
+use Rattle.trade_cross.proofs.legal_rules_proofs.Passed.{first_passed}
+use Rattle.trade_cross.proofs.legal_rules_proofs.Removing.{owns}
+use Rattle.trade_cross.proofs.legal_rules_proofs.Standing.{counted_stands}
+use Rattle.trade_cross.proofs.legal_rules_proofs.Subentries.{subentry_of}
 use Rattle.trade_cross.specs.Holdings.{line_paid}
 use Rattle.pool_shares.specs.Withdrawing.{part_of, with_change, map_after_withdrawing}
 use Rattle.pool_shares.proofs.Gone.{gone_legal}

@@ -15,7 +15,7 @@ use Rattle.sponsor_rules.specs.declared.fault.AddFault.TheVariants.{TooManySuben
 use Rattle.sponsor_rules.specs.Outcome.{IsRefused}
 use Rattle.op_form.specs.Faults.{fault_result}
 use Rattle.op_form.specs.Steps.{after, after_charge}
-use Rattle.legal_rules.specs.Owing.{AreEntriesLegal}
+use Rattle.trade_cross.specs.legal_rules.Owing.{AreEntriesLegal}
 use Rattle.op_flags.specs.Outcomes.{entries_left, IsUnpaid, IsRevoked, UnlessRefused}
 use Rattle.op_flags.specs.RevokedShares.{Revoked, and_then, share_revoked, all_revoked}
 

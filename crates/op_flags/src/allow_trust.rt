@@ -1,7 +1,7 @@
 //! ALLOW_TRUST.
 
 ghost use Rattle.std.specs.Prelude.{◌≡◌, ◌<◌, ◌≤◌, Some, IfOk};
-ghost use Rattle.legal_rules.specs.Owing.{AreEntriesLegal};
+ghost use Rattle.trade_cross.specs.legal_rules.Owing.{AreEntriesLegal};
 ghost use Rattle.op_form.specs.Assets.{line_of_asset};
 ghost use Rattle.op_form.specs.Done.{Makes};
 ghost use Rattle.op_form.specs.Sequences.{last_seq};

@@ -3,7 +3,7 @@
 ghost use Rattle.std.specs.Prelude.{◌≡◌, ◌<◌, true, false, Some, IfOk, OnOk};
 ghost use Rattle.entry_map.specs.Undo.{with_current};
 ghost use Rattle.entry_slots.specs.Lines as lines;
-ghost use Rattle.legal_rules.specs.Owing.{AreEntriesLegal};
+ghost use Rattle.trade_cross.specs.legal_rules.Owing.{AreEntriesLegal};
 ghost use Rattle.op_form.specs.Assets.{is_native, line_of_asset, line_asset_of as line_asset};
 ghost use Rattle.op_form.specs.Done.{Makes};
 ghost use Rattle.op_form.specs.Sequences.{last_seq};

@@ -1,7 +1,7 @@
 //! The operations of this crate, by their types.
 
 ghost use Rattle.std.specs.Prelude.{◌<◌, IfOk};
-ghost use Rattle.legal_rules.specs.Owing.{AreEntriesLegal};
+ghost use Rattle.trade_cross.specs.legal_rules.Owing.{AreEntriesLegal};
 ghost use Rattle.op_form.specs.Done.{Does};
 ghost use Rattle.op_form.specs.Sequences.{last_seq};
 ghost use Rattle.op_flags.specs.Operations as spec;

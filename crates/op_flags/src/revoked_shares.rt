@@ -6,7 +6,7 @@ ghost use Rattle.ledger_types.specs.declared.asset.TrustLineAsset.TheVariants.{P
 ghost use Rattle.entry_map.specs.Undo.{with_current};
 ghost use Rattle.entry_slots.specs.Lines.{line_slot_at};
 ghost use Rattle.entry_slots.specs.Pools.{pool_at, pool_slot_at};
-ghost use Rattle.legal_rules.specs.Owing.{AreEntriesLegal};
+ghost use Rattle.trade_cross.specs.legal_rules.Owing.{AreEntriesLegal};
 ghost use Rattle.op_form.specs.Sequences.{last_seq};
 ghost use Rattle.pool_shares.specs.Withdrawing as withdrawing;
 ghost use Rattle.op_flags.specs.Outcomes.{IsRevoked, IsPart, UnlessRefused, given_by, low_answer};

@@ -2,7 +2,7 @@
 
 ghost use Rattle.std.specs.Prelude.{◌≡◌, ◌<◌, false, Some, IfOk};
 ghost use Rattle.entry_slots.specs.Tests.{first_fault};
-ghost use Rattle.legal_rules.specs.Owing.{AreEntriesLegal};
+ghost use Rattle.trade_cross.specs.legal_rules.Owing.{AreEntriesLegal};
 ghost use Rattle.op_form.specs.Assets.{line_of_asset};
 ghost use Rattle.op_form.specs.Done.{Makes};
 ghost use Rattle.op_form.specs.Sequences.{last_seq};

@@ -1,10 +1,10 @@
 -- Every operation is lawful.
 use Rattle.std.proofs.Common.{◌≡◌, refl, Ok, Err}
-use Rattle.op_types.specs.declared.operation.OperationBody.TheVariants as body
-use Rattle.op_types.specs.declared.operation_result.OperationResult.{OperationResult}
-use Rattle.op_types.specs.declared.operation_result.OperationResult.TheVariants.{NotSupported}
-use Rattle.entry_map.specs.EntryMap.{EntryMap}
-use Rattle.sponsor_rules.specs.declared.context.Ctx.{Ctx}
+use Rattle.op_flags.specs.op_types.declared.operation.OperationBody.TheVariants as body
+use Rattle.op_flags.specs.op_types.declared.operation_result.OperationResult.{OperationResult}
+use Rattle.op_flags.specs.op_types.declared.operation_result.OperationResult.TheVariants.{NotSupported}
+use Rattle.op_flags.specs.entry_map.EntryMap.{EntryMap}
+use Rattle.op_flags.specs.sponsor_rules.declared.context.Ctx.{Ctx}
 use Rattle.op_account.specs.AccountMerge.{account_merge}
 use Rattle.op_account.specs.BumpSequence.{bump_sequence}
 use Rattle.op_account.specs.CreateAccount.{create_account}
@@ -33,7 +33,7 @@ use Rattle.op_sponsor.specs.EndSponsoringFutureReserves.{end_sponsoring}
 use Rattle.op_sponsor.specs.Operations.{sponsor_operation}
 use Rattle.op_sponsor.specs.RevokeSponsorship.{revoke_sponsorship}
 use Rattle.op_trust.specs.Operations.{change_trust, trust_operation}
-use Rattle.op_form.specs.Done.{Done, Attempt, done_of}
+use Rattle.op_flags.specs.op_form.Done.{Done, Attempt, done_of}
 use Rattle.op_laws.specs.AnyOperation.{any_operation}
 use Rattle.op_laws.specs.Laws.{IsLawful, AllLawful}
 use Rattle.op_laws.specs.Underway.{IsUnderway}
@@ -55,7 +55,7 @@ use Rattle.op_laws.proofs.Payment.{payment_is_lawful}
 use Rattle.op_laws.proofs.Revoking.{revoke_sponsorship_is_lawful}
 use Rattle.op_laws.proofs.SetOptions.{set_options_is_lawful}
 use Rattle.op_laws.proofs.Sponsorships.{begin_sponsoring_is_lawful, end_sponsoring_is_lawful}
-use Rattle.legal_rules.proofs.Leaving.{leaves_itself}
+use Rattle.op_flags.proofs.legal_rules_proofs.Leaving.{leaves_itself}
 use Rattle.op_laws.proofs.Withdrawals.{liquidity_pool_withdraw_is_lawful}
 
 -- An operation that fails leaves all as it was.

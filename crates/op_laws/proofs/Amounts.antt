@@ -1,17 +1,17 @@
 -- Amounts of any asset that accounts give and take, as what moves tell.
 use Rattle.std.proofs.Common.{◌≡◌, refl, ℕ, Ok}
 use Rattle.std.specs.Prelude.{ℤ, pos, neg_ℤ, ◌≤ℤ◌}
-use Rattle.ledger_types.specs.declared.ids.AccountId.{AccountId}
-use Rattle.ledger_types.specs.declared.asset.Asset.{Asset}
-use Rattle.ledger_types.specs.declared.asset.Asset.TheVariants as asset
-use Rattle.ledger_types.specs.declared.key.LedgerKey.{LedgerKey}
-use Rattle.entry_map.specs.EntryMap.{EntryMap}
-use Rattle.sponsor_rules.specs.declared.context.Ctx.{Ctx}
-use Rattle.legal_rules.specs.Holdings.{Increase}
-use Rattle.legal_rules.specs.Owing.{AreEntriesLegal}
-use Rattle.legal_rules.proofs.Leaving.{leaves_as}
-use Rattle.op_form.specs.Amounts.{map_after_debit, map_after_credit}
-use Rattle.op_form.specs.Done.{OfAccount}
+use Rattle.op_flags.specs.ledger_types.declared.ids.AccountId.{AccountId}
+use Rattle.op_flags.specs.ledger_types.declared.asset.Asset.{Asset}
+use Rattle.op_flags.specs.ledger_types.declared.asset.Asset.TheVariants as asset
+use Rattle.op_flags.specs.ledger_types.declared.key.LedgerKey.{LedgerKey}
+use Rattle.op_flags.specs.entry_map.EntryMap.{EntryMap}
+use Rattle.op_flags.specs.sponsor_rules.declared.context.Ctx.{Ctx}
+use Rattle.op_flags.specs.legal_rules.Holdings.{Increase}
+use Rattle.op_flags.specs.legal_rules.Owing.{AreEntriesLegal}
+use Rattle.op_flags.proofs.legal_rules_proofs.Leaving.{leaves_as}
+use Rattle.op_flags.specs.op_form.Amounts.{map_after_debit, map_after_credit}
+use Rattle.op_flags.specs.op_form.Done.{OfAccount}
 use Rattle.op_payment.proofs.Amounts as plain
 use Rattle.op_payment.proofs.Amounts.{IsMoved, more_of}
 use Rattle.op_payment.proofs.Shifts.{unless_issuer}

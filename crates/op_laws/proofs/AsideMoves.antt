@@ -4,15 +4,15 @@ use Rattle.std.proofs.Common.{◌≡◌, refl, ◌∙◌, Bool, true, false, [],
 use Rattle.std.proofs.lemmas.Int.{ints}
 use Rattle.std.specs.Prelude.{ℤ, pos, neg_ℤ, ◌+ℤ◌, if◌then◌else◌}
 use Rattle.std.specs.Ordering.{is_eq}
-use Rattle.ledger_types.specs.declared.ids.AccountId.{AccountId}
-use Rattle.ledger_types.specs.declared.ids.ClaimableBalanceId.{ClaimableBalanceId}
-use Rattle.ledger_types.specs.declared.ids.Hash.{Hash}
-use Rattle.ledger_types.specs.declared.asset.Asset.{Asset}
-use Rattle.ledger_types.specs.declared.asset.Asset.TheVariants as asset
-use Rattle.ledger_types.specs.KeyOrder.{asset_cmp}
-use Rattle.legal_rules.specs.Supply.{of_asset}
-use Rattle.op_form.specs.Assets.{is_issued_by}
-use Rattle.op_form.specs.Done.{Holder, OfAccount, OfBalance, OfPool, Move}
+use Rattle.op_flags.specs.ledger_types.declared.ids.AccountId.{AccountId}
+use Rattle.op_flags.specs.ledger_types.declared.ids.ClaimableBalanceId.{ClaimableBalanceId}
+use Rattle.op_flags.specs.ledger_types.declared.ids.Hash.{Hash}
+use Rattle.op_flags.specs.ledger_types.declared.asset.Asset.{Asset}
+use Rattle.op_flags.specs.ledger_types.declared.asset.Asset.TheVariants as asset
+use Rattle.op_flags.specs.ledger_types.KeyOrder.{asset_cmp}
+use Rattle.op_flags.specs.legal_rules.Supply.{of_asset}
+use Rattle.op_flags.specs.op_form.Assets.{is_issued_by}
+use Rattle.op_flags.specs.op_form.Done.{Holder, OfAccount, OfBalance, OfPool, Move}
 use Rattle.op_laws.specs.Moves.{issued, is_issuer}
 use Rattle.op_payment.proofs.Shifts.{unless_issuer}
 use Rattle.op_laws.proofs.IssuedMoves.{same_issuer, issued_so, issued_by_move}

@@ -3,27 +3,27 @@ use Rattle.std.proofs.Common.{◌≡◌, refl, ap, subst, ◌∙◌, ℕ, Bool, 
 use Rattle.std.proofs.Common.{inr}
 use Rattle.std.proofs.lemmas.Int.{ints}
 use Rattle.std.specs.Prelude.{ℤ, pos, int_lt, ◌+ℤ◌, ◌-ℤ◌, ◌≤ℤ◌, if◌then◌else◌}
-use Rattle.ledger_types.specs.declared.account.AccountEntry.{AccountEntry}
-use Rattle.entry_map.specs.EntryMap.{EntryMap}
-use Rattle.entry_slots.specs.Accounts.{with_account, HasAccount}
-use Rattle.reserve_rules.specs.Reserve.{greatest_i64}
-use Rattle.sponsor_rules.specs.declared.context.Ctx.{Ctx}
-use Rattle.legal_rules.specs.ChangeLaws.{KeepsBooks}
-use Rattle.legal_rules.specs.Owing.{nothing_owed}
-use Rattle.legal_rules.specs.Ranges.{IsAccountInRange}
-use Rattle.legal_rules.specs.Supply.{lumens_of}
-use Rattle.legal_rules.proofs.Bounded.{account_legal}
-use Rattle.legal_rules.proofs.Changed.{account_changed}
-use Rattle.legal_rules.proofs.Steps.{legal_as}
-use Rattle.op_types.specs.declared.account_results.BumpSequenceResult.TheVariants as bump
+use Rattle.op_flags.specs.ledger_types.declared.account.AccountEntry.{AccountEntry}
+use Rattle.op_flags.specs.entry_map.EntryMap.{EntryMap}
+use Rattle.op_flags.specs.entry_slots.Accounts.{with_account, HasAccount}
+use Rattle.op_pool.specs.reserve_rules.Reserve.{greatest_i64}
+use Rattle.op_flags.specs.sponsor_rules.declared.context.Ctx.{Ctx}
+use Rattle.op_flags.specs.legal_rules.ChangeLaws.{KeepsBooks}
+use Rattle.op_flags.specs.legal_rules.Owing.{nothing_owed}
+use Rattle.op_flags.specs.legal_rules.Ranges.{IsAccountInRange}
+use Rattle.op_flags.specs.legal_rules.Supply.{lumens_of}
+use Rattle.op_flags.proofs.legal_rules_proofs.Bounded.{account_legal}
+use Rattle.op_flags.proofs.legal_rules_proofs.Changed.{account_changed}
+use Rattle.op_flags.proofs.legal_rules_proofs.Steps.{legal_as}
+use Rattle.op_flags.specs.op_types.declared.account_results.BumpSequenceResult.TheVariants as bump
 use Rattle.op_account.specs.BumpSequence.{answer, with_seq_num_from, bump_sequence}
-use Rattle.op_form.specs.Steps.{success}
+use Rattle.op_flags.specs.op_form.Steps.{success}
 use Rattle.op_laws.specs.Laws.{IsLawful, IsBumpFit, AreLawfulWhere}
 use Rattle.op_laws.proofs.Lawful.{KeepsLegal, lawful_still}
 use Rattle.op_laws.proofs.Payments.{numbered_books, numbered_range}
-use Rattle.legal_rules.proofs.Leaving.{IsNext, account_kept}
+use Rattle.op_flags.proofs.legal_rules_proofs.Leaving.{IsNext, account_kept}
 use Rattle.op_flags.proofs.Went.{went_on}
-use Rattle.legal_rules.proofs.Passed.{first_passed}
+use Rattle.op_flags.proofs.legal_rules_proofs.Passed.{first_passed}
 
 -- ---- an account whose sequence number alone may differ
 

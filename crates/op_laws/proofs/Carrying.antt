@@ -4,22 +4,22 @@ use Rattle.std.proofs.Common.{◌&&◌, arith}
 use Rattle.std.proofs.lemmas.Int.{ints}
 use Rattle.std.specs.Prelude.{ℤ, pos, neg_ℤ, ◌+ℤ◌, ◌-ℤ◌, if◌then◌else◌}
 use Rattle.std.specs.Ordering.{is_eq}
-use Rattle.ledger_types.specs.declared.asset.Asset.{Asset}
-use Rattle.ledger_types.specs.declared.asset.Asset.TheVariants as asset
-use Rattle.ledger_types.specs.declared.claim_atom.ClaimAtom.{ClaimAtom}
-use Rattle.ledger_types.specs.declared.claim_atom.ClaimAtom.TheVariants as atom
-use Rattle.ledger_types.specs.declared.key.LedgerKey.{LedgerKey}
-use Rattle.ledger_types.specs.KeyOrder.{asset_cmp}
-use Rattle.entry_map.specs.EntryMap.{EntryMap}
-use Rattle.legal_rules.specs.Holdings.{IsKeyed, both_more}
-use Rattle.legal_rules.specs.Supply.{of_asset}
-use Rattle.legal_rules.proofs.Leaving.{Leaves, leaves_itself, leaves_as, leaves_both}
-use Rattle.op_form.specs.AtomMoves.{moves_of, atom_moves}
-use Rattle.op_form.specs.Done.{Holder, Transit, Move}
-use Rattle.trade_cross.specs.declared.trade.Trade.{Trade}
-use Rattle.trade_cross.specs.Crossing.{Crossing}
-use Rattle.trade_cross.specs.CrossingLaws.{kept_in, kept_by, more_in, more_by as atom_more}
-use Rattle.trade_cross.specs.HopLaws.{AreHopped}
+use Rattle.op_flags.specs.ledger_types.declared.asset.Asset.{Asset}
+use Rattle.op_flags.specs.ledger_types.declared.asset.Asset.TheVariants as asset
+use Rattle.op_flags.specs.ledger_types.declared.claim_atom.ClaimAtom.{ClaimAtom}
+use Rattle.op_flags.specs.ledger_types.declared.claim_atom.ClaimAtom.TheVariants as atom
+use Rattle.op_flags.specs.ledger_types.declared.key.LedgerKey.{LedgerKey}
+use Rattle.op_flags.specs.ledger_types.KeyOrder.{asset_cmp}
+use Rattle.op_flags.specs.entry_map.EntryMap.{EntryMap}
+use Rattle.op_flags.specs.legal_rules.Holdings.{IsKeyed, both_more}
+use Rattle.op_flags.specs.legal_rules.Supply.{of_asset}
+use Rattle.op_flags.proofs.legal_rules_proofs.Leaving.{Leaves, leaves_itself, leaves_as, leaves_both}
+use Rattle.op_flags.specs.op_form.AtomMoves.{moves_of, atom_moves}
+use Rattle.op_flags.specs.op_form.Done.{Holder, Transit, Move}
+use Rattle.op_flags.specs.trade_cross.declared.trade.Trade.{Trade}
+use Rattle.op_flags.specs.trade_cross.Crossing.{Crossing}
+use Rattle.op_flags.specs.trade_cross.CrossingLaws.{kept_in, kept_by, more_in, more_by as atom_more}
+use Rattle.op_flags.specs.trade_cross.HopLaws.{AreHopped}
 use Rattle.op_payment.proofs.Shifts.{ShiftsLegal, shifts_as, shifts_both, shifts_nothing}
 use Rattle.op_laws.specs.Moves.{is_holder, is_of_asset, gained}
 use Rattle.op_laws.proofs.Issued.{plus_assoc}

@@ -1,13 +1,13 @@
 -- CHANGE_TRUST is lawful, whatever the line is in.
 use Rattle.std.proofs.Common.{◌≡◌, Ok}
-use Rattle.ledger_types.specs.declared.asset.Asset.TheVariants as asset
-use Rattle.ledger_types.specs.declared.asset.ChangeTrustAsset.{ChangeTrustAsset}
-use Rattle.ledger_types.specs.declared.asset.ChangeTrustAsset.TheVariants as asked
-use Rattle.op_types.specs.declared.trust_ops.ChangeTrustOp.{ChangeTrustOp}
-use Rattle.entry_map.specs.EntryMap.{EntryMap}
-use Rattle.entry_slots.specs.Accounts.{HasAccount}
-use Rattle.sponsor_rules.specs.declared.context.Ctx.{Ctx}
-use Rattle.op_form.specs.Done.{Done}
+use Rattle.op_flags.specs.ledger_types.declared.asset.Asset.TheVariants as asset
+use Rattle.op_flags.specs.ledger_types.declared.asset.ChangeTrustAsset.{ChangeTrustAsset}
+use Rattle.op_flags.specs.ledger_types.declared.asset.ChangeTrustAsset.TheVariants as asked
+use Rattle.op_flags.specs.op_types.declared.trust_ops.ChangeTrustOp.{ChangeTrustOp}
+use Rattle.op_flags.specs.entry_map.EntryMap.{EntryMap}
+use Rattle.op_flags.specs.entry_slots.Accounts.{HasAccount}
+use Rattle.op_flags.specs.sponsor_rules.declared.context.Ctx.{Ctx}
+use Rattle.op_flags.specs.op_form.Done.{Done}
 use Rattle.op_trust.specs.Operations.{trust_in, change_trust}
 use Rattle.op_laws.specs.Laws.{IsLawful, AreLawfulWhere, IsLimitFit}
 use Rattle.op_laws.specs.Underway.{IsUnderway}

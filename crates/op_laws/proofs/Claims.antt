@@ -5,56 +5,56 @@ use Rattle.std.proofs.lemmas.Int.{ints}
 use Rattle.std.specs.Prelude.{ℤ, pos, neg_ℤ, int_le, ◌+ℤ◌, ◌≤ℤ◌, if◌then◌else◌}
 use Rattle.std.specs.FinMap.{get}
 use Rattle.std.specs.Ordering.{is_eq}
-use Rattle.ledger_types.specs.declared.ids.AccountId.{AccountId}
-use Rattle.ledger_types.specs.declared.ids.ClaimableBalanceId.{ClaimableBalanceId}
-use Rattle.ledger_types.specs.declared.account.AccountEntry.{AccountEntry}
-use Rattle.ledger_types.specs.declared.asset.Asset.{Asset}
-use Rattle.ledger_types.specs.declared.asset.Asset.TheVariants as asset
-use Rattle.ledger_types.specs.declared.trust_line.TrustLineEntry.{TrustLineEntry}
-use Rattle.ledger_types.specs.declared.claimable_balance.ClaimableBalanceEntry.{ClaimableBalanceEntry}
-use Rattle.ledger_types.specs.declared.entry.LedgerEntry.{LedgerEntry}
-use Rattle.ledger_types.specs.declared.entry.LedgerEntryBody.TheVariants as body
-use Rattle.ledger_types.specs.declared.key.LedgerKey.{LedgerKey}
-use Rattle.ledger_types.specs.declared.key.LedgerKey.TheVariants as key
-use Rattle.ledger_types.specs.KeyOrder.{asset_cmp}
-use Rattle.ledger_types.specs.Keys.{key_of}
-use Rattle.op_types.specs.declared.balance_ops.CreateClaimableBalanceOp.{CreateClaimableBalanceOp}
-use Rattle.op_types.specs.declared.balance_results.CreateClaimableBalanceResult.TheVariants as create
-use Rattle.op_types.specs.declared.balance_results.ClaimClaimableBalanceResult.TheVariants as claim
-use Rattle.op_types.specs.declared.balance_results.ClawbackClaimableBalanceResult.TheVariants as claw
-use Rattle.op_types.specs.declared.operation_result.OperationResult.{OperationResult}
-use Rattle.op_types.specs.declared.operation_result.OperationResult.TheVariants.{NotSupported}
-use Rattle.valid_values.specs.Assets.{is_valid_asset}
-use Rattle.entry_map.specs.EntryMap.{EntryMap, erase}
-use Rattle.entry_slots.specs.Accounts.{account_at, with_account, HasAccount}
-use Rattle.entry_slots.specs.Balances.{balance_at}
-use Rattle.entry_slots.specs.EntrySponsor.{sponsor_of}
-use Rattle.entry_slots.specs.Lines.{line_at, with_line}
-use Rattle.entry_slots.specs.Tests.{Tests}
-use Rattle.entry_sums.specs.Sums.{part}
-use Rattle.entry_sums.proofs.Lookups.{put_elsewhere}
-use Rattle.sponsor_rules.specs.declared.context.Ctx.{Ctx}
-use Rattle.sponsor_rules.specs.Adding.{map_after_adding}
-use Rattle.sponsor_rules.specs.Payers.{open_sponsor, payer_of}
-use Rattle.sponsor_rules.specs.Paying.{map_after_releasing}
-use Rattle.sponsor_rules.specs.Removing.{map_after_removing, map_after_removing_entry}
-use Rattle.legal_rules.specs.Owing.{nothing_owed, AreEntriesLegal}
-use Rattle.legal_rules.specs.Ranges.{IsBodyInRange, IsBalanceInRange}
-use Rattle.legal_rules.specs.Supply.{of_asset, held}
-use Rattle.legal_rules.proofs.Given.{sponsors_ready}
-use Rattle.legal_rules.proofs.Kept.{balance_added_so, balance_removed_so}
-use Rattle.legal_rules.proofs.Liable.{line_entry, with_line_body, with_line_is}
-use Rattle.legal_rules.proofs.PaidFor.{nothing_settled}
-use Rattle.legal_rules.proofs.Steps.{account_entry, with_account_is, with_body}
-use Rattle.op_form.specs.declared.amounts.DebitFault.TheVariants as debit
-use Rattle.op_form.specs.Amounts.{map_after_credit, map_after_debit, map_after_line_debit_of}
-use Rattle.op_form.specs.Amounts.{line_debit_tests, with_less}
-use Rattle.op_form.specs.Assets.{is_issued_by, line_asset_of}
-use Rattle.op_form.specs.Done.{Done, OfAccount, OfBalance}
-use Rattle.op_form.specs.Lumens.{map_after_lumens_debit, with_less_lumens}
+use Rattle.op_flags.specs.ledger_types.declared.ids.AccountId.{AccountId}
+use Rattle.op_flags.specs.ledger_types.declared.ids.ClaimableBalanceId.{ClaimableBalanceId}
+use Rattle.op_flags.specs.ledger_types.declared.account.AccountEntry.{AccountEntry}
+use Rattle.op_flags.specs.ledger_types.declared.asset.Asset.{Asset}
+use Rattle.op_flags.specs.ledger_types.declared.asset.Asset.TheVariants as asset
+use Rattle.op_flags.specs.ledger_types.declared.trust_line.TrustLineEntry.{TrustLineEntry}
+use Rattle.op_flags.specs.ledger_types.declared.claimable_balance.ClaimableBalanceEntry.{ClaimableBalanceEntry}
+use Rattle.op_flags.specs.ledger_types.declared.entry.LedgerEntry.{LedgerEntry}
+use Rattle.op_flags.specs.ledger_types.declared.entry.LedgerEntryBody.TheVariants as body
+use Rattle.op_flags.specs.ledger_types.declared.key.LedgerKey.{LedgerKey}
+use Rattle.op_flags.specs.ledger_types.declared.key.LedgerKey.TheVariants as key
+use Rattle.op_flags.specs.ledger_types.KeyOrder.{asset_cmp}
+use Rattle.op_flags.specs.ledger_types.Keys.{key_of}
+use Rattle.op_flags.specs.op_types.declared.balance_ops.CreateClaimableBalanceOp.{CreateClaimableBalanceOp}
+use Rattle.op_flags.specs.op_types.declared.balance_results.CreateClaimableBalanceResult.TheVariants as create
+use Rattle.op_flags.specs.op_types.declared.balance_results.ClaimClaimableBalanceResult.TheVariants as claim
+use Rattle.op_flags.specs.op_types.declared.balance_results.ClawbackClaimableBalanceResult.TheVariants as claw
+use Rattle.op_flags.specs.op_types.declared.operation_result.OperationResult.{OperationResult}
+use Rattle.op_flags.specs.op_types.declared.operation_result.OperationResult.TheVariants.{NotSupported}
+use Rattle.op_flags.specs.valid_values.Assets.{is_valid_asset}
+use Rattle.op_flags.specs.entry_map.EntryMap.{EntryMap, erase}
+use Rattle.op_flags.specs.entry_slots.Accounts.{account_at, with_account, HasAccount}
+use Rattle.op_flags.specs.entry_slots.Balances.{balance_at}
+use Rattle.op_flags.specs.entry_slots.EntrySponsor.{sponsor_of}
+use Rattle.op_flags.specs.entry_slots.Lines.{line_at, with_line}
+use Rattle.op_flags.specs.entry_slots.Tests.{Tests}
+use Rattle.op_flags.specs.entry_sums.Sums.{part}
+use Rattle.op_flags.proofs.entry_sums_proofs.Lookups.{put_elsewhere}
+use Rattle.op_flags.specs.sponsor_rules.declared.context.Ctx.{Ctx}
+use Rattle.op_flags.specs.sponsor_rules.Adding.{map_after_adding}
+use Rattle.op_flags.specs.sponsor_rules.Payers.{open_sponsor, payer_of}
+use Rattle.op_flags.specs.sponsor_rules.Paying.{map_after_releasing}
+use Rattle.op_flags.specs.sponsor_rules.Removing.{map_after_removing, map_after_removing_entry}
+use Rattle.op_flags.specs.legal_rules.Owing.{nothing_owed, AreEntriesLegal}
+use Rattle.op_flags.specs.legal_rules.Ranges.{IsBodyInRange, IsBalanceInRange}
+use Rattle.op_flags.specs.legal_rules.Supply.{of_asset, held}
+use Rattle.op_flags.proofs.legal_rules_proofs.Given.{sponsors_ready}
+use Rattle.op_flags.proofs.legal_rules_proofs.Kept.{balance_added_so, balance_removed_so}
+use Rattle.op_flags.proofs.legal_rules_proofs.Liable.{line_entry, with_line_body, with_line_is}
+use Rattle.op_flags.proofs.legal_rules_proofs.PaidFor.{nothing_settled}
+use Rattle.op_flags.proofs.legal_rules_proofs.Steps.{account_entry, with_account_is, with_body}
+use Rattle.op_flags.specs.op_form.declared.amounts.DebitFault.TheVariants as debit
+use Rattle.op_flags.specs.op_form.Amounts.{map_after_credit, map_after_debit, map_after_line_debit_of}
+use Rattle.op_flags.specs.op_form.Amounts.{line_debit_tests, with_less}
+use Rattle.op_flags.specs.op_form.Assets.{is_issued_by, line_asset_of}
+use Rattle.op_flags.specs.op_form.Done.{Done, OfAccount, OfBalance}
+use Rattle.op_flags.specs.op_form.Lumens.{map_after_lumens_debit, with_less_lumens}
 use Rattle.op_claim.specs.ClaimClaimableBalance as claiming
 use Rattle.op_claim.specs.ClawbackClaimableBalance as clawing
-use Rattle.op_form.specs.Flags.{flagged_ext}
+use Rattle.op_flags.specs.op_form.Flags.{flagged_ext}
 use Rattle.op_claim.specs.CreateClaimableBalance as creating
 use Rattle.op_claim.specs.Predicates.{fixed_claimant}
 use Rattle.op_laws.specs.Laws.{IsLawful, AreLawful, AreLawfulWhere, AreClaimantsFew}
@@ -66,20 +66,20 @@ use Rattle.op_laws.proofs.Amounts.{amount_taken}
 use Rattle.op_laws.proofs.Amounts.{amount_given}
 use Rattle.op_payment.proofs.Amounts.{ok_of}
 use Rattle.op_laws.proofs.AsideMoves.{balance_issues_none, less_of, put_aside_issued, taken_back, taken_back_issued}
-use Rattle.legal_rules.proofs.ChargesLeft.{releasing_kept, erased_left}
+use Rattle.op_flags.proofs.legal_rules_proofs.ChargesLeft.{releasing_kept, erased_left}
 use Rattle.op_laws.proofs.IssuedMoves.{same_issuer, issued_so, issued_by_move}
 use Rattle.op_laws.proofs.Lawful.{lawful_with, shifted_after}
 use Rattle.op_flags.proofs.BalanceLeft.{balance_left, no_balance, new_flags, payer_stands}
 use Rattle.op_laws.proofs.NewBalances.{IsBalanceEntry, balance_entry, claimants_in_range}
 use Rattle.op_payment.proofs.Paying.{given}
-use Rattle.legal_rules.specs.Holdings.{none_more, both_more, under_key}
-use Rattle.legal_rules.proofs.Holdings.{still_holds}
-use Rattle.legal_rules.proofs.Holdings.{cancelled}
-use Rattle.legal_rules.proofs.Leaving.{Leaves, leaves_both, leaves_as, keeps_then}
+use Rattle.op_flags.specs.legal_rules.Holdings.{none_more, both_more, under_key}
+use Rattle.op_flags.proofs.legal_rules_proofs.Holdings.{still_holds}
+use Rattle.op_flags.proofs.legal_rules_proofs.Holdings.{cancelled}
+use Rattle.op_flags.proofs.legal_rules_proofs.Leaving.{Leaves, leaves_both, leaves_as, keeps_then}
 use Rattle.op_laws.proofs.Told.{more_for, account_place, balance_place, moved, move_tells, more_turned, redeemed_more}
 use Rattle.op_laws.proofs.Told.{balance_more}
 use Rattle.op_flags.proofs.Went.{went_on, went_after_some, went_after_step}
-use Rattle.legal_rules.proofs.Passed.{first_passed, neither, passed}
+use Rattle.op_flags.proofs.legal_rules_proofs.Passed.{first_passed, neither, passed}
 use Rattle.op_flags.proofs.Went.{went_after_charge}
 use Rattle.op_laws.proofs.TrustLines.{not_true}
 

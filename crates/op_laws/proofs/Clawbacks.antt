@@ -3,24 +3,24 @@ use Rattle.std.proofs.Common.{◌≡◌, sym, ap, subst, ◌∙◌, true, false,
 use Rattle.std.proofs.Common.{arith}
 use Rattle.std.proofs.lemmas.Int.{ints}
 use Rattle.std.specs.Prelude.{ℤ, pos, neg_ℤ, int_le, int_lt}
-use Rattle.ledger_types.specs.declared.ids.AccountId.{AccountId}
-use Rattle.ledger_types.specs.declared.asset.Asset.{Asset}
-use Rattle.ledger_types.specs.declared.asset.Asset.TheVariants as asset
-use Rattle.ledger_types.specs.Ids.{account_of}
-use Rattle.op_types.specs.declared.operation_result.OperationResult.{OperationResult}
-use Rattle.op_types.specs.declared.trust_results.ClawbackResult.TheVariants as claw
-use Rattle.valid_values.specs.Assets.{is_valid_asset}
-use Rattle.entry_slots.specs.Lines.{with_line}
-use Rattle.entry_slots.specs.Tests.{Tests}
-use Rattle.reserve_rules.specs.Reserve.{line_available}
-use Rattle.sponsor_rules.specs.Payers.{is_same_account}
-use Rattle.sponsor_rules.proofs.Ids.{same_account}
-use Rattle.legal_rules.specs.Supply.{of_asset}
-use Rattle.op_form.specs.Amounts.{with_less}
-use Rattle.op_form.specs.Assets.{is_issued_by, line_asset_of, line_of_asset}
-use Rattle.op_form.specs.Done.{Done}
-use Rattle.op_form.specs.Done.{OfAccount}
-use Rattle.op_form.specs.Flags.{is_line_clawback_enabled}
+use Rattle.op_flags.specs.ledger_types.declared.ids.AccountId.{AccountId}
+use Rattle.op_flags.specs.ledger_types.declared.asset.Asset.{Asset}
+use Rattle.op_flags.specs.ledger_types.declared.asset.Asset.TheVariants as asset
+use Rattle.op_flags.specs.ledger_types.Ids.{account_of}
+use Rattle.op_flags.specs.op_types.declared.operation_result.OperationResult.{OperationResult}
+use Rattle.op_flags.specs.op_types.declared.trust_results.ClawbackResult.TheVariants as claw
+use Rattle.op_flags.specs.valid_values.Assets.{is_valid_asset}
+use Rattle.op_flags.specs.entry_slots.Lines.{with_line}
+use Rattle.op_flags.specs.entry_slots.Tests.{Tests}
+use Rattle.op_pool.specs.reserve_rules.Reserve.{line_available}
+use Rattle.op_flags.specs.sponsor_rules.Payers.{is_same_account}
+use Rattle.op_flags.proofs.sponsor_rules_proofs.Ids.{same_account}
+use Rattle.op_flags.specs.legal_rules.Supply.{of_asset}
+use Rattle.op_flags.specs.op_form.Amounts.{with_less}
+use Rattle.op_flags.specs.op_form.Assets.{is_issued_by, line_asset_of, line_of_asset}
+use Rattle.op_flags.specs.op_form.Done.{Done}
+use Rattle.op_flags.specs.op_form.Done.{OfAccount}
+use Rattle.op_flags.specs.op_form.Flags.{is_line_clawback_enabled}
 use Rattle.op_claim.specs.Clawback as spec
 use Rattle.op_laws.specs.Laws.{IsLawful, AreLawful}
 use Rattle.op_laws.specs.Moves.{issued}
@@ -30,10 +30,10 @@ use Rattle.op_laws.proofs.IssuedMoves.{same_both_ways, same_issuer, issued_so, i
 use Rattle.op_laws.proofs.Lawful.{lawful_with}
 use Rattle.op_laws.proofs.LineFlags.{issued_is}
 use Rattle.op_laws.proofs.Payment.{above, asset_move}
-use Rattle.legal_rules.proofs.Leaving.{leaves_as}
+use Rattle.op_flags.proofs.legal_rules_proofs.Leaving.{leaves_as}
 use Rattle.op_laws.proofs.Told.{account_place, moved, move_tells, redeemed_more, line_more}
 use Rattle.op_flags.proofs.Went.{went_on, went_after_some}
-use Rattle.legal_rules.proofs.Passed.{first_passed, neither}
+use Rattle.op_flags.proofs.legal_rules_proofs.Passed.{first_passed, neither}
 use Rattle.op_laws.proofs.LineLimits.{not_less}
 use Rattle.op_laws.proofs.TrustLines.{not_true}
 

@@ -7,32 +7,32 @@ use Rattle.std.specs.Prelude.{◌+ℤ◌}
 use Rattle.std.specs.FinMap.{get}
 use Rattle.std.specs.List.{filter}
 use Rattle.std.specs.Ordering.{eq_by_cmp}
-use Rattle.ledger_types.specs.declared.asset.Asset.{Asset}
-use Rattle.ledger_types.specs.declared.offer.OfferEntry.{OfferEntry}
-use Rattle.ledger_types.specs.declared.entry.LedgerEntry.{LedgerEntry}
-use Rattle.ledger_types.specs.Keys.{key_of}
-use Rattle.ledger_types.specs.KeyOrder.{key_cmp}
-use Rattle.ledger_types.specs.Prices.{IsPriced}
-use Rattle.entry_map.specs.EntryMap.{EntryMap, erase}
-use Rattle.entry_map.specs.EntryMap.{IsKeyed as IsOwnKeyed}
-use Rattle.entry_map.specs.Book.{offers_of, AreApart, AreOffersSound, placed, ranked, head, is_of_pair, book_in}
-use Rattle.entry_map.proofs.KeyMaps.{same_keys, same_itself}
-use Rattle.entry_map.proofs.Layers.{some_is}
-use Rattle.entry_map.proofs.Ranked.{all_ranked}
-use Rattle.entry_slots.specs.Offers.{offer_of, offer_at}
-use Rattle.entry_sums.proofs.Lookups.{erase_each}
-use Rattle.offer_book.specs.Book.{book, best}
-use Rattle.offer_exchange.specs.declared.rounding.Rounding.{Rounding}
-use Rattle.legal_rules.specs.Books.{View}
-use Rattle.legal_rules.specs.Holdings.{IsKeyed}
-use Rattle.legal_rules.specs.OneMore.{IsOwedRightly}
-use Rattle.legal_rules.specs.Owing.{Owed, IsLegalOwing}
-use Rattle.legal_rules.proofs.OffersKept.{offer_entry, with_offer_body}
-use Rattle.trade_cross.specs.Crossing.{Left, with_amount, offer_key, atom_of, Step, step}
-use Rattle.trade_cross.specs.CrossingLaws.{kept_by}
-use Rattle.trade_cross.proofs.Book.{IsInBook, best_stands}
-use Rattle.trade_cross.proofs.BooksSound.{offers_sound}
-use Rattle.trade_cross.proofs.StepLegal.{step_legal}
+use Rattle.op_flags.specs.ledger_types.declared.asset.Asset.{Asset}
+use Rattle.op_flags.specs.ledger_types.declared.offer.OfferEntry.{OfferEntry}
+use Rattle.op_flags.specs.ledger_types.declared.entry.LedgerEntry.{LedgerEntry}
+use Rattle.op_flags.specs.ledger_types.Keys.{key_of}
+use Rattle.op_flags.specs.ledger_types.KeyOrder.{key_cmp}
+use Rattle.op_flags.specs.ledger_types.Prices.{IsPriced}
+use Rattle.op_flags.specs.entry_map.EntryMap.{EntryMap, erase}
+use Rattle.op_flags.specs.entry_map.EntryMap.{IsKeyed as IsOwnKeyed}
+use Rattle.op_flags.specs.entry_map.Book.{offers_of, AreApart, AreOffersSound, placed, ranked, head, is_of_pair, book_in}
+use Rattle.op_flags.proofs.entry_map_proofs.KeyMaps.{same_keys, same_itself}
+use Rattle.op_flags.proofs.entry_map_proofs.Layers.{some_is}
+use Rattle.op_flags.proofs.entry_map_proofs.Ranked.{all_ranked}
+use Rattle.op_flags.specs.entry_slots.Offers.{offer_of, offer_at}
+use Rattle.op_flags.proofs.entry_sums_proofs.Lookups.{erase_each}
+use Rattle.op_flags.specs.offer_book.Book.{book, best}
+use Rattle.op_offers.specs.offer_exchange.declared.rounding.Rounding.{Rounding}
+use Rattle.op_flags.specs.legal_rules.Books.{View}
+use Rattle.op_flags.specs.legal_rules.Holdings.{IsKeyed}
+use Rattle.op_flags.specs.legal_rules.OneMore.{IsOwedRightly}
+use Rattle.op_flags.specs.legal_rules.Owing.{Owed, IsLegalOwing}
+use Rattle.op_flags.proofs.legal_rules_proofs.OffersKept.{offer_entry, with_offer_body}
+use Rattle.op_flags.specs.trade_cross.Crossing.{Left, with_amount, offer_key, atom_of, Step, step}
+use Rattle.op_flags.specs.trade_cross.CrossingLaws.{kept_by}
+use Rattle.op_flags.proofs.trade_cross_proofs.Book.{IsInBook, best_stands}
+use Rattle.op_flags.proofs.trade_cross_proofs.BooksSound.{offers_sound}
+use Rattle.op_flags.proofs.trade_cross_proofs.StepLegal.{step_legal}
 use Rattle.op_flags.proofs.OwnOffers.{holds_of}
 use Rattle.op_laws.specs.CrossedBooks.{CrossedOffersGo, CrossedOffersRest, IsRestedBook}
 use Rattle.op_laws.proofs.OfferLists.{is_elsewhere, IsGone, IsReplaced, offers_left, erased_gone, replaced_gone}

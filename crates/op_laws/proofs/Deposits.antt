@@ -4,45 +4,45 @@ use Rattle.std.proofs.Common.{◌||◌, List, [], ◌∷◌, Option, Some, None,
 use Rattle.std.proofs.lemmas.Int.{ints}
 use Rattle.std.proofs.Math.Nat.{one-le-mul}
 use Rattle.std.specs.Prelude.{ℤ, pos, neg_ℤ, ◌+ℤ◌, ◌-ℤ◌, ◌≤ℤ◌, ◌<ℤ◌, int_le, int_lt, nat_eq, unsigned_abs}
-use Rattle.ledger_types.specs.declared.ids.AccountId.{AccountId}
-use Rattle.ledger_types.specs.declared.ids.Hash.{Hash}
-use Rattle.ledger_types.specs.declared.asset.Asset.{Asset}
-use Rattle.ledger_types.specs.declared.asset.Asset.TheVariants as asset
-use Rattle.ledger_types.specs.declared.asset.TrustLineAsset.TheVariants as line
-use Rattle.ledger_types.specs.declared.trust_line.TrustLineEntry.{TrustLineEntry}
-use Rattle.ledger_types.specs.declared.liquidity_pool.LiquidityPoolEntry.{LiquidityPoolEntry}
-use Rattle.ledger_types.specs.declared.entry.LedgerEntryBody.TheVariants as body
-use Rattle.ledger_types.specs.declared.key.LedgerKey.{LedgerKey}
-use Rattle.op_types.specs.declared.operation_result.OperationResult.{OperationResult}
-use Rattle.op_types.specs.declared.pool_ops.LiquidityPoolDepositOp.{LiquidityPoolDepositOp}
-use Rattle.op_types.specs.declared.pool_results.LiquidityPoolDepositResult.TheVariants as depositing
-use Rattle.wide_math.specs.Root.{IsRoot, square_root}
-use Rattle.wide_math.proofs.Roots.{root_is}
-use Rattle.entry_map.specs.EntryMap.{EntryMap}
-use Rattle.entry_slots.specs.Accounts.{HasAccount}
-use Rattle.entry_slots.specs.LineExtensions.{line_liabilities}
-use Rattle.entry_slots.specs.Lines.{line_at}
-use Rattle.entry_slots.specs.Pools.{pool_at}
-use Rattle.entry_slots.specs.Tests.{first_fault}
-use Rattle.entry_sums.specs.Sums.{total}
-use Rattle.reserve_rules.specs.Reserve.{greatest_i64, line_room}
-use Rattle.offer_exchange.specs.Exchange.{unlimited}
-use Rattle.sponsor_rules.specs.declared.context.Ctx.{Ctx}
-use Rattle.pool_math.specs.Pools.{Deposit, deposited}
-use Rattle.legal_rules.specs.Bounds.{IsFilledOrEmpty}
-use Rattle.legal_rules.specs.Holdings.{Increase, both_more}
-use Rattle.legal_rules.specs.Legal.{view}
-use Rattle.legal_rules.specs.Owing.{nothing_owed}
-use Rattle.legal_rules.specs.Supply.{of_asset, held as held_of}
-use Rattle.legal_rules.specs.Trades.{holder}
-use Rattle.legal_rules.proofs.Leaving.{leaves_as}
-use Rattle.legal_rules.proofs.LinesLeft.{IsLegalLine, line_legal}
-use Rattle.legal_rules.proofs.Passed.{first_passed, neither}
-use Rattle.trade_cross.specs.Holdings.{is_short_of, has_at, most_given}
-use Rattle.trade_cross.proofs.Paying.{CanPay}
-use Rattle.pool_shares.proofs.Sharing.{CanShare}
-use Rattle.pool_shares.proofs.Sound.{IsLegalPool, pool_legal, first_used, second_used}
-use Rattle.op_form.specs.Done.{Done, OfAccount, OfPool, Move}
+use Rattle.op_flags.specs.ledger_types.declared.ids.AccountId.{AccountId}
+use Rattle.op_flags.specs.ledger_types.declared.ids.Hash.{Hash}
+use Rattle.op_flags.specs.ledger_types.declared.asset.Asset.{Asset}
+use Rattle.op_flags.specs.ledger_types.declared.asset.Asset.TheVariants as asset
+use Rattle.op_flags.specs.ledger_types.declared.asset.TrustLineAsset.TheVariants as line
+use Rattle.op_flags.specs.ledger_types.declared.trust_line.TrustLineEntry.{TrustLineEntry}
+use Rattle.op_flags.specs.ledger_types.declared.liquidity_pool.LiquidityPoolEntry.{LiquidityPoolEntry}
+use Rattle.op_flags.specs.ledger_types.declared.entry.LedgerEntryBody.TheVariants as body
+use Rattle.op_flags.specs.ledger_types.declared.key.LedgerKey.{LedgerKey}
+use Rattle.op_flags.specs.op_types.declared.operation_result.OperationResult.{OperationResult}
+use Rattle.op_flags.specs.op_types.declared.pool_ops.LiquidityPoolDepositOp.{LiquidityPoolDepositOp}
+use Rattle.op_flags.specs.op_types.declared.pool_results.LiquidityPoolDepositResult.TheVariants as depositing
+use Rattle.op_flags.specs.wide_math.Root.{IsRoot, square_root}
+use Rattle.op_flags.proofs.wide_math_proofs.Roots.{root_is}
+use Rattle.op_flags.specs.entry_map.EntryMap.{EntryMap}
+use Rattle.op_flags.specs.entry_slots.Accounts.{HasAccount}
+use Rattle.op_flags.specs.entry_slots.LineExtensions.{line_liabilities}
+use Rattle.op_flags.specs.entry_slots.Lines.{line_at}
+use Rattle.op_flags.specs.entry_slots.Pools.{pool_at}
+use Rattle.op_flags.specs.entry_slots.Tests.{first_fault}
+use Rattle.op_flags.specs.entry_sums.Sums.{total}
+use Rattle.op_pool.specs.reserve_rules.Reserve.{greatest_i64, line_room}
+use Rattle.op_offers.specs.offer_exchange.Exchange.{unlimited}
+use Rattle.op_flags.specs.sponsor_rules.declared.context.Ctx.{Ctx}
+use Rattle.op_pool.specs.pool_math.Pools.{Deposit, deposited}
+use Rattle.op_flags.specs.legal_rules.Bounds.{IsFilledOrEmpty}
+use Rattle.op_flags.specs.legal_rules.Holdings.{Increase, both_more}
+use Rattle.op_flags.specs.legal_rules.Legal.{view}
+use Rattle.op_flags.specs.legal_rules.Owing.{nothing_owed}
+use Rattle.op_flags.specs.legal_rules.Supply.{of_asset, held as held_of}
+use Rattle.op_flags.specs.legal_rules.Trades.{holder}
+use Rattle.op_flags.proofs.legal_rules_proofs.Leaving.{leaves_as}
+use Rattle.op_flags.proofs.legal_rules_proofs.LinesLeft.{IsLegalLine, line_legal}
+use Rattle.op_flags.proofs.legal_rules_proofs.Passed.{first_passed, neither}
+use Rattle.op_flags.specs.trade_cross.Holdings.{is_short_of, has_at, most_given}
+use Rattle.op_flags.proofs.trade_cross_proofs.Paying.{CanPay}
+use Rattle.op_flags.proofs.pool_shares_proofs.Sharing.{CanShare}
+use Rattle.op_flags.proofs.pool_shares_proofs.Sound.{IsLegalPool, pool_legal, first_used, second_used}
+use Rattle.op_flags.specs.op_form.Done.{Done, OfAccount, OfPool, Move}
 use Rattle.op_pool.specs.Deposit.{answer, disabled_tests, is_price_bad, is_above, deposit_tests, is_unusable}
 use Rattle.op_pool.specs.Deposit.{do_shares_pass, deposit_by, is_price_outside, is_price_wrong, does_pass, is_pool_full}
 use Rattle.op_pool.specs.Deposit.{given_tests, map_after_depositing, move_of_a, move_of_b, put_in}

@@ -3,8 +3,8 @@ use Rattle.std.proofs.Common.{◌≡◌, ◌⊎◌, inl, inr, refl, sym, subst, 
 use Rattle.std.proofs.Common.{not, ◌&&◌, nat_eq, bit_and, bit_xor, ◌^◌, Option, arith}
 use Rattle.std.proofs.lemmas.Bool.{cases_lt}
 use Rattle.std.proofs.lemmas.Nat.{or_lt, xor_lt, and_le_l}
-use Rattle.op_types.specs.declared.account_ops.SetOptionsOp.{SetOptionsOp}
-use Rattle.legal_rules.specs.Ranges.{has_flag, AreAccountFlags}
+use Rattle.op_flags.specs.op_types.declared.account_ops.SetOptionsOp.{SetOptionsOp}
+use Rattle.op_flags.specs.legal_rules.Ranges.{has_flag, AreAccountFlags}
 use Rattle.op_options.specs.OptionTests.{flags_in, has_unknown, new_flags}
 
 -- ---- numbers up to 15

@@ -1,20 +1,20 @@
 -- Crossing meets the offers of the book as it was ranked at first.
 use Rattle.std.proofs.Common.{◌≡◌, refl, sym, ap, ◌∙◌, ℕ, zero, suc, Bool, true, false, List, Option, Some, None}
 use Rattle.std.specs.Prelude.{if◌then◌else◌}
-use Rattle.ledger_types.specs.declared.offer.OfferEntry.{OfferEntry}
-use Rattle.entry_map.specs.EntryMap.{EntryMap}
-use Rattle.sponsor_rules.specs.Payers.{is_same_account}
-use Rattle.offer_book.specs.Book.{book, best}
-use Rattle.trade_cross.specs.declared.crossed.CrossEnd.TheVariants.{Converted, BadPrice, CrossSelf}
-use Rattle.trade_cross.specs.declared.trade.Trade.{Trade}
-use Rattle.trade_cross.specs.declared.turn.Turn.{Turn}
-use Rattle.trade_cross.specs.declared.turn.Turn.TheVariants.{Ends, Meets}
-use Rattle.trade_cross.specs.Crossable.{IsCrossable}
-use Rattle.trade_cross.specs.Crossing.{Left, step, is_too_dear, is_used_up, turn_at, turn, Crossing, ended}
-use Rattle.trade_cross.specs.Crossing.{at_limit, joined, left_after, crossed, atom_of}
-use Rattle.trade_cross.specs.CrossingLaws.{kept_by}
-use Rattle.trade_cross.proofs.Book.{best_stands}
-use Rattle.trade_cross.proofs.StepLegal.{step_legal}
+use Rattle.op_flags.specs.ledger_types.declared.offer.OfferEntry.{OfferEntry}
+use Rattle.op_flags.specs.entry_map.EntryMap.{EntryMap}
+use Rattle.op_flags.specs.sponsor_rules.Payers.{is_same_account}
+use Rattle.op_flags.specs.offer_book.Book.{book, best}
+use Rattle.op_flags.specs.trade_cross.declared.crossed.CrossEnd.TheVariants.{Converted, BadPrice, CrossSelf}
+use Rattle.op_flags.specs.trade_cross.declared.trade.Trade.{Trade}
+use Rattle.op_flags.specs.trade_cross.declared.turn.Turn.{Turn}
+use Rattle.op_flags.specs.trade_cross.declared.turn.Turn.TheVariants.{Ends, Meets}
+use Rattle.op_flags.specs.trade_cross.Crossable.{IsCrossable}
+use Rattle.op_flags.specs.trade_cross.Crossing.{Left, step, is_too_dear, is_used_up, turn_at, turn, Crossing, ended}
+use Rattle.op_flags.specs.trade_cross.Crossing.{at_limit, joined, left_after, crossed, atom_of}
+use Rattle.op_flags.specs.trade_cross.CrossingLaws.{kept_by}
+use Rattle.op_flags.proofs.trade_cross_proofs.Book.{best_stands}
+use Rattle.op_flags.proofs.trade_cross_proofs.StepLegal.{step_legal}
 use Rattle.std.specs.Prelude.{◌+ℤ◌}
 use Rattle.op_laws.specs.CrossedBooks.{turn_over, behind_head, crossed_over, CrossingFollowsBook}
 use Rattle.op_laws.proofs.CrossedBook.{crossed_offers_go}

@@ -3,24 +3,24 @@ use Rattle.std.proofs.Common.{◌≡◌, refl, sym, ap, subst, ◌∙◌, ℕ, B
 use Rattle.std.proofs.Common.{Result}
 use Rattle.std.proofs.lemmas.Bool.{eqb-true}
 use Rattle.std.specs.Prelude.{if◌then◌else◌}
-use Rattle.ledger_types.specs.declared.asset.Asset.{Asset}
-use Rattle.ledger_types.specs.declared.claim_atom.ClaimAtom.{ClaimAtom}
-use Rattle.entry_map.specs.EntryMap.{EntryMap}
-use Rattle.sponsor_rules.specs.declared.context.Ctx.{Ctx}
-use Rattle.legal_rules.specs.Legal.{view}
-use Rattle.legal_rules.specs.Owing.{nothing_owed, AreEntriesLegal}
-use Rattle.legal_rules.specs.Supply.{held}
-use Rattle.entry_sums.specs.Sums.{total}
-use Rattle.legal_rules.proofs.Legality.{entries_legal}
-use Rattle.legal_rules.proofs.MayOwe.{nothing_right}
-use Rattle.ledger_types.specs.declared.asset.Asset.TheVariants as asset
-use Rattle.trade_cross.specs.declared.crossed.CrossEnd.{CrossEnd}
-use Rattle.trade_cross.specs.declared.crossed.CrossEnd.TheVariants as ends
-use Rattle.trade_cross.specs.declared.trade.Trade.{Trade}
-use Rattle.trade_cross.specs.Crossing.{Crossing}
-use Rattle.trade_cross.specs.Hop.{hop, is_served}
-use Rattle.trade_cross.specs.HopLaws.{IsHopTrade, IsHopped}
-use Rattle.trade_cross.proofs.HopsKeep.{hop_keeps}
+use Rattle.op_flags.specs.ledger_types.declared.asset.Asset.{Asset}
+use Rattle.op_flags.specs.ledger_types.declared.claim_atom.ClaimAtom.{ClaimAtom}
+use Rattle.op_flags.specs.entry_map.EntryMap.{EntryMap}
+use Rattle.op_flags.specs.sponsor_rules.declared.context.Ctx.{Ctx}
+use Rattle.op_flags.specs.legal_rules.Legal.{view}
+use Rattle.op_flags.specs.legal_rules.Owing.{nothing_owed, AreEntriesLegal}
+use Rattle.op_flags.specs.legal_rules.Supply.{held}
+use Rattle.op_flags.specs.entry_sums.Sums.{total}
+use Rattle.op_flags.proofs.legal_rules_proofs.Legality.{entries_legal}
+use Rattle.op_flags.proofs.legal_rules_proofs.MayOwe.{nothing_right}
+use Rattle.op_flags.specs.ledger_types.declared.asset.Asset.TheVariants as asset
+use Rattle.op_flags.specs.trade_cross.declared.crossed.CrossEnd.{CrossEnd}
+use Rattle.op_flags.specs.trade_cross.declared.crossed.CrossEnd.TheVariants as ends
+use Rattle.op_flags.specs.trade_cross.declared.trade.Trade.{Trade}
+use Rattle.op_flags.specs.trade_cross.Crossing.{Crossing}
+use Rattle.op_flags.specs.trade_cross.Hop.{hop, is_served}
+use Rattle.op_flags.specs.trade_cross.HopLaws.{IsHopTrade, IsHopped}
+use Rattle.op_flags.proofs.trade_cross_proofs.HopsKeep.{hop_keeps}
 use Rattle.op_payment.proofs.HopsMade.{receiving_asks, sending_asks}
 use Rattle.op_payment.specs.declared.path_fault.PathFault.{PathFault}
 use Rattle.op_payment.specs.Paths.{Carried, and_then, by_end, hopped, after_hop, receiving, sending, needed_before}

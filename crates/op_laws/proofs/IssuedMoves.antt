@@ -5,16 +5,16 @@ use Rattle.std.specs.Prelude.{ℤ, pos, ◌+ℤ◌, ◌-ℤ◌, ◌&&◌, if◌t
 use Rattle.std.specs.declared.cmp.Ordering.{Ordering}
 use Rattle.std.specs.declared.cmp.Ordering.TheVariants.{Less, Equal, Greater}
 use Rattle.std.specs.Ordering.{is_eq}
-use Rattle.ledger_types.specs.declared.ids.AccountId.{AccountId}
-use Rattle.ledger_types.specs.declared.asset.Asset.{Asset}
-use Rattle.ledger_types.specs.declared.asset.Asset.TheVariants as asset
-use Rattle.ledger_types.specs.KeyOrder.{asset_cmp}
-use Rattle.ledger_types.proofs.KeyOrdering.{assets_exact}
-use Rattle.sponsor_rules.specs.Payers.{is_same_account}
-use Rattle.sponsor_rules.proofs.Ids.{same_account, is_itself}
-use Rattle.legal_rules.specs.Supply.{of_asset}
-use Rattle.op_form.specs.Assets.{is_issued_by}
-use Rattle.op_form.specs.Done.{Holder, OfAccount}
+use Rattle.op_flags.specs.ledger_types.declared.ids.AccountId.{AccountId}
+use Rattle.op_flags.specs.ledger_types.declared.asset.Asset.{Asset}
+use Rattle.op_flags.specs.ledger_types.declared.asset.Asset.TheVariants as asset
+use Rattle.op_flags.specs.ledger_types.KeyOrder.{asset_cmp}
+use Rattle.op_flags.proofs.ledger_types_proofs.KeyOrdering.{assets_exact}
+use Rattle.op_flags.specs.sponsor_rules.Payers.{is_same_account}
+use Rattle.op_flags.proofs.sponsor_rules_proofs.Ids.{same_account, is_itself}
+use Rattle.op_flags.specs.legal_rules.Supply.{of_asset}
+use Rattle.op_flags.specs.op_form.Assets.{is_issued_by}
+use Rattle.op_flags.specs.op_form.Done.{Holder, OfAccount}
 use Rattle.op_laws.specs.Moves.{is_issuer, issued}
 
 -- ---- issuers

@@ -3,34 +3,34 @@ use Rattle.std.proofs.Common.{◌≡◌, refl, sym, ap, subst, ◌∙◌, ℕ, �
 use Rattle.std.proofs.lemmas.Int.{ints}
 use Rattle.std.proofs.lemmas.List.Elements.{All-weaker}
 use Rattle.std.specs.Prelude.{ℤ, pos, ◌+ℤ◌}
-use Rattle.ledger_types.specs.declared.ids.AccountId.{AccountId}
-use Rattle.ledger_types.specs.declared.account.AccountEntry.{AccountEntry}
-use Rattle.ledger_types.specs.declared.asset.Asset.{Asset}
-use Rattle.ledger_types.specs.declared.asset.Asset.TheVariants as asset
-use Rattle.op_types.specs.declared.operation_result.OperationResult.{OperationResult}
-use Rattle.entry_map.specs.EntryMap.{EntryMap}
-use Rattle.entry_slots.specs.Accounts.{account_at, HasAccount}
-use Rattle.entry_sums.specs.Sums.{total}
-use Rattle.sponsor_rules.specs.declared.context.Ctx.{Ctx}
-use Rattle.sponsor_rules.specs.declared.context.Sponsorship.{Sponsorship}
-use Rattle.legal_rules.specs.Books.{View}
-use Rattle.legal_rules.specs.Supply.{held}
-use Rattle.legal_rules.specs.Owing.{nothing_owed, IsLegalOwing, AreEntriesLegal}
-use Rattle.legal_rules.specs.Sponsorships.{AreSponsorshipsSound}
-use Rattle.legal_rules.specs.Legal.{view}
-use Rattle.legal_rules.proofs.Legality.{view_of}
-use Rattle.legal_rules.proofs.Steps.{same_id_at}
-use Rattle.op_form.specs.Done.{Done, OfAccount, Move}
+use Rattle.op_flags.specs.ledger_types.declared.ids.AccountId.{AccountId}
+use Rattle.op_flags.specs.ledger_types.declared.account.AccountEntry.{AccountEntry}
+use Rattle.op_flags.specs.ledger_types.declared.asset.Asset.{Asset}
+use Rattle.op_flags.specs.ledger_types.declared.asset.Asset.TheVariants as asset
+use Rattle.op_flags.specs.op_types.declared.operation_result.OperationResult.{OperationResult}
+use Rattle.op_flags.specs.entry_map.EntryMap.{EntryMap}
+use Rattle.op_flags.specs.entry_slots.Accounts.{account_at, HasAccount}
+use Rattle.op_flags.specs.entry_sums.Sums.{total}
+use Rattle.op_flags.specs.sponsor_rules.declared.context.Ctx.{Ctx}
+use Rattle.op_flags.specs.sponsor_rules.declared.context.Sponsorship.{Sponsorship}
+use Rattle.op_flags.specs.legal_rules.Books.{View}
+use Rattle.op_flags.specs.legal_rules.Supply.{held}
+use Rattle.op_flags.specs.legal_rules.Owing.{nothing_owed, IsLegalOwing, AreEntriesLegal}
+use Rattle.op_flags.specs.legal_rules.Sponsorships.{AreSponsorshipsSound}
+use Rattle.op_flags.specs.legal_rules.Legal.{view}
+use Rattle.op_flags.proofs.legal_rules_proofs.Legality.{view_of}
+use Rattle.op_flags.proofs.legal_rules_proofs.Steps.{same_id_at}
+use Rattle.op_flags.specs.op_form.Done.{Done, OfAccount, Move}
 use Rattle.op_laws.specs.Laws.{IsCovered, IsLawful}
 use Rattle.op_laws.specs.Moves.{gained, issued, AreTold}
-use Rattle.legal_rules.specs.Supply.{lumens_at}
+use Rattle.op_flags.specs.legal_rules.Supply.{lumens_at}
 use Rattle.op_laws.specs.Underway.{IsUnderway, AreDrawn, KeepsTerms}
 use Rattle.op_laws.proofs.Lumens.{nothing_issued}
-use Rattle.legal_rules.proofs.Legality.{entries_legal, owing_of}
-use Rattle.legal_rules.specs.Holdings.{IsKeyed, Increase, none_more, HoldsMore}
-use Rattle.legal_rules.proofs.Holdings.{lumens_there}
-use Rattle.legal_rules.specs.Holdings.{IsAfter, IsCoveredBy}
-use Rattle.legal_rules.proofs.Leaving.{Leaves}
+use Rattle.op_flags.proofs.legal_rules_proofs.Legality.{entries_legal, owing_of}
+use Rattle.op_flags.specs.legal_rules.Holdings.{IsKeyed, Increase, none_more, HoldsMore}
+use Rattle.op_flags.proofs.legal_rules_proofs.Holdings.{lumens_there}
+use Rattle.op_flags.specs.legal_rules.Holdings.{IsAfter, IsCoveredBy}
+use Rattle.op_flags.proofs.legal_rules_proofs.Leaving.{Leaves}
 use Rattle.op_payment.proofs.Shifts.{ShiftsLegal}
 use Rattle.op_laws.proofs.Told.{Tells, told_by, tells_nothing}
 

@@ -48,3 +48,12 @@ pub mod PlacedOffers
 pub mod OffersBeside
 pub mod CrossedBook
 pub mod FollowedBook
+pub use Rattle.op_flags.proofs.legal_rules_proofs
+pub use Rattle.op_offers.proofs.offer_exchange_proofs
+pub use Rattle.op_offers.proofs as op_offers_proofs
+pub use Rattle.op_payment.proofs as op_payment_proofs
+pub use Rattle.op_pool.proofs as op_pool_proofs
+pub use Rattle.op_pool.proofs.pool_math_proofs
+pub use Rattle.op_flags.proofs.pool_shares_proofs
+pub use Rattle.op_flags.proofs.sponsor_laws_proofs
+pub use Rattle.op_flags.proofs.trade_cross_proofs

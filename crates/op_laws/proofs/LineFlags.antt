@@ -3,31 +3,31 @@ use Rattle.std.proofs.Common.{◌≡◌, ◌≢◌, refl, sym, subst, ℕ, ◌%�
 use Rattle.std.proofs.Common.{not, ◌||◌, [], nat_lt, Option, Some, None}
 use Rattle.std.proofs.Common.{Ok, arith}
 use Rattle.std.specs.Prelude.{ℤ}
-use Rattle.ledger_types.specs.declared.ids.AccountId.{AccountId}
-use Rattle.ledger_types.specs.declared.asset.Asset.{Asset}
-use Rattle.ledger_types.specs.declared.asset.Asset.TheVariants as asset
-use Rattle.ledger_types.specs.declared.asset.TrustLineAsset.{TrustLineAsset}
-use Rattle.ledger_types.specs.declared.trust_line.TrustLineEntry.{TrustLineEntry}
-use Rattle.op_types.specs.declared.operation_result.OperationResult.{OperationResult}
-use Rattle.op_types.specs.declared.operation_result.OperationResult.TheVariants.{NoAccount}
-use Rattle.op_types.specs.declared.trust_results.AllowTrustResult.TheVariants as allow
-use Rattle.op_types.specs.declared.trust_results.SetTrustLineFlagsResult.TheVariants as set
-use Rattle.valid_values.specs.Assets.{is_valid_asset}
-use Rattle.entry_map.specs.EntryMap.{EntryMap}
-use Rattle.entry_slots.specs.Accounts.{account_at}
-use Rattle.entry_slots.specs.Lines.{line_at, with_line}
-use Rattle.entry_sums.specs.Sums.{total}
-use Rattle.sponsor_rules.specs.declared.context.Ctx.{Ctx}
-use Rattle.sponsor_rules.specs.Payers.{is_same_account}
-use Rattle.legal_rules.specs.Holdings.{IsKeyed, none_more}
-use Rattle.legal_rules.specs.Legal.{view}
-use Rattle.legal_rules.specs.Supply.{held as held_of}
-use Rattle.legal_rules.proofs.Leaving.{Leaves, leaves_itself, keeps_both}
-use Rattle.legal_rules.proofs.LinesLeft.{line_kept}
-use Rattle.legal_rules.proofs.Passed.{first_passed, neither}
-use Rattle.op_form.specs.Assets.{is_native, is_issued_by, line_asset_of, line_of_asset}
-use Rattle.op_form.specs.Done.{Done}
-use Rattle.op_form.specs.Steps.{success}
+use Rattle.op_flags.specs.ledger_types.declared.ids.AccountId.{AccountId}
+use Rattle.op_flags.specs.ledger_types.declared.asset.Asset.{Asset}
+use Rattle.op_flags.specs.ledger_types.declared.asset.Asset.TheVariants as asset
+use Rattle.op_flags.specs.ledger_types.declared.asset.TrustLineAsset.{TrustLineAsset}
+use Rattle.op_flags.specs.ledger_types.declared.trust_line.TrustLineEntry.{TrustLineEntry}
+use Rattle.op_flags.specs.op_types.declared.operation_result.OperationResult.{OperationResult}
+use Rattle.op_flags.specs.op_types.declared.operation_result.OperationResult.TheVariants.{NoAccount}
+use Rattle.op_flags.specs.op_types.declared.trust_results.AllowTrustResult.TheVariants as allow
+use Rattle.op_flags.specs.op_types.declared.trust_results.SetTrustLineFlagsResult.TheVariants as set
+use Rattle.op_flags.specs.valid_values.Assets.{is_valid_asset}
+use Rattle.op_flags.specs.entry_map.EntryMap.{EntryMap}
+use Rattle.op_flags.specs.entry_slots.Accounts.{account_at}
+use Rattle.op_flags.specs.entry_slots.Lines.{line_at, with_line}
+use Rattle.op_flags.specs.entry_sums.Sums.{total}
+use Rattle.op_flags.specs.sponsor_rules.declared.context.Ctx.{Ctx}
+use Rattle.op_flags.specs.sponsor_rules.Payers.{is_same_account}
+use Rattle.op_flags.specs.legal_rules.Holdings.{IsKeyed, none_more}
+use Rattle.op_flags.specs.legal_rules.Legal.{view}
+use Rattle.op_flags.specs.legal_rules.Supply.{held as held_of}
+use Rattle.op_flags.proofs.legal_rules_proofs.Leaving.{Leaves, leaves_itself, keeps_both}
+use Rattle.op_flags.proofs.legal_rules_proofs.LinesLeft.{line_kept}
+use Rattle.op_flags.proofs.legal_rules_proofs.Passed.{first_passed, neither}
+use Rattle.op_flags.specs.op_form.Assets.{is_native, is_issued_by, line_asset_of, line_of_asset}
+use Rattle.op_flags.specs.op_form.Done.{Done}
+use Rattle.op_flags.specs.op_form.Steps.{success}
 use Rattle.op_flags.specs.LineFlags as flags
 use Rattle.op_flags.specs.AllowTrust as allowing
 use Rattle.op_flags.specs.SetTrustLineFlags as setting
@@ -39,8 +39,8 @@ use Rattle.op_flags.proofs.FlagTests.{allowed_fit, allowed_issued, set_fit}
 use Rattle.op_flags.specs.RevokedShares.{Revoked}
 use Rattle.op_laws.proofs.Parts.{IsPart, still_part, both_parts, lawful_part}
 use Rattle.op_laws.proofs.RevokedShares.{shares_part}
-use Rattle.pool_shares.proofs.Counted.{no_line_changed}
-use Rattle.legal_rules.proofs.Legality.{view_of, entries_legal, owing_of}
+use Rattle.op_flags.proofs.pool_shares_proofs.Counted.{no_line_changed}
+use Rattle.op_flags.proofs.legal_rules_proofs.Legality.{view_of, entries_legal, owing_of}
 use Rattle.op_flags.proofs.Went.{went_on, went_after, went_after_some}
 use Rattle.op_laws.proofs.TrustLines.{not_true}
 

@@ -4,29 +4,29 @@ use Rattle.std.proofs.lemmas.Bool.Decides.{Decides-int_eq}
 use Rattle.std.proofs.lemmas.Int.{ints}
 use Rattle.std.specs.Prelude.{ℤ, pos, int_lt, ◌+ℤ◌, ◌-ℤ◌, ◌≤ℤ◌, []}
 use Rattle.std.specs.Ordering.{int_eq}
-use Rattle.ledger_types.specs.declared.asset.TrustLineAsset.{TrustLineAsset}
-use Rattle.ledger_types.specs.declared.trust_line.TrustLineEntry.{TrustLineEntry}
-use Rattle.ledger_types.specs.declared.key.LedgerKey.{LedgerKey}
-use Rattle.op_types.specs.declared.trust_results.ChangeTrustResult.TheVariants as trust
-use Rattle.entry_map.specs.EntryMap.{EntryMap}
-use Rattle.entry_slots.specs.LineExtensions.{line_liabilities}
-use Rattle.entry_slots.specs.Lines.{line_at, with_line}
-use Rattle.reserve_rules.specs.Reserve.{greatest_i64, IsLineInRange}
-use Rattle.sponsor_rules.specs.declared.context.Ctx.{Ctx}
-use Rattle.legal_rules.specs.Books.{Kind, Shares}
-use Rattle.legal_rules.specs.ChangeLaws.{in_shares}
-use Rattle.legal_rules.specs.EntryKeys.{is_key, for_key}
-use Rattle.legal_rules.specs.Legal.{view}
-use Rattle.legal_rules.specs.Owing.{nothing_owed, plus, IsEntryLegal}
-use Rattle.legal_rules.specs.PoolShares.{pool_named}
-use Rattle.legal_rules.specs.Ranges.{IsTrustLineInRange}
-use Rattle.legal_rules.specs.Supply.{of_line}
-use Rattle.legal_rules.proofs.Changed.{line_changed}
-use Rattle.legal_rules.proofs.Holdings.{none_if}
-use Rattle.legal_rules.proofs.Liable.{int_same}
-use Rattle.legal_rules.proofs.LinesLeft.{line_legal, line_kept}
-use Rattle.legal_rules.proofs.Numbers.{kept_sum}
-use Rattle.legal_rules.proofs.Steps.{legal_as}
+use Rattle.op_flags.specs.ledger_types.declared.asset.TrustLineAsset.{TrustLineAsset}
+use Rattle.op_flags.specs.ledger_types.declared.trust_line.TrustLineEntry.{TrustLineEntry}
+use Rattle.op_flags.specs.ledger_types.declared.key.LedgerKey.{LedgerKey}
+use Rattle.op_flags.specs.op_types.declared.trust_results.ChangeTrustResult.TheVariants as trust
+use Rattle.op_flags.specs.entry_map.EntryMap.{EntryMap}
+use Rattle.op_flags.specs.entry_slots.LineExtensions.{line_liabilities}
+use Rattle.op_flags.specs.entry_slots.Lines.{line_at, with_line}
+use Rattle.op_pool.specs.reserve_rules.Reserve.{greatest_i64, IsLineInRange}
+use Rattle.op_flags.specs.sponsor_rules.declared.context.Ctx.{Ctx}
+use Rattle.op_flags.specs.legal_rules.Books.{Kind, Shares}
+use Rattle.op_flags.specs.legal_rules.ChangeLaws.{in_shares}
+use Rattle.op_flags.specs.legal_rules.EntryKeys.{is_key, for_key}
+use Rattle.op_flags.specs.legal_rules.Legal.{view}
+use Rattle.op_flags.specs.legal_rules.Owing.{nothing_owed, plus, IsEntryLegal}
+use Rattle.op_flags.specs.legal_rules.PoolShares.{pool_named}
+use Rattle.op_flags.specs.legal_rules.Ranges.{IsTrustLineInRange}
+use Rattle.op_flags.specs.legal_rules.Supply.{of_line}
+use Rattle.op_flags.proofs.legal_rules_proofs.Changed.{line_changed}
+use Rattle.op_flags.proofs.legal_rules_proofs.Holdings.{none_if}
+use Rattle.op_flags.proofs.legal_rules_proofs.Liable.{int_same}
+use Rattle.op_flags.proofs.legal_rules_proofs.LinesLeft.{line_legal, line_kept}
+use Rattle.op_flags.proofs.legal_rules_proofs.Numbers.{kept_sum}
+use Rattle.op_flags.proofs.legal_rules_proofs.Steps.{legal_as}
 use Rattle.op_trust.specs.ChangeTrust as spec
 use Rattle.op_laws.specs.Laws.{IsLawful}
 use Rattle.op_laws.specs.Underway.{IsUnderway}

@@ -3,13 +3,13 @@ use Rattle.std.proofs.Common.{◌≡◌, refl, ap, ◌∙◌, Bool, true, false,
 use Rattle.std.proofs.lemmas.Int.{ints}
 use Rattle.std.specs.Prelude.{ℤ, pos, neg_ℤ, ◌+ℤ◌, ◌-ℤ◌, if◌then◌else◌}
 use Rattle.std.specs.Ordering.{is_eq}
-use Rattle.ledger_types.specs.declared.ids.AccountId.{AccountId}
-use Rattle.ledger_types.specs.declared.asset.Asset.{Asset}
-use Rattle.ledger_types.specs.declared.asset.Asset.TheVariants as asset
-use Rattle.ledger_types.specs.KeyOrder.{asset_cmp}
-use Rattle.op_form.specs.Done.{OfAccount, Move}
+use Rattle.op_flags.specs.ledger_types.declared.ids.AccountId.{AccountId}
+use Rattle.op_flags.specs.ledger_types.declared.asset.Asset.{Asset}
+use Rattle.op_flags.specs.ledger_types.declared.asset.Asset.TheVariants as asset
+use Rattle.op_flags.specs.ledger_types.KeyOrder.{asset_cmp}
+use Rattle.op_flags.specs.op_form.Done.{OfAccount, Move}
 use Rattle.op_laws.specs.Moves.{is_holder, gained, issued, place_of}
-use Rattle.legal_rules.specs.Holdings.{none_more, both_more, for_one}
+use Rattle.op_flags.specs.legal_rules.Holdings.{none_more, both_more, for_one}
 use Rattle.op_laws.proofs.Told.{Tells, none_at, account_place, move_tells}
 
 -- an account gives another one lumens

@@ -4,53 +4,53 @@ use Rattle.std.proofs.Common.{is_some, length, nat_eq, Option, Some, None, Ok, a
 use Rattle.std.proofs.lemmas.Int.{ints}
 use Rattle.std.specs.Prelude.{ℤ, pos, neg_ℤ, ◌+ℤ◌, ◌≤ℤ◌}
 use Rattle.std.specs.FinMap.{get}
-use Rattle.ledger_types.specs.declared.ids.AccountId.{AccountId}
-use Rattle.ledger_types.specs.declared.asset.Asset.{Asset}
-use Rattle.ledger_types.specs.declared.data_entry.DataEntry.{DataEntry}
-use Rattle.ledger_types.specs.declared.account.AccountEntry.{AccountEntry}
-use Rattle.ledger_types.specs.declared.entry.LedgerEntry.{LedgerEntry}
-use Rattle.ledger_types.specs.declared.entry.LedgerEntryBody.{LedgerEntryBody}
-use Rattle.ledger_types.specs.declared.entry.LedgerEntryBody.TheVariants as body
-use Rattle.ledger_types.specs.declared.key.LedgerKey.{LedgerKey}
-use Rattle.ledger_types.specs.declared.key.LedgerKey.TheVariants as key
-use Rattle.ledger_types.specs.Keys.{key_of, key_of_body}
-use Rattle.valid_values.specs.Texts.{is_valid_text}
-use Rattle.entry_map.specs.EntryMap.{EntryMap, put, erase}
-use Rattle.entry_slots.specs.Accounts.{account_at, HasAccount}
-use Rattle.entry_slots.specs.DataEntries.{data_in, data_of, data_at, with_data, with_data_in, with_data_of}
-use Rattle.entry_slots.specs.EntrySponsor.{sponsor_of}
-use Rattle.entry_sums.specs.Sums.{part}
-use Rattle.sponsor_rules.specs.declared.context.Ctx.{Ctx}
-use Rattle.sponsor_rules.specs.Adding.{map_after_adding}
-use Rattle.sponsor_rules.specs.Paying.{without_subentry}
-use Rattle.sponsor_rules.specs.Removing.{map_after_discounting, map_after_removing, map_after_removing_entry}
-use Rattle.legal_rules.specs.EntryKeys.{is_key}
-use Rattle.legal_rules.specs.Books.{Kind, Subentries, Sponsoring, Sponsored, View}
-use Rattle.legal_rules.specs.Legal.{view}
-use Rattle.legal_rules.specs.Owing.{weight, weighed, nothing_owed, beside_reserves, IsEntryLegal, IsLegalOwing}
-use Rattle.legal_rules.specs.Ranges.{IsDataInRange}
-use Rattle.legal_rules.specs.Supply.{held, held_in}
-use Rattle.legal_rules.proofs.Given.{sponsors_ready}
-use Rattle.legal_rules.proofs.Kept.{subentry_added_so}
-use Rattle.legal_rules.proofs.Numbers.{plus_nothing, nothing_less, kept_sum}
-use Rattle.legal_rules.proofs.PaidFor.{nothing_settled}
-use Rattle.legal_rules.proofs.Removing.{subentry_removed, owns}
-use Rattle.legal_rules.proofs.Steps.{legal_as, replace_legal}
-use Rattle.legal_rules.proofs.Subentries.{subentry_of}
-use Rattle.op_types.specs.declared.account_results.ManageDataResult.TheVariants as manage
-use Rattle.op_form.specs.Done.{Done}
-use Rattle.op_form.specs.Steps.{success}
+use Rattle.op_flags.specs.ledger_types.declared.ids.AccountId.{AccountId}
+use Rattle.op_flags.specs.ledger_types.declared.asset.Asset.{Asset}
+use Rattle.op_flags.specs.ledger_types.declared.data_entry.DataEntry.{DataEntry}
+use Rattle.op_flags.specs.ledger_types.declared.account.AccountEntry.{AccountEntry}
+use Rattle.op_flags.specs.ledger_types.declared.entry.LedgerEntry.{LedgerEntry}
+use Rattle.op_flags.specs.ledger_types.declared.entry.LedgerEntryBody.{LedgerEntryBody}
+use Rattle.op_flags.specs.ledger_types.declared.entry.LedgerEntryBody.TheVariants as body
+use Rattle.op_flags.specs.ledger_types.declared.key.LedgerKey.{LedgerKey}
+use Rattle.op_flags.specs.ledger_types.declared.key.LedgerKey.TheVariants as key
+use Rattle.op_flags.specs.ledger_types.Keys.{key_of, key_of_body}
+use Rattle.op_flags.specs.valid_values.Texts.{is_valid_text}
+use Rattle.op_flags.specs.entry_map.EntryMap.{EntryMap, put, erase}
+use Rattle.op_flags.specs.entry_slots.Accounts.{account_at, HasAccount}
+use Rattle.op_flags.specs.entry_slots.DataEntries.{data_in, data_of, data_at, with_data, with_data_in, with_data_of}
+use Rattle.op_flags.specs.entry_slots.EntrySponsor.{sponsor_of}
+use Rattle.op_flags.specs.entry_sums.Sums.{part}
+use Rattle.op_flags.specs.sponsor_rules.declared.context.Ctx.{Ctx}
+use Rattle.op_flags.specs.sponsor_rules.Adding.{map_after_adding}
+use Rattle.op_flags.specs.sponsor_rules.Paying.{without_subentry}
+use Rattle.op_flags.specs.sponsor_rules.Removing.{map_after_discounting, map_after_removing, map_after_removing_entry}
+use Rattle.op_flags.specs.legal_rules.EntryKeys.{is_key}
+use Rattle.op_flags.specs.legal_rules.Books.{Kind, Subentries, Sponsoring, Sponsored, View}
+use Rattle.op_flags.specs.legal_rules.Legal.{view}
+use Rattle.op_flags.specs.legal_rules.Owing.{weight, weighed, nothing_owed, beside_reserves, IsEntryLegal, IsLegalOwing}
+use Rattle.op_flags.specs.legal_rules.Ranges.{IsDataInRange}
+use Rattle.op_flags.specs.legal_rules.Supply.{held, held_in}
+use Rattle.op_flags.proofs.legal_rules_proofs.Given.{sponsors_ready}
+use Rattle.op_flags.proofs.legal_rules_proofs.Kept.{subentry_added_so}
+use Rattle.op_flags.proofs.legal_rules_proofs.Numbers.{plus_nothing, nothing_less, kept_sum}
+use Rattle.op_flags.proofs.legal_rules_proofs.PaidFor.{nothing_settled}
+use Rattle.op_flags.proofs.legal_rules_proofs.Removing.{subentry_removed, owns}
+use Rattle.op_flags.proofs.legal_rules_proofs.Steps.{legal_as, replace_legal}
+use Rattle.op_flags.proofs.legal_rules_proofs.Subentries.{subentry_of}
+use Rattle.op_flags.specs.op_types.declared.account_results.ManageDataResult.TheVariants as manage
+use Rattle.op_flags.specs.op_form.Done.{Done}
+use Rattle.op_flags.specs.op_form.Steps.{success}
 use Rattle.op_options.specs.ManageData.{answer, name_tests, new_data, with_value, removed, added, valued, managed}
 use Rattle.op_options.specs.ManageData.{manage_data}
 use Rattle.op_laws.specs.Laws.{IsLawful, AreLawful}
 use Rattle.op_laws.specs.Underway.{IsUnderway}
-use Rattle.legal_rules.proofs.ChargesLeft.{subentry_kept, discharged_kept, erased_kept, put_beside}
+use Rattle.op_flags.proofs.legal_rules_proofs.ChargesLeft.{subentry_kept, discharged_kept, erased_kept, put_beside}
 use Rattle.op_laws.proofs.Lawful.{KeepsLegal, lawful_still}
-use Rattle.legal_rules.specs.Holdings.{IsKeyed, none_more}
-use Rattle.legal_rules.proofs.Holdings.{put_same}
-use Rattle.legal_rules.proofs.Leaving.{Leaves, keeps_both, accounts_kept, keyed_put}
+use Rattle.op_flags.specs.legal_rules.Holdings.{IsKeyed, none_more}
+use Rattle.op_flags.proofs.legal_rules_proofs.Holdings.{put_same}
+use Rattle.op_flags.proofs.legal_rules_proofs.Leaving.{Leaves, keeps_both, accounts_kept, keyed_put}
 use Rattle.op_flags.proofs.Went.{went_on, went_after_charge}
-use Rattle.legal_rules.proofs.Passed.{first_passed, neither}
+use Rattle.op_flags.proofs.legal_rules_proofs.Passed.{first_passed, neither}
 
 -- ---- the entry of data
 

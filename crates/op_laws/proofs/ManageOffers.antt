@@ -4,33 +4,33 @@ use Rattle.std.proofs.Common.{Ok, Err, arith}
 use Rattle.std.specs.Prelude.{ℤ, pos, if◌then◌else◌, ◌+◌}
 use Rattle.std.specs.FinMap.{get}
 use Rattle.std.specs.Ordering.{int_eq}
-use Rattle.ledger_types.specs.declared.ids.AccountId.{AccountId}
-use Rattle.ledger_types.specs.declared.asset.Asset.TheVariants as asset
-use Rattle.ledger_types.specs.declared.offer.OfferEntry.{OfferEntry}
-use Rattle.ledger_types.specs.declared.entry.LedgerEntry.{LedgerEntry}
-use Rattle.ledger_types.specs.declared.entry.LedgerEntryBody.{LedgerEntryBody}
-use Rattle.ledger_types.specs.declared.entry.LedgerEntryBody.TheVariants as body
-use Rattle.ledger_types.specs.declared.key.LedgerKey.TheVariants as key
-use Rattle.ledger_types.specs.Keys.{key_of_body}
-use Rattle.op_types.specs.declared.offer_ops.ManageSellOfferOp.{ManageSellOfferOp}
-use Rattle.op_types.specs.declared.offer_ops.CreatePassiveSellOfferOp.{CreatePassiveSellOfferOp}
-use Rattle.op_types.specs.declared.offer_ops.ManageBuyOfferOp.{ManageBuyOfferOp}
-use Rattle.op_types.specs.declared.offer_results.ManageOfferEffect.TheVariants as effect
-use Rattle.op_types.specs.declared.operation.OperationBody.TheVariants as operation
-use Rattle.entry_map.specs.EntryMap.{EntryMap}
-use Rattle.entry_slots.specs.Accounts.{HasAccount}
-use Rattle.entry_sums.specs.Sums.{total}
-use Rattle.sponsor_rules.specs.declared.context.Ctx.{Ctx}
-use Rattle.sponsor_rules.specs.declared.fault.AddFault.{AddFault}
-use Rattle.sponsor_rules.specs.Adding.{map_after_counting_subentry}
-use Rattle.legal_rules.specs.Legal.{view}
-use Rattle.legal_rules.specs.Sponsorships.{IsSponsorReady}
-use Rattle.legal_rules.specs.Supply.{held}
-use Rattle.legal_rules.specs.Trades.{holder}
-use Rattle.legal_rules.proofs.Given.{sponsors_ready}
-use Rattle.trade_cross.specs.Cancelling.{map_after_cancelling}
-use Rattle.trade_cross.specs.Crossing.{offer_key}
-use Rattle.op_form.specs.Done.{Done, OfAccount}
+use Rattle.op_flags.specs.ledger_types.declared.ids.AccountId.{AccountId}
+use Rattle.op_flags.specs.ledger_types.declared.asset.Asset.TheVariants as asset
+use Rattle.op_flags.specs.ledger_types.declared.offer.OfferEntry.{OfferEntry}
+use Rattle.op_flags.specs.ledger_types.declared.entry.LedgerEntry.{LedgerEntry}
+use Rattle.op_flags.specs.ledger_types.declared.entry.LedgerEntryBody.{LedgerEntryBody}
+use Rattle.op_flags.specs.ledger_types.declared.entry.LedgerEntryBody.TheVariants as body
+use Rattle.op_flags.specs.ledger_types.declared.key.LedgerKey.TheVariants as key
+use Rattle.op_flags.specs.ledger_types.Keys.{key_of_body}
+use Rattle.op_flags.specs.op_types.declared.offer_ops.ManageSellOfferOp.{ManageSellOfferOp}
+use Rattle.op_flags.specs.op_types.declared.offer_ops.CreatePassiveSellOfferOp.{CreatePassiveSellOfferOp}
+use Rattle.op_flags.specs.op_types.declared.offer_ops.ManageBuyOfferOp.{ManageBuyOfferOp}
+use Rattle.op_flags.specs.op_types.declared.offer_results.ManageOfferEffect.TheVariants as effect
+use Rattle.op_flags.specs.op_types.declared.operation.OperationBody.TheVariants as operation
+use Rattle.op_flags.specs.entry_map.EntryMap.{EntryMap}
+use Rattle.op_flags.specs.entry_slots.Accounts.{HasAccount}
+use Rattle.op_flags.specs.entry_sums.Sums.{total}
+use Rattle.op_flags.specs.sponsor_rules.declared.context.Ctx.{Ctx}
+use Rattle.op_flags.specs.sponsor_rules.declared.fault.AddFault.{AddFault}
+use Rattle.op_flags.specs.sponsor_rules.Adding.{map_after_counting_subentry}
+use Rattle.op_flags.specs.legal_rules.Legal.{view}
+use Rattle.op_flags.specs.legal_rules.Sponsorships.{IsSponsorReady}
+use Rattle.op_flags.specs.legal_rules.Supply.{held}
+use Rattle.op_flags.specs.legal_rules.Trades.{holder}
+use Rattle.op_flags.proofs.legal_rules_proofs.Given.{sponsors_ready}
+use Rattle.op_flags.specs.trade_cross.Cancelling.{map_after_cancelling}
+use Rattle.op_flags.specs.trade_cross.Crossing.{offer_key}
+use Rattle.op_flags.specs.op_form.Done.{Done, OfAccount}
 use Rattle.op_offers.specs.declared.answers.Kind.TheVariants as kind
 use Rattle.op_offers.specs.declared.ask.Ask.{Ask}
 use Rattle.op_offers.specs.declared.fault.OfferFault.{OfferFault}
@@ -39,7 +39,7 @@ use Rattle.op_offers.specs.Asked.{ask_to_sell, ask_passively, ask_to_buy, is_mal
 use Rattle.op_offers.specs.Managing.{Effect, Made, Changed, Managed, Removed, drawn, of_sold, unless_some, unless_lines}
 use Rattle.op_offers.specs.Managing.{sell_fault, buy_fault, with_reserve, new_asked, made, old_asked, changed}
 use Rattle.op_offers.specs.Managing.{managed_old, managed_at, managed}
-use Rattle.op_form.specs.AtomMoves.{moves_of}
+use Rattle.op_flags.specs.op_form.AtomMoves.{moves_of}
 use Rattle.op_offers.specs.Operations.{Answer, answer_of, success_answer, effect_of, attempt_of_managed}
 use Rattle.op_offers.specs.Operations.{attempt_of}
 use Rattle.op_offers.specs.Selling.{Asked, Sold, sold, map_without_offer}

@@ -10,72 +10,72 @@ use Rattle.std.proofs.lemmas.List.Sums.{position_or_len_is}
 use Rattle.std.specs.Prelude.{ℤ, pos, neg_ℤ, int_le, ◌+ℤ◌, ◌≤ℤ◌, if◌then◌else◌}
 use Rattle.std.specs.List.{list_any}
 use Rattle.std.specs.Ordering.{is_eq}
-use Rattle.ledger_types.specs.declared.ids.AccountId.{AccountId}
-use Rattle.ledger_types.specs.declared.asset.Asset.{Asset}
-use Rattle.ledger_types.specs.declared.asset.Asset.TheVariants as asset
-use Rattle.ledger_types.specs.declared.account.AccountEntry.{AccountEntry}
-use Rattle.ledger_types.specs.declared.key.LedgerKey.TheVariants as key
-use Rattle.ledger_types.specs.declared.signer.Signer.{Signer}
-use Rattle.ledger_types.specs.Ids.{account_of}
-use Rattle.ledger_types.specs.KeyOrder.{asset_cmp, signer_key_cmp}
-use Rattle.entry_map.specs.EntryMap.{EntryMap, erase}
-use Rattle.entry_slots.specs.Accounts.{account_of as account_in_entry, account_at, with_account}
-use Rattle.entry_slots.specs.AccountExtensions.{num_sponsoring, signer_sponsor}
-use Rattle.entry_slots.specs.EntrySponsor.{sponsor_of}
-use Rattle.entry_slots.specs.Tests.{Tests}
-use Rattle.entry_sums.specs.Sums.{part}
-use Rattle.entry_sums.proofs.Lookups.{erase_there}
-use Rattle.sponsor_rules.specs.declared.context.Ctx.{Ctx}
-use Rattle.sponsor_rules.specs.declared.context.Sponsorship.{Sponsorship}
-use Rattle.sponsor_rules.specs.declared.count.Count.TheVariants as count
-use Rattle.sponsor_rules.specs.Charge.{charge_of}
-use Rattle.sponsor_rules.specs.Counting.{count_in, with_less}
-use Rattle.sponsor_rules.specs.Paying.{map_after_releasing, without_subentry}
-use Rattle.sponsor_rules.specs.Payers.{is_same_account}
-use Rattle.sponsor_rules.specs.Removing.{map_without_charge, map_after_removing, map_after_removing_entry}
-use Rattle.sponsor_rules.specs.SignerPlace.{place_of, found_at, found_signer}
-use Rattle.sponsor_rules.specs.Signers.{without_counted_signer, map_without_signer, map_after_removing_signer}
-use Rattle.sponsor_rules.proofs.Ids.{same_account, apart_accounts}
-use Rattle.sponsor_rules.proofs.Keeping.{with_count_is, with_count_keeps, counts_edited}
-use Rattle.sponsor_laws.proofs.Accounts.{with_count-keeps}
-use Rattle.legal_rules.specs.Books.{View}
-use Rattle.legal_rules.specs.Legal.{view}
-use Rattle.legal_rules.specs.Owing.{nothing_owed, IsLegalOwing}
-use Rattle.legal_rules.specs.Sponsorships.{AreSponsorshipsSound}
-use Rattle.legal_rules.specs.Supply.{held, held_in, lumens_of}
-use Rattle.legal_rules.proofs.Bounded.{account_legal}
-use Rattle.legal_rules.proofs.Merging.{removed_account}
-use Rattle.legal_rules.proofs.PaidFor.{nothing_settled}
-use Rattle.legal_rules.proofs.Places.{account_after, account_elsewhere}
-use Rattle.legal_rules.proofs.SignersKept.{counts_sponsoring, paid_by_other, signer_removed}
-use Rattle.legal_rules.proofs.Steps.{account_entry, legal_as}
-use Rattle.op_types.specs.declared.account_ops.AccountMergeOp.{AccountMergeOp}
-use Rattle.op_types.specs.declared.account_results.AccountMergeResult.TheVariants as merge
-use Rattle.op_types.specs.declared.operation_result.OperationResult.{OperationResult}
-use Rattle.op_types.specs.declared.operation_result.OperationResult.TheVariants.{NoAccount}
+use Rattle.op_flags.specs.ledger_types.declared.ids.AccountId.{AccountId}
+use Rattle.op_flags.specs.ledger_types.declared.asset.Asset.{Asset}
+use Rattle.op_flags.specs.ledger_types.declared.asset.Asset.TheVariants as asset
+use Rattle.op_flags.specs.ledger_types.declared.account.AccountEntry.{AccountEntry}
+use Rattle.op_flags.specs.ledger_types.declared.key.LedgerKey.TheVariants as key
+use Rattle.op_flags.specs.ledger_types.declared.signer.Signer.{Signer}
+use Rattle.op_flags.specs.ledger_types.Ids.{account_of}
+use Rattle.op_flags.specs.ledger_types.KeyOrder.{asset_cmp, signer_key_cmp}
+use Rattle.op_flags.specs.entry_map.EntryMap.{EntryMap, erase}
+use Rattle.op_flags.specs.entry_slots.Accounts.{account_of as account_in_entry, account_at, with_account}
+use Rattle.op_flags.specs.entry_slots.AccountExtensions.{num_sponsoring, signer_sponsor}
+use Rattle.op_flags.specs.entry_slots.EntrySponsor.{sponsor_of}
+use Rattle.op_flags.specs.entry_slots.Tests.{Tests}
+use Rattle.op_flags.specs.entry_sums.Sums.{part}
+use Rattle.op_flags.proofs.entry_sums_proofs.Lookups.{erase_there}
+use Rattle.op_flags.specs.sponsor_rules.declared.context.Ctx.{Ctx}
+use Rattle.op_flags.specs.sponsor_rules.declared.context.Sponsorship.{Sponsorship}
+use Rattle.op_flags.specs.sponsor_rules.declared.count.Count.TheVariants as count
+use Rattle.op_flags.specs.sponsor_rules.Charge.{charge_of}
+use Rattle.op_flags.specs.sponsor_rules.Counting.{count_in, with_less}
+use Rattle.op_flags.specs.sponsor_rules.Paying.{map_after_releasing, without_subentry}
+use Rattle.op_flags.specs.sponsor_rules.Payers.{is_same_account}
+use Rattle.op_flags.specs.sponsor_rules.Removing.{map_without_charge, map_after_removing, map_after_removing_entry}
+use Rattle.op_flags.specs.sponsor_rules.SignerPlace.{place_of, found_at, found_signer}
+use Rattle.op_flags.specs.sponsor_rules.Signers.{without_counted_signer, map_without_signer, map_after_removing_signer}
+use Rattle.op_flags.proofs.sponsor_rules_proofs.Ids.{same_account, apart_accounts}
+use Rattle.op_flags.proofs.sponsor_rules_proofs.Keeping.{with_count_is, with_count_keeps, counts_edited}
+use Rattle.op_flags.proofs.sponsor_laws_proofs.Accounts.{with_count-keeps}
+use Rattle.op_flags.specs.legal_rules.Books.{View}
+use Rattle.op_flags.specs.legal_rules.Legal.{view}
+use Rattle.op_flags.specs.legal_rules.Owing.{nothing_owed, IsLegalOwing}
+use Rattle.op_flags.specs.legal_rules.Sponsorships.{AreSponsorshipsSound}
+use Rattle.op_flags.specs.legal_rules.Supply.{held, held_in, lumens_of}
+use Rattle.op_flags.proofs.legal_rules_proofs.Bounded.{account_legal}
+use Rattle.op_flags.proofs.legal_rules_proofs.Merging.{removed_account}
+use Rattle.op_flags.proofs.legal_rules_proofs.PaidFor.{nothing_settled}
+use Rattle.op_flags.proofs.legal_rules_proofs.Places.{account_after, account_elsewhere}
+use Rattle.op_flags.proofs.legal_rules_proofs.SignersKept.{counts_sponsoring, paid_by_other, signer_removed}
+use Rattle.op_flags.proofs.legal_rules_proofs.Steps.{account_entry, legal_as}
+use Rattle.op_flags.specs.op_types.declared.account_ops.AccountMergeOp.{AccountMergeOp}
+use Rattle.op_flags.specs.op_types.declared.account_results.AccountMergeResult.TheVariants as merge
+use Rattle.op_flags.specs.op_types.declared.operation_result.OperationResult.{OperationResult}
+use Rattle.op_flags.specs.op_types.declared.operation_result.OperationResult.TheVariants.{NoAccount}
 use Rattle.op_account.specs.AccountMerge.{answer, destination_tests, source_tests, map_without_signers}
 use Rattle.op_account.specs.AccountMerge.{map_without_account, taken_and_removed, merge_of, account_merge}
-use Rattle.op_form.specs.Done.{Done}
-use Rattle.op_form.specs.Lumens.{with_more_lumens, map_after_lumens_credit}
-use Rattle.op_form.specs.Sequences.{first_seq}
-use Rattle.op_form.specs.Sponsorships.{is_open_sponsor}
-use Rattle.op_form.specs.Steps.{unless_refused}
+use Rattle.op_flags.specs.op_form.Done.{Done}
+use Rattle.op_flags.specs.op_form.Lumens.{with_more_lumens, map_after_lumens_credit}
+use Rattle.op_flags.specs.op_form.Sequences.{first_seq}
+use Rattle.op_flags.specs.op_form.Sponsorships.{is_open_sponsor}
+use Rattle.op_flags.specs.op_form.Steps.{unless_refused}
 use Rattle.op_laws.specs.Laws.{IsLawful, AreLawful}
 use Rattle.op_laws.specs.Underway.{IsUnderway}
-use Rattle.legal_rules.proofs.ChargesLeft.{releasing_kept, erase_beside}
+use Rattle.op_flags.proofs.legal_rules_proofs.ChargesLeft.{releasing_kept, erase_beside}
 use Rattle.op_laws.proofs.Lawful.{KeepsLegal, AreEachAfter, terms_kept, lawful_by}
 use Rattle.op_laws.proofs.Lumens.{lumens_move, lumens_told, none_issued}
 use Rattle.op_payment.proofs.Paying.{IsTaken, taken, taken_legal, taken_left}
-use Rattle.legal_rules.proofs.ReservesLeft.{pays_less}
+use Rattle.op_flags.proofs.legal_rules_proofs.ReservesLeft.{pays_less}
 use Rattle.op_laws.proofs.Signers.{signer_kept, without_means}
 use Rattle.op_laws.proofs.SetOptions.{is_its_key}
-use Rattle.legal_rules.specs.Holdings.{IsKeyed, none_more, both_more, for_one, HoldsMore}
-use Rattle.legal_rules.proofs.Holdings.{none_before, holds_both}
-use Rattle.legal_rules.proofs.Holdings.{holds_as, still_holds, erase_holds, cancelled}
-use Rattle.legal_rules.specs.Holdings.{IsAfter}
-use Rattle.legal_rules.proofs.Leaving.{Leaves, leaves_itself, leaves_both, keeps_both}
+use Rattle.op_flags.specs.legal_rules.Holdings.{IsKeyed, none_more, both_more, for_one, HoldsMore}
+use Rattle.op_flags.proofs.legal_rules_proofs.Holdings.{none_before, holds_both}
+use Rattle.op_flags.proofs.legal_rules_proofs.Holdings.{holds_as, still_holds, erase_holds, cancelled}
+use Rattle.op_flags.specs.legal_rules.Holdings.{IsAfter}
+use Rattle.op_flags.proofs.legal_rules_proofs.Leaving.{Leaves, leaves_itself, leaves_both, keeps_both}
 use Rattle.op_flags.proofs.Went.{went_on, went_after_some}
-use Rattle.legal_rules.proofs.Passed.{first_passed, neither}
+use Rattle.op_flags.proofs.legal_rules_proofs.Passed.{first_passed, neither}
 
 -- ---- an account without its first signer
 

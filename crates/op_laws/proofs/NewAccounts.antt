@@ -5,65 +5,65 @@ use Rattle.std.proofs.lemmas.Int.{ints}
 use Rattle.std.specs.Prelude.{ℤ, pos, neg_ℤ, int_lt, ◌+ℤ◌, ◌-ℤ◌, ◌*ℤ◌, ◌≤ℤ◌}
 use Rattle.std.specs.FinMap.{get}
 use Rattle.std.specs.Ordering.{is_eq, is_lt, int_cmp}
-use Rattle.ledger_types.specs.declared.ids.AccountId.{AccountId}
-use Rattle.ledger_types.specs.declared.asset.Asset.{Asset}
-use Rattle.ledger_types.specs.declared.asset.Asset.TheVariants as asset
-use Rattle.ledger_types.specs.declared.account.AccountEntry.{AccountEntry}
-use Rattle.ledger_types.specs.declared.price.Liabilities.{Liabilities}
-use Rattle.valid_values.specs.Texts.{is_valid_text}
-use Rattle.entry_sums.specs.Sums.{total, part}
-use Rattle.legal_rules.specs.Ranges.{has_flag}
-use Rattle.ledger_types.specs.declared.entry.LedgerEntry.{LedgerEntry}
-use Rattle.ledger_types.specs.declared.entry.LedgerEntryBody.{LedgerEntryBody}
-use Rattle.ledger_types.specs.declared.entry.LedgerEntryBody.TheVariants as body
-use Rattle.ledger_types.specs.declared.key.LedgerKey.TheVariants as key
-use Rattle.ledger_types.specs.Keys.{key_of, key_of_body}
-use Rattle.ledger_types.specs.KeyOrder.{asset_cmp}
-use Rattle.entry_map.specs.EntryMap.{EntryMap, put}
-use Rattle.entry_slots.specs.Accounts.{account_in, account_of, account_at, HasAccount}
-use Rattle.entry_slots.specs.AccountExtensions.{account_liabilities}
-use Rattle.entry_sums.proofs.Lookups.{put_there, put_elsewhere}
-use Rattle.reserve_rules.specs.Reserve.{available, greatest_i64}
-use Rattle.sponsor_rules.specs.declared.context.Ctx.{Ctx}
-use Rattle.sponsor_rules.specs.declared.count.Count.TheVariants as count
-use Rattle.sponsor_rules.specs.declared.fault.AddFault.TheVariants.{LowReserve}
-use Rattle.sponsor_rules.specs.Adding.{own_tests, sponsored_account_entry, map_after_adding_account, map_after_adding}
-use Rattle.sponsor_rules.specs.Counting.{with_more}
-use Rattle.sponsor_rules.specs.Paying.{map_after_charging}
-use Rattle.sponsor_rules.specs.Payers.{is_same_account, open_sponsor, payer_tests_at}
-use Rattle.sponsor_rules.proofs.Ids.{same_account, apart_accounts}
-use Rattle.legal_rules.specs.Legal.{view}
-use Rattle.legal_rules.specs.Owing.{nothing_owed, IsEntryLegal}
-use Rattle.legal_rules.specs.Sponsorships.{IsSponsorReady}
-use Rattle.legal_rules.specs.Supply.{held, held_in, lumens_of}
-use Rattle.legal_rules.proofs.Bounded.{account_legal}
-use Rattle.legal_rules.proofs.Covered.{not_above_balance}
-use Rattle.legal_rules.proofs.Given.{sponsors_ready}
-use Rattle.legal_rules.proofs.Kept.{account_added_so}
-use Rattle.legal_rules.proofs.Places.{absent_after}
-use Rattle.legal_rules.proofs.Steps.{legal_as}
-use Rattle.op_types.specs.declared.account_ops.CreateAccountOp.{CreateAccountOp}
-use Rattle.op_types.specs.declared.operation_result.OperationResult.{OperationResult}
-use Rattle.op_types.specs.declared.payment_results.CreateAccountResult.TheVariants as create
+use Rattle.op_flags.specs.ledger_types.declared.ids.AccountId.{AccountId}
+use Rattle.op_flags.specs.ledger_types.declared.asset.Asset.{Asset}
+use Rattle.op_flags.specs.ledger_types.declared.asset.Asset.TheVariants as asset
+use Rattle.op_flags.specs.ledger_types.declared.account.AccountEntry.{AccountEntry}
+use Rattle.op_flags.specs.ledger_types.declared.price.Liabilities.{Liabilities}
+use Rattle.op_flags.specs.valid_values.Texts.{is_valid_text}
+use Rattle.op_flags.specs.entry_sums.Sums.{total, part}
+use Rattle.op_flags.specs.legal_rules.Ranges.{has_flag}
+use Rattle.op_flags.specs.ledger_types.declared.entry.LedgerEntry.{LedgerEntry}
+use Rattle.op_flags.specs.ledger_types.declared.entry.LedgerEntryBody.{LedgerEntryBody}
+use Rattle.op_flags.specs.ledger_types.declared.entry.LedgerEntryBody.TheVariants as body
+use Rattle.op_flags.specs.ledger_types.declared.key.LedgerKey.TheVariants as key
+use Rattle.op_flags.specs.ledger_types.Keys.{key_of, key_of_body}
+use Rattle.op_flags.specs.ledger_types.KeyOrder.{asset_cmp}
+use Rattle.op_flags.specs.entry_map.EntryMap.{EntryMap, put}
+use Rattle.op_flags.specs.entry_slots.Accounts.{account_in, account_of, account_at, HasAccount}
+use Rattle.op_flags.specs.entry_slots.AccountExtensions.{account_liabilities}
+use Rattle.op_flags.proofs.entry_sums_proofs.Lookups.{put_there, put_elsewhere}
+use Rattle.op_pool.specs.reserve_rules.Reserve.{available, greatest_i64}
+use Rattle.op_flags.specs.sponsor_rules.declared.context.Ctx.{Ctx}
+use Rattle.op_flags.specs.sponsor_rules.declared.count.Count.TheVariants as count
+use Rattle.op_flags.specs.sponsor_rules.declared.fault.AddFault.TheVariants.{LowReserve}
+use Rattle.op_flags.specs.sponsor_rules.Adding.{own_tests, sponsored_account_entry, map_after_adding_account, map_after_adding}
+use Rattle.op_flags.specs.sponsor_rules.Counting.{with_more}
+use Rattle.op_flags.specs.sponsor_rules.Paying.{map_after_charging}
+use Rattle.op_flags.specs.sponsor_rules.Payers.{is_same_account, open_sponsor, payer_tests_at}
+use Rattle.op_flags.proofs.sponsor_rules_proofs.Ids.{same_account, apart_accounts}
+use Rattle.op_flags.specs.legal_rules.Legal.{view}
+use Rattle.op_flags.specs.legal_rules.Owing.{nothing_owed, IsEntryLegal}
+use Rattle.op_flags.specs.legal_rules.Sponsorships.{IsSponsorReady}
+use Rattle.op_flags.specs.legal_rules.Supply.{held, held_in, lumens_of}
+use Rattle.op_flags.proofs.legal_rules_proofs.Bounded.{account_legal}
+use Rattle.op_flags.proofs.legal_rules_proofs.Covered.{not_above_balance}
+use Rattle.op_flags.proofs.legal_rules_proofs.Given.{sponsors_ready}
+use Rattle.op_flags.proofs.legal_rules_proofs.Kept.{account_added_so}
+use Rattle.op_flags.proofs.legal_rules_proofs.Places.{absent_after}
+use Rattle.op_flags.proofs.legal_rules_proofs.Steps.{legal_as}
+use Rattle.op_flags.specs.op_types.declared.account_ops.CreateAccountOp.{CreateAccountOp}
+use Rattle.op_flags.specs.op_types.declared.operation_result.OperationResult.{OperationResult}
+use Rattle.op_flags.specs.op_types.declared.payment_results.CreateAccountResult.TheVariants as create
 use Rattle.op_account.specs.CreateAccount.{answer, new_account, new_entry, start_tests, added_and_paid}
 use Rattle.op_account.specs.CreateAccount.{create_account}
-use Rattle.op_form.specs.Done.{Done}
-use Rattle.op_form.specs.Lumens.{map_after_lumens_debit}
-use Rattle.entry_slots.specs.Tests.{Tests}
+use Rattle.op_flags.specs.op_form.Done.{Done}
+use Rattle.op_flags.specs.op_form.Lumens.{map_after_lumens_debit}
+use Rattle.op_flags.specs.entry_slots.Tests.{Tests}
 use Rattle.op_laws.specs.Laws.{IsLawful, AreLawful}
 use Rattle.op_laws.specs.Underway.{IsUnderway}
-use Rattle.legal_rules.proofs.ChargesLeft.{payers_had, charging_kept, IsChargedFrom, charged_at}
+use Rattle.op_flags.proofs.legal_rules_proofs.ChargesLeft.{payers_had, charging_kept, IsChargedFrom, charged_at}
 use Rattle.op_laws.proofs.Lawful.{KeepsLegal, lawful_here}
 use Rattle.op_laws.proofs.Lumens.{lumens_move, lumens_told, none_issued}
-use Rattle.legal_rules.proofs.Multiples.{still_available}
+use Rattle.op_flags.proofs.legal_rules_proofs.Multiples.{still_available}
 use Rattle.op_payment.proofs.Paying.{IsGiven, not_less, given, given_legal, given_left, given_back}
-use Rattle.legal_rules.proofs.ReservesLeft.{reserves_of, pays_more, paid_more}
-use Rattle.legal_rules.specs.Holdings.{IsKeyed, none_more, both_more, under_key, for_one, HoldsMore}
-use Rattle.legal_rules.proofs.Holdings.{none_before}
-use Rattle.legal_rules.proofs.Holdings.{put_holds}
-use Rattle.legal_rules.specs.Holdings.{IsAfter}
-use Rattle.legal_rules.proofs.Leaving.{Leaves, is_itself_after, leaves_both, leaves_as, keyed_put}
-use Rattle.legal_rules.proofs.Passed.{passed, first_passed, neither}
+use Rattle.op_flags.proofs.legal_rules_proofs.ReservesLeft.{reserves_of, pays_more, paid_more}
+use Rattle.op_flags.specs.legal_rules.Holdings.{IsKeyed, none_more, both_more, under_key, for_one, HoldsMore}
+use Rattle.op_flags.proofs.legal_rules_proofs.Holdings.{none_before}
+use Rattle.op_flags.proofs.legal_rules_proofs.Holdings.{put_holds}
+use Rattle.op_flags.specs.legal_rules.Holdings.{IsAfter}
+use Rattle.op_flags.proofs.legal_rules_proofs.Leaving.{Leaves, is_itself_after, leaves_both, leaves_as, keyed_put}
+use Rattle.op_flags.proofs.legal_rules_proofs.Passed.{passed, first_passed, neither}
 use Rattle.op_flags.proofs.Went.{went_on, went_after_some, went_after_charge}
 
 -- ---- where no account stands

@@ -8,27 +8,27 @@ use Rattle.std.proofs.lemmas.List.Kept.{AllPairs-cons}
 use Rattle.std.specs.Prelude.{ℤ, pos, int_lt, int_le, ◌+ℤ◌, ◌≤ℤ◌, All, if◌then◌else◌}
 use Rattle.std.specs.FinMap.{get}
 use Rattle.std.specs.List.{AllPairs}
-use Rattle.ledger_types.specs.declared.ids.ClaimableBalanceId.{ClaimableBalanceId}
-use Rattle.ledger_types.specs.declared.claimable_balance.Claimant.{Claimant}
-use Rattle.ledger_types.specs.declared.claimable_balance.ClaimableBalanceEntry.{ClaimableBalanceEntry}
-use Rattle.ledger_types.specs.declared.predicate.ClaimPredicate.{ClaimPredicate}
-use Rattle.ledger_types.specs.declared.predicate.ClaimPredicate.TheViews.{out-ClaimPredicate}
-use Rattle.ledger_types.specs.declared.predicate.ClaimPredicate.TheViews.{out-roll-ClaimPredicate}
-use Rattle.ledger_types.specs.declared.predicate.ClaimPredicate.TheOpen.{ClaimPredicate-F}
-use Rattle.ledger_types.specs.declared.entry.LedgerEntry.{LedgerEntry}
-use Rattle.ledger_types.specs.declared.entry.LedgerEntryBody.{LedgerEntryBody}
-use Rattle.ledger_types.specs.declared.entry.LedgerEntryBody.TheVariants as body
-use Rattle.ledger_types.specs.declared.key.LedgerKey.TheVariants as key
-use Rattle.valid_values.specs.Predicates.{is_valid_below, is_valid_level, is_valid_predicate, is_valid_stored_predicate}
-use Rattle.entry_map.specs.EntryMap.{EntryMap}
-use Rattle.entry_slots.specs.Balances.{balance_in, balance_of, balance_at}
-use Rattle.reserve_rules.specs.Reserve.{greatest_i64}
-use Rattle.sponsor_rules.specs.Payers.{is_same_account}
-use Rattle.sponsor_rules.proofs.Ids.{is_itself}
-use Rattle.legal_rules.specs.Ranges.{AreClaimantsInRange}
+use Rattle.op_flags.specs.ledger_types.declared.ids.ClaimableBalanceId.{ClaimableBalanceId}
+use Rattle.op_flags.specs.ledger_types.declared.claimable_balance.Claimant.{Claimant}
+use Rattle.op_flags.specs.ledger_types.declared.claimable_balance.ClaimableBalanceEntry.{ClaimableBalanceEntry}
+use Rattle.op_flags.specs.ledger_types.declared.predicate.ClaimPredicate.{ClaimPredicate}
+use Rattle.op_flags.specs.ledger_types.declared.predicate.ClaimPredicate.TheViews.{out-ClaimPredicate}
+use Rattle.op_flags.specs.ledger_types.declared.predicate.ClaimPredicate.TheViews.{out-roll-ClaimPredicate}
+use Rattle.op_flags.specs.ledger_types.declared.predicate.ClaimPredicate.TheOpen.{ClaimPredicate-F}
+use Rattle.op_flags.specs.ledger_types.declared.entry.LedgerEntry.{LedgerEntry}
+use Rattle.op_flags.specs.ledger_types.declared.entry.LedgerEntryBody.{LedgerEntryBody}
+use Rattle.op_flags.specs.ledger_types.declared.entry.LedgerEntryBody.TheVariants as body
+use Rattle.op_flags.specs.ledger_types.declared.key.LedgerKey.TheVariants as key
+use Rattle.op_flags.specs.valid_values.Predicates.{is_valid_below, is_valid_level, is_valid_predicate, is_valid_stored_predicate}
+use Rattle.op_flags.specs.entry_map.EntryMap.{EntryMap}
+use Rattle.op_flags.specs.entry_slots.Balances.{balance_in, balance_of, balance_at}
+use Rattle.op_pool.specs.reserve_rules.Reserve.{greatest_i64}
+use Rattle.op_flags.specs.sponsor_rules.Payers.{is_same_account}
+use Rattle.op_flags.proofs.sponsor_rules_proofs.Ids.{is_itself}
+use Rattle.op_flags.specs.legal_rules.Ranges.{AreClaimantsInRange}
 use Rattle.op_claim.specs.Predicates.{fixed_level, fixed_below, fixed_claimant, time_after}
 use Rattle.op_claim.specs.CreateClaimableBalance as spec
-use Rattle.legal_rules.proofs.Passed.{neither}
+use Rattle.op_flags.proofs.legal_rules_proofs.Passed.{neither}
 use Rattle.op_laws.proofs.TrustLines.{not_true}
 
 -- ---- predicates

@@ -5,44 +5,44 @@ use Rattle.std.proofs.lemmas.Int.{ints}
 use Rattle.std.proofs.lemmas.List.Elements.{All-nil, All-cons, All-append}
 use Rattle.std.specs.Prelude.{ℤ, pos, ◌≤ℤ◌}
 use Rattle.std.specs.FinMap.{get}
-use Rattle.ledger_types.specs.declared.ids.AccountId.{AccountId}
-use Rattle.ledger_types.specs.declared.ids.Hash.{Hash}
-use Rattle.ledger_types.specs.declared.asset.Asset.{Asset}
-use Rattle.ledger_types.specs.declared.asset.Asset.TheVariants as asset
-use Rattle.ledger_types.specs.declared.asset.PoolParams.{PoolParams}
-use Rattle.ledger_types.specs.declared.asset.TrustLineAsset.{TrustLineAsset}
-use Rattle.ledger_types.specs.declared.asset.TrustLineAsset.TheVariants as line
-use Rattle.ledger_types.specs.declared.entry.LedgerEntry.{LedgerEntry}
-use Rattle.ledger_types.specs.declared.key.LedgerKey.{LedgerKey}
-use Rattle.ledger_types.specs.declared.key.LedgerKey.TheVariants as key
-use Rattle.op_types.specs.declared.trust_results.ChangeTrustResult.TheVariants as trust
-use Rattle.entry_map.specs.EntryMap.{EntryMap}
-use Rattle.entry_slots.specs.Accounts.{HasAccount}
-use Rattle.entry_slots.specs.Lines.{line_of, line_at}
-use Rattle.entry_slots.specs.Pools.{pool_at}
-use Rattle.entry_slots.specs.Tests.{first_fault}
-use Rattle.entry_sums.specs.Sums.{part}
-use Rattle.reserve_rules.specs.Reserve.{greatest_i64}
-use Rattle.sponsor_rules.specs.declared.context.Ctx.{Ctx}
-use Rattle.sponsor_rules.specs.Adding.{map_after_adding}
-use Rattle.sponsor_rules.specs.Payers.{is_same_account}
-use Rattle.legal_rules.specs.Books.{View}
-use Rattle.legal_rules.specs.Holdings.{none_more}
-use Rattle.legal_rules.specs.Legal.{pools_in}
-use Rattle.legal_rules.specs.Needs.{keys_in}
-use Rattle.legal_rules.specs.Owing.{nothing_owed, IsEntryLegal, IsLegalOwing}
-use Rattle.legal_rules.specs.PoolShares.{needed_line}
-use Rattle.legal_rules.specs.ShareLaws.{share_line, map_with_share_lines, HasNeededLines}
-use Rattle.legal_rules.specs.Sponsorships.{IsSponsorReady}
-use Rattle.legal_rules.specs.Supply.{held}
-use Rattle.legal_rules.proofs.ChargesLeft.{subentry_kept}
-use Rattle.legal_rules.proofs.Given.{sponsors_ready}
-use Rattle.legal_rules.proofs.Leaving.{Leaves, keeps_both}
-use Rattle.legal_rules.proofs.ShareLinesKept.{share_line_counted}
-use Rattle.pool_shares.specs.ShareLines.{map_with_pool}
-use Rattle.pool_shares.proofs.Counted.{counts_left}
-use Rattle.pool_shares.proofs.Gone.{IsLegalNow, as_it_stands}
-use Rattle.op_form.specs.Done.{Done}
+use Rattle.op_flags.specs.ledger_types.declared.ids.AccountId.{AccountId}
+use Rattle.op_flags.specs.ledger_types.declared.ids.Hash.{Hash}
+use Rattle.op_flags.specs.ledger_types.declared.asset.Asset.{Asset}
+use Rattle.op_flags.specs.ledger_types.declared.asset.Asset.TheVariants as asset
+use Rattle.op_flags.specs.ledger_types.declared.asset.PoolParams.{PoolParams}
+use Rattle.op_flags.specs.ledger_types.declared.asset.TrustLineAsset.{TrustLineAsset}
+use Rattle.op_flags.specs.ledger_types.declared.asset.TrustLineAsset.TheVariants as line
+use Rattle.op_flags.specs.ledger_types.declared.entry.LedgerEntry.{LedgerEntry}
+use Rattle.op_flags.specs.ledger_types.declared.key.LedgerKey.{LedgerKey}
+use Rattle.op_flags.specs.ledger_types.declared.key.LedgerKey.TheVariants as key
+use Rattle.op_flags.specs.op_types.declared.trust_results.ChangeTrustResult.TheVariants as trust
+use Rattle.op_flags.specs.entry_map.EntryMap.{EntryMap}
+use Rattle.op_flags.specs.entry_slots.Accounts.{HasAccount}
+use Rattle.op_flags.specs.entry_slots.Lines.{line_of, line_at}
+use Rattle.op_flags.specs.entry_slots.Pools.{pool_at}
+use Rattle.op_flags.specs.entry_slots.Tests.{first_fault}
+use Rattle.op_flags.specs.entry_sums.Sums.{part}
+use Rattle.op_pool.specs.reserve_rules.Reserve.{greatest_i64}
+use Rattle.op_flags.specs.sponsor_rules.declared.context.Ctx.{Ctx}
+use Rattle.op_flags.specs.sponsor_rules.Adding.{map_after_adding}
+use Rattle.op_flags.specs.sponsor_rules.Payers.{is_same_account}
+use Rattle.op_flags.specs.legal_rules.Books.{View}
+use Rattle.op_flags.specs.legal_rules.Holdings.{none_more}
+use Rattle.op_flags.specs.legal_rules.Legal.{pools_in}
+use Rattle.op_flags.specs.legal_rules.Needs.{keys_in}
+use Rattle.op_flags.specs.legal_rules.Owing.{nothing_owed, IsEntryLegal, IsLegalOwing}
+use Rattle.op_flags.specs.legal_rules.PoolShares.{needed_line}
+use Rattle.op_flags.specs.legal_rules.ShareLaws.{share_line, map_with_share_lines, HasNeededLines}
+use Rattle.op_flags.specs.legal_rules.Sponsorships.{IsSponsorReady}
+use Rattle.op_flags.specs.legal_rules.Supply.{held}
+use Rattle.op_flags.proofs.legal_rules_proofs.ChargesLeft.{subentry_kept}
+use Rattle.op_flags.proofs.legal_rules_proofs.Given.{sponsors_ready}
+use Rattle.op_flags.proofs.legal_rules_proofs.Leaving.{Leaves, keeps_both}
+use Rattle.op_flags.proofs.legal_rules_proofs.ShareLinesKept.{share_line_counted}
+use Rattle.op_flags.specs.pool_shares.ShareLines.{map_with_pool}
+use Rattle.op_flags.proofs.pool_shares_proofs.Counted.{counts_left}
+use Rattle.op_flags.proofs.pool_shares_proofs.Gone.{IsLegalNow, as_it_stands}
+use Rattle.op_flags.specs.op_form.Done.{Done}
 use Rattle.op_trust.specs.ChangeTrust.{answer}
 use Rattle.op_trust.specs.ShareTrust as spec
 use Rattle.op_flags.proofs.Went.{went_after_charge}

@@ -7,22 +7,22 @@ use Rattle.std.specs.declared.cmp.Ordering.TheVariants.{Equal}
 use Rattle.std.specs.Ordering.{eq_by_cmp}
 use Rattle.std.specs.FinMap.{get, entries, entries_sorted, get-entries}
 use Rattle.std.specs.FinMap.Entries.{find, where_key, find-where_key, is_sorted-where_key, same_entries}
-use Rattle.ledger_types.specs.declared.ids.AccountId.{AccountId}
-use Rattle.ledger_types.specs.declared.offer.OfferEntry.{OfferEntry}
-use Rattle.ledger_types.specs.declared.entry.LedgerEntry.{LedgerEntry}
-use Rattle.ledger_types.specs.declared.entry.LedgerEntryBody.{LedgerEntryBody}
-use Rattle.ledger_types.specs.declared.entry.LedgerEntryBody.TheVariants as body
-use Rattle.ledger_types.specs.declared.key.LedgerKey.{LedgerKey}
-use Rattle.ledger_types.specs.declared.key.LedgerKey.TheVariants as key
-use Rattle.ledger_types.specs.Keys.{key_of_body}
-use Rattle.ledger_types.specs.KeyOrder.{key_cmp}
-use Rattle.ledger_types.proofs.KeyOrdering.{keys_total, keys_exact}
-use Rattle.entry_map.specs.EntryMap.{EntryMap, IsKeyed, erase}
-use Rattle.entry_map.specs.Book.{offer_in, offers_in, offers_of}
-use Rattle.entry_map.specs.Indexes.{is_of_offer}
-use Rattle.entry_sums.proofs.Lookups.{erase_get}
-use Rattle.offer_book.proofs.Selling.{IsOwn, all_own}
-use Rattle.trade_cross.specs.Crossing.{offer_key}
+use Rattle.op_flags.specs.ledger_types.declared.ids.AccountId.{AccountId}
+use Rattle.op_flags.specs.ledger_types.declared.offer.OfferEntry.{OfferEntry}
+use Rattle.op_flags.specs.ledger_types.declared.entry.LedgerEntry.{LedgerEntry}
+use Rattle.op_flags.specs.ledger_types.declared.entry.LedgerEntryBody.{LedgerEntryBody}
+use Rattle.op_flags.specs.ledger_types.declared.entry.LedgerEntryBody.TheVariants as body
+use Rattle.op_flags.specs.ledger_types.declared.key.LedgerKey.{LedgerKey}
+use Rattle.op_flags.specs.ledger_types.declared.key.LedgerKey.TheVariants as key
+use Rattle.op_flags.specs.ledger_types.Keys.{key_of_body}
+use Rattle.op_flags.specs.ledger_types.KeyOrder.{key_cmp}
+use Rattle.op_flags.proofs.ledger_types_proofs.KeyOrdering.{keys_total, keys_exact}
+use Rattle.op_flags.specs.entry_map.EntryMap.{EntryMap, IsKeyed, erase}
+use Rattle.op_flags.specs.entry_map.Book.{offer_in, offers_in, offers_of}
+use Rattle.op_flags.specs.entry_map.Indexes.{is_of_offer}
+use Rattle.op_flags.proofs.entry_sums_proofs.Lookups.{erase_get}
+use Rattle.op_flags.proofs.offer_book_proofs.Selling.{IsOwn, all_own}
+use Rattle.op_flags.specs.trade_cross.Crossing.{offer_key}
 
 abbrev Pairs : Type 0
 Pairs = List (LedgerKey × LedgerEntry)

@@ -4,44 +4,44 @@ use Rattle.std.proofs.Common.{cond, Option, Some, None}
 use Rattle.std.specs.FinMap.{get}
 use Rattle.std.specs.Ordering.{eq_by_cmp}
 use Rattle.std.specs.Prelude.{unsigned_abs}
-use Rattle.ledger_types.specs.declared.ids.AccountId.{AccountId}
-use Rattle.ledger_types.specs.declared.asset.Asset.{Asset}
-use Rattle.ledger_types.specs.declared.account.AccountEntry.{AccountEntry}
-use Rattle.ledger_types.specs.declared.offer.OfferEntry.{OfferEntry}
-use Rattle.ledger_types.specs.declared.entry.LedgerEntry.{LedgerEntry}
-use Rattle.ledger_types.specs.declared.key.LedgerKey.TheVariants as key
-use Rattle.ledger_types.specs.KeyOrder.{key_cmp}
-use Rattle.entry_map.specs.EntryMap.{EntryMap, put}
-use Rattle.entry_slots.specs.Accounts.{account_at, with_account}
-use Rattle.entry_slots.specs.EntrySponsor.{sponsor_of}
-use Rattle.entry_slots.specs.Offers.{offer_of, offer_at, with_offer}
-use Rattle.entry_sums.proofs.Lookups.{erase_get, put_get}
-use Rattle.offer_exchange.specs.declared.rounding.Rounding.{Rounding}
-use Rattle.offer_exchange.specs.Exchange.{Amounts, Bounds, exchanged, wheat_stays}
-use Rattle.sponsor_rules.specs.declared.count.Count.TheVariants as count
-use Rattle.sponsor_rules.specs.Counting.{with_less}
-use Rattle.sponsor_rules.specs.Paying.{map_after_releasing, without_subentry}
-use Rattle.sponsor_rules.specs.Removing.{map_after_removing, map_after_removing_entry}
-use Rattle.legal_rules.specs.Binding.{acquiring, releasing, binding}
-use Rattle.legal_rules.specs.Books.{View}
-use Rattle.legal_rules.specs.Holdings.{IsKeyed}
-use Rattle.legal_rules.specs.OfferLiabilities.{bound_of}
-use Rattle.legal_rules.specs.OneMore.{IsOwedRightly}
-use Rattle.legal_rules.specs.Owing.{Owed, IsLegalOwing}
-use Rattle.legal_rules.specs.Trades.{holder}
-use Rattle.legal_rules.proofs.ChargesLeft.{releasing_kept}
-use Rattle.legal_rules.proofs.Leaving.{no_account_changed, keyed_put}
-use Rattle.legal_rules.proofs.OffersKept.{offer_entry, with_offer_body, with_offer_is, IsOfferEntry}
-use Rattle.legal_rules.proofs.Places.{kept_elsewhere}
-use Rattle.legal_rules.proofs.ReservesLeft.{pays_less, no_subentry_means}
-use Rattle.trade_cross.specs.Crossing.{Left, seller_gives_at, seller_takes_at, map_after_trade, offer_key, meeting}
-use Rattle.trade_cross.specs.Crossing.{amount_at, with_amount, map_after_rest, step_by, step}
-use Rattle.trade_cross.specs.Plans.{giving_change, taking_change}
-use Rattle.trade_cross.proofs.Altering.{AreApart, altered_opt, opt_keyed, opt_elsewhere}
-use Rattle.trade_cross.proofs.Changing.{changed_entry, changed_keeps, bound_entry, bound_keeps, bound_altered}
-use Rattle.trade_cross.proofs.Once.{gone_altered}
-use Rattle.trade_cross.proofs.Passing.{IsOwnKey, holder_own}
-use Rattle.trade_cross.proofs.StepIs.{apart}
+use Rattle.op_flags.specs.ledger_types.declared.ids.AccountId.{AccountId}
+use Rattle.op_flags.specs.ledger_types.declared.asset.Asset.{Asset}
+use Rattle.op_flags.specs.ledger_types.declared.account.AccountEntry.{AccountEntry}
+use Rattle.op_flags.specs.ledger_types.declared.offer.OfferEntry.{OfferEntry}
+use Rattle.op_flags.specs.ledger_types.declared.entry.LedgerEntry.{LedgerEntry}
+use Rattle.op_flags.specs.ledger_types.declared.key.LedgerKey.TheVariants as key
+use Rattle.op_flags.specs.ledger_types.KeyOrder.{key_cmp}
+use Rattle.op_flags.specs.entry_map.EntryMap.{EntryMap, put}
+use Rattle.op_flags.specs.entry_slots.Accounts.{account_at, with_account}
+use Rattle.op_flags.specs.entry_slots.EntrySponsor.{sponsor_of}
+use Rattle.op_flags.specs.entry_slots.Offers.{offer_of, offer_at, with_offer}
+use Rattle.op_flags.proofs.entry_sums_proofs.Lookups.{erase_get, put_get}
+use Rattle.op_offers.specs.offer_exchange.declared.rounding.Rounding.{Rounding}
+use Rattle.op_offers.specs.offer_exchange.Exchange.{Amounts, Bounds, exchanged, wheat_stays}
+use Rattle.op_flags.specs.sponsor_rules.declared.count.Count.TheVariants as count
+use Rattle.op_flags.specs.sponsor_rules.Counting.{with_less}
+use Rattle.op_flags.specs.sponsor_rules.Paying.{map_after_releasing, without_subentry}
+use Rattle.op_flags.specs.sponsor_rules.Removing.{map_after_removing, map_after_removing_entry}
+use Rattle.op_flags.specs.legal_rules.Binding.{acquiring, releasing, binding}
+use Rattle.op_flags.specs.legal_rules.Books.{View}
+use Rattle.op_flags.specs.legal_rules.Holdings.{IsKeyed}
+use Rattle.op_flags.specs.legal_rules.OfferLiabilities.{bound_of}
+use Rattle.op_flags.specs.legal_rules.OneMore.{IsOwedRightly}
+use Rattle.op_flags.specs.legal_rules.Owing.{Owed, IsLegalOwing}
+use Rattle.op_flags.specs.legal_rules.Trades.{holder}
+use Rattle.op_flags.proofs.legal_rules_proofs.ChargesLeft.{releasing_kept}
+use Rattle.op_flags.proofs.legal_rules_proofs.Leaving.{no_account_changed, keyed_put}
+use Rattle.op_flags.proofs.legal_rules_proofs.OffersKept.{offer_entry, with_offer_body, with_offer_is, IsOfferEntry}
+use Rattle.op_flags.proofs.legal_rules_proofs.Places.{kept_elsewhere}
+use Rattle.op_flags.proofs.legal_rules_proofs.ReservesLeft.{pays_less, no_subentry_means}
+use Rattle.op_flags.specs.trade_cross.Crossing.{Left, seller_gives_at, seller_takes_at, map_after_trade, offer_key, meeting}
+use Rattle.op_flags.specs.trade_cross.Crossing.{amount_at, with_amount, map_after_rest, step_by, step}
+use Rattle.op_flags.specs.trade_cross.Plans.{giving_change, taking_change}
+use Rattle.op_flags.proofs.trade_cross_proofs.Altering.{AreApart, altered_opt, opt_keyed, opt_elsewhere}
+use Rattle.op_flags.proofs.trade_cross_proofs.Changing.{changed_entry, changed_keeps, bound_entry, bound_keeps, bound_altered}
+use Rattle.op_flags.proofs.trade_cross_proofs.Once.{gone_altered}
+use Rattle.op_flags.proofs.trade_cross_proofs.Passing.{IsOwnKey, holder_own}
+use Rattle.op_flags.proofs.trade_cross_proofs.StepIs.{apart}
 use Rattle.op_laws.proofs.OfferLists.{IsGone, IsReplaced}
 
 -- what stands under the keys of offers is as before

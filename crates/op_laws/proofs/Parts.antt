@@ -2,23 +2,23 @@
 use Rattle.std.proofs.Common.{◌≡◌, refl, ◌∙◌, ℕ, List, [], ◌++◌, arith}
 use Rattle.std.proofs.lemmas.Int.{ints}
 use Rattle.std.specs.Prelude.{ℤ, ◌+ℤ◌}
-use Rattle.ledger_types.specs.declared.asset.Asset.{Asset}
-use Rattle.ledger_types.specs.declared.asset.Asset.TheVariants as asset
-use Rattle.op_types.specs.declared.operation_result.OperationResult.{OperationResult}
-use Rattle.entry_map.specs.EntryMap.{EntryMap}
-use Rattle.entry_sums.specs.Sums.{total}
-use Rattle.sponsor_rules.specs.declared.context.Ctx.{Ctx}
-use Rattle.legal_rules.specs.Books.{View}
-use Rattle.legal_rules.specs.Holdings.{Increase, none_more, both_more}
-use Rattle.legal_rules.specs.Legal.{view}
-use Rattle.legal_rules.specs.Owing.{nothing_owed, IsLegalOwing, AreEntriesLegal}
-use Rattle.legal_rules.specs.Supply.{held}
-use Rattle.legal_rules.proofs.Holdings.{nothing_more}
-use Rattle.legal_rules.proofs.Leaving.{Leaves, leaves_itself, leaves_both}
-use Rattle.legal_rules.proofs.Legality.{view_of, entries_legal, owing_of}
-use Rattle.legal_rules.proofs.Steps.{same_id_at}
-use Rattle.pool_shares.proofs.Gone.{IsLegalNow}
-use Rattle.op_form.specs.Done.{Move}
+use Rattle.op_flags.specs.ledger_types.declared.asset.Asset.{Asset}
+use Rattle.op_flags.specs.ledger_types.declared.asset.Asset.TheVariants as asset
+use Rattle.op_flags.specs.op_types.declared.operation_result.OperationResult.{OperationResult}
+use Rattle.op_flags.specs.entry_map.EntryMap.{EntryMap}
+use Rattle.op_flags.specs.entry_sums.Sums.{total}
+use Rattle.op_flags.specs.sponsor_rules.declared.context.Ctx.{Ctx}
+use Rattle.op_flags.specs.legal_rules.Books.{View}
+use Rattle.op_flags.specs.legal_rules.Holdings.{Increase, none_more, both_more}
+use Rattle.op_flags.specs.legal_rules.Legal.{view}
+use Rattle.op_flags.specs.legal_rules.Owing.{nothing_owed, IsLegalOwing, AreEntriesLegal}
+use Rattle.op_flags.specs.legal_rules.Supply.{held}
+use Rattle.op_flags.proofs.legal_rules_proofs.Holdings.{nothing_more}
+use Rattle.op_flags.proofs.legal_rules_proofs.Leaving.{Leaves, leaves_itself, leaves_both}
+use Rattle.op_flags.proofs.legal_rules_proofs.Legality.{view_of, entries_legal, owing_of}
+use Rattle.op_flags.proofs.legal_rules_proofs.Steps.{same_id_at}
+use Rattle.op_flags.proofs.pool_shares_proofs.Gone.{IsLegalNow}
+use Rattle.op_flags.specs.op_form.Done.{Move}
 use Rattle.op_laws.specs.Laws.{IsLawful}
 use Rattle.op_laws.specs.Moves.{issued}
 use Rattle.op_laws.specs.Underway.{IsUnderway}

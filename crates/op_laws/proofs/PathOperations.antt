@@ -3,20 +3,20 @@ use Rattle.std.proofs.Common.{◌≡◌, refl, sym, ap, subst, ◌∙◌, ℕ, �
 use Rattle.std.proofs.Common.{Result, arith}
 use Rattle.std.proofs.lemmas.Int.{ints}
 use Rattle.std.specs.Prelude.{ℤ, pos, neg_ℤ, ◌≤ℤ◌, int_le, unsigned_abs}
-use Rattle.ledger_types.specs.declared.ids.AccountId.{AccountId}
-use Rattle.ledger_types.specs.declared.claim_atom.ClaimAtom.{ClaimAtom}
-use Rattle.ledger_types.specs.Ids.{account_of}
-use Rattle.entry_map.specs.EntryMap.{EntryMap}
-use Rattle.op_types.specs.declared.payment_ops.PathPaymentStrictReceiveOp.{PathPaymentStrictReceiveOp}
-use Rattle.op_types.specs.declared.payment_ops.PathPaymentStrictSendOp.{PathPaymentStrictSendOp}
-use Rattle.sponsor_rules.specs.declared.context.Ctx.{Ctx}
-use Rattle.legal_rules.specs.Holdings.{none_more}
-use Rattle.legal_rules.proofs.Passed.{first_passed, neither}
-use Rattle.op_form.specs.Amounts.{map_after_credit, map_after_debit}
-use Rattle.op_form.specs.Done.{Done, Attempt}
+use Rattle.op_flags.specs.ledger_types.declared.ids.AccountId.{AccountId}
+use Rattle.op_flags.specs.ledger_types.declared.claim_atom.ClaimAtom.{ClaimAtom}
+use Rattle.op_flags.specs.ledger_types.Ids.{account_of}
+use Rattle.op_flags.specs.entry_map.EntryMap.{EntryMap}
+use Rattle.op_flags.specs.op_types.declared.payment_ops.PathPaymentStrictReceiveOp.{PathPaymentStrictReceiveOp}
+use Rattle.op_flags.specs.op_types.declared.payment_ops.PathPaymentStrictSendOp.{PathPaymentStrictSendOp}
+use Rattle.op_flags.specs.sponsor_rules.declared.context.Ctx.{Ctx}
+use Rattle.op_flags.specs.legal_rules.Holdings.{none_more}
+use Rattle.op_flags.proofs.legal_rules_proofs.Passed.{first_passed, neither}
+use Rattle.op_flags.specs.op_form.Amounts.{map_after_credit, map_after_debit}
+use Rattle.op_flags.specs.op_form.Done.{Done, Attempt}
 use Rattle.op_payment.specs.declared.path_fault.PathFault.{PathFault}
-use Rattle.op_types.specs.declared.payment_results.PathPaymentStrictReceiveResult.TheVariants as path
-use Rattle.op_types.specs.declared.payment_results.PathPaymentStrictSendResult.TheVariants as path_sent
+use Rattle.op_flags.specs.op_types.declared.payment_results.PathPaymentStrictReceiveResult.TheVariants as path
+use Rattle.op_flags.specs.op_types.declared.payment_results.PathPaymentStrictSendResult.TheVariants as path_sent
 use Rattle.op_payment.specs.PathPayment.{arrived, path_moves}
 use Rattle.op_payment.specs.Paths.{Carried, set_out, received, sent}
 use Rattle.op_payment.specs.PathReceive as receive

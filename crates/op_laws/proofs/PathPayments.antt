@@ -3,20 +3,20 @@ use Rattle.std.proofs.Common.{◌≡◌, sym, ap, ◌∙◌, ℕ, All, List, [],
 use Rattle.std.proofs.lemmas.Int.{ints}
 use Rattle.std.proofs.lemmas.List.Elements.{All-cons, All-nil, All-append}
 use Rattle.std.specs.Prelude.{ℤ, pos, neg_ℤ, ◌+ℤ◌, ◌-ℤ◌}
-use Rattle.ledger_types.specs.declared.ids.AccountId.{AccountId}
-use Rattle.ledger_types.specs.declared.asset.Asset.{Asset}
-use Rattle.ledger_types.specs.declared.claim_atom.ClaimAtom.{ClaimAtom}
-use Rattle.ledger_types.specs.declared.claim_atom.ClaimAtom.TheVariants as atom
-use Rattle.ledger_types.specs.declared.key.LedgerKey.{LedgerKey}
-use Rattle.entry_map.specs.EntryMap.{EntryMap}
-use Rattle.op_types.specs.declared.operation_result.OperationResult.{OperationResult}
-use Rattle.sponsor_rules.specs.declared.context.Ctx.{Ctx}
-use Rattle.legal_rules.specs.Holdings.{both_more}
-use Rattle.legal_rules.specs.Supply.{of_asset}
-use Rattle.legal_rules.proofs.Leaving.{Leaves, leaves_as, leaves_both}
-use Rattle.trade_cross.specs.CrossingLaws.{kept_in, more_in}
-use Rattle.op_form.specs.AtomMoves.{trade_moves, moves_of}
-use Rattle.op_form.specs.Done.{Holder, OfAccount, OfPool, Transit, Move}
+use Rattle.op_flags.specs.ledger_types.declared.ids.AccountId.{AccountId}
+use Rattle.op_flags.specs.ledger_types.declared.asset.Asset.{Asset}
+use Rattle.op_flags.specs.ledger_types.declared.claim_atom.ClaimAtom.{ClaimAtom}
+use Rattle.op_flags.specs.ledger_types.declared.claim_atom.ClaimAtom.TheVariants as atom
+use Rattle.op_flags.specs.ledger_types.declared.key.LedgerKey.{LedgerKey}
+use Rattle.op_flags.specs.entry_map.EntryMap.{EntryMap}
+use Rattle.op_flags.specs.op_types.declared.operation_result.OperationResult.{OperationResult}
+use Rattle.op_flags.specs.sponsor_rules.declared.context.Ctx.{Ctx}
+use Rattle.op_flags.specs.legal_rules.Holdings.{both_more}
+use Rattle.op_flags.specs.legal_rules.Supply.{of_asset}
+use Rattle.op_flags.proofs.legal_rules_proofs.Leaving.{Leaves, leaves_as, leaves_both}
+use Rattle.op_flags.specs.trade_cross.CrossingLaws.{kept_in, more_in}
+use Rattle.op_flags.specs.op_form.AtomMoves.{trade_moves, moves_of}
+use Rattle.op_flags.specs.op_form.Done.{Holder, OfAccount, OfPool, Transit, Move}
 use Rattle.op_payment.specs.PathPayment.{path_moves}
 use Rattle.op_payment.proofs.Amounts.{IsMoved}
 use Rattle.op_payment.proofs.Shifts.{ShiftsLegal, unless_issuer, shifts_as, shifts_both}

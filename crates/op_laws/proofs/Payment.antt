@@ -4,24 +4,24 @@ use Rattle.std.proofs.Common.{arith}
 use Rattle.std.proofs.lemmas.Int.{ints}
 use Rattle.std.specs.Prelude.{ℤ, pos, neg_ℤ, int_le, ◌+ℤ◌, ◌≤ℤ◌, if◌then◌else◌}
 use Rattle.std.specs.Ordering.{is_eq}
-use Rattle.ledger_types.specs.declared.ids.AccountId.{AccountId}
-use Rattle.ledger_types.specs.declared.asset.Asset.{Asset}
-use Rattle.ledger_types.specs.declared.asset.Asset.TheVariants as asset
-use Rattle.ledger_types.specs.Ids.{account_of}
-use Rattle.ledger_types.specs.KeyOrder.{asset_cmp}
-use Rattle.valid_values.specs.Assets.{is_valid_asset}
-use Rattle.entry_map.specs.EntryMap.{EntryMap}
-use Rattle.sponsor_rules.specs.declared.context.Ctx.{Ctx}
-use Rattle.sponsor_rules.specs.Payers.{is_same_account}
-use Rattle.sponsor_rules.proofs.Ids.{same_account}
-use Rattle.legal_rules.specs.Supply.{of_asset}
-use Rattle.op_types.specs.declared.payment_ops.PaymentOp.{PaymentOp}
-use Rattle.op_types.specs.declared.payment_results.PaymentResult.TheVariants as pay
-use Rattle.op_form.specs.Amounts.{map_after_credit, map_after_debit}
-use Rattle.op_form.specs.Assets.{is_native, is_issued_by}
-use Rattle.op_form.specs.Done.{Done, Move}
-use Rattle.op_form.specs.Done.{OfAccount}
-use Rattle.op_form.specs.Steps.{unless_refused}
+use Rattle.op_flags.specs.ledger_types.declared.ids.AccountId.{AccountId}
+use Rattle.op_flags.specs.ledger_types.declared.asset.Asset.{Asset}
+use Rattle.op_flags.specs.ledger_types.declared.asset.Asset.TheVariants as asset
+use Rattle.op_flags.specs.ledger_types.Ids.{account_of}
+use Rattle.op_flags.specs.ledger_types.KeyOrder.{asset_cmp}
+use Rattle.op_flags.specs.valid_values.Assets.{is_valid_asset}
+use Rattle.op_flags.specs.entry_map.EntryMap.{EntryMap}
+use Rattle.op_flags.specs.sponsor_rules.declared.context.Ctx.{Ctx}
+use Rattle.op_flags.specs.sponsor_rules.Payers.{is_same_account}
+use Rattle.op_flags.proofs.sponsor_rules_proofs.Ids.{same_account}
+use Rattle.op_flags.specs.legal_rules.Supply.{of_asset}
+use Rattle.op_flags.specs.op_types.declared.payment_ops.PaymentOp.{PaymentOp}
+use Rattle.op_flags.specs.op_types.declared.payment_results.PaymentResult.TheVariants as pay
+use Rattle.op_flags.specs.op_form.Amounts.{map_after_credit, map_after_debit}
+use Rattle.op_flags.specs.op_form.Assets.{is_native, is_issued_by}
+use Rattle.op_flags.specs.op_form.Done.{Done, Move}
+use Rattle.op_flags.specs.op_form.Done.{OfAccount}
+use Rattle.op_flags.specs.op_form.Steps.{unless_refused}
 use Rattle.op_payment.specs.Payment.{answer, credit_result, debit_result, destination_tests, is_to_itself, paid}
 use Rattle.op_payment.specs.Payment.{payment}
 use Rattle.op_payment.specs.Payment.{payment_move, payment_tests, taken_and_given}
@@ -33,11 +33,11 @@ use Rattle.op_laws.proofs.Amounts.{amount_taken, amount_given}
 use Rattle.op_laws.proofs.IssuedMoves.{same_issuer, issued_so, issued_by_move}
 use Rattle.op_laws.proofs.Lawful.{lawful_here, lawful_with, shifted_after}
 use Rattle.op_laws.proofs.Lumens.{lumens_move, itself_told, none_issued}
-use Rattle.legal_rules.specs.Holdings.{none_more}
-use Rattle.legal_rules.proofs.Leaving.{leaves_itself, leaves_both}
+use Rattle.op_flags.specs.legal_rules.Holdings.{none_more}
+use Rattle.op_flags.proofs.legal_rules_proofs.Leaving.{leaves_itself, leaves_both}
 use Rattle.op_laws.proofs.Told.{more_for, account_place, moved, move_tells}
 use Rattle.op_flags.proofs.Went.{went_on, went_after_step}
-use Rattle.legal_rules.proofs.Passed.{first_passed, neither}
+use Rattle.op_flags.proofs.legal_rules_proofs.Passed.{first_passed, neither}
 
 pub above : (n : ℤ) → int_le n (pos 0) ≡ false → pos 0 ≤ℤ n
 above n h = grind (arith, ints)

@@ -2,31 +2,31 @@
 use Rattle.std.proofs.Common.{◌≡◌, ◌≢◌, refl, sym, ◌∙◌, ℕ, [], Some, arith}
 use Rattle.std.proofs.lemmas.Int.{ints}
 use Rattle.std.specs.Prelude.{ℤ, pos, ◌+ℤ◌, ◌-ℤ◌, ◌≤ℤ◌}
-use Rattle.ledger_types.specs.declared.ids.AccountId.{AccountId}
-use Rattle.ledger_types.specs.declared.asset.Asset.{Asset}
-use Rattle.ledger_types.specs.declared.asset.Asset.TheVariants as asset
-use Rattle.ledger_types.specs.declared.account.AccountEntry.{AccountEntry}
-use Rattle.entry_map.specs.EntryMap.{EntryMap}
-use Rattle.entry_slots.specs.Accounts.{account_at}
-use Rattle.entry_sums.specs.Sums.{total}
-use Rattle.reserve_rules.specs.Reserve.{greatest_i64}
-use Rattle.legal_rules.specs.Books.{View}
-use Rattle.legal_rules.specs.Supply.{held, lumens_of}
-use Rattle.legal_rules.specs.Legal.{view}
-use Rattle.legal_rules.specs.Owing.{nothing_owed, IsLegalOwing}
-use Rattle.legal_rules.specs.Payments.{numbered, with_seq_num}
-use Rattle.legal_rules.specs.Ranges.{IsAccountInRange}
-use Rattle.legal_rules.proofs.Bounded.{account_legal}
-use Rattle.legal_rules.specs.ChangeLaws.{KeepsBooks}
-use Rattle.legal_rules.proofs.Changed.{account_changed}
-use Rattle.legal_rules.proofs.Legality.{view_of}
-use Rattle.legal_rules.proofs.Paid.{debit_legal}
-use Rattle.legal_rules.proofs.Steps.{legal_as}
+use Rattle.op_flags.specs.ledger_types.declared.ids.AccountId.{AccountId}
+use Rattle.op_flags.specs.ledger_types.declared.asset.Asset.{Asset}
+use Rattle.op_flags.specs.ledger_types.declared.asset.Asset.TheVariants as asset
+use Rattle.op_flags.specs.ledger_types.declared.account.AccountEntry.{AccountEntry}
+use Rattle.op_flags.specs.entry_map.EntryMap.{EntryMap}
+use Rattle.op_flags.specs.entry_slots.Accounts.{account_at}
+use Rattle.op_flags.specs.entry_sums.Sums.{total}
+use Rattle.op_pool.specs.reserve_rules.Reserve.{greatest_i64}
+use Rattle.op_flags.specs.legal_rules.Books.{View}
+use Rattle.op_flags.specs.legal_rules.Supply.{held, lumens_of}
+use Rattle.op_flags.specs.legal_rules.Legal.{view}
+use Rattle.op_flags.specs.legal_rules.Owing.{nothing_owed, IsLegalOwing}
+use Rattle.op_flags.specs.legal_rules.Payments.{numbered, with_seq_num}
+use Rattle.op_flags.specs.legal_rules.Ranges.{IsAccountInRange}
+use Rattle.op_flags.proofs.legal_rules_proofs.Bounded.{account_legal}
+use Rattle.op_flags.specs.legal_rules.ChangeLaws.{KeepsBooks}
+use Rattle.op_flags.proofs.legal_rules_proofs.Changed.{account_changed}
+use Rattle.op_flags.proofs.legal_rules_proofs.Legality.{view_of}
+use Rattle.op_flags.proofs.legal_rules_proofs.Paid.{debit_legal}
+use Rattle.op_flags.proofs.legal_rules_proofs.Steps.{legal_as}
 use Rattle.op_laws.specs.Steps.{FeesSettle, SeqNumsSettle}
-use Rattle.legal_rules.specs.Holdings.{none_more}
-use Rattle.legal_rules.proofs.Holdings.{account_same}
+use Rattle.op_flags.specs.legal_rules.Holdings.{none_more}
+use Rattle.op_flags.proofs.legal_rules_proofs.Holdings.{account_same}
 use Rattle.op_laws.proofs.Issued.{none_moved}
-use Rattle.legal_rules.proofs.Legality.{entries_legal, owing_of}
+use Rattle.op_flags.proofs.legal_rules_proofs.Legality.{entries_legal, owing_of}
 use Rattle.op_laws.proofs.Told.{told_by, tells_nothing}
 
 -- ---- fees

@@ -4,11 +4,11 @@ use Rattle.std.proofs.Common.{ℕ, List, [], ◌∷◌, Some}
 use Rattle.std.proofs.lemmas.List.Elements.{All-nil, All-cons, All-head, All-tail, All-weaker, All-filter}
 use Rattle.std.specs.List.{filter}
 use Rattle.std.specs.Prelude.{if◌then◌else◌}
-use Rattle.ledger_types.specs.declared.offer.OfferEntry.{OfferEntry}
-use Rattle.ledger_types.specs.Prices.{IsPriced}
-use Rattle.entry_map.specs.Book.{AreApart, goes_before, placed, ranked, head}
-use Rattle.entry_map.proofs.Ranked.{all_ranked}
-use Rattle.trade_cross.specs.Crossing.{with_amount}
+use Rattle.op_flags.specs.ledger_types.declared.offer.OfferEntry.{OfferEntry}
+use Rattle.op_flags.specs.ledger_types.Prices.{IsPriced}
+use Rattle.op_flags.specs.entry_map.Book.{AreApart, goes_before, placed, ranked, head}
+use Rattle.op_flags.proofs.entry_map_proofs.Ranked.{all_ranked}
+use Rattle.op_flags.specs.trade_cross.Crossing.{with_amount}
 use Rattle.op_laws.proofs.PricedOrder.{one_before, before_both}
 
 before : (o first : OfferEntry) (others : List OfferEntry) → goes_before o first ≡ true

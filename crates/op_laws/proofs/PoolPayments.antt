@@ -6,46 +6,46 @@ use Rattle.std.proofs.lemmas.Bool.{ltb-false}
 use Rattle.std.specs.Prelude.{ℤ, pos, neg_ℤ, ◌+ℤ◌, ◌-ℤ◌, ◌≤ℤ◌, nat_lt, if◌then◌else◌}
 use Rattle.std.specs.FinMap.{get}
 use Rattle.std.specs.declared.cmp.Ordering.TheVariants.{Less}
-use Rattle.ledger_types.specs.declared.ids.AccountId.{AccountId}
-use Rattle.ledger_types.specs.declared.ids.Hash.{Hash}
-use Rattle.ledger_types.specs.declared.asset.Asset.{Asset}
-use Rattle.ledger_types.specs.declared.asset.Asset.TheVariants as asset
-use Rattle.ledger_types.specs.declared.asset.TrustLineAsset.{TrustLineAsset}
-use Rattle.ledger_types.specs.declared.asset.TrustLineAsset.TheVariants as line
-use Rattle.ledger_types.specs.declared.trust_line.TrustLineEntry.{TrustLineEntry}
-use Rattle.ledger_types.specs.declared.liquidity_pool.LiquidityPoolEntry.{LiquidityPoolEntry}
-use Rattle.ledger_types.specs.declared.key.LedgerKey.{LedgerKey}
-use Rattle.ledger_types.specs.declared.key.LedgerKey.TheVariants as key
-use Rattle.ledger_types.specs.KeyOrder.{asset_cmp}
-use Rattle.entry_map.specs.EntryMap.{EntryMap}
-use Rattle.entry_slots.specs.Accounts.{account_of, account_at, HasAccount}
-use Rattle.entry_slots.specs.LineExtensions.{line_liabilities}
-use Rattle.entry_slots.specs.Lines.{line_of, line_at}
-use Rattle.entry_slots.specs.Pools.{pool_at}
-use Rattle.entry_sums.specs.Sums.{total}
-use Rattle.reserve_rules.specs.Reserve.{available, line_available, line_room}
-use Rattle.offer_exchange.specs.Exchange.{unlimited}
-use Rattle.sponsor_rules.specs.Payers.{is_same_account}
-use Rattle.legal_rules.specs.Books.{Uses, View, stated_at}
-use Rattle.legal_rules.specs.EntryKeys.{is_key}
-use Rattle.legal_rules.specs.Holdings.{Increase, both_more, more_at, under_key}
-use Rattle.legal_rules.specs.Legal.{view}
-use Rattle.legal_rules.specs.Owing.{nothing_owed, IsLegalOwing, AreEntriesLegal}
-use Rattle.legal_rules.specs.PoolShares.{needed_line}
-use Rattle.legal_rules.specs.Supply.{of_asset, held as held_of}
-use Rattle.legal_rules.specs.Trades.{holder}
-use Rattle.legal_rules.proofs.Leaving.{Leaves, leaves_both, leaves_as}
-use Rattle.legal_rules.proofs.LinesLeft.{line_legal}
-use Rattle.legal_rules.proofs.Lows.{natural_low}
-use Rattle.trade_cross.specs.CrossingLaws.{kept_at}
-use Rattle.trade_cross.specs.Holdings.{at_least_nothing, is_short_of, account_has, line_has, has_at, account_gives}
-use Rattle.trade_cross.specs.Holdings.{line_gives, most_given, line_takes, most_taken, paying}
-use Rattle.trade_cross.proofs.Left.{giving_left, taking_left}
-use Rattle.trade_cross.proofs.Paying.{CanPay, paying_legal, within, can_give, can_take}
-use Rattle.pool_shares.specs.Withdrawing.{map_with_shares}
-use Rattle.pool_shares.proofs.Sharing.{CanShare, both_of, sharing_legal, sharing_left}
-use Rattle.pool_shares.proofs.Sound.{line_stands_so, pool_legal}
-use Rattle.op_form.specs.Done.{OfAccount, OfPool}
+use Rattle.op_flags.specs.ledger_types.declared.ids.AccountId.{AccountId}
+use Rattle.op_flags.specs.ledger_types.declared.ids.Hash.{Hash}
+use Rattle.op_flags.specs.ledger_types.declared.asset.Asset.{Asset}
+use Rattle.op_flags.specs.ledger_types.declared.asset.Asset.TheVariants as asset
+use Rattle.op_flags.specs.ledger_types.declared.asset.TrustLineAsset.{TrustLineAsset}
+use Rattle.op_flags.specs.ledger_types.declared.asset.TrustLineAsset.TheVariants as line
+use Rattle.op_flags.specs.ledger_types.declared.trust_line.TrustLineEntry.{TrustLineEntry}
+use Rattle.op_flags.specs.ledger_types.declared.liquidity_pool.LiquidityPoolEntry.{LiquidityPoolEntry}
+use Rattle.op_flags.specs.ledger_types.declared.key.LedgerKey.{LedgerKey}
+use Rattle.op_flags.specs.ledger_types.declared.key.LedgerKey.TheVariants as key
+use Rattle.op_flags.specs.ledger_types.KeyOrder.{asset_cmp}
+use Rattle.op_flags.specs.entry_map.EntryMap.{EntryMap}
+use Rattle.op_flags.specs.entry_slots.Accounts.{account_of, account_at, HasAccount}
+use Rattle.op_flags.specs.entry_slots.LineExtensions.{line_liabilities}
+use Rattle.op_flags.specs.entry_slots.Lines.{line_of, line_at}
+use Rattle.op_flags.specs.entry_slots.Pools.{pool_at}
+use Rattle.op_flags.specs.entry_sums.Sums.{total}
+use Rattle.op_pool.specs.reserve_rules.Reserve.{available, line_available, line_room}
+use Rattle.op_offers.specs.offer_exchange.Exchange.{unlimited}
+use Rattle.op_flags.specs.sponsor_rules.Payers.{is_same_account}
+use Rattle.op_flags.specs.legal_rules.Books.{Uses, View, stated_at}
+use Rattle.op_flags.specs.legal_rules.EntryKeys.{is_key}
+use Rattle.op_flags.specs.legal_rules.Holdings.{Increase, both_more, more_at, under_key}
+use Rattle.op_flags.specs.legal_rules.Legal.{view}
+use Rattle.op_flags.specs.legal_rules.Owing.{nothing_owed, IsLegalOwing, AreEntriesLegal}
+use Rattle.op_flags.specs.legal_rules.PoolShares.{needed_line}
+use Rattle.op_flags.specs.legal_rules.Supply.{of_asset, held as held_of}
+use Rattle.op_flags.specs.legal_rules.Trades.{holder}
+use Rattle.op_flags.proofs.legal_rules_proofs.Leaving.{Leaves, leaves_both, leaves_as}
+use Rattle.op_flags.proofs.legal_rules_proofs.LinesLeft.{line_legal}
+use Rattle.op_flags.proofs.legal_rules_proofs.Lows.{natural_low}
+use Rattle.op_flags.specs.trade_cross.CrossingLaws.{kept_at}
+use Rattle.op_flags.specs.trade_cross.Holdings.{at_least_nothing, is_short_of, account_has, line_has, has_at, account_gives}
+use Rattle.op_flags.specs.trade_cross.Holdings.{line_gives, most_given, line_takes, most_taken, paying}
+use Rattle.op_flags.proofs.trade_cross_proofs.Left.{giving_left, taking_left}
+use Rattle.op_flags.proofs.trade_cross_proofs.Paying.{CanPay, paying_legal, within, can_give, can_take}
+use Rattle.op_flags.specs.pool_shares.Withdrawing.{map_with_shares}
+use Rattle.op_flags.proofs.pool_shares_proofs.Sharing.{CanShare, both_of, sharing_legal, sharing_left}
+use Rattle.op_flags.proofs.pool_shares_proofs.Sound.{line_stands_so, pool_legal}
+use Rattle.op_flags.specs.op_form.Done.{OfAccount, OfPool}
 use Rattle.op_pool.proofs.Fitting.{not_less, beside, second_beside}
 use Rattle.op_payment.proofs.Amounts.{IsMoved}
 use Rattle.op_payment.proofs.Shifts.{unless_issuer}

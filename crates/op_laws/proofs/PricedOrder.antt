@@ -8,10 +8,10 @@ use Rattle.std.specs.Ordering.{ordering_then, ordering_reverse, nat_cmp, int_cmp
 use Rattle.std.specs.Prelude.{unsigned_abs}
 use Rattle.std.specs.declared.cmp.Ordering.{Ordering}
 use Rattle.std.specs.declared.cmp.Ordering.TheVariants.{Less, Equal, Greater}
-use Rattle.ledger_types.specs.declared.offer.OfferEntry.{OfferEntry}
-use Rattle.ledger_types.specs.Prices.{IsPriced}
-use Rattle.entry_map.specs.Book.{price_cmp, goes_before}
-use Rattle.trade_cross.proofs.StepLegal.{abs_some}
+use Rattle.op_flags.specs.ledger_types.declared.offer.OfferEntry.{OfferEntry}
+use Rattle.op_flags.specs.ledger_types.Prices.{IsPriced}
+use Rattle.op_flags.specs.entry_map.Book.{price_cmp, goes_before}
+use Rattle.op_flags.proofs.trade_cross_proofs.StepLegal.{abs_some}
 
 -- ---- orderings
 

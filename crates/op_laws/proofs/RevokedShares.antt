@@ -4,37 +4,37 @@ use Rattle.std.proofs.Common.{Option, Some, None, Result, Ok, if◌then◌else�
 use Rattle.std.proofs.lemmas.Int.{ints}
 use Rattle.std.specs.Ordering.{is_eq}
 use Rattle.std.specs.Prelude.{ℤ, pos, neg_ℤ, ◌+ℤ◌}
-use Rattle.ledger_types.specs.declared.ids.AccountId.{AccountId}
-use Rattle.ledger_types.specs.declared.ids.Hash.{Hash}
-use Rattle.ledger_types.specs.declared.asset.Asset.{Asset}
-use Rattle.ledger_types.specs.declared.asset.TrustLineAsset.TheVariants as line
-use Rattle.ledger_types.specs.declared.trust_line.TrustLineEntry.{TrustLineEntry}
-use Rattle.ledger_types.specs.declared.liquidity_pool.LiquidityPoolEntry.{LiquidityPoolEntry}
-use Rattle.ledger_types.specs.declared.key.LedgerKey.{LedgerKey}
-use Rattle.ledger_types.specs.declared.key.LedgerKey.TheVariants as key
-use Rattle.ledger_types.specs.KeyOrder.{asset_cmp}
-use Rattle.op_types.specs.declared.operation_result.OperationResult.{OperationResult}
-use Rattle.valid_values.specs.Assets.{is_valid_asset}
-use Rattle.entry_map.specs.EntryMap.{EntryMap}
-use Rattle.entry_slots.specs.Accounts.{HasAccount}
-use Rattle.entry_slots.specs.Lines.{line_at}
-use Rattle.entry_slots.specs.Pools.{pool_at}
-use Rattle.entry_sums.specs.Sums.{total}
-use Rattle.sponsor_rules.specs.declared.context.Ctx.{Ctx}
-use Rattle.legal_rules.specs.EntryKeys.{is_key}
-use Rattle.legal_rules.specs.Holdings.{Increase, none_more, both_more, under_key}
-use Rattle.legal_rules.specs.Legal.{view}
-use Rattle.legal_rules.specs.Owing.{AreEntriesLegal}
-use Rattle.legal_rules.specs.Supply.{of_asset, held}
-use Rattle.legal_rules.proofs.Holdings.{nothing_more}
-use Rattle.legal_rules.proofs.Leaving.{Leaves, leaves_itself, leaves_both, leaves_as}
-use Rattle.legal_rules.proofs.Legality.{view_of, owing_of}
-use Rattle.pool_shares.specs.Withdrawing.{part_of, with_change, map_after_withdrawing}
-use Rattle.pool_shares.proofs.Gone.{gone_legal}
-use Rattle.pool_shares.proofs.Sharing.{both_of, sharing_legal, sharing_left}
-use Rattle.trade_cross.specs.Holdings.{line_paid}
-use Rattle.op_form.specs.Assets.{is_issued_by}
-use Rattle.op_form.specs.Done.{Holder, Move, OfAccount, OfBalance, OfPool}
+use Rattle.op_flags.specs.ledger_types.declared.ids.AccountId.{AccountId}
+use Rattle.op_flags.specs.ledger_types.declared.ids.Hash.{Hash}
+use Rattle.op_flags.specs.ledger_types.declared.asset.Asset.{Asset}
+use Rattle.op_flags.specs.ledger_types.declared.asset.TrustLineAsset.TheVariants as line
+use Rattle.op_flags.specs.ledger_types.declared.trust_line.TrustLineEntry.{TrustLineEntry}
+use Rattle.op_flags.specs.ledger_types.declared.liquidity_pool.LiquidityPoolEntry.{LiquidityPoolEntry}
+use Rattle.op_flags.specs.ledger_types.declared.key.LedgerKey.{LedgerKey}
+use Rattle.op_flags.specs.ledger_types.declared.key.LedgerKey.TheVariants as key
+use Rattle.op_flags.specs.ledger_types.KeyOrder.{asset_cmp}
+use Rattle.op_flags.specs.op_types.declared.operation_result.OperationResult.{OperationResult}
+use Rattle.op_flags.specs.valid_values.Assets.{is_valid_asset}
+use Rattle.op_flags.specs.entry_map.EntryMap.{EntryMap}
+use Rattle.op_flags.specs.entry_slots.Accounts.{HasAccount}
+use Rattle.op_flags.specs.entry_slots.Lines.{line_at}
+use Rattle.op_flags.specs.entry_slots.Pools.{pool_at}
+use Rattle.op_flags.specs.entry_sums.Sums.{total}
+use Rattle.op_flags.specs.sponsor_rules.declared.context.Ctx.{Ctx}
+use Rattle.op_flags.specs.legal_rules.EntryKeys.{is_key}
+use Rattle.op_flags.specs.legal_rules.Holdings.{Increase, none_more, both_more, under_key}
+use Rattle.op_flags.specs.legal_rules.Legal.{view}
+use Rattle.op_flags.specs.legal_rules.Owing.{AreEntriesLegal}
+use Rattle.op_flags.specs.legal_rules.Supply.{of_asset, held}
+use Rattle.op_flags.proofs.legal_rules_proofs.Holdings.{nothing_more}
+use Rattle.op_flags.proofs.legal_rules_proofs.Leaving.{Leaves, leaves_itself, leaves_both, leaves_as}
+use Rattle.op_flags.proofs.legal_rules_proofs.Legality.{view_of, owing_of}
+use Rattle.op_flags.specs.pool_shares.Withdrawing.{part_of, with_change, map_after_withdrawing}
+use Rattle.op_flags.proofs.pool_shares_proofs.Gone.{gone_legal}
+use Rattle.op_flags.proofs.pool_shares_proofs.Sharing.{both_of, sharing_legal, sharing_left}
+use Rattle.op_flags.specs.trade_cross.Holdings.{line_paid}
+use Rattle.op_flags.specs.op_form.Assets.{is_issued_by}
+use Rattle.op_flags.specs.op_form.Done.{Holder, Move, OfAccount, OfBalance, OfPool}
 use Rattle.op_flags.specs.RevokedShares.{Revoked, Given, revoked_id, move_to, left, payer_of_share, given_of}
 use Rattle.op_flags.specs.RevokedShares.{map_without_shares, and_then, share_revoked_by, share_revoked_of}
 use Rattle.op_flags.specs.RevokedShares.{share_revoked, all_revoked}

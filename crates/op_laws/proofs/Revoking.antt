@@ -3,48 +3,48 @@ use Rattle.std.proofs.Common.{◌≡◌, subst, ℕ, [], ◌∷◌}
 use Rattle.std.proofs.Common.{List, Option, Some, None, Ok, slice_set}
 use Rattle.std.specs.Prelude.{pos}
 use Rattle.std.specs.FinMap.{get}
-use Rattle.ledger_types.specs.declared.ids.AccountId.{AccountId}
-use Rattle.ledger_types.specs.declared.account.AccountEntry.{AccountEntry}
-use Rattle.ledger_types.specs.declared.entry.LedgerEntry.{LedgerEntry}
-use Rattle.ledger_types.specs.declared.key.LedgerKey.{LedgerKey}
-use Rattle.ledger_types.specs.declared.signer.SignerKey.{SignerKey}
-use Rattle.entry_map.specs.EntryMap.{EntryMap}
-use Rattle.entry_slots.specs.Accounts.{account_at, with_account, HasAccount}
-use Rattle.entry_slots.specs.EntrySponsor.{sponsor_of}
-use Rattle.entry_slots.specs.Tests.{first_fault}
-use Rattle.sponsor_rules.specs.declared.charge.Charge.{Charge}
-use Rattle.sponsor_rules.specs.declared.charge.Charge.TheVariants as charge
-use Rattle.sponsor_rules.specs.declared.context.Ctx.{Ctx}
-use Rattle.sponsor_rules.specs.declared.signer_place.FoundSigner.{FoundSigner}
-use Rattle.sponsor_rules.specs.Charge.{charge_of}
-use Rattle.sponsor_rules.specs.Moving.{map_with_sponsor, map_after_moving_balance, map_after_moving_by}
-use Rattle.sponsor_rules.specs.Moving.{map_after_moving_entry, map_after_moving}
-use Rattle.sponsor_rules.specs.Paying.{map_after_exchange, with_other_payer}
-use Rattle.sponsor_rules.specs.Payers.{open_sponsor, payer_other_than, payer_tests_at, move_tests_at}
-use Rattle.sponsor_rules.specs.SignerPlace.{found_signer}
-use Rattle.sponsor_rules.specs.Signers.{with_moved_signer, map_after_moving_signer_between, map_after_moving_found}
-use Rattle.sponsor_rules.specs.Signers.{map_after_moving_signer}
-use Rattle.sponsor_rules.proofs.Keeping.{counts_edited, with_sponsors_means}
-use Rattle.legal_rules.specs.Owing.{nothing_owed}
-use Rattle.legal_rules.proofs.Given.{sponsors_ready}
-use Rattle.legal_rules.proofs.Kept.{entry_moved_so}
-use Rattle.legal_rules.proofs.PaidFor.{nothing_settled}
-use Rattle.legal_rules.proofs.SignersKept.{signer_moved as signer_moved_so}
-use Rattle.op_types.specs.declared.sponsor_ops.RevokeSponsorshipOp.{RevokeSponsorshipOp}
-use Rattle.op_types.specs.declared.sponsor_ops.RevokeSponsorshipOp.TheVariants as revoked
-use Rattle.op_types.specs.declared.sponsor_results.RevokeSponsorshipResult.TheVariants as revoke
-use Rattle.op_form.specs.Done.{Done}
+use Rattle.op_flags.specs.ledger_types.declared.ids.AccountId.{AccountId}
+use Rattle.op_flags.specs.ledger_types.declared.account.AccountEntry.{AccountEntry}
+use Rattle.op_flags.specs.ledger_types.declared.entry.LedgerEntry.{LedgerEntry}
+use Rattle.op_flags.specs.ledger_types.declared.key.LedgerKey.{LedgerKey}
+use Rattle.op_flags.specs.ledger_types.declared.signer.SignerKey.{SignerKey}
+use Rattle.op_flags.specs.entry_map.EntryMap.{EntryMap}
+use Rattle.op_flags.specs.entry_slots.Accounts.{account_at, with_account, HasAccount}
+use Rattle.op_flags.specs.entry_slots.EntrySponsor.{sponsor_of}
+use Rattle.op_flags.specs.entry_slots.Tests.{first_fault}
+use Rattle.op_flags.specs.sponsor_rules.declared.charge.Charge.{Charge}
+use Rattle.op_flags.specs.sponsor_rules.declared.charge.Charge.TheVariants as charge
+use Rattle.op_flags.specs.sponsor_rules.declared.context.Ctx.{Ctx}
+use Rattle.op_flags.specs.sponsor_rules.declared.signer_place.FoundSigner.{FoundSigner}
+use Rattle.op_flags.specs.sponsor_rules.Charge.{charge_of}
+use Rattle.op_flags.specs.sponsor_rules.Moving.{map_with_sponsor, map_after_moving_balance, map_after_moving_by}
+use Rattle.op_flags.specs.sponsor_rules.Moving.{map_after_moving_entry, map_after_moving}
+use Rattle.op_flags.specs.sponsor_rules.Paying.{map_after_exchange, with_other_payer}
+use Rattle.op_flags.specs.sponsor_rules.Payers.{open_sponsor, payer_other_than, payer_tests_at, move_tests_at}
+use Rattle.op_flags.specs.sponsor_rules.SignerPlace.{found_signer}
+use Rattle.op_flags.specs.sponsor_rules.Signers.{with_moved_signer, map_after_moving_signer_between, map_after_moving_found}
+use Rattle.op_flags.specs.sponsor_rules.Signers.{map_after_moving_signer}
+use Rattle.op_flags.proofs.sponsor_rules_proofs.Keeping.{counts_edited, with_sponsors_means}
+use Rattle.op_flags.specs.legal_rules.Owing.{nothing_owed}
+use Rattle.op_flags.proofs.legal_rules_proofs.Given.{sponsors_ready}
+use Rattle.op_flags.proofs.legal_rules_proofs.Kept.{entry_moved_so}
+use Rattle.op_flags.proofs.legal_rules_proofs.PaidFor.{nothing_settled}
+use Rattle.op_flags.proofs.legal_rules_proofs.SignersKept.{signer_moved as signer_moved_so}
+use Rattle.op_flags.specs.op_types.declared.sponsor_ops.RevokeSponsorshipOp.{RevokeSponsorshipOp}
+use Rattle.op_flags.specs.op_types.declared.sponsor_ops.RevokeSponsorshipOp.TheVariants as revoked
+use Rattle.op_flags.specs.op_types.declared.sponsor_results.RevokeSponsorshipResult.TheVariants as revoke
+use Rattle.op_flags.specs.op_form.Done.{Done}
 use Rattle.op_sponsor.specs.RevokeSponsorship.{answer, is_malformed, entry_tests, entry_moved, entry_revoked}
 use Rattle.op_sponsor.specs.RevokeSponsorship.{signer_tests, signer_moved, revoke_sponsorship}
 use Rattle.op_laws.specs.Laws.{IsLawful, AreLawful}
 use Rattle.op_laws.specs.Underway.{IsUnderway}
-use Rattle.legal_rules.proofs.ChargesLeft.{exchanged_kept, exchange_kept, payers_had, next_payer, moved_between}
-use Rattle.legal_rules.proofs.ChargesLeft.{sponsor_kept}
+use Rattle.op_flags.proofs.legal_rules_proofs.ChargesLeft.{exchanged_kept, exchange_kept, payers_had, next_payer, moved_between}
+use Rattle.op_flags.proofs.legal_rules_proofs.ChargesLeft.{sponsor_kept}
 use Rattle.op_laws.proofs.Lawful.{lawful_still}
-use Rattle.legal_rules.proofs.ReservesLeft.{next_edited}
-use Rattle.legal_rules.specs.Holdings.{IsKeyed, none_more}
-use Rattle.legal_rules.proofs.Leaving.{IsNext, Leaves, leaves_itself, keeps_both}
-use Rattle.legal_rules.proofs.Passed.{passed}
+use Rattle.op_flags.proofs.legal_rules_proofs.ReservesLeft.{next_edited}
+use Rattle.op_flags.specs.legal_rules.Holdings.{IsKeyed, none_more}
+use Rattle.op_flags.proofs.legal_rules_proofs.Leaving.{IsNext, Leaves, leaves_itself, keeps_both}
+use Rattle.op_flags.proofs.legal_rules_proofs.Passed.{passed}
 use Rattle.op_flags.proofs.Went.{went_on, went_after_some, went_after_charge}
 
 module _ (ctx : Ctx) (m new : EntryMap) (keyed : IsKeyed m) where

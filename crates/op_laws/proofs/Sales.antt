@@ -1,25 +1,25 @@
 -- An operation that sells an offer is lawful, by what it does before the sale.
 use Rattle.std.proofs.Common.{◌≡◌, refl, ap, subst, ◌∙◌, ℕ, ◌+◌, ◌≤◌, zero, suc, List, Ok, arith}
 use Rattle.std.specs.Prelude.{ℤ, pos, neg_ℤ, ◌+ℤ◌}
-use Rattle.ledger_types.specs.declared.asset.Asset.{Asset}
-use Rattle.ledger_types.specs.declared.asset.Asset.TheVariants as asset
-use Rattle.op_types.specs.declared.operation_result.OperationResult.{OperationResult}
-use Rattle.entry_map.specs.EntryMap.{EntryMap}
-use Rattle.entry_slots.specs.EntrySponsor.{sponsor_of}
-use Rattle.entry_sums.specs.Sums.{total}
-use Rattle.sponsor_rules.specs.declared.context.Ctx.{Ctx}
-use Rattle.legal_rules.specs.Books.{View}
-use Rattle.legal_rules.specs.Holdings.{none_more, both_more, more_at}
-use Rattle.legal_rules.specs.Legal.{view}
-use Rattle.legal_rules.specs.OneMore.{one_more}
-use Rattle.legal_rules.specs.Owing.{nothing_owed, IsLegalOwing}
-use Rattle.legal_rules.specs.Sponsorships.{AreSponsorshipsSound}
-use Rattle.legal_rules.specs.Supply.{held}
-use Rattle.legal_rules.proofs.Leaving.{Leaves, leaves_as, keeps_then}
-use Rattle.trade_cross.specs.CrossingLaws.{kept_at, kept_in, more_in, AreTraded}
-use Rattle.op_form.specs.Done.{Done, Move, OfAccount}
+use Rattle.op_flags.specs.ledger_types.declared.asset.Asset.{Asset}
+use Rattle.op_flags.specs.ledger_types.declared.asset.Asset.TheVariants as asset
+use Rattle.op_flags.specs.op_types.declared.operation_result.OperationResult.{OperationResult}
+use Rattle.op_flags.specs.entry_map.EntryMap.{EntryMap}
+use Rattle.op_flags.specs.entry_slots.EntrySponsor.{sponsor_of}
+use Rattle.op_flags.specs.entry_sums.Sums.{total}
+use Rattle.op_flags.specs.sponsor_rules.declared.context.Ctx.{Ctx}
+use Rattle.op_flags.specs.legal_rules.Books.{View}
+use Rattle.op_flags.specs.legal_rules.Holdings.{none_more, both_more, more_at}
+use Rattle.op_flags.specs.legal_rules.Legal.{view}
+use Rattle.op_flags.specs.legal_rules.OneMore.{one_more}
+use Rattle.op_flags.specs.legal_rules.Owing.{nothing_owed, IsLegalOwing}
+use Rattle.op_flags.specs.legal_rules.Sponsorships.{AreSponsorshipsSound}
+use Rattle.op_flags.specs.legal_rules.Supply.{held}
+use Rattle.op_flags.proofs.legal_rules_proofs.Leaving.{Leaves, leaves_as, keeps_then}
+use Rattle.op_flags.specs.trade_cross.CrossingLaws.{kept_at, kept_in, more_in, AreTraded}
+use Rattle.op_flags.specs.op_form.Done.{Done, Move, OfAccount}
 use Rattle.op_offers.specs.Managing.{drawn}
-use Rattle.op_form.specs.AtomMoves.{moves_of}
+use Rattle.op_flags.specs.op_form.AtomMoves.{moves_of}
 use Rattle.op_offers.specs.Selling.{Asked, source_gives_at, source_takes_at, trade_of, Sold, sold}
 use Rattle.op_offers.specs.SellingLaws.{IsAskedRightly}
 use Rattle.op_offers.proofs.Sold.{selling_keeps}

@@ -13,50 +13,50 @@ use Rattle.std.specs.Ordering.{is_eq, ordering_reverse}
 use Rattle.std.specs.declared.cmp.Ordering.{Ordering}
 use Rattle.std.specs.declared.cmp.Ordering.TheVariants.{Less, Equal, Greater}
 use Rattle.std.proofs.lemmas.Slice.Eq.{bytes_eq-Decides}
-use Rattle.ledger_types.specs.declared.ids.AccountId.{AccountId}
-use Rattle.ledger_types.specs.declared.account.AccountEntry.{AccountEntry}
-use Rattle.ledger_types.specs.declared.signer.Signer.{Signer}
-use Rattle.ledger_types.specs.declared.signer.SignerKey.{SignerKey}
-use Rattle.ledger_types.specs.declared.signer.SignerKey.TheVariants as signer
-use Rattle.ledger_types.specs.KeyOrder.{signer_key_cmp}
-use Rattle.ledger_types.proofs.KeyOrdering.{signer_keys_total, signer_keys_exact}
-use Rattle.valid_values.specs.Texts.{is_valid_text}
-use Rattle.entry_map.specs.EntryMap.{EntryMap}
-use Rattle.entry_slots.specs.Accounts.{account_at, with_account}
-use Rattle.entry_slots.specs.AccountExtensions.{signer_sponsor}
-use Rattle.entry_slots.specs.Tests.{Tests, first_fault}
-use Rattle.sponsor_rules.specs.declared.context.Ctx.{Ctx}
-use Rattle.sponsor_rules.specs.declared.count.Count.TheVariants as count
-use Rattle.sponsor_rules.specs.Counting.{with_more}
-use Rattle.sponsor_rules.specs.Keeping.{KeepsMeans}
-use Rattle.sponsor_rules.specs.Paying.{map_after_charging, map_after_releasing, with_subentry}
-use Rattle.sponsor_rules.specs.Payers.{open_sponsor, subentry_tests_at}
-use Rattle.sponsor_rules.specs.SignerPlace.{place_for, place_of, found_at, found_signer}
-use Rattle.sponsor_rules.specs.Signers.{with_counted_signer, map_with_signer, map_after_adding_signer}
-use Rattle.sponsor_rules.specs.Signers.{without_counted_signer, map_without_signer, map_after_removing_signer}
-use Rattle.sponsor_rules.proofs.Keeping.{counts_edited, with_sponsors_means, means_kept_twice}
-use Rattle.sponsor_laws.proofs.SignedAccounts.{place_within_signers}
-use Rattle.legal_rules.specs.ChangeLaws.{KeepsBooks}
-use Rattle.legal_rules.specs.Legal.{view}
-use Rattle.legal_rules.specs.Owing.{nothing_owed}
-use Rattle.legal_rules.specs.Ranges.{IsAccountInRange}
-use Rattle.legal_rules.specs.SignerLaws.{IsNewSigner}
-use Rattle.legal_rules.specs.Sponsorships.{IsSponsorReady}
-use Rattle.legal_rules.specs.Supply.{lumens_of}
-use Rattle.legal_rules.proofs.Bounded.{account_legal}
-use Rattle.legal_rules.proofs.Changed.{account_changed}
-use Rattle.legal_rules.proofs.Given.{sponsors_ready}
-use Rattle.legal_rules.proofs.Numbers.{kept_sum}
-use Rattle.legal_rules.proofs.PaidFor.{nothing_settled}
-use Rattle.legal_rules.proofs.Places.{account_after, account_elsewhere}
-use Rattle.legal_rules.proofs.SignersKept.{signer_added, signer_removed}
-use Rattle.legal_rules.proofs.Steps.{legal_as}
-use Rattle.op_types.specs.declared.account_ops.SetOptionsOp.{SetOptionsOp}
-use Rattle.op_types.specs.declared.account_results.SetOptionsResult.TheVariants as set
-use Rattle.op_types.specs.declared.operation_result.OperationResult.{OperationResult}
-use Rattle.op_types.specs.declared.operation_result.OperationResult.TheVariants.{NoAccount}
-use Rattle.op_form.specs.Done.{Done}
-use Rattle.op_form.specs.Steps.{unless_refused, after_charge}
+use Rattle.op_flags.specs.ledger_types.declared.ids.AccountId.{AccountId}
+use Rattle.op_flags.specs.ledger_types.declared.account.AccountEntry.{AccountEntry}
+use Rattle.op_flags.specs.ledger_types.declared.signer.Signer.{Signer}
+use Rattle.op_flags.specs.ledger_types.declared.signer.SignerKey.{SignerKey}
+use Rattle.op_flags.specs.ledger_types.declared.signer.SignerKey.TheVariants as signer
+use Rattle.op_flags.specs.ledger_types.KeyOrder.{signer_key_cmp}
+use Rattle.op_flags.proofs.ledger_types_proofs.KeyOrdering.{signer_keys_total, signer_keys_exact}
+use Rattle.op_flags.specs.valid_values.Texts.{is_valid_text}
+use Rattle.op_flags.specs.entry_map.EntryMap.{EntryMap}
+use Rattle.op_flags.specs.entry_slots.Accounts.{account_at, with_account}
+use Rattle.op_flags.specs.entry_slots.AccountExtensions.{signer_sponsor}
+use Rattle.op_flags.specs.entry_slots.Tests.{Tests, first_fault}
+use Rattle.op_flags.specs.sponsor_rules.declared.context.Ctx.{Ctx}
+use Rattle.op_flags.specs.sponsor_rules.declared.count.Count.TheVariants as count
+use Rattle.op_flags.specs.sponsor_rules.Counting.{with_more}
+use Rattle.op_flags.specs.sponsor_rules.Keeping.{KeepsMeans}
+use Rattle.op_flags.specs.sponsor_rules.Paying.{map_after_charging, map_after_releasing, with_subentry}
+use Rattle.op_flags.specs.sponsor_rules.Payers.{open_sponsor, subentry_tests_at}
+use Rattle.op_flags.specs.sponsor_rules.SignerPlace.{place_for, place_of, found_at, found_signer}
+use Rattle.op_flags.specs.sponsor_rules.Signers.{with_counted_signer, map_with_signer, map_after_adding_signer}
+use Rattle.op_flags.specs.sponsor_rules.Signers.{without_counted_signer, map_without_signer, map_after_removing_signer}
+use Rattle.op_flags.proofs.sponsor_rules_proofs.Keeping.{counts_edited, with_sponsors_means, means_kept_twice}
+use Rattle.op_flags.proofs.sponsor_laws_proofs.SignedAccounts.{place_within_signers}
+use Rattle.op_flags.specs.legal_rules.ChangeLaws.{KeepsBooks}
+use Rattle.op_flags.specs.legal_rules.Legal.{view}
+use Rattle.op_flags.specs.legal_rules.Owing.{nothing_owed}
+use Rattle.op_flags.specs.legal_rules.Ranges.{IsAccountInRange}
+use Rattle.op_flags.specs.legal_rules.SignerLaws.{IsNewSigner}
+use Rattle.op_flags.specs.legal_rules.Sponsorships.{IsSponsorReady}
+use Rattle.op_flags.specs.legal_rules.Supply.{lumens_of}
+use Rattle.op_flags.proofs.legal_rules_proofs.Bounded.{account_legal}
+use Rattle.op_flags.proofs.legal_rules_proofs.Changed.{account_changed}
+use Rattle.op_flags.proofs.legal_rules_proofs.Given.{sponsors_ready}
+use Rattle.op_flags.proofs.legal_rules_proofs.Numbers.{kept_sum}
+use Rattle.op_flags.proofs.legal_rules_proofs.PaidFor.{nothing_settled}
+use Rattle.op_flags.proofs.legal_rules_proofs.Places.{account_after, account_elsewhere}
+use Rattle.op_flags.proofs.legal_rules_proofs.SignersKept.{signer_added, signer_removed}
+use Rattle.op_flags.proofs.legal_rules_proofs.Steps.{legal_as}
+use Rattle.op_flags.specs.op_types.declared.account_ops.SetOptionsOp.{SetOptionsOp}
+use Rattle.op_flags.specs.op_types.declared.account_results.SetOptionsResult.TheVariants as set
+use Rattle.op_flags.specs.op_types.declared.operation_result.OperationResult.{OperationResult}
+use Rattle.op_flags.specs.op_types.declared.operation_result.OperationResult.TheVariants.{NoAccount}
+use Rattle.op_flags.specs.op_form.Done.{Done}
+use Rattle.op_flags.specs.op_form.Steps.{unless_refused, after_charge}
 use Rattle.op_options.specs.OptionSigner.{with_signer_set, count_tests, map_after_weighing}
 use Rattle.op_options.specs.OptionSigner.{map_after_signer}
 use Rattle.op_options.specs.OptionTests.{answer, flags_in, has_unknown, is_out_of_range, is_own_key, is_bad_signer}
@@ -64,16 +64,16 @@ use Rattle.op_options.specs.OptionTests.{is_bad_domain, given_tests, inflation_t
 use Rattle.op_options.specs.SetOptions.{with_options, options_set, options_of, set_options}
 use Rattle.op_laws.specs.Laws.{IsLawful, AreLawful}
 use Rattle.op_laws.specs.Underway.{IsUnderway}
-use Rattle.legal_rules.proofs.ChargesLeft.{charged_kept, charging_left, releasing_kept, released_at}
+use Rattle.op_flags.proofs.legal_rules_proofs.ChargesLeft.{charged_kept, charging_left, releasing_kept, released_at}
 use Rattle.op_laws.proofs.Flags.{flags_set}
 use Rattle.op_laws.proofs.Lawful.{KeepsLegal, lawful_still}
-use Rattle.legal_rules.proofs.ReservesLeft.{pays_more, subentry_charged, next_edited}
+use Rattle.op_flags.proofs.legal_rules_proofs.ReservesLeft.{pays_more, subentry_charged, next_edited}
 use Rattle.op_laws.proofs.Signers.{without_means}
 use Rattle.op_laws.proofs.Signers.{signer_kept}
 use Rattle.op_laws.proofs.SignerWeights.{weighed_legal, weighed_left}
-use Rattle.legal_rules.specs.Holdings.{IsKeyed, none_more}
-use Rattle.legal_rules.proofs.Leaving.{IsNext, Leaves, leaves_itself, keeps_both, account_kept}
-use Rattle.legal_rules.proofs.Passed.{passed, first_passed, neither}
+use Rattle.op_flags.specs.legal_rules.Holdings.{IsKeyed, none_more}
+use Rattle.op_flags.proofs.legal_rules_proofs.Leaving.{IsNext, Leaves, leaves_itself, keeps_both, account_kept}
+use Rattle.op_flags.proofs.legal_rules_proofs.Passed.{passed, first_passed, neither}
 use Rattle.op_flags.proofs.Went.{went_on, went_after, went_after_some, went_after_charge}
 
 -- ---- keys of signers

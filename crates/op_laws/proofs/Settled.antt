@@ -4,37 +4,37 @@ use Rattle.std.proofs.lemmas.Int.{ints}
 use Rattle.std.specs.Prelude.{ℤ, pos, ◌+ℤ◌, ◌≤ℤ◌, if◌then◌else◌}
 use Rattle.std.specs.FinMap.{get}
 use Rattle.std.specs.Ordering.{is_eq}
-use Rattle.ledger_types.specs.declared.ids.AccountId.{AccountId}
-use Rattle.ledger_types.specs.declared.asset.Asset.{Asset}
-use Rattle.ledger_types.specs.declared.asset.Asset.TheVariants as asset
-use Rattle.ledger_types.specs.declared.asset.TrustLineAsset.{TrustLineAsset}
-use Rattle.ledger_types.specs.declared.asset.TrustLineAsset.TheVariants as line
-use Rattle.ledger_types.specs.declared.trust_line.TrustLineEntry.{TrustLineEntry}
-use Rattle.ledger_types.specs.declared.claimable_balance.ClaimableBalanceEntry.{ClaimableBalanceEntry}
-use Rattle.ledger_types.specs.declared.entry.LedgerEntry.{LedgerEntry}
-use Rattle.ledger_types.specs.declared.entry.LedgerEntryBody.{LedgerEntryBody}
-use Rattle.ledger_types.specs.declared.entry.LedgerEntryBody.TheVariants as body
-use Rattle.ledger_types.specs.declared.key.LedgerKey.TheVariants as key
-use Rattle.ledger_types.specs.KeyOrder.{asset_cmp}
-use Rattle.entry_map.specs.EntryMap.{EntryMap}
-use Rattle.entry_slots.specs.AccountExtensions.{num_sponsored}
-use Rattle.entry_slots.specs.Balances.{balance_in, balance_of, balance_at}
-use Rattle.entry_slots.specs.Lines.{line_at}
-use Rattle.reserve_rules.specs.Reserve.{IsLineInRange}
-use Rattle.entry_sums.specs.Sums.{total}
-use Rattle.entry_sums.proofs.Summing.{total_not_below}
-use Rattle.legal_rules.specs.Books.{Subentries, Sponsored}
-use Rattle.legal_rules.specs.Ranges.{IsBodyInRange}
-use Rattle.legal_rules.specs.Supply.{of_asset, of_line, held_in, held}
-use Rattle.legal_rules.specs.Legal.{view, pools_in}
-use Rattle.legal_rules.specs.Owing.{nothing_owed, IsEntryLegal, IsLegalOwing, AreEntriesLegal}
-use Rattle.legal_rules.proofs.Bounded.{account_legal}
-use Rattle.legal_rules.proofs.Covered.{sponsored_at_most, account_states}
-use Rattle.legal_rules.proofs.Given.{sponsors_ready}
-use Rattle.legal_rules.proofs.Legality.{owing_nothing_of, legal_of}
-use Rattle.legal_rules.proofs.Liable.{line_entry}
-use Rattle.legal_rules.proofs.Numbers.{taken_off}
-use Rattle.pool_shares.proofs.Sound.{entries_sound}
+use Rattle.op_flags.specs.ledger_types.declared.ids.AccountId.{AccountId}
+use Rattle.op_flags.specs.ledger_types.declared.asset.Asset.{Asset}
+use Rattle.op_flags.specs.ledger_types.declared.asset.Asset.TheVariants as asset
+use Rattle.op_flags.specs.ledger_types.declared.asset.TrustLineAsset.{TrustLineAsset}
+use Rattle.op_flags.specs.ledger_types.declared.asset.TrustLineAsset.TheVariants as line
+use Rattle.op_flags.specs.ledger_types.declared.trust_line.TrustLineEntry.{TrustLineEntry}
+use Rattle.op_flags.specs.ledger_types.declared.claimable_balance.ClaimableBalanceEntry.{ClaimableBalanceEntry}
+use Rattle.op_flags.specs.ledger_types.declared.entry.LedgerEntry.{LedgerEntry}
+use Rattle.op_flags.specs.ledger_types.declared.entry.LedgerEntryBody.{LedgerEntryBody}
+use Rattle.op_flags.specs.ledger_types.declared.entry.LedgerEntryBody.TheVariants as body
+use Rattle.op_flags.specs.ledger_types.declared.key.LedgerKey.TheVariants as key
+use Rattle.op_flags.specs.ledger_types.KeyOrder.{asset_cmp}
+use Rattle.op_flags.specs.entry_map.EntryMap.{EntryMap}
+use Rattle.op_flags.specs.entry_slots.AccountExtensions.{num_sponsored}
+use Rattle.op_flags.specs.entry_slots.Balances.{balance_in, balance_of, balance_at}
+use Rattle.op_flags.specs.entry_slots.Lines.{line_at}
+use Rattle.op_pool.specs.reserve_rules.Reserve.{IsLineInRange}
+use Rattle.op_flags.specs.entry_sums.Sums.{total}
+use Rattle.op_flags.proofs.entry_sums_proofs.Summing.{total_not_below}
+use Rattle.op_flags.specs.legal_rules.Books.{Subentries, Sponsored}
+use Rattle.op_flags.specs.legal_rules.Ranges.{IsBodyInRange}
+use Rattle.op_flags.specs.legal_rules.Supply.{of_asset, of_line, held_in, held}
+use Rattle.op_flags.specs.legal_rules.Legal.{view, pools_in}
+use Rattle.op_flags.specs.legal_rules.Owing.{nothing_owed, IsEntryLegal, IsLegalOwing, AreEntriesLegal}
+use Rattle.op_flags.proofs.legal_rules_proofs.Bounded.{account_legal}
+use Rattle.op_flags.proofs.legal_rules_proofs.Covered.{sponsored_at_most, account_states}
+use Rattle.op_flags.proofs.legal_rules_proofs.Given.{sponsors_ready}
+use Rattle.op_flags.proofs.legal_rules_proofs.Legality.{owing_nothing_of, legal_of}
+use Rattle.op_flags.proofs.legal_rules_proofs.Liable.{line_entry}
+use Rattle.op_flags.proofs.legal_rules_proofs.Numbers.{taken_off}
+use Rattle.op_flags.proofs.pool_shares_proofs.Sound.{entries_sound}
 use Rattle.op_laws.specs.Steps.{LegalSettles, SettledLegal, SettledAccounts, SettledReady, SettledInRange, SettledHeld}
 use Rattle.op_laws.specs.Steps.{SettledSound, SettledFew, SettledAmounts, UnderwayManageable}
 

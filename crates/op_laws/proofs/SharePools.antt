@@ -6,38 +6,38 @@ use Rattle.std.specs.Ordering.{int_eq, is_lt, is_eq}
 use Rattle.std.specs.declared.cmp.Ordering.{Ordering}
 use Rattle.std.specs.declared.cmp.Ordering.TheVariants.{Less, Equal, Greater}
 use Rattle.std.specs.FinMap.{get}
-use Rattle.ledger_types.specs.declared.ids.AccountId.{AccountId}
-use Rattle.ledger_types.specs.declared.ids.Hash.{Hash}
-use Rattle.ledger_types.specs.declared.asset.Asset.{Asset}
-use Rattle.ledger_types.specs.declared.asset.PoolParams.{PoolParams}
-use Rattle.ledger_types.specs.declared.asset.TrustLineAsset.{TrustLineAsset}
-use Rattle.ledger_types.specs.declared.liquidity_pool.LiquidityPoolEntry.{LiquidityPoolEntry}
-use Rattle.ledger_types.specs.declared.entry.LedgerEntry.{LedgerEntry}
-use Rattle.ledger_types.specs.declared.entry.LedgerEntryBody.{LedgerEntryBody}
-use Rattle.ledger_types.specs.declared.entry.LedgerEntryBody.TheVariants as body
-use Rattle.ledger_types.specs.declared.key.LedgerKey.TheVariants as key
-use Rattle.ledger_types.specs.Keys.{key_of, key_of_body}
-use Rattle.ledger_types.specs.KeyOrder.{asset_cmp}
-use Rattle.valid_values.specs.Assets.{is_valid_asset}
-use Rattle.entry_map.specs.EntryMap.{EntryMap, put}
-use Rattle.entry_slots.specs.Pools.{pool_in, pool_of, pool_at}
-use Rattle.entry_sums.specs.Sums.{part}
-use Rattle.entry_sums.proofs.Lookups.{put_there, put_elsewhere}
-use Rattle.legal_rules.specs.Books.{View}
-use Rattle.legal_rules.specs.Holdings.{IsKeyed, none_more}
-use Rattle.legal_rules.specs.Owing.{nothing_owed, IsEntryLegal, IsLegalOwing}
-use Rattle.legal_rules.specs.PoolLaws.{new_pool}
-use Rattle.legal_rules.specs.Ranges.{IsPoolInRange}
-use Rattle.legal_rules.specs.Supply.{held}
-use Rattle.legal_rules.proofs.ChargesLeft.{put_beside}
-use Rattle.legal_rules.proofs.Holdings.{none_if, put_same}
-use Rattle.legal_rules.proofs.Leaving.{Leaves, leaves_itself, accounts_kept, keyed_put}
-use Rattle.legal_rules.proofs.Liable.{int_same}
-use Rattle.legal_rules.proofs.Numbers.{both_none}
-use Rattle.legal_rules.proofs.Passed.{neither}
-use Rattle.legal_rules.proofs.PoolsKept.{pool_put}
-use Rattle.pool_shares.specs.ShareLines.{empty_pool, map_with_pool, map_with_pool_by}
-use Rattle.pool_shares.proofs.Gone.{IsLegalNow, as_it_stands}
+use Rattle.op_flags.specs.ledger_types.declared.ids.AccountId.{AccountId}
+use Rattle.op_flags.specs.ledger_types.declared.ids.Hash.{Hash}
+use Rattle.op_flags.specs.ledger_types.declared.asset.Asset.{Asset}
+use Rattle.op_flags.specs.ledger_types.declared.asset.PoolParams.{PoolParams}
+use Rattle.op_flags.specs.ledger_types.declared.asset.TrustLineAsset.{TrustLineAsset}
+use Rattle.op_flags.specs.ledger_types.declared.liquidity_pool.LiquidityPoolEntry.{LiquidityPoolEntry}
+use Rattle.op_flags.specs.ledger_types.declared.entry.LedgerEntry.{LedgerEntry}
+use Rattle.op_flags.specs.ledger_types.declared.entry.LedgerEntryBody.{LedgerEntryBody}
+use Rattle.op_flags.specs.ledger_types.declared.entry.LedgerEntryBody.TheVariants as body
+use Rattle.op_flags.specs.ledger_types.declared.key.LedgerKey.TheVariants as key
+use Rattle.op_flags.specs.ledger_types.Keys.{key_of, key_of_body}
+use Rattle.op_flags.specs.ledger_types.KeyOrder.{asset_cmp}
+use Rattle.op_flags.specs.valid_values.Assets.{is_valid_asset}
+use Rattle.op_flags.specs.entry_map.EntryMap.{EntryMap, put}
+use Rattle.op_flags.specs.entry_slots.Pools.{pool_in, pool_of, pool_at}
+use Rattle.op_flags.specs.entry_sums.Sums.{part}
+use Rattle.op_flags.proofs.entry_sums_proofs.Lookups.{put_there, put_elsewhere}
+use Rattle.op_flags.specs.legal_rules.Books.{View}
+use Rattle.op_flags.specs.legal_rules.Holdings.{IsKeyed, none_more}
+use Rattle.op_flags.specs.legal_rules.Owing.{nothing_owed, IsEntryLegal, IsLegalOwing}
+use Rattle.op_flags.specs.legal_rules.PoolLaws.{new_pool}
+use Rattle.op_flags.specs.legal_rules.Ranges.{IsPoolInRange}
+use Rattle.op_flags.specs.legal_rules.Supply.{held}
+use Rattle.op_flags.proofs.legal_rules_proofs.ChargesLeft.{put_beside}
+use Rattle.op_flags.proofs.legal_rules_proofs.Holdings.{none_if, put_same}
+use Rattle.op_flags.proofs.legal_rules_proofs.Leaving.{Leaves, leaves_itself, accounts_kept, keyed_put}
+use Rattle.op_flags.proofs.legal_rules_proofs.Liable.{int_same}
+use Rattle.op_flags.proofs.legal_rules_proofs.Numbers.{both_none}
+use Rattle.op_flags.proofs.legal_rules_proofs.Passed.{neither}
+use Rattle.op_flags.proofs.legal_rules_proofs.PoolsKept.{pool_put}
+use Rattle.op_flags.specs.pool_shares.ShareLines.{empty_pool, map_with_pool, map_with_pool_by}
+use Rattle.op_flags.proofs.pool_shares_proofs.Gone.{IsLegalNow, as_it_stands}
 use Rattle.op_trust.specs.ShareTrust as spec
 use Rattle.op_trust.proofs.Counts.{same_params}
 use Rattle.op_laws.proofs.TrustLines.{not_true}

@@ -3,33 +3,33 @@ use Rattle.std.proofs.Common.{◌≡◌, refl, subst, Bool, true, false, not, �
 use Rattle.std.proofs.Common.{Option, Some, None, Ok, if◌then◌else◌}
 use Rattle.std.specs.Prelude.{ℤ, pos, int_lt, ◌≤ℤ◌}
 use Rattle.std.specs.Ordering.{int_eq}
-use Rattle.ledger_types.specs.declared.ids.AccountId.{AccountId}
-use Rattle.ledger_types.specs.declared.ids.Hash.{Hash}
-use Rattle.ledger_types.specs.declared.asset.PoolParams.{PoolParams}
-use Rattle.ledger_types.specs.declared.asset.TrustLineAsset.{TrustLineAsset}
-use Rattle.ledger_types.specs.declared.asset.TrustLineAsset.TheVariants as line
-use Rattle.ledger_types.specs.declared.trust_line.TrustLineEntry.{TrustLineEntry}
-use Rattle.ledger_types.specs.declared.liquidity_pool.LiquidityPoolEntry.{LiquidityPoolEntry}
-use Rattle.op_types.specs.declared.operation_result.OperationResult.TheVariants.{NotSupported}
-use Rattle.op_types.specs.declared.trust_results.ChangeTrustResult.TheVariants as trust
-use Rattle.entry_map.specs.EntryMap.{EntryMap}
-use Rattle.entry_slots.specs.Accounts.{HasAccount}
-use Rattle.entry_slots.specs.LineExtensions.{use_count}
-use Rattle.entry_slots.specs.Lines.{line_at, with_line}
-use Rattle.entry_slots.specs.Pools.{pool_at}
-use Rattle.reserve_rules.specs.Reserve.{greatest_i64}
-use Rattle.sponsor_rules.specs.declared.context.Ctx.{Ctx}
-use Rattle.legal_rules.specs.Legal.{view}
-use Rattle.legal_rules.specs.Owing.{nothing_owed}
-use Rattle.legal_rules.specs.PoolShares.{needed_line}
-use Rattle.legal_rules.proofs.LinesLeft.{line_legal}
-use Rattle.legal_rules.proofs.Passed.{first_passed, neither}
-use Rattle.pool_shares.specs.ShareLines.{map_without_share_line}
-use Rattle.pool_shares.proofs.Gone.{gone_legal}
-use Rattle.pool_shares.proofs.GoneLeft.{gone_left}
-use Rattle.pool_shares.proofs.Sound.{entries_sound}
-use Rattle.op_form.specs.Done.{Done}
-use Rattle.op_form.specs.Steps.{success}
+use Rattle.op_flags.specs.ledger_types.declared.ids.AccountId.{AccountId}
+use Rattle.op_flags.specs.ledger_types.declared.ids.Hash.{Hash}
+use Rattle.op_flags.specs.ledger_types.declared.asset.PoolParams.{PoolParams}
+use Rattle.op_flags.specs.ledger_types.declared.asset.TrustLineAsset.{TrustLineAsset}
+use Rattle.op_flags.specs.ledger_types.declared.asset.TrustLineAsset.TheVariants as line
+use Rattle.op_flags.specs.ledger_types.declared.trust_line.TrustLineEntry.{TrustLineEntry}
+use Rattle.op_flags.specs.ledger_types.declared.liquidity_pool.LiquidityPoolEntry.{LiquidityPoolEntry}
+use Rattle.op_flags.specs.op_types.declared.operation_result.OperationResult.TheVariants.{NotSupported}
+use Rattle.op_flags.specs.op_types.declared.trust_results.ChangeTrustResult.TheVariants as trust
+use Rattle.op_flags.specs.entry_map.EntryMap.{EntryMap}
+use Rattle.op_flags.specs.entry_slots.Accounts.{HasAccount}
+use Rattle.op_flags.specs.entry_slots.LineExtensions.{use_count}
+use Rattle.op_flags.specs.entry_slots.Lines.{line_at, with_line}
+use Rattle.op_flags.specs.entry_slots.Pools.{pool_at}
+use Rattle.op_pool.specs.reserve_rules.Reserve.{greatest_i64}
+use Rattle.op_flags.specs.sponsor_rules.declared.context.Ctx.{Ctx}
+use Rattle.op_flags.specs.legal_rules.Legal.{view}
+use Rattle.op_flags.specs.legal_rules.Owing.{nothing_owed}
+use Rattle.op_flags.specs.legal_rules.PoolShares.{needed_line}
+use Rattle.op_flags.proofs.legal_rules_proofs.LinesLeft.{line_legal}
+use Rattle.op_flags.proofs.legal_rules_proofs.Passed.{first_passed, neither}
+use Rattle.op_flags.specs.pool_shares.ShareLines.{map_without_share_line}
+use Rattle.op_flags.proofs.pool_shares_proofs.Gone.{gone_legal}
+use Rattle.op_flags.proofs.pool_shares_proofs.GoneLeft.{gone_left}
+use Rattle.op_flags.proofs.pool_shares_proofs.Sound.{entries_sound}
+use Rattle.op_flags.specs.op_form.Done.{Done}
+use Rattle.op_flags.specs.op_form.Steps.{success}
 use Rattle.op_trust.specs.ChangeTrust.{answer, is_exceeded, limit_tests, with_limit}
 use Rattle.op_trust.specs.ShareTrust as spec
 use Rattle.op_trust.proofs.Counts.{same_params}

@@ -6,27 +6,27 @@ use Rattle.std.proofs.lemmas.Bool.{cases_eq}
 use Rattle.std.proofs.lemmas.List.{length-set, get_or-set_same, get_or-set_other}
 use Rattle.std.proofs.lemmas.List.Elements.{All-set}
 use Rattle.std.specs.Prelude.{ℤ, pos, ◌+ℤ◌}
-use Rattle.ledger_types.specs.declared.ids.AccountId.{AccountId}
-use Rattle.ledger_types.specs.declared.signer.Signer.{Signer}
-use Rattle.ledger_types.specs.declared.account.AccountEntry.{AccountEntry}
-use Rattle.ledger_types.specs.declared.account.AccountEntryExtensionV2.{AccountEntryExtensionV2}
-use Rattle.ledger_types.specs.KeyOrder.{signer_key_cmp}
-use Rattle.entry_map.specs.EntryMap.{EntryMap}
-use Rattle.entry_slots.specs.Accounts.{account_at, with_account}
-use Rattle.entry_slots.specs.AccountExtensions.{second_in, sponsorship_in}
-use Rattle.sponsor_laws.specs.Sums.{signer_sponsors}
-use Rattle.legal_rules.specs.ChangeLaws.{KeepsBooks}
-use Rattle.legal_rules.specs.Owing.{nothing_owed}
-use Rattle.legal_rules.specs.Ranges.{AreSignersInRange, IsAccountInRange}
-use Rattle.legal_rules.specs.Supply.{lumens_of}
-use Rattle.legal_rules.proofs.Bounded.{account_legal}
-use Rattle.legal_rules.proofs.Changed.{account_changed}
-use Rattle.legal_rules.proofs.Numbers.{kept_sum}
-use Rattle.legal_rules.proofs.Steps.{legal_as}
+use Rattle.op_flags.specs.ledger_types.declared.ids.AccountId.{AccountId}
+use Rattle.op_flags.specs.ledger_types.declared.signer.Signer.{Signer}
+use Rattle.op_flags.specs.ledger_types.declared.account.AccountEntry.{AccountEntry}
+use Rattle.op_flags.specs.ledger_types.declared.account.AccountEntryExtensionV2.{AccountEntryExtensionV2}
+use Rattle.op_flags.specs.ledger_types.KeyOrder.{signer_key_cmp}
+use Rattle.op_flags.specs.entry_map.EntryMap.{EntryMap}
+use Rattle.op_flags.specs.entry_slots.Accounts.{account_at, with_account}
+use Rattle.op_flags.specs.entry_slots.AccountExtensions.{second_in, sponsorship_in}
+use Rattle.op_flags.specs.sponsor_laws.Sums.{signer_sponsors}
+use Rattle.op_flags.specs.legal_rules.ChangeLaws.{KeepsBooks}
+use Rattle.op_flags.specs.legal_rules.Owing.{nothing_owed}
+use Rattle.op_flags.specs.legal_rules.Ranges.{AreSignersInRange, IsAccountInRange}
+use Rattle.op_flags.specs.legal_rules.Supply.{lumens_of}
+use Rattle.op_flags.proofs.legal_rules_proofs.Bounded.{account_legal}
+use Rattle.op_flags.proofs.legal_rules_proofs.Changed.{account_changed}
+use Rattle.op_flags.proofs.legal_rules_proofs.Numbers.{kept_sum}
+use Rattle.op_flags.proofs.legal_rules_proofs.Steps.{legal_as}
 use Rattle.op_options.specs.OptionSigner.{with_signer_set}
 use Rattle.op_laws.proofs.Lawful.{KeepsLegal}
-use Rattle.legal_rules.specs.Holdings.{IsKeyed, none_more}
-use Rattle.legal_rules.proofs.Leaving.{IsNext, Leaves, account_kept}
+use Rattle.op_flags.specs.legal_rules.Holdings.{IsKeyed, none_more}
+use Rattle.op_flags.proofs.legal_rules_proofs.Leaving.{IsNext, Leaves, account_kept}
 
 -- ---- sponsors
 

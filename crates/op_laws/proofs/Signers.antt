@@ -3,37 +3,37 @@ use Rattle.std.proofs.Common.{◌≡◌, refl, sym, subst, ◌∙◌, ℕ, ◌�
 use Rattle.std.proofs.Common.{None}
 use Rattle.std.specs.Prelude.{ℤ, pos}
 use Rattle.std.specs.List.{remove}
-use Rattle.ledger_types.specs.declared.ids.AccountId.{AccountId}
-use Rattle.ledger_types.specs.declared.asset.Asset.{Asset}
-use Rattle.ledger_types.specs.declared.asset.Asset.TheVariants as asset
-use Rattle.ledger_types.specs.declared.account.AccountEntry.{AccountEntry}
-use Rattle.ledger_types.specs.declared.signer.SignerKey.{SignerKey}
-use Rattle.ledger_types.specs.declared.signer.SignerKey.TheVariants.{PreAuthTx}
-use Rattle.entry_map.specs.EntryMap.{EntryMap}
-use Rattle.entry_slots.specs.Accounts.{account_at}
-use Rattle.entry_slots.specs.AccountExtensions.{signer_sponsor}
-use Rattle.entry_sums.specs.Sums.{total}
-use Rattle.sponsor_rules.specs.Paying.{without_subentry}
-use Rattle.sponsor_rules.specs.SignerPlace.{place_of, found_at, found_signer, without_signer}
-use Rattle.sponsor_rules.specs.Signers.{without_counted_signer, map_without_signer, map_after_removing_signer}
-use Rattle.sponsor_rules.proofs.Keeping.{counts_edited, with_sponsors_means, means_kept_twice}
-use Rattle.sponsor_rules.specs.Keeping.{KeepsMeans}
-use Rattle.sponsor_laws.proofs.SignedAccounts.{place_within_signers}
-use Rattle.legal_rules.specs.Books.{View}
-use Rattle.legal_rules.specs.Legal.{view}
-use Rattle.legal_rules.specs.Owing.{nothing_owed, IsLegalOwing}
-use Rattle.legal_rules.specs.Supply.{held}
-use Rattle.legal_rules.proofs.Legality.{view_of}
-use Rattle.legal_rules.proofs.PaidFor.{nothing_settled}
-use Rattle.legal_rules.proofs.SignersKept.{counts_subentry, signer_removed}
+use Rattle.op_flags.specs.ledger_types.declared.ids.AccountId.{AccountId}
+use Rattle.op_flags.specs.ledger_types.declared.asset.Asset.{Asset}
+use Rattle.op_flags.specs.ledger_types.declared.asset.Asset.TheVariants as asset
+use Rattle.op_flags.specs.ledger_types.declared.account.AccountEntry.{AccountEntry}
+use Rattle.op_flags.specs.ledger_types.declared.signer.SignerKey.{SignerKey}
+use Rattle.op_flags.specs.ledger_types.declared.signer.SignerKey.TheVariants.{PreAuthTx}
+use Rattle.op_flags.specs.entry_map.EntryMap.{EntryMap}
+use Rattle.op_flags.specs.entry_slots.Accounts.{account_at}
+use Rattle.op_flags.specs.entry_slots.AccountExtensions.{signer_sponsor}
+use Rattle.op_flags.specs.entry_sums.Sums.{total}
+use Rattle.op_flags.specs.sponsor_rules.Paying.{without_subentry}
+use Rattle.op_flags.specs.sponsor_rules.SignerPlace.{place_of, found_at, found_signer, without_signer}
+use Rattle.op_flags.specs.sponsor_rules.Signers.{without_counted_signer, map_without_signer, map_after_removing_signer}
+use Rattle.op_flags.proofs.sponsor_rules_proofs.Keeping.{counts_edited, with_sponsors_means, means_kept_twice}
+use Rattle.op_flags.specs.sponsor_rules.Keeping.{KeepsMeans}
+use Rattle.op_flags.proofs.sponsor_laws_proofs.SignedAccounts.{place_within_signers}
+use Rattle.op_flags.specs.legal_rules.Books.{View}
+use Rattle.op_flags.specs.legal_rules.Legal.{view}
+use Rattle.op_flags.specs.legal_rules.Owing.{nothing_owed, IsLegalOwing}
+use Rattle.op_flags.specs.legal_rules.Supply.{held}
+use Rattle.op_flags.proofs.legal_rules_proofs.Legality.{view_of}
+use Rattle.op_flags.proofs.legal_rules_proofs.PaidFor.{nothing_settled}
+use Rattle.op_flags.proofs.legal_rules_proofs.SignersKept.{counts_subentry, signer_removed}
 use Rattle.op_laws.specs.Steps.{PreauthsSettle}
-use Rattle.legal_rules.proofs.ChargesLeft.{discharged_kept}
-use Rattle.legal_rules.proofs.ReservesLeft.{no_subentry_means, next_edited}
+use Rattle.op_flags.proofs.legal_rules_proofs.ChargesLeft.{discharged_kept}
+use Rattle.op_flags.proofs.legal_rules_proofs.ReservesLeft.{no_subentry_means, next_edited}
 use Rattle.op_laws.proofs.Issued.{none_moved}
-use Rattle.legal_rules.proofs.Legality.{entries_legal, owing_of}
+use Rattle.op_flags.proofs.legal_rules_proofs.Legality.{entries_legal, owing_of}
 use Rattle.op_laws.proofs.Told.{told_by, tells_nothing}
-use Rattle.legal_rules.specs.Holdings.{none_more}
-use Rattle.legal_rules.proofs.Leaving.{IsNext, Leaves, leaves_itself}
+use Rattle.op_flags.specs.legal_rules.Holdings.{none_more}
+use Rattle.op_flags.proofs.legal_rules_proofs.Leaving.{IsNext, Leaves, leaves_itself}
 
 -- the next account without a signer
 unsigned_next : (base place : ℕ) (s : Option AccountId) (a : AccountEntry)

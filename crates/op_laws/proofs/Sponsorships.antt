@@ -6,34 +6,34 @@ use Rattle.std.proofs.lemmas.List.Elements.{All-nil, All-cons, All-append, All-t
 use Rattle.std.proofs.lemmas.List.Quantifiers.{all_pairs_push, all_pairs_remove, position-Some}
 use Rattle.std.specs.List.{find, remove}
 use Rattle.std.specs.Option.{option_map}
-use Rattle.ledger_types.specs.declared.ids.AccountId.{AccountId}
-use Rattle.entry_map.specs.EntryMap.{EntryMap}
-use Rattle.entry_slots.specs.Accounts.{HasAccount, account_at}
-use Rattle.entry_slots.specs.Tests.{Tests}
-use Rattle.sponsor_rules.specs.declared.context.Ctx.{Ctx}
-use Rattle.sponsor_rules.specs.declared.context.Sponsorship.{Sponsorship}
-use Rattle.sponsor_rules.specs.Payers.{is_same_account, open_sponsor}
-use Rattle.sponsor_rules.proofs.Ids.{apart_accounts}
-use Rattle.legal_rules.specs.Sponsorships.{AreSponsorshipsSound}
-use Rattle.op_types.specs.declared.operation_result.OperationResult.{OperationResult}
-use Rattle.op_types.specs.declared.sponsor_ops.BeginSponsoringFutureReservesOp.{BeginSponsoringFutureReservesOp}
-use Rattle.op_types.specs.declared.sponsor_results.BeginSponsoringFutureReservesResult.TheVariants as begin
-use Rattle.op_types.specs.declared.sponsor_results.EndSponsoringFutureReservesResult.TheVariants as end
-use Rattle.op_form.specs.Done.{Done}
-use Rattle.op_form.specs.Sponsorships.{is_open_sponsor}
-use Rattle.op_form.specs.Steps.{success}
+use Rattle.op_flags.specs.ledger_types.declared.ids.AccountId.{AccountId}
+use Rattle.op_flags.specs.entry_map.EntryMap.{EntryMap}
+use Rattle.op_flags.specs.entry_slots.Accounts.{HasAccount, account_at}
+use Rattle.op_flags.specs.entry_slots.Tests.{Tests}
+use Rattle.op_flags.specs.sponsor_rules.declared.context.Ctx.{Ctx}
+use Rattle.op_flags.specs.sponsor_rules.declared.context.Sponsorship.{Sponsorship}
+use Rattle.op_flags.specs.sponsor_rules.Payers.{is_same_account, open_sponsor}
+use Rattle.op_flags.proofs.sponsor_rules_proofs.Ids.{apart_accounts}
+use Rattle.op_flags.specs.legal_rules.Sponsorships.{AreSponsorshipsSound}
+use Rattle.op_flags.specs.op_types.declared.operation_result.OperationResult.{OperationResult}
+use Rattle.op_flags.specs.op_types.declared.sponsor_ops.BeginSponsoringFutureReservesOp.{BeginSponsoringFutureReservesOp}
+use Rattle.op_flags.specs.op_types.declared.sponsor_results.BeginSponsoringFutureReservesResult.TheVariants as begin
+use Rattle.op_flags.specs.op_types.declared.sponsor_results.EndSponsoringFutureReservesResult.TheVariants as end
+use Rattle.op_flags.specs.op_form.Done.{Done}
+use Rattle.op_flags.specs.op_form.Sponsorships.{is_open_sponsor}
+use Rattle.op_flags.specs.op_form.Steps.{success}
 use Rattle.op_sponsor.specs.BeginSponsoringFutureReserves as begins
 use Rattle.op_sponsor.specs.EndSponsoringFutureReserves as ends
 use Rattle.op_laws.specs.Laws.{IsLawful, AreLawful}
 use Rattle.op_laws.specs.Underway.{IsUnderway}
 use Rattle.op_laws.proofs.Lawful.{lawful_by}
 use Rattle.op_laws.proofs.Lumens.{nothing_issued}
-use Rattle.legal_rules.specs.Holdings.{none_more}
-use Rattle.legal_rules.proofs.Holdings.{holds_itself}
-use Rattle.legal_rules.proofs.Leaving.{is_itself_after}
+use Rattle.op_flags.specs.legal_rules.Holdings.{none_more}
+use Rattle.op_flags.proofs.legal_rules_proofs.Holdings.{holds_itself}
+use Rattle.op_flags.proofs.legal_rules_proofs.Leaving.{is_itself_after}
 use Rattle.op_laws.proofs.Told.{tells_nothing}
 use Rattle.op_flags.proofs.Went.{went_on, went_after_some}
-use Rattle.legal_rules.proofs.Passed.{first_passed}
+use Rattle.op_flags.proofs.legal_rules_proofs.Passed.{first_passed}
 
 -- ---- other sponsorships
 

@@ -5,26 +5,26 @@ use Rattle.std.proofs.lemmas.Int.{ints}
 use Rattle.std.proofs.lemmas.Slice.Eq.{bytes_eq-Decides}
 use Rattle.std.specs.Prelude.{ℤ, pos, neg_ℤ, ◌+ℤ◌, ◌-ℤ◌, if◌then◌else◌}
 use Rattle.std.specs.Ordering.{is_eq}
-use Rattle.ledger_types.specs.declared.ids.AccountId.{AccountId}
-use Rattle.ledger_types.specs.declared.ids.ClaimableBalanceId.{ClaimableBalanceId}
-use Rattle.ledger_types.specs.declared.ids.Hash.{Hash}
-use Rattle.ledger_types.specs.declared.asset.Asset.{Asset}
-use Rattle.ledger_types.specs.declared.asset.Asset.TheVariants as asset
-use Rattle.ledger_types.specs.declared.key.LedgerKey.{LedgerKey}
-use Rattle.ledger_types.specs.declared.key.LedgerKey.TheVariants as key
-use Rattle.ledger_types.specs.KeyOrder.{asset_cmp}
-use Rattle.entry_map.specs.EntryMap.{EntryMap}
-use Rattle.entry_map.proofs.KeyMaps.{same_keys, same_itself}
-use Rattle.sponsor_rules.specs.Payers.{is_same_account}
-use Rattle.sponsor_rules.proofs.Ids.{same_account, is_itself}
-use Rattle.legal_rules.specs.EntryKeys.{is_key}
-use Rattle.legal_rules.specs.Supply.{held, of_asset}
-use Rattle.op_form.specs.Assets.{is_native, is_issued_by, line_asset_of}
-use Rattle.op_form.specs.Done.{Holder, OfAccount, OfBalance, OfPool, FeePool, Transit, Move}
+use Rattle.op_flags.specs.ledger_types.declared.ids.AccountId.{AccountId}
+use Rattle.op_flags.specs.ledger_types.declared.ids.ClaimableBalanceId.{ClaimableBalanceId}
+use Rattle.op_flags.specs.ledger_types.declared.ids.Hash.{Hash}
+use Rattle.op_flags.specs.ledger_types.declared.asset.Asset.{Asset}
+use Rattle.op_flags.specs.ledger_types.declared.asset.Asset.TheVariants as asset
+use Rattle.op_flags.specs.ledger_types.declared.key.LedgerKey.{LedgerKey}
+use Rattle.op_flags.specs.ledger_types.declared.key.LedgerKey.TheVariants as key
+use Rattle.op_flags.specs.ledger_types.KeyOrder.{asset_cmp}
+use Rattle.op_flags.specs.entry_map.EntryMap.{EntryMap}
+use Rattle.op_flags.proofs.entry_map_proofs.KeyMaps.{same_keys, same_itself}
+use Rattle.op_flags.specs.sponsor_rules.Payers.{is_same_account}
+use Rattle.op_flags.proofs.sponsor_rules_proofs.Ids.{same_account, is_itself}
+use Rattle.op_flags.specs.legal_rules.EntryKeys.{is_key}
+use Rattle.op_flags.specs.legal_rules.Supply.{held, of_asset}
+use Rattle.op_flags.specs.op_form.Assets.{is_native, is_issued_by, line_asset_of}
+use Rattle.op_flags.specs.op_form.Done.{Holder, OfAccount, OfBalance, OfPool, FeePool, Transit, Move}
 use Rattle.op_laws.specs.Moves.{is_holder, is_issuer, gained_in, gained, holding, held_at, place_of, AreTold}
-use Rattle.legal_rules.specs.Holdings.{Increase, none_more, both_more, under_key, HoldsMore}
-use Rattle.legal_rules.proofs.Holdings.{none_before}
-use Rattle.legal_rules.proofs.Holdings.{holds_itself, none_if}
+use Rattle.op_flags.specs.legal_rules.Holdings.{Increase, none_more, both_more, under_key, HoldsMore}
+use Rattle.op_flags.proofs.legal_rules_proofs.Holdings.{none_before}
+use Rattle.op_flags.proofs.legal_rules_proofs.Holdings.{holds_itself, none_if}
 use Rattle.op_laws.proofs.Issued.{plus_assoc}
 use Rattle.op_laws.proofs.IssuedMoves.{same_asset, same_issuer}
 

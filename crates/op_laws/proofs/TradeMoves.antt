@@ -5,27 +5,27 @@ use Rattle.std.proofs.lemmas.Int.{ints}
 use Rattle.std.proofs.lemmas.List.Elements.{All-head, All-tail}
 use Rattle.std.specs.Prelude.{ℤ, pos, neg_ℤ, ◌+ℤ◌, if◌then◌else◌}
 use Rattle.std.specs.Ordering.{is_eq}
-use Rattle.ledger_types.specs.declared.ids.AccountId.{AccountId}
-use Rattle.ledger_types.specs.declared.ids.Hash.{Hash}
-use Rattle.ledger_types.specs.declared.asset.Asset.{Asset}
-use Rattle.ledger_types.specs.declared.asset.Asset.TheVariants as asset
-use Rattle.ledger_types.specs.declared.asset.TrustLineAsset.TheVariants as line
-use Rattle.ledger_types.specs.declared.claim_atom.ClaimAtom.{ClaimAtom}
-use Rattle.ledger_types.specs.declared.claim_atom.ClaimAtom.TheVariants as atom
-use Rattle.ledger_types.specs.declared.key.LedgerKey.{LedgerKey}
-use Rattle.ledger_types.specs.declared.key.LedgerKey.TheVariants as key
-use Rattle.ledger_types.specs.KeyOrder.{asset_cmp}
-use Rattle.sponsor_rules.specs.Payers.{is_same_account}
-use Rattle.legal_rules.specs.EntryKeys.{is_key}
-use Rattle.legal_rules.specs.Holdings.{under_key, both_more, more_at as more_where}
-use Rattle.legal_rules.specs.Supply.{of_asset}
-use Rattle.legal_rules.specs.Trades.{holder}
-use Rattle.op_form.specs.AtomMoves.{moves_of, trade_moves}
-use Rattle.op_form.specs.Done.{Holder, OfAccount, OfPool, Move}
-use Rattle.trade_cross.specs.declared.trade.Trade.{Trade}
-use Rattle.trade_cross.specs.Crossing.{Crossing}
-use Rattle.trade_cross.specs.CrossingLaws.{kept_at, kept_in, more_in, sold_in, bought_in, IsOfTrade, AreTraded}
-use Rattle.trade_cross.specs.HopLaws.{IsOfHop}
+use Rattle.op_flags.specs.ledger_types.declared.ids.AccountId.{AccountId}
+use Rattle.op_flags.specs.ledger_types.declared.ids.Hash.{Hash}
+use Rattle.op_flags.specs.ledger_types.declared.asset.Asset.{Asset}
+use Rattle.op_flags.specs.ledger_types.declared.asset.Asset.TheVariants as asset
+use Rattle.op_flags.specs.ledger_types.declared.asset.TrustLineAsset.TheVariants as line
+use Rattle.op_flags.specs.ledger_types.declared.claim_atom.ClaimAtom.{ClaimAtom}
+use Rattle.op_flags.specs.ledger_types.declared.claim_atom.ClaimAtom.TheVariants as atom
+use Rattle.op_flags.specs.ledger_types.declared.key.LedgerKey.{LedgerKey}
+use Rattle.op_flags.specs.ledger_types.declared.key.LedgerKey.TheVariants as key
+use Rattle.op_flags.specs.ledger_types.KeyOrder.{asset_cmp}
+use Rattle.op_flags.specs.sponsor_rules.Payers.{is_same_account}
+use Rattle.op_flags.specs.legal_rules.EntryKeys.{is_key}
+use Rattle.op_flags.specs.legal_rules.Holdings.{under_key, both_more, more_at as more_where}
+use Rattle.op_flags.specs.legal_rules.Supply.{of_asset}
+use Rattle.op_flags.specs.legal_rules.Trades.{holder}
+use Rattle.op_flags.specs.op_form.AtomMoves.{moves_of, trade_moves}
+use Rattle.op_flags.specs.op_form.Done.{Holder, OfAccount, OfPool, Move}
+use Rattle.op_flags.specs.trade_cross.declared.trade.Trade.{Trade}
+use Rattle.op_flags.specs.trade_cross.Crossing.{Crossing}
+use Rattle.op_flags.specs.trade_cross.CrossingLaws.{kept_at, kept_in, more_in, sold_in, bought_in, IsOfTrade, AreTraded}
+use Rattle.op_flags.specs.trade_cross.HopLaws.{IsOfHop}
 use Rattle.op_laws.specs.Moves.{is_issuer, place_of, issued}
 use Rattle.op_payment.proofs.Shifts.{unless_issuer}
 use Rattle.op_laws.proofs.IssuedMoves.{same_issuer}

@@ -5,66 +5,66 @@ use Rattle.std.proofs.lemmas.Int.{ints}
 use Rattle.std.specs.Prelude.{ℤ, pos, neg_ℤ, int_lt, ◌+ℤ◌, ◌-ℤ◌, ◌≤ℤ◌, if◌then◌else◌}
 use Rattle.std.specs.FinMap.{get}
 use Rattle.std.specs.Ordering.{int_eq, is_eq}
-use Rattle.ledger_types.specs.declared.ids.AccountId.{AccountId}
-use Rattle.ledger_types.specs.declared.account.AccountEntry.{AccountEntry}
-use Rattle.ledger_types.specs.declared.asset.Asset.{Asset}
-use Rattle.ledger_types.specs.declared.asset.Asset.TheVariants as asset
-use Rattle.ledger_types.specs.declared.asset.TrustLineAsset.{TrustLineAsset}
-use Rattle.ledger_types.specs.declared.asset.TrustLineAsset.TheVariants as line
-use Rattle.ledger_types.specs.declared.trust_line.TrustLineEntry.{TrustLineEntry}
-use Rattle.ledger_types.specs.declared.entry.LedgerEntry.{LedgerEntry}
-use Rattle.ledger_types.specs.declared.entry.LedgerEntryBody.{LedgerEntryBody}
-use Rattle.ledger_types.specs.declared.entry.LedgerEntryBody.TheVariants as body
-use Rattle.ledger_types.specs.declared.key.LedgerKey.{LedgerKey}
-use Rattle.ledger_types.specs.declared.key.LedgerKey.TheVariants as key
-use Rattle.ledger_types.specs.Keys.{key_of, key_of_body}
-use Rattle.ledger_types.specs.KeyOrder.{asset_cmp}
-use Rattle.op_types.specs.declared.trust_results.ChangeTrustResult.TheVariants as trust
-use Rattle.valid_values.specs.Assets.{is_valid_asset}
-use Rattle.entry_map.specs.EntryMap.{EntryMap, erase}
-use Rattle.entry_slots.specs.Accounts.{account_at, HasAccount}
-use Rattle.entry_slots.specs.EntrySponsor.{sponsor_of}
-use Rattle.entry_slots.specs.LineExtensions.{line_liabilities, use_count}
-use Rattle.entry_slots.specs.Lines.{line_in, line_of, line_at, with_line}
-use Rattle.entry_sums.specs.Sums.{part}
-use Rattle.reserve_rules.specs.Reserve.{greatest_i64}
-use Rattle.sponsor_rules.specs.declared.context.Ctx.{Ctx}
-use Rattle.sponsor_rules.specs.Adding.{map_after_adding}
-use Rattle.sponsor_rules.specs.Charge.{line_multiplicity}
-use Rattle.sponsor_rules.specs.Paying.{without_subentry}
-use Rattle.sponsor_rules.specs.Removing.{map_after_discounting, map_after_removing, map_after_removing_entry}
-use Rattle.sponsor_rules.proofs.Ids.{apart_accounts}
-use Rattle.legal_rules.specs.EntryKeys.{is_key}
-use Rattle.legal_rules.specs.Books.{Kind, Subentries, Sponsoring, Sponsored, Selling, Buying, Shares, ShareLines, Uses}
-use Rattle.legal_rules.specs.Books.{View}
-use Rattle.legal_rules.specs.Legal.{view}
-use Rattle.legal_rules.specs.Owing.{weighed, nothing_owed, beside_reserves, IsEntryLegal}
-use Rattle.legal_rules.specs.Ranges.{IsHeldIn, AreLineFlags, IsTrustLineInRange}
-use Rattle.legal_rules.specs.Supply.{of_line, held as held_of}
-use Rattle.legal_rules.proofs.Given.{sponsors_ready}
-use Rattle.legal_rules.proofs.Kept.{subentry_added_so}
-use Rattle.legal_rules.proofs.Numbers.{plus_nothing}
-use Rattle.legal_rules.proofs.PaidFor.{nothing_settled}
-use Rattle.legal_rules.proofs.Removing.{subentry_removed, owns}
-use Rattle.legal_rules.proofs.Steps.{legal_as}
-use Rattle.legal_rules.proofs.Liable.{int_same, line_entry, with_line_body}
-use Rattle.legal_rules.proofs.Subentries.{subentry_of}
-use Rattle.op_form.specs.Assets.{is_native, is_issued_by, issuer_at, line_asset_of, line_of_asset}
-use Rattle.op_form.specs.Done.{Done}
-use Rattle.op_form.specs.Flags.{is_auth_required, is_account_clawback_enabled}
-use Rattle.op_form.specs.Steps.{success}
+use Rattle.op_flags.specs.ledger_types.declared.ids.AccountId.{AccountId}
+use Rattle.op_flags.specs.ledger_types.declared.account.AccountEntry.{AccountEntry}
+use Rattle.op_flags.specs.ledger_types.declared.asset.Asset.{Asset}
+use Rattle.op_flags.specs.ledger_types.declared.asset.Asset.TheVariants as asset
+use Rattle.op_flags.specs.ledger_types.declared.asset.TrustLineAsset.{TrustLineAsset}
+use Rattle.op_flags.specs.ledger_types.declared.asset.TrustLineAsset.TheVariants as line
+use Rattle.op_flags.specs.ledger_types.declared.trust_line.TrustLineEntry.{TrustLineEntry}
+use Rattle.op_flags.specs.ledger_types.declared.entry.LedgerEntry.{LedgerEntry}
+use Rattle.op_flags.specs.ledger_types.declared.entry.LedgerEntryBody.{LedgerEntryBody}
+use Rattle.op_flags.specs.ledger_types.declared.entry.LedgerEntryBody.TheVariants as body
+use Rattle.op_flags.specs.ledger_types.declared.key.LedgerKey.{LedgerKey}
+use Rattle.op_flags.specs.ledger_types.declared.key.LedgerKey.TheVariants as key
+use Rattle.op_flags.specs.ledger_types.Keys.{key_of, key_of_body}
+use Rattle.op_flags.specs.ledger_types.KeyOrder.{asset_cmp}
+use Rattle.op_flags.specs.op_types.declared.trust_results.ChangeTrustResult.TheVariants as trust
+use Rattle.op_flags.specs.valid_values.Assets.{is_valid_asset}
+use Rattle.op_flags.specs.entry_map.EntryMap.{EntryMap, erase}
+use Rattle.op_flags.specs.entry_slots.Accounts.{account_at, HasAccount}
+use Rattle.op_flags.specs.entry_slots.EntrySponsor.{sponsor_of}
+use Rattle.op_flags.specs.entry_slots.LineExtensions.{line_liabilities, use_count}
+use Rattle.op_flags.specs.entry_slots.Lines.{line_in, line_of, line_at, with_line}
+use Rattle.op_flags.specs.entry_sums.Sums.{part}
+use Rattle.op_pool.specs.reserve_rules.Reserve.{greatest_i64}
+use Rattle.op_flags.specs.sponsor_rules.declared.context.Ctx.{Ctx}
+use Rattle.op_flags.specs.sponsor_rules.Adding.{map_after_adding}
+use Rattle.op_flags.specs.sponsor_rules.Charge.{line_multiplicity}
+use Rattle.op_flags.specs.sponsor_rules.Paying.{without_subentry}
+use Rattle.op_flags.specs.sponsor_rules.Removing.{map_after_discounting, map_after_removing, map_after_removing_entry}
+use Rattle.op_flags.proofs.sponsor_rules_proofs.Ids.{apart_accounts}
+use Rattle.op_flags.specs.legal_rules.EntryKeys.{is_key}
+use Rattle.op_flags.specs.legal_rules.Books.{Kind, Subentries, Sponsoring, Sponsored, Selling, Buying, Shares, ShareLines, Uses}
+use Rattle.op_flags.specs.legal_rules.Books.{View}
+use Rattle.op_flags.specs.legal_rules.Legal.{view}
+use Rattle.op_flags.specs.legal_rules.Owing.{weighed, nothing_owed, beside_reserves, IsEntryLegal}
+use Rattle.op_flags.specs.legal_rules.Ranges.{IsHeldIn, AreLineFlags, IsTrustLineInRange}
+use Rattle.op_flags.specs.legal_rules.Supply.{of_line, held as held_of}
+use Rattle.op_flags.proofs.legal_rules_proofs.Given.{sponsors_ready}
+use Rattle.op_flags.proofs.legal_rules_proofs.Kept.{subentry_added_so}
+use Rattle.op_flags.proofs.legal_rules_proofs.Numbers.{plus_nothing}
+use Rattle.op_flags.proofs.legal_rules_proofs.PaidFor.{nothing_settled}
+use Rattle.op_flags.proofs.legal_rules_proofs.Removing.{subentry_removed, owns}
+use Rattle.op_flags.proofs.legal_rules_proofs.Steps.{legal_as}
+use Rattle.op_flags.proofs.legal_rules_proofs.Liable.{int_same, line_entry, with_line_body}
+use Rattle.op_flags.proofs.legal_rules_proofs.Subentries.{subentry_of}
+use Rattle.op_flags.specs.op_form.Assets.{is_native, is_issued_by, issuer_at, line_asset_of, line_of_asset}
+use Rattle.op_flags.specs.op_form.Done.{Done}
+use Rattle.op_flags.specs.op_form.Flags.{is_auth_required, is_account_clawback_enabled}
+use Rattle.op_flags.specs.op_form.Steps.{success}
 use Rattle.op_trust.specs.ChangeTrust as spec
 use Rattle.op_laws.specs.Laws.{IsLawful}
 use Rattle.op_laws.specs.Underway.{IsUnderway}
-use Rattle.legal_rules.proofs.ChargesLeft.{subentry_kept, discharged_kept, erased_kept}
+use Rattle.op_flags.proofs.legal_rules_proofs.ChargesLeft.{subentry_kept, discharged_kept, erased_kept}
 use Rattle.op_laws.proofs.Lawful.{KeepsLegal, lawful_still}
-use Rattle.legal_rules.proofs.LinesLeft.{line_legal}
+use Rattle.op_flags.proofs.legal_rules_proofs.LinesLeft.{line_legal}
 use Rattle.op_laws.proofs.LineLimits.{not_below, not_zero, nothing_in_line, line_limited_lawful}
-use Rattle.legal_rules.specs.Holdings.{IsKeyed, none_more}
-use Rattle.legal_rules.proofs.Holdings.{still_holds}
-use Rattle.legal_rules.proofs.Leaving.{Leaves, keeps_both}
+use Rattle.op_flags.specs.legal_rules.Holdings.{IsKeyed, none_more}
+use Rattle.op_flags.proofs.legal_rules_proofs.Holdings.{still_holds}
+use Rattle.op_flags.proofs.legal_rules_proofs.Leaving.{Leaves, keeps_both}
 use Rattle.op_flags.proofs.Went.{went_on, went_after_some, went_after_charge}
-use Rattle.legal_rules.proofs.Passed.{first_passed, neither}
+use Rattle.op_flags.proofs.legal_rules_proofs.Passed.{first_passed, neither}
 
 -- ---- keys
 

@@ -2,36 +2,36 @@
 use Rattle.std.proofs.Common.{◌≡◌, sym, subst, ◌∙◌, false, ◌||◌, List, [], ◌∷◌, Option, Some, Ok, arith}
 use Rattle.std.proofs.lemmas.Int.{ints}
 use Rattle.std.specs.Prelude.{ℤ, pos, neg_ℤ, ◌+ℤ◌, ◌≤ℤ◌, int_le, int_lt, nat_lt}
-use Rattle.ledger_types.specs.declared.ids.AccountId.{AccountId}
-use Rattle.ledger_types.specs.declared.ids.Hash.{Hash}
-use Rattle.ledger_types.specs.declared.asset.Asset.{Asset}
-use Rattle.ledger_types.specs.declared.asset.Asset.TheVariants as asset
-use Rattle.ledger_types.specs.declared.asset.TrustLineAsset.TheVariants as line
-use Rattle.ledger_types.specs.declared.trust_line.TrustLineEntry.{TrustLineEntry}
-use Rattle.ledger_types.specs.declared.liquidity_pool.LiquidityPoolEntry.{LiquidityPoolEntry}
-use Rattle.ledger_types.specs.declared.key.LedgerKey.{LedgerKey}
-use Rattle.op_types.specs.declared.pool_ops.LiquidityPoolWithdrawOp.{LiquidityPoolWithdrawOp}
-use Rattle.op_types.specs.declared.pool_results.LiquidityPoolWithdrawResult.TheVariants as withdrawing
-use Rattle.entry_map.specs.EntryMap.{EntryMap}
-use Rattle.entry_slots.specs.Accounts.{HasAccount}
-use Rattle.entry_slots.specs.Lines.{line_at}
-use Rattle.entry_slots.specs.Pools.{pool_at}
-use Rattle.entry_sums.specs.Sums.{total}
-use Rattle.sponsor_rules.specs.declared.context.Ctx.{Ctx}
-use Rattle.legal_rules.specs.Holdings.{Increase, both_more}
-use Rattle.legal_rules.specs.Legal.{view}
-use Rattle.legal_rules.specs.Owing.{nothing_owed}
-use Rattle.legal_rules.specs.Supply.{of_asset, held as held_of}
-use Rattle.legal_rules.specs.Trades.{holder}
-use Rattle.legal_rules.proofs.Leaving.{leaves_as}
-use Rattle.legal_rules.proofs.LinesLeft.{IsLegalLine, line_legal}
-use Rattle.legal_rules.proofs.Passed.{first_passed, neither}
-use Rattle.trade_cross.specs.Holdings.{most_taken}
-use Rattle.trade_cross.proofs.Paying.{CanPay}
-use Rattle.pool_shares.specs.Withdrawing.{Part, part_of}
-use Rattle.pool_shares.proofs.Parts.{can_withdraw}
-use Rattle.pool_shares.proofs.Sound.{IsLegalPool, pool_legal, first_used, second_used, sound_of}
-use Rattle.op_form.specs.Done.{Done, OfAccount, OfPool, Move}
+use Rattle.op_flags.specs.ledger_types.declared.ids.AccountId.{AccountId}
+use Rattle.op_flags.specs.ledger_types.declared.ids.Hash.{Hash}
+use Rattle.op_flags.specs.ledger_types.declared.asset.Asset.{Asset}
+use Rattle.op_flags.specs.ledger_types.declared.asset.Asset.TheVariants as asset
+use Rattle.op_flags.specs.ledger_types.declared.asset.TrustLineAsset.TheVariants as line
+use Rattle.op_flags.specs.ledger_types.declared.trust_line.TrustLineEntry.{TrustLineEntry}
+use Rattle.op_flags.specs.ledger_types.declared.liquidity_pool.LiquidityPoolEntry.{LiquidityPoolEntry}
+use Rattle.op_flags.specs.ledger_types.declared.key.LedgerKey.{LedgerKey}
+use Rattle.op_flags.specs.op_types.declared.pool_ops.LiquidityPoolWithdrawOp.{LiquidityPoolWithdrawOp}
+use Rattle.op_flags.specs.op_types.declared.pool_results.LiquidityPoolWithdrawResult.TheVariants as withdrawing
+use Rattle.op_flags.specs.entry_map.EntryMap.{EntryMap}
+use Rattle.op_flags.specs.entry_slots.Accounts.{HasAccount}
+use Rattle.op_flags.specs.entry_slots.Lines.{line_at}
+use Rattle.op_flags.specs.entry_slots.Pools.{pool_at}
+use Rattle.op_flags.specs.entry_sums.Sums.{total}
+use Rattle.op_flags.specs.sponsor_rules.declared.context.Ctx.{Ctx}
+use Rattle.op_flags.specs.legal_rules.Holdings.{Increase, both_more}
+use Rattle.op_flags.specs.legal_rules.Legal.{view}
+use Rattle.op_flags.specs.legal_rules.Owing.{nothing_owed}
+use Rattle.op_flags.specs.legal_rules.Supply.{of_asset, held as held_of}
+use Rattle.op_flags.specs.legal_rules.Trades.{holder}
+use Rattle.op_flags.proofs.legal_rules_proofs.Leaving.{leaves_as}
+use Rattle.op_flags.proofs.legal_rules_proofs.LinesLeft.{IsLegalLine, line_legal}
+use Rattle.op_flags.proofs.legal_rules_proofs.Passed.{first_passed, neither}
+use Rattle.op_flags.specs.trade_cross.Holdings.{most_taken}
+use Rattle.op_flags.proofs.trade_cross_proofs.Paying.{CanPay}
+use Rattle.op_flags.specs.pool_shares.Withdrawing.{Part, part_of}
+use Rattle.op_flags.proofs.pool_shares_proofs.Parts.{can_withdraw}
+use Rattle.op_flags.proofs.pool_shares_proofs.Sound.{IsLegalPool, pool_legal, first_used, second_used, sound_of}
+use Rattle.op_flags.specs.op_form.Done.{Done, OfAccount, OfPool, Move}
 use Rattle.op_pool.specs.Withdraw.{answer, disabled_tests, withdraw_tests, share_tests, taken_tests, map_after_taking}
 use Rattle.op_pool.specs.Withdraw.{move_of_a, move_of_b, taken, liquidity_pool_withdraw}
 use Rattle.op_pool.proofs.Fitting.{not_less}

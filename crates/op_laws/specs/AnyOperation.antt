@@ -1,10 +1,10 @@
 -- What an operation does, by its type: each type is defined in the crate of its kind (OperationFrame::makeHelper in
 -- stellar-core).
-use Rattle.op_types.specs.declared.operation.OperationBody.{OperationBody}
-use Rattle.op_types.specs.declared.operation.OperationBody.TheVariants as body
-use Rattle.entry_map.specs.EntryMap.{EntryMap}
-use Rattle.sponsor_rules.specs.declared.context.Ctx.{Ctx}
-use Rattle.op_form.specs.Done.{Done}
+use Rattle.op_flags.specs.op_types.declared.operation.OperationBody.{OperationBody}
+use Rattle.op_flags.specs.op_types.declared.operation.OperationBody.TheVariants as body
+use Rattle.op_flags.specs.entry_map.EntryMap.{EntryMap}
+use Rattle.op_flags.specs.sponsor_rules.declared.context.Ctx.{Ctx}
+use Rattle.op_flags.specs.op_form.Done.{Done}
 use Rattle.op_account.specs.Operations.{account_operation}
 use Rattle.op_claim.specs.Operations.{claim_operation}
 use Rattle.op_flags.specs.Operations.{flags_operation}

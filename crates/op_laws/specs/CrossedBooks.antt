@@ -1,18 +1,18 @@
 -- The book of a pair behind an offer that was crossed, and crossing over a book that is ranked once.
 use Rattle.std.specs.Prelude.{◌≡◌, ℕ, zero, suc, List, [], ◌∷◌, Some, true, false, if◌then◌else◌}
-use Rattle.ledger_types.specs.declared.asset.Asset.{Asset}
-use Rattle.ledger_types.specs.declared.offer.OfferEntry.{OfferEntry}
-use Rattle.entry_map.specs.EntryMap.{EntryMap}
-use Rattle.entry_map.specs.Book.{head}
-use Rattle.offer_book.specs.Book.{book, best}
-use Rattle.offer_exchange.specs.declared.rounding.Rounding.{Rounding}
-use Rattle.trade_cross.specs.declared.crossed.CrossEnd.TheVariants.{Converted}
-use Rattle.trade_cross.specs.declared.trade.Trade.{Trade}
-use Rattle.trade_cross.specs.declared.turn.Turn.{Turn}
-use Rattle.trade_cross.specs.declared.turn.Turn.TheVariants.{Ends, Meets}
-use Rattle.trade_cross.specs.Crossable.{IsCrossable}
-use Rattle.trade_cross.specs.Crossing.{Left, step, is_used_up, turn_at, Crossing, ended, at_limit, joined, left_after}
-use Rattle.trade_cross.specs.Crossing.{with_amount, crossed}
+use Rattle.op_flags.specs.ledger_types.declared.asset.Asset.{Asset}
+use Rattle.op_flags.specs.ledger_types.declared.offer.OfferEntry.{OfferEntry}
+use Rattle.op_flags.specs.entry_map.EntryMap.{EntryMap}
+use Rattle.op_flags.specs.entry_map.Book.{head}
+use Rattle.op_flags.specs.offer_book.Book.{book, best}
+use Rattle.op_offers.specs.offer_exchange.declared.rounding.Rounding.{Rounding}
+use Rattle.op_flags.specs.trade_cross.declared.crossed.CrossEnd.TheVariants.{Converted}
+use Rattle.op_flags.specs.trade_cross.declared.trade.Trade.{Trade}
+use Rattle.op_flags.specs.trade_cross.declared.turn.Turn.{Turn}
+use Rattle.op_flags.specs.trade_cross.declared.turn.Turn.TheVariants.{Ends, Meets}
+use Rattle.op_flags.specs.trade_cross.Crossable.{IsCrossable}
+use Rattle.op_flags.specs.trade_cross.Crossing.{Left, step, is_used_up, turn_at, Crossing, ended, at_limit, joined, left_after}
+use Rattle.op_flags.specs.trade_cross.Crossing.{with_amount, crossed}
 
 -- Where the best offer is crossed and goes, the book was that offer and then the book that is left.
 abbrev pub CrossedOffersGo : Type 0

@@ -1,27 +1,27 @@
 -- The laws of operations: that each leaves a legal state, moves what its moves say and nothing else, makes and destroys
 -- an amount where its issuer gives or takes it alone, and leaves each account at least 0 available, or what it had.
 use Rattle.std.specs.Prelude.{◌≡◌, ◌≤◌, pos, ◌+ℤ◌, ◌≤ℤ◌, ◌⊎◌, length, Some, Ok}
-use Rattle.ledger_types.specs.declared.ids.AccountId.{AccountId}
-use Rattle.ledger_types.specs.declared.account.AccountEntry.{AccountEntry}
-use Rattle.ledger_types.specs.declared.asset.Asset.{Asset}
-use Rattle.ledger_types.specs.declared.asset.Asset.TheVariants as asset
-use Rattle.op_types.specs.declared.account_ops.BumpSequenceOp.{BumpSequenceOp}
-use Rattle.op_types.specs.declared.balance_ops.CreateClaimableBalanceOp.{CreateClaimableBalanceOp}
-use Rattle.op_types.specs.declared.operation.OperationBody.{OperationBody}
-use Rattle.op_types.specs.declared.operation.OperationBody.TheVariants as body
-use Rattle.op_types.specs.declared.trust_ops.ChangeTrustOp.{ChangeTrustOp}
-use Rattle.entry_map.specs.EntryMap.{EntryMap}
-use Rattle.entry_slots.specs.Accounts.{account_at, HasAccount}
-use Rattle.entry_sums.specs.Sums.{total}
-use Rattle.reserve_rules.specs.Reserve.{available, greatest_i64}
-use Rattle.sponsor_rules.specs.declared.context.Ctx.{Ctx}
-use Rattle.legal_rules.specs.Supply.{held}
-use Rattle.op_form.specs.Done.{Done, Attempt}
+use Rattle.op_flags.specs.ledger_types.declared.ids.AccountId.{AccountId}
+use Rattle.op_flags.specs.ledger_types.declared.account.AccountEntry.{AccountEntry}
+use Rattle.op_flags.specs.ledger_types.declared.asset.Asset.{Asset}
+use Rattle.op_flags.specs.ledger_types.declared.asset.Asset.TheVariants as asset
+use Rattle.op_flags.specs.op_types.declared.account_ops.BumpSequenceOp.{BumpSequenceOp}
+use Rattle.op_flags.specs.op_types.declared.balance_ops.CreateClaimableBalanceOp.{CreateClaimableBalanceOp}
+use Rattle.op_flags.specs.op_types.declared.operation.OperationBody.{OperationBody}
+use Rattle.op_flags.specs.op_types.declared.operation.OperationBody.TheVariants as body
+use Rattle.op_flags.specs.op_types.declared.trust_ops.ChangeTrustOp.{ChangeTrustOp}
+use Rattle.op_flags.specs.entry_map.EntryMap.{EntryMap}
+use Rattle.op_flags.specs.entry_slots.Accounts.{account_at, HasAccount}
+use Rattle.op_flags.specs.entry_sums.Sums.{total}
+use Rattle.op_pool.specs.reserve_rules.Reserve.{available, greatest_i64}
+use Rattle.op_flags.specs.sponsor_rules.declared.context.Ctx.{Ctx}
+use Rattle.op_flags.specs.legal_rules.Supply.{held}
+use Rattle.op_flags.specs.op_form.Done.{Done, Attempt}
 use Rattle.op_laws.specs.AnyOperation.{any_operation}
 use Rattle.op_laws.specs.Underway.{IsUnderway, AreDrawn, KeepsTerms}
-use Rattle.op_form.specs.Done.{OfAccount}
+use Rattle.op_flags.specs.op_form.Done.{OfAccount}
 use Rattle.op_laws.specs.Moves.{gained, issued, AreTold}
-use Rattle.legal_rules.specs.Supply.{lumens_at}
+use Rattle.op_flags.specs.legal_rules.Supply.{lumens_at}
 
 -- an account's available balance is at least 0, or at least what it was
 abbrev pub IsCovered : Ctx → EntryMap → AccountEntry → Type 0

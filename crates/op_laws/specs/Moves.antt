@@ -4,17 +4,17 @@ use Rattle.std.specs.Prelude.{if◌then◌else◌}
 use Rattle.std.specs.FinMap.{get}
 use Rattle.std.specs.Ordering.{is_eq}
 use Rattle.std.specs.Str.{bytes_eq}
-use Rattle.ledger_types.specs.declared.asset.Asset.{Asset}
-use Rattle.ledger_types.specs.declared.asset.Asset.TheVariants as asset
-use Rattle.ledger_types.specs.declared.key.LedgerKey.{LedgerKey}
-use Rattle.ledger_types.specs.declared.key.LedgerKey.TheVariants as key
-use Rattle.ledger_types.specs.KeyOrder.{asset_cmp}
-use Rattle.entry_map.specs.EntryMap.{EntryMap}
-use Rattle.entry_sums.specs.Sums.{part}
-use Rattle.sponsor_rules.specs.Payers.{is_same_account}
-use Rattle.legal_rules.specs.Supply.{held}
-use Rattle.op_form.specs.Assets.{line_asset_of}
-use Rattle.op_form.specs.Done.{Holder, OfAccount, OfBalance, OfPool, FeePool, Transit, Move}
+use Rattle.op_flags.specs.ledger_types.declared.asset.Asset.{Asset}
+use Rattle.op_flags.specs.ledger_types.declared.asset.Asset.TheVariants as asset
+use Rattle.op_flags.specs.ledger_types.declared.key.LedgerKey.{LedgerKey}
+use Rattle.op_flags.specs.ledger_types.declared.key.LedgerKey.TheVariants as key
+use Rattle.op_flags.specs.ledger_types.KeyOrder.{asset_cmp}
+use Rattle.op_flags.specs.entry_map.EntryMap.{EntryMap}
+use Rattle.op_flags.specs.entry_sums.Sums.{part}
+use Rattle.op_flags.specs.sponsor_rules.Payers.{is_same_account}
+use Rattle.op_flags.specs.legal_rules.Supply.{held}
+use Rattle.op_flags.specs.op_form.Assets.{line_asset_of}
+use Rattle.op_flags.specs.op_form.Done.{Holder, OfAccount, OfBalance, OfPool, FeePool, Transit, Move}
 
 abbrev pub is_of_asset : Asset → Move → Bool
 is_of_asset x move = is_eq (asset_cmp x move.asset)

@@ -1,24 +1,24 @@
 -- That fees, sequence numbers and signers that are used up leave settled entries.
 use Rattle.std.specs.Prelude.{◌≡◌, ◌≢◌, ℕ, ◌+◌, ◌≤◌, ℤ, pos, neg_ℤ, ◌+ℤ◌, ◌≤ℤ◌, [], length, Some}
-use Rattle.ledger_types.specs.declared.ids.AccountId.{AccountId}
-use Rattle.ledger_types.specs.declared.ids.Hash.{Hash}
-use Rattle.ledger_types.specs.declared.asset.Asset.{Asset}
-use Rattle.ledger_types.specs.declared.asset.Asset.TheVariants as asset
-use Rattle.ledger_types.specs.declared.header.LedgerHeader.{LedgerHeader}
-use Rattle.ledger_types.specs.declared.account.AccountEntry.{AccountEntry}
-use Rattle.entry_map.specs.EntryMap.{EntryMap}
-use Rattle.entry_slots.specs.Accounts.{account_at, HasAccount}
-use Rattle.entry_sums.specs.Sums.{total}
-use Rattle.reserve_rules.specs.Reserve.{greatest_i64}
-use Rattle.sponsor_rules.specs.declared.context.Ctx.{Ctx}
-use Rattle.sponsor_rules.specs.Signers.{map_after_removing_preauth}
-use Rattle.legal_rules.specs.Headers.{IsHeaderInRange}
-use Rattle.legal_rules.specs.Legal.{IsLegal}
-use Rattle.legal_rules.specs.Payments.{with_paid, with_seq_num}
-use Rattle.legal_rules.specs.Supply.{held, lumens_of}
-use Rattle.legal_rules.specs.Ranges.{IsAccountInRange}
-use Rattle.pool_shares.specs.Premises.{ArePoolsSound}
-use Rattle.op_form.specs.Premises.{AccountsAreReady, BalancesAreInRange, AreAmountsLow}
+use Rattle.op_flags.specs.ledger_types.declared.ids.AccountId.{AccountId}
+use Rattle.op_flags.specs.ledger_types.declared.ids.Hash.{Hash}
+use Rattle.op_flags.specs.ledger_types.declared.asset.Asset.{Asset}
+use Rattle.op_flags.specs.ledger_types.declared.asset.Asset.TheVariants as asset
+use Rattle.op_flags.specs.ledger_types.declared.header.LedgerHeader.{LedgerHeader}
+use Rattle.op_flags.specs.ledger_types.declared.account.AccountEntry.{AccountEntry}
+use Rattle.op_flags.specs.entry_map.EntryMap.{EntryMap}
+use Rattle.op_flags.specs.entry_slots.Accounts.{account_at, HasAccount}
+use Rattle.op_flags.specs.entry_sums.Sums.{total}
+use Rattle.op_pool.specs.reserve_rules.Reserve.{greatest_i64}
+use Rattle.op_flags.specs.sponsor_rules.declared.context.Ctx.{Ctx}
+use Rattle.op_flags.specs.sponsor_rules.Signers.{map_after_removing_preauth}
+use Rattle.op_flags.specs.legal_rules.Headers.{IsHeaderInRange}
+use Rattle.op_flags.specs.legal_rules.Legal.{IsLegal}
+use Rattle.op_flags.specs.legal_rules.Payments.{with_paid, with_seq_num}
+use Rattle.op_flags.specs.legal_rules.Supply.{held, lumens_of}
+use Rattle.op_flags.specs.legal_rules.Ranges.{IsAccountInRange}
+use Rattle.op_flags.specs.pool_shares.Premises.{ArePoolsSound}
+use Rattle.op_flags.specs.op_form.Premises.{AccountsAreReady, BalancesAreInRange, AreAmountsLow}
 use Rattle.op_offers.specs.Calls.{IsManageable}
 use Rattle.op_laws.specs.Laws.{AllLawful}
 use Rattle.op_laws.specs.Underway.{IsSettled, IsUnderway, LeavesSettled}

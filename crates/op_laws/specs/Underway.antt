@@ -1,14 +1,14 @@
 -- What holds before and behind each operation of a transaction.
 use Rattle.std.specs.Prelude.{◌≡◌, ℕ, ◌+◌, ◌<◌, ◌≤◌, ◌+ℤ◌, List}
-use Rattle.ledger_types.specs.declared.asset.Asset.{Asset}
-use Rattle.entry_map.specs.EntryMap.{EntryMap}
-use Rattle.entry_sums.specs.Sums.{total}
-use Rattle.sponsor_rules.specs.declared.context.Ctx.{Ctx}
-use Rattle.legal_rules.specs.Owing.{AreEntriesLegal}
-use Rattle.legal_rules.specs.Sponsorships.{AreSponsorshipsSound}
-use Rattle.legal_rules.specs.Supply.{held}
-use Rattle.op_form.specs.Sequences.{last_seq}
-use Rattle.op_form.specs.Done.{Move}
+use Rattle.op_flags.specs.ledger_types.declared.asset.Asset.{Asset}
+use Rattle.op_flags.specs.entry_map.EntryMap.{EntryMap}
+use Rattle.op_flags.specs.entry_sums.Sums.{total}
+use Rattle.op_flags.specs.sponsor_rules.declared.context.Ctx.{Ctx}
+use Rattle.op_flags.specs.legal_rules.Owing.{AreEntriesLegal}
+use Rattle.op_flags.specs.legal_rules.Sponsorships.{AreSponsorshipsSound}
+use Rattle.op_flags.specs.legal_rules.Supply.{held}
+use Rattle.op_flags.specs.op_form.Sequences.{last_seq}
+use Rattle.op_flags.specs.op_form.Done.{Move}
 use Rattle.op_laws.specs.Moves.{issued, AreTold}
 
 -- what holds of the entries between two transactions, when so many ids are drawn

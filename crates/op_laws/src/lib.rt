@@ -6,3 +6,9 @@
 pub mod crossed_books;
 pub mod operations;
 pub mod steps;
+
+pub use op_flags;
+pub use op_offers;
+pub use op_payment;
+pub use op_pool;
+pub use op_trust;

@@ -23,10 +23,10 @@ ghost use Rattle.op_pool.specs.Withdraw.{liquidity_pool_withdraw};
 ghost use Rattle.op_trust.specs.Operations.{change_trust};
 ghost use Rattle.op_laws.specs.Laws.{AreLawful, AreLawfulWhere, AllLawful, IsBumpFit, IsLimitFit};
 ghost use Rattle.op_laws.specs.Laws.{AreClaimantsFew};
-ghost use Rattle.op_types.specs.declared.offer_ops.ManageSellOfferOp.{ManageSellOfferOp};
-ghost use Rattle.op_types.specs.declared.offer_ops.CreatePassiveSellOfferOp.{CreatePassiveSellOfferOp};
-ghost use Rattle.op_types.specs.declared.offer_ops.ManageBuyOfferOp.{ManageBuyOfferOp};
-ghost use Rattle.op_types.specs.declared.operation.OperationBody.TheVariants as body;
+ghost use Rattle.op_flags.specs.op_types.declared.offer_ops.ManageSellOfferOp.{ManageSellOfferOp};
+ghost use Rattle.op_flags.specs.op_types.declared.offer_ops.CreatePassiveSellOfferOp.{CreatePassiveSellOfferOp};
+ghost use Rattle.op_flags.specs.op_types.declared.offer_ops.ManageBuyOfferOp.{ManageBuyOfferOp};
+ghost use Rattle.op_flags.specs.op_types.declared.operation.OperationBody.TheVariants as body;
 
 /// Each CREATE_ACCOUNT that succeeds is lawful.
 pub fn create_account_is_lawful()

@@ -6,8 +6,8 @@ use Rattle.std.specs.Prelude.{ℤ, pos, ◌≤ℤ◌, int_lt}
 use Rattle.entry_map.specs.EntryMap.{EntryMap}
 use Rattle.sponsor_rules.specs.declared.context.Ctx.{Ctx}
 use Rattle.sponsor_rules.specs.Adding.{map_after_counting_subentry}
-use Rattle.legal_rules.specs.Trades.{holder}
-use Rattle.legal_rules.proofs.Passed.{neither}
+use Rattle.trade_cross.specs.legal_rules.Trades.{holder}
+use Rattle.trade_cross.proofs.legal_rules_proofs.Passed.{neither}
 use Rattle.op_offers.specs.declared.ask.Ask.{Ask}
 use Rattle.op_offers.specs.Asked.{is_malformed, is_no_pair, is_out_of_range}
 use Rattle.op_offers.specs.Calls.{IsManageable, IsSellable, IsSound, IsLimitOf, IsLimitLow}

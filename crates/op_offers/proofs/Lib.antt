@@ -9,3 +9,4 @@ mod Ready
 mod Begun
 mod Loaded
 mod Applied
+pub use Rattle.offer_exchange.proofs as offer_exchange_proofs

@@ -15,9 +15,9 @@ use Rattle.entry_map.specs.EntryMap.{EntryMap}
 use Rattle.entry_slots.specs.declared.offers.OfferSlot.{OfferSlot}
 use Rattle.entry_slots.specs.Offers.{offer_of, offer_at, offer_slot_by, offer_slot_of, offer_slot_at, entry_of_offer}
 use Rattle.sponsor_rules.specs.declared.context.Ctx.{Ctx}
-use Rattle.legal_rules.specs.Owing.{nothing_owed}
-use Rattle.legal_rules.specs.Ranges.{IsOfferInRange}
-use Rattle.legal_rules.specs.Trades.{holder}
+use Rattle.trade_cross.specs.legal_rules.Owing.{nothing_owed}
+use Rattle.trade_cross.specs.legal_rules.Ranges.{IsOfferInRange}
+use Rattle.trade_cross.specs.legal_rules.Trades.{holder}
 use Rattle.trade_cross.specs.Amounts.{DoesReleaseFit}
 use Rattle.trade_cross.specs.Cancelling.{map_after_cancelling}
 use Rattle.trade_cross.specs.Crossing.{offer_key}
@@ -28,7 +28,7 @@ use Rattle.op_offers.specs.Calls.{IsManageable, IsSellable, IsSound}
 use Rattle.op_offers.specs.Managing.{sell_fault, buy_fault, old_asked, changed, managed_at, Managed, Removed}
 use Rattle.op_offers.specs.Selling.{map_without_offer}
 use Rattle.op_offers.proofs.OldOffers.{old_counted, old_rightly}
-use Rattle.legal_rules.proofs.MayOwe.{nothing_right}
+use Rattle.trade_cross.proofs.legal_rules_proofs.MayOwe.{nothing_right}
 use Rattle.op_offers.proofs.Tested.{valid_ask}
 
 -- ---- the entry of an offer that was loaded

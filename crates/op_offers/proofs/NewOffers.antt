@@ -19,18 +19,18 @@ use Rattle.sponsor_rules.specs.declared.context.Ctx.{Ctx}
 use Rattle.sponsor_rules.specs.Adding.{sponsored_entry, map_after_counting, map_after_counting_subentry}
 use Rattle.sponsor_rules.specs.Paying.{with_subentry}
 use Rattle.sponsor_rules.specs.Payers.{open_sponsor, subentry_tests_at}
-use Rattle.legal_rules.specs.Books.{View}
-use Rattle.legal_rules.specs.Holdings.{none_more}
-use Rattle.legal_rules.specs.OneMore.{one_more}
-use Rattle.legal_rules.specs.Owing.{nothing_owed, IsLegalOwing}
-use Rattle.legal_rules.specs.Ranges.{IsOfferInRange, IsBodyInRange}
-use Rattle.legal_rules.specs.Sponsorships.{IsSponsorReady}
-use Rattle.legal_rules.specs.Trades.{holder}
-use Rattle.legal_rules.proofs.ChargesLeft.{charged_kept}
-use Rattle.legal_rules.proofs.Counted.{subentries_counted}
-use Rattle.legal_rules.proofs.Leaving.{Leaves}
-use Rattle.legal_rules.proofs.Passed.{passed}
-use Rattle.legal_rules.proofs.Sponsors.{recorded}
+use Rattle.trade_cross.specs.legal_rules.Books.{View}
+use Rattle.trade_cross.specs.legal_rules.Holdings.{none_more}
+use Rattle.trade_cross.specs.legal_rules.OneMore.{one_more}
+use Rattle.trade_cross.specs.legal_rules.Owing.{nothing_owed, IsLegalOwing}
+use Rattle.trade_cross.specs.legal_rules.Ranges.{IsOfferInRange, IsBodyInRange}
+use Rattle.trade_cross.specs.legal_rules.Sponsorships.{IsSponsorReady}
+use Rattle.trade_cross.specs.legal_rules.Trades.{holder}
+use Rattle.trade_cross.proofs.legal_rules_proofs.ChargesLeft.{charged_kept}
+use Rattle.trade_cross.proofs.legal_rules_proofs.Counted.{subentries_counted}
+use Rattle.trade_cross.proofs.legal_rules_proofs.Leaving.{Leaves}
+use Rattle.trade_cross.proofs.legal_rules_proofs.Passed.{passed}
+use Rattle.trade_cross.proofs.legal_rules_proofs.Sponsors.{recorded}
 use Rattle.trade_cross.specs.Accounts.{IsHeld}
 use Rattle.trade_cross.proofs.Passing.{IsOwnKey, holder_own}
 use Rattle.op_offers.specs.declared.ask.Ask.{Ask}

@@ -10,11 +10,11 @@ use Rattle.entry_map.specs.EntryMap.{EntryMap}
 use Rattle.entry_slots.specs.Accounts.{HasAccount}
 use Rattle.entry_slots.specs.EntrySponsor.{sponsor_of}
 use Rattle.sponsor_rules.specs.declared.context.Ctx.{Ctx}
-use Rattle.legal_rules.specs.Books.{View}
-use Rattle.legal_rules.specs.OneMore.{one_more}
-use Rattle.legal_rules.specs.Owing.{nothing_owed, IsEntryLegal, IsLegalOwing}
-use Rattle.legal_rules.specs.Trades.{holder}
-use Rattle.legal_rules.proofs.OffersKept.{with_offer_body}
+use Rattle.trade_cross.specs.legal_rules.Books.{View}
+use Rattle.trade_cross.specs.legal_rules.OneMore.{one_more}
+use Rattle.trade_cross.specs.legal_rules.Owing.{nothing_owed, IsEntryLegal, IsLegalOwing}
+use Rattle.trade_cross.specs.legal_rules.Trades.{holder}
+use Rattle.trade_cross.proofs.legal_rules_proofs.OffersKept.{with_offer_body}
 use Rattle.trade_cross.specs.Crossing.{offer_key}
 use Rattle.trade_cross.proofs.Passing.{holder_own}
 use Rattle.op_offers.specs.declared.ask.Ask.{Ask}

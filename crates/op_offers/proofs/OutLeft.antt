@@ -8,19 +8,19 @@ use Rattle.ledger_types.specs.declared.entry.LedgerEntryBody.TheVariants as body
 use Rattle.ledger_types.specs.declared.key.LedgerKey.{LedgerKey}
 use Rattle.entry_map.specs.EntryMap.{EntryMap}
 use Rattle.entry_slots.specs.Offers.{offer_of, offer_at}
-use Rattle.entry_sums.specs.Sums.{part}
-use Rattle.legal_rules.specs.Binding.{releasing}
-use Rattle.legal_rules.specs.Books.{View}
-use Rattle.legal_rules.specs.Holdings.{none_more}
-use Rattle.legal_rules.specs.OfferLaws.{trade_books}
-use Rattle.legal_rules.specs.OfferLiabilities.{bound_of}
-use Rattle.legal_rules.specs.Owing.{nothing_owed, plus, IsLegalOwing}
-use Rattle.legal_rules.specs.Supply.{held}
-use Rattle.legal_rules.specs.Trades.{holder}
-use Rattle.legal_rules.proofs.ChargesLeft.{erased_kept}
-use Rattle.legal_rules.proofs.Leaving.{Leaves, keeps_both}
-use Rattle.legal_rules.proofs.OffersKept.{with_offer_body}
-use Rattle.legal_rules.proofs.Releasing.{still_there}
+use Rattle.trade_cross.specs.entry_sums.Sums.{part}
+use Rattle.trade_cross.specs.legal_rules.Binding.{releasing}
+use Rattle.trade_cross.specs.legal_rules.Books.{View}
+use Rattle.trade_cross.specs.legal_rules.Holdings.{none_more}
+use Rattle.trade_cross.specs.legal_rules.OfferLaws.{trade_books}
+use Rattle.trade_cross.specs.legal_rules.OfferLiabilities.{bound_of}
+use Rattle.trade_cross.specs.legal_rules.Owing.{nothing_owed, plus, IsLegalOwing}
+use Rattle.trade_cross.specs.legal_rules.Supply.{held}
+use Rattle.trade_cross.specs.legal_rules.Trades.{holder}
+use Rattle.trade_cross.proofs.legal_rules_proofs.ChargesLeft.{erased_kept}
+use Rattle.trade_cross.proofs.legal_rules_proofs.Leaving.{Leaves, keeps_both}
+use Rattle.trade_cross.proofs.legal_rules_proofs.OffersKept.{with_offer_body}
+use Rattle.trade_cross.proofs.legal_rules_proofs.Releasing.{still_there}
 use Rattle.trade_cross.specs.Accounts.{IsHeld}
 use Rattle.trade_cross.specs.Cancelling.{map_after_cancelling}
 use Rattle.trade_cross.specs.Crossing.{offer_key}
@@ -30,7 +30,7 @@ use Rattle.trade_cross.proofs.Left.{removing_left}
 use Rattle.trade_cross.proofs.StepLeft.{release_left}
 use Rattle.trade_cross.proofs.StepLegal.{IsOpen, settled_then, lets, still_held, release_open}
 use Rattle.op_offers.specs.Selling.{map_without_offer}
-use Rattle.legal_rules.proofs.MayOwe.{nothing_right}
+use Rattle.trade_cross.proofs.legal_rules_proofs.MayOwe.{nothing_right}
 use Rattle.op_offers.proofs.OutOfBook.{erased_held}
 
 module _ (v : View) (id_pool : ℕ) (sum : ℤ) (old : OfferEntry) (e : LedgerEntry) (m : EntryMap)

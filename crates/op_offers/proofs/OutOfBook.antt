@@ -16,29 +16,29 @@ use Rattle.entry_map.specs.EntryMap.{EntryMap, erase}
 use Rattle.entry_slots.specs.EntrySponsor.{sponsor_of}
 use Rattle.entry_slots.specs.Lines.{line_of, line_at}
 use Rattle.entry_slots.specs.Offers.{offer_of, offer_at}
-use Rattle.entry_sums.specs.Sums.{total, part}
-use Rattle.entry_sums.proofs.Lookups.{erase_elsewhere, left_over}
-use Rattle.entry_sums.proofs.Summing.{part_at_most, total_erase}
-use Rattle.sponsor_laws.specs.Sums.{is_there}
-use Rattle.legal_rules.specs.EntryKeys.{is_key, for_account}
-use Rattle.legal_rules.specs.Trades.{holder}
-use Rattle.legal_rules.specs.Binding.{releasing}
-use Rattle.legal_rules.specs.Books.{Kind, Subentries, Sponsoring, Sponsored, View}
-use Rattle.legal_rules.specs.OfferIds.{offer_with, offer_with_in}
-use Rattle.legal_rules.specs.OfferLaws.{trade_books}
-use Rattle.legal_rules.specs.Owing.{nothing_owed, plus, less, weighed, IsEntryLegal}
-use Rattle.legal_rules.proofs.MayOwe.{nothing_right}
-use Rattle.legal_rules.proofs.OffersKept.{with_offer_body}
-use Rattle.legal_rules.proofs.Putting.{erase_legal}
-use Rattle.legal_rules.proofs.Releasing.{still_there}
-use Rattle.legal_rules.proofs.Steps.{legal_as}
+use Rattle.trade_cross.specs.entry_sums.Sums.{total, part}
+use Rattle.trade_cross.proofs.entry_sums_proofs.Lookups.{erase_elsewhere, left_over}
+use Rattle.trade_cross.proofs.entry_sums_proofs.Summing.{part_at_most, total_erase}
+use Rattle.trade_cross.specs.sponsor_laws.Sums.{is_there}
+use Rattle.trade_cross.specs.legal_rules.EntryKeys.{is_key, for_account}
+use Rattle.trade_cross.specs.legal_rules.Trades.{holder}
+use Rattle.trade_cross.specs.legal_rules.Binding.{releasing}
+use Rattle.trade_cross.specs.legal_rules.Books.{Kind, Subentries, Sponsoring, Sponsored, View}
+use Rattle.trade_cross.specs.legal_rules.OfferIds.{offer_with, offer_with_in}
+use Rattle.trade_cross.specs.legal_rules.OfferLaws.{trade_books}
+use Rattle.trade_cross.specs.legal_rules.Owing.{nothing_owed, plus, less, weighed, IsEntryLegal}
+use Rattle.trade_cross.proofs.legal_rules_proofs.MayOwe.{nothing_right}
+use Rattle.trade_cross.proofs.legal_rules_proofs.OffersKept.{with_offer_body}
+use Rattle.trade_cross.proofs.legal_rules_proofs.Putting.{erase_legal}
+use Rattle.trade_cross.proofs.legal_rules_proofs.Releasing.{still_there}
+use Rattle.trade_cross.proofs.legal_rules_proofs.Steps.{legal_as}
 use Rattle.trade_cross.specs.Crossing.{offer_key}
 use Rattle.op_offers.specs.Selling.{map_without_offer}
 use Rattle.trade_cross.specs.Accounts.{IsHeld}
-use Rattle.legal_rules.specs.OneMore.{one_more}
+use Rattle.trade_cross.specs.legal_rules.OneMore.{one_more}
 use Rattle.op_offers.specs.SellingLaws.{OldOffersOut}
-use Rattle.legal_rules.proofs.ChargesLeft.{erase_beside}
-use Rattle.legal_rules.specs.Holdings.{IsKeyed}
+use Rattle.trade_cross.proofs.legal_rules_proofs.ChargesLeft.{erase_beside}
+use Rattle.trade_cross.specs.legal_rules.Holdings.{IsKeyed}
 use Rattle.trade_cross.proofs.StepLegal.{release_open}
 
 -- ---- what is owed

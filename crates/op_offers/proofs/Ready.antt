@@ -9,11 +9,11 @@ use Rattle.entry_map.specs.Undo.{Undo, with_current}
 use Rattle.entry_slots.specs.Tests.{first_fault, unless_fault}
 use Rattle.entry_slots.specs.EntrySponsor.{sponsor_of}
 use Rattle.offer_exchange.specs.Exchange.{unlimited, adjusted}
-use Rattle.legal_rules.specs.OfferLaws.{trade_books}
-use Rattle.legal_rules.specs.OfferLiabilities.{bound_of}
-use Rattle.legal_rules.specs.OneMore.{IsOwedRightly, one_more}
-use Rattle.legal_rules.specs.Owing.{Owed}
-use Rattle.legal_rules.proofs.MayOwe.{one_more_is_right}
+use Rattle.trade_cross.specs.legal_rules.OfferLaws.{trade_books}
+use Rattle.trade_cross.specs.legal_rules.OfferLiabilities.{bound_of}
+use Rattle.trade_cross.specs.legal_rules.OneMore.{IsOwedRightly, one_more}
+use Rattle.trade_cross.specs.legal_rules.Owing.{Owed}
+use Rattle.trade_cross.proofs.legal_rules_proofs.MayOwe.{one_more_is_right}
 use Rattle.trade_cross.specs.declared.crossed.CrossEnd.{CrossEnd}
 use Rattle.trade_cross.specs.declared.crossed.CrossEnd.TheVariants.{Converted, Partial, BadPrice, CrossSelf, TooMany}
 use Rattle.trade_cross.specs.Crossable.{IsCrossable}

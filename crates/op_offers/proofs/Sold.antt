@@ -21,25 +21,25 @@ use Rattle.entry_map.specs.EntryMap.{EntryMap, put}
 use Rattle.entry_slots.specs.Accounts.{account_at}
 use Rattle.entry_slots.specs.EntrySponsor.{sponsor_of}
 use Rattle.entry_slots.specs.Lines.{line_of, line_at}
-use Rattle.entry_sums.specs.Sums.{total}
-use Rattle.entry_sums.proofs.Lookups.{put_elsewhere}
-use Rattle.entry_sums.proofs.Summing.{total_none}
-use Rattle.reserve_rules.specs.Reserve.{available, room, greatest_i64}
-use Rattle.sponsor_laws.specs.Sums.{is_there}
+use Rattle.trade_cross.specs.entry_sums.Sums.{total}
+use Rattle.trade_cross.proofs.entry_sums_proofs.Lookups.{put_elsewhere}
+use Rattle.trade_cross.proofs.entry_sums_proofs.Summing.{total_none}
+use Rattle.sponsor_rules.specs.reserve_rules.Reserve.{available, room, greatest_i64}
+use Rattle.trade_cross.specs.sponsor_laws.Sums.{is_there}
 use Rattle.offer_exchange.specs.Exchange.{Amounts, unlimited, adjusted, liabilities}
 use Rattle.offer_exchange.specs.Laws.{IsBound}
 use Rattle.offer_exchange.proofs.Adjusting.{adjusted_bound}
-use Rattle.legal_rules.specs.OfferLiabilities.{bound_of}
-use Rattle.legal_rules.specs.EntryKeys.{is_key, for_account}
-use Rattle.legal_rules.specs.Binding.{binding, acquiring, CanBind}
-use Rattle.legal_rules.specs.Books.{Kind, Subentries, Sponsoring, Sponsored, View}
-use Rattle.legal_rules.specs.OfferIds.{offer_with, offer_with_in}
-use Rattle.legal_rules.specs.OfferLaws.{trade_books}
-use Rattle.legal_rules.specs.Owing.{Owed, nothing_owed, plus, weighed, IsEntryLegal, IsLegalOwing}
-use Rattle.legal_rules.specs.Ranges.{IsOfferInRange}
-use Rattle.legal_rules.proofs.OffersKept.{acquiring_legal, binding_legal, unbound_if}
-use Rattle.legal_rules.proofs.Putting.{put_legal, legal_wider}
-use Rattle.legal_rules.proofs.Steps.{legal_as}
+use Rattle.trade_cross.specs.legal_rules.OfferLiabilities.{bound_of}
+use Rattle.trade_cross.specs.legal_rules.EntryKeys.{is_key, for_account}
+use Rattle.trade_cross.specs.legal_rules.Binding.{binding, acquiring, CanBind}
+use Rattle.trade_cross.specs.legal_rules.Books.{Kind, Subentries, Sponsoring, Sponsored, View}
+use Rattle.trade_cross.specs.legal_rules.OfferIds.{offer_with, offer_with_in}
+use Rattle.trade_cross.specs.legal_rules.OfferLaws.{trade_books}
+use Rattle.trade_cross.specs.legal_rules.Owing.{Owed, nothing_owed, plus, weighed, IsEntryLegal, IsLegalOwing}
+use Rattle.trade_cross.specs.legal_rules.Ranges.{IsOfferInRange}
+use Rattle.trade_cross.proofs.legal_rules_proofs.OffersKept.{acquiring_legal, binding_legal, unbound_if}
+use Rattle.trade_cross.proofs.legal_rules_proofs.Putting.{put_legal, legal_wider}
+use Rattle.trade_cross.proofs.legal_rules_proofs.Steps.{legal_as}
 use Rattle.trade_cross.specs.Holdings.{most_given, most_taken, account_gives, account_takes, line_gives}
 use Rattle.trade_cross.specs.Holdings.{line_takes, paying}
 use Rattle.trade_cross.specs.declared.crossed.CrossEnd.{CrossEnd}
@@ -52,19 +52,19 @@ use Rattle.op_offers.specs.Selling.{settled, left_of, offer_left, map_after_keep
 use Rattle.op_offers.specs.Selling.{after_tests, sold}
 use Rattle.entry_slots.specs.Tests.{unless_fault, first_fault}
 use Rattle.trade_cross.specs.Accounts.{IsHeld, IsEased, Related, Passes}
-use Rattle.legal_rules.specs.OneMore.{IsOwedRightly, one_more}
+use Rattle.trade_cross.specs.legal_rules.OneMore.{IsOwedRightly, one_more}
 use Rattle.trade_cross.specs.CrossingLaws.{IsCrossed, kept_at, kept_in}
 use Rattle.op_offers.specs.SellingLaws.{IsAskedRightly, SellingKeeps}
 use Rattle.trade_cross.proofs.Binding.{can_sell, can_buy, given_fits}
 use Rattle.trade_cross.proofs.Binding.{taken_fits, giving_takes, selling_takes, held_paid}
 use Rattle.trade_cross.proofs.Binding.{held_bound, offer_beside, no_less}
-use Rattle.legal_rules.proofs.ChargesLeft.{put_beside}
+use Rattle.trade_cross.proofs.legal_rules_proofs.ChargesLeft.{put_beside}
 use Rattle.trade_cross.proofs.CrossedLegal.{crossing_keeps}
-use Rattle.legal_rules.proofs.Freed.{subentries_freed}
-use Rattle.legal_rules.proofs.MayOwe.{one_more_is_right}
+use Rattle.trade_cross.proofs.legal_rules_proofs.Freed.{subentries_freed}
+use Rattle.trade_cross.proofs.legal_rules_proofs.MayOwe.{one_more_is_right}
 use Rattle.trade_cross.proofs.Passing.{IsOwnKey, holder_own}
 use Rattle.trade_cross.proofs.Paying.{CanPay, paying_legal, can_give, can_take}
-use Rattle.legal_rules.specs.Holdings.{IsKeyed}
+use Rattle.trade_cross.specs.legal_rules.Holdings.{IsKeyed}
 use Rattle.trade_cross.proofs.StepLegal.{at_most, abs_some}
 
 -- ---- what the taker still holds

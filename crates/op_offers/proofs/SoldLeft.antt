@@ -8,10 +8,10 @@ use Rattle.std.specs.FinMap.{get}
 use Rattle.ledger_types.specs.declared.offer.OfferEntry.{OfferEntry}
 use Rattle.ledger_types.specs.declared.key.LedgerKey.TheVariants as key
 use Rattle.ledger_types.specs.Keys.{key_of_body}
-use Rattle.entry_sums.specs.Sums.{part}
-use Rattle.legal_rules.specs.Supply.{held_in, held as held_of}
-use Rattle.legal_rules.specs.Holdings.{HoldsMore}
-use Rattle.legal_rules.proofs.Holdings.{put_same}
+use Rattle.trade_cross.specs.entry_sums.Sums.{part}
+use Rattle.trade_cross.specs.legal_rules.Supply.{held_in, held as held_of}
+use Rattle.trade_cross.specs.legal_rules.Holdings.{HoldsMore}
+use Rattle.trade_cross.proofs.legal_rules_proofs.Holdings.{put_same}
 use Rattle.ledger_types.specs.declared.entry.LedgerEntry.{LedgerEntry}
 use Rattle.ledger_types.specs.declared.entry.LedgerEntryBody.TheVariants as body
 use Rattle.entry_map.specs.EntryMap.{EntryMap, put}
@@ -19,30 +19,30 @@ use Rattle.entry_slots.specs.Accounts.{account_at}
 use Rattle.entry_slots.specs.EntrySponsor.{sponsor_of}
 use Rattle.offer_exchange.specs.Exchange.{adjusted}
 use Rattle.sponsor_rules.specs.Paying.{without_subentry}
-use Rattle.legal_rules.specs.OfferLiabilities.{bound_of}
-use Rattle.legal_rules.specs.Binding.{binding}
-use Rattle.legal_rules.specs.Books.{View}
-use Rattle.legal_rules.specs.Owing.{IsLegalOwing}
+use Rattle.trade_cross.specs.legal_rules.OfferLiabilities.{bound_of}
+use Rattle.trade_cross.specs.legal_rules.Binding.{binding}
+use Rattle.trade_cross.specs.legal_rules.Books.{View}
+use Rattle.trade_cross.specs.legal_rules.Owing.{IsLegalOwing}
 use Rattle.trade_cross.specs.Holdings.{most_given, most_taken, paying}
 use Rattle.trade_cross.specs.declared.crossed.CrossEnd.{CrossEnd}
 use Rattle.trade_cross.specs.declared.crossed.CrossEnd.TheVariants.{Converted, Partial, BadPrice, CrossSelf, TooMany}
 use Rattle.trade_cross.specs.Crossing.{most_crossings, Crossing, converted, left_of as left_of_trade}
 use Rattle.op_offers.specs.Selling.{Asked, source_gives_at, source_takes_at, trade_of, settled, left_of}
 use Rattle.op_offers.specs.Selling.{offer_left, map_after_keeping, Sold, kept, sold}
-use Rattle.legal_rules.specs.Holdings.{Increase, none_more, both_more, more_at}
-use Rattle.legal_rules.specs.OneMore.{one_more}
+use Rattle.trade_cross.specs.legal_rules.Holdings.{Increase, none_more, both_more, more_at}
+use Rattle.trade_cross.specs.legal_rules.OneMore.{one_more}
 use Rattle.trade_cross.specs.CrossingLaws.{more_in, AreTraded}
 use Rattle.op_offers.specs.SellingLaws.{IsAskedRightly}
-use Rattle.legal_rules.proofs.ChargesLeft.{discharged_kept}
+use Rattle.trade_cross.proofs.legal_rules_proofs.ChargesLeft.{discharged_kept}
 use Rattle.trade_cross.proofs.CrossedLegal.{crossed_legal}
-use Rattle.legal_rules.proofs.Freed.{owner}
+use Rattle.trade_cross.proofs.legal_rules_proofs.Freed.{owner}
 use Rattle.trade_cross.proofs.Left.{giving_left, taking_left, selling_left, buying_left}
-use Rattle.legal_rules.proofs.MayOwe.{one_more_is_right}
+use Rattle.trade_cross.proofs.legal_rules_proofs.MayOwe.{one_more_is_right}
 use Rattle.op_offers.proofs.Sold.{capped_fits, account_same, legal_now, legal_bound, sells}
 use Rattle.op_offers.proofs.Sold.{sells_fit, buys, done_so, gives, gives_fit}
 use Rattle.op_offers.proofs.Sold.{takes, legal_given, legal_paid, right_then, sold_is}
-use Rattle.legal_rules.specs.Holdings.{IsKeyed}
-use Rattle.legal_rules.proofs.Leaving.{Leaves, leaves_both, leaves_as, keeps_both, accounts_kept}
+use Rattle.trade_cross.specs.legal_rules.Holdings.{IsKeyed}
+use Rattle.trade_cross.proofs.legal_rules_proofs.Leaving.{Leaves, leaves_both, leaves_as, keeps_both, accounts_kept}
 
 -- an offer holds nothing
 offer_put_holds : (m : EntryMap) (e : LedgerEntry) (o : OfferEntry) → e.body ≡ body.Offer o

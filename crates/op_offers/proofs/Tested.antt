@@ -18,7 +18,7 @@ use Rattle.entry_map.specs.EntryMap.{EntryMap}
 use Rattle.entry_slots.specs.Accounts.{account_at, HasAccount}
 use Rattle.entry_slots.specs.Lines.{line_at}
 use Rattle.entry_slots.specs.Tests.{Tests}
-use Rattle.legal_rules.proofs.Passed.{first_passed, neither}
+use Rattle.trade_cross.proofs.legal_rules_proofs.Passed.{first_passed, neither}
 use Rattle.op_form.specs.Flags.{is_authorized}
 use Rattle.trade_cross.specs.Accounts.{IsHeld}
 use Rattle.trade_cross.proofs.Passing.{IsOwnKey}

@@ -11,14 +11,14 @@ use Rattle.entry_map.specs.Undo.{Undo, with_current}
 use Rattle.entry_slots.specs.Accounts.{HasAccount}
 use Rattle.entry_slots.specs.EntrySponsor.{sponsor_of}
 use Rattle.entry_slots.specs.Offers.{entry_of_offer}
-use Rattle.reserve_rules.specs.Reserve.{greatest_i64}
+use Rattle.sponsor_rules.specs.reserve_rules.Reserve.{greatest_i64}
 use Rattle.sponsor_rules.specs.declared.context.Ctx.{Ctx}
 use Rattle.sponsor_rules.specs.declared.fault.AddFault.{AddFault}
-use Rattle.legal_rules.specs.Books.{View}
-use Rattle.legal_rules.specs.OneMore.{one_more}
-use Rattle.legal_rules.specs.Owing.{nothing_owed, IsLegalOwing}
-use Rattle.legal_rules.specs.Sponsorships.{IsSponsorReady}
-use Rattle.legal_rules.specs.Trades.{holder}
+use Rattle.trade_cross.specs.legal_rules.Books.{View}
+use Rattle.trade_cross.specs.legal_rules.OneMore.{one_more}
+use Rattle.trade_cross.specs.legal_rules.Owing.{nothing_owed, IsLegalOwing}
+use Rattle.trade_cross.specs.legal_rules.Sponsorships.{IsSponsorReady}
+use Rattle.trade_cross.specs.legal_rules.Trades.{holder}
 use Rattle.op_form.specs.Premises.{AccountsAreReady}
 use Rattle.trade_cross.specs.declared.crossed.CrossEnd.{CrossEnd}
 use Rattle.trade_cross.specs.declared.crossed.CrossEnd.TheVariants.{CrossSelf, TooMany}

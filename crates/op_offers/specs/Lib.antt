@@ -4,3 +4,4 @@ pub mod Managing
 pub mod Operations
 pub mod SellingLaws
 pub mod Calls
+pub use Rattle.offer_exchange.specs as offer_exchange

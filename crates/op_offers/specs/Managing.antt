@@ -19,7 +19,7 @@ use Rattle.sponsor_rules.specs.declared.fault.AddFault.{AddFault}
 use Rattle.sponsor_rules.specs.Adding.{sponsored_entry, map_after_counting_subentry}
 use Rattle.sponsor_rules.specs.Payers.{open_sponsor}
 use Rattle.op_form.specs.Flags.{is_authorized}
-use Rattle.legal_rules.specs.Trades.{holder}
+use Rattle.trade_cross.specs.legal_rules.Trades.{holder}
 use Rattle.trade_cross.specs.Cancelling.{map_after_cancelling}
 use Rattle.op_offers.specs.declared.fault.OfferFault.{OfferFault}
 use Rattle.op_offers.specs.declared.fault.OfferFault.TheVariants as fault

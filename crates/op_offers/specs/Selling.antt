@@ -12,8 +12,8 @@ use Rattle.entry_slots.specs.Tests.{Tests, unless_first}
 use Rattle.sponsor_rules.specs.Removing.{map_after_discounting}
 use Rattle.offer_exchange.specs.declared.rounding.Rounding.TheVariants.{Normal}
 use Rattle.offer_exchange.specs.Exchange.{unlimited, wanted, adjusted}
-use Rattle.legal_rules.specs.Trades.{holder}
-use Rattle.legal_rules.specs.Binding.{acquiring, releasing}
+use Rattle.trade_cross.specs.legal_rules.Trades.{holder}
+use Rattle.trade_cross.specs.legal_rules.Binding.{acquiring, releasing}
 use Rattle.trade_cross.specs.declared.crossed.CrossEnd.{CrossEnd}
 use Rattle.trade_cross.specs.declared.crossed.CrossEnd.TheVariants.{Converted, CrossSelf, TooMany}
 use Rattle.trade_cross.specs.declared.trade.Trade.{Trade}

@@ -7,16 +7,16 @@ use Rattle.ledger_types.specs.declared.key.LedgerKey.TheVariants as key
 use Rattle.entry_map.specs.EntryMap.{EntryMap}
 use Rattle.entry_slots.specs.EntrySponsor.{sponsor_of}
 use Rattle.valid_values.specs.Assets.{is_valid_asset}
-use Rattle.legal_rules.specs.Books.{View}
-use Rattle.legal_rules.specs.Owing.{nothing_owed, IsLegalOwing}
+use Rattle.trade_cross.specs.legal_rules.Books.{View}
+use Rattle.trade_cross.specs.legal_rules.Owing.{nothing_owed, IsLegalOwing}
 use Rattle.ledger_types.specs.declared.entry.LedgerEntry.{LedgerEntry}
 use Rattle.ledger_types.specs.declared.entry.LedgerEntryBody.TheVariants as body
-use Rattle.legal_rules.specs.Trades.{holder}
+use Rattle.trade_cross.specs.legal_rules.Trades.{holder}
 use Rattle.trade_cross.specs.Crossing.{offer_key}
 use Rattle.op_offers.specs.Managing.{drawn}
 use Rattle.op_offers.specs.Selling.{Asked, source_gives_at, source_takes_at, Sold, sold, map_without_offer}
 use Rattle.trade_cross.specs.Accounts.{IsHeld}
-use Rattle.legal_rules.specs.OneMore.{one_more}
+use Rattle.trade_cross.specs.legal_rules.OneMore.{one_more}
 use Rattle.trade_cross.specs.CrossingLaws.{kept_at, kept_in}
 
 -- what the tests of the operation leave: an offer that can be kept under an id that no offer has, and a source that

@@ -1,7 +1,7 @@
 //! The offer that is asked for.
 
 ghost use Rattle.std.specs.Prelude.{◌≡◌, ◌<◌, ◌+◌, ◌≤ℤ◌, pos, None};
-ghost use Rattle.reserve_rules.specs.Reserve.{greatest_i64};
+ghost use Rattle.sponsor_rules.specs.reserve_rules.Reserve.{greatest_i64};
 ghost use Rattle.entry_slots.specs.EntrySponsor.{with_sponsor_in};
 ghost use Rattle.entry_slots.specs.Offers.{entry_of_offer};
 ghost use Rattle.op_form.specs.Sequences.{last_seq};

@@ -1,7 +1,7 @@
 //! The tests of the source's lines.
 
 ghost use Rattle.std.specs.Prelude.{◌≡◌, Some, IfOk};
-ghost use Rattle.legal_rules.specs.Trades.{holder};
+ghost use Rattle.trade_cross.specs.legal_rules.Trades.{holder};
 ghost use Rattle.op_offers.specs.Calls.{IsTested};
 ghost use Rattle.op_offers.specs.Managing as spec;
 

@@ -6,7 +6,7 @@ ghost use Rattle.ledger_types.specs.declared.key.LedgerKey.TheVariants as key;
 ghost use Rattle.ledger_types.specs.Prices.{IsPriced};
 ghost use Rattle.entry_map.specs.Undo.{with_current};
 ghost use Rattle.entry_slots.specs.Offers.{offer_at, offer_slot_at, entry_of_offer};
-ghost use Rattle.reserve_rules.specs.Reserve.{greatest_i64};
+ghost use Rattle.sponsor_rules.specs.reserve_rules.Reserve.{greatest_i64};
 ghost use Rattle.sponsor_rules.specs.Adding.{map_after_counting_subentry};
 ghost use Rattle.sponsor_rules.specs.Payers.{IsReady};
 ghost use Rattle.trade_cross.specs.Amounts.{DoesReleaseFit};

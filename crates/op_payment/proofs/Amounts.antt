@@ -10,14 +10,14 @@ use Rattle.ledger_types.specs.declared.asset.Asset.TheVariants as asset
 use Rattle.ledger_types.specs.declared.key.LedgerKey.TheVariants as key
 use Rattle.ledger_types.specs.declared.trust_line.TrustLineEntry.{TrustLineEntry}
 use Rattle.entry_map.specs.EntryMap.{EntryMap}
-use Rattle.entry_slots.specs.LineExtensions.{line_liabilities}
-use Rattle.entry_slots.specs.Lines.{line_at, with_line}
-use Rattle.entry_slots.specs.Tests.{Tests}
-use Rattle.reserve_rules.specs.Reserve.{IsLineInRange, line_available, line_room}
+use Rattle.sponsor_rules.specs.entry_slots.LineExtensions.{line_liabilities}
+use Rattle.sponsor_rules.specs.entry_slots.Lines.{line_at, with_line}
+use Rattle.sponsor_rules.specs.entry_slots.Tests.{Tests}
+use Rattle.sponsor_rules.specs.reserve_rules.Reserve.{IsLineInRange, line_available, line_room}
 use Rattle.sponsor_rules.specs.declared.context.Ctx.{Ctx}
-use Rattle.legal_rules.specs.Legal.{view}
-use Rattle.legal_rules.specs.Owing.{nothing_owed, AreEntriesLegal}
-use Rattle.legal_rules.specs.Supply.{of_asset}
+use Rattle.trade_cross.specs.legal_rules.Legal.{view}
+use Rattle.trade_cross.specs.legal_rules.Owing.{nothing_owed, AreEntriesLegal}
+use Rattle.trade_cross.specs.legal_rules.Supply.{of_asset}
 use Rattle.op_form.specs.declared.amounts.CreditFault.{CreditFault}
 use Rattle.op_form.specs.declared.amounts.CreditFault.TheVariants as credit
 use Rattle.op_form.specs.declared.amounts.DebitFault.{DebitFault}
@@ -29,12 +29,12 @@ use Rattle.op_form.specs.Assets.{is_native, is_issued_by, line_asset_of}
 use Rattle.op_form.specs.Flags.{is_authorized}
 use Rattle.op_form.specs.Lumens.{map_after_lumens_credit, map_after_lumens_debit}
 use Rattle.op_form.proofs.Balances.{line_more_in_range}
-use Rattle.legal_rules.proofs.LinesLeft.{line_legal}
+use Rattle.trade_cross.proofs.legal_rules_proofs.LinesLeft.{line_legal}
 use Rattle.op_payment.proofs.LineChanges.{line_shifted, line_left}
 use Rattle.op_payment.proofs.Paying.{taken, given, taken_legal, taken_left, given_legal, given_left}
-use Rattle.legal_rules.specs.Holdings.{IsKeyed, Increase, none_more, under_key, for_one}
-use Rattle.legal_rules.proofs.Leaving.{Leaves, leaves_itself, leaves_as}
-use Rattle.legal_rules.proofs.Passed.{passed, first_passed}
+use Rattle.trade_cross.specs.legal_rules.Holdings.{IsKeyed, Increase, none_more, under_key, for_one}
+use Rattle.trade_cross.proofs.legal_rules_proofs.Leaving.{Leaves, leaves_itself, leaves_as}
+use Rattle.trade_cross.proofs.legal_rules_proofs.Passed.{passed, first_passed}
 use Rattle.op_payment.proofs.Shifts.{ShiftsLegal, shifts_as, shifts_nothing, unless_issuer}
 
 -- ---- what a change moves

@@ -7,7 +7,7 @@ use Rattle.entry_map.specs.Undo.{Undo, with_current}
 use Rattle.entry_map.proofs.Pairs.{tie}
 use Rattle.sponsor_rules.specs.declared.context.Ctx.{Ctx}
 use Rattle.offer_exchange.specs.Exchange.{unlimited}
-use Rattle.legal_rules.proofs.Lows.{natural_low}
+use Rattle.trade_cross.proofs.legal_rules_proofs.Lows.{natural_low}
 use Rattle.trade_cross.specs.declared.crossed.Crossed.{Crossed}
 use Rattle.trade_cross.specs.declared.crossed.CrossEnd.{CrossEnd}
 use Rattle.trade_cross.specs.declared.crossed.CrossEnd.TheVariants.{CrossSelf, TooMany}

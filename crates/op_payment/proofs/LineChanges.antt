@@ -12,21 +12,21 @@ use Rattle.ledger_types.specs.declared.key.LedgerKey.{LedgerKey}
 use Rattle.ledger_types.specs.declared.key.LedgerKey.TheVariants as key
 use Rattle.ledger_types.specs.KeyOrder.{asset_cmp}
 use Rattle.entry_map.specs.EntryMap.{EntryMap}
-use Rattle.entry_slots.specs.Lines.{line_at, with_line}
-use Rattle.legal_rules.specs.Books.{Kind, Shares}
-use Rattle.legal_rules.specs.ChangeLaws.{KeepsLineBooks, in_shares}
-use Rattle.legal_rules.specs.Owing.{nothing_owed, IsBoundRightly, IsEntryLegal}
-use Rattle.legal_rules.specs.Ranges.{IsTrustLineInRange}
-use Rattle.legal_rules.specs.Supply.{of_asset, of_line}
-use Rattle.legal_rules.proofs.Changed.{line_changed}
-use Rattle.legal_rules.proofs.Steps.{legal_as}
+use Rattle.sponsor_rules.specs.entry_slots.Lines.{line_at, with_line}
+use Rattle.trade_cross.specs.legal_rules.Books.{Kind, Shares}
+use Rattle.trade_cross.specs.legal_rules.ChangeLaws.{KeepsLineBooks, in_shares}
+use Rattle.trade_cross.specs.legal_rules.Owing.{nothing_owed, IsBoundRightly, IsEntryLegal}
+use Rattle.trade_cross.specs.legal_rules.Ranges.{IsTrustLineInRange}
+use Rattle.trade_cross.specs.legal_rules.Supply.{of_asset, of_line}
+use Rattle.trade_cross.proofs.legal_rules_proofs.Changed.{line_changed}
+use Rattle.trade_cross.proofs.legal_rules_proofs.Steps.{legal_as}
 use Rattle.op_form.specs.Assets.{is_native, line_asset_of}
 use Rattle.op_payment.proofs.Shifts.{ShiftsLegal}
-use Rattle.legal_rules.specs.Holdings.{IsKeyed, none_more, under_key}
-use Rattle.legal_rules.proofs.Leaving.{Leaves, leaves_as}
-use Rattle.legal_rules.proofs.LinesLeft.{line_legal}
-use Rattle.legal_rules.proofs.LinesLeft.{line_left as line_of_any_left, line_kept as line_of_any_kept}
-use Rattle.legal_rules.specs.EntryKeys.{is_key}
+use Rattle.trade_cross.specs.legal_rules.Holdings.{IsKeyed, none_more, under_key}
+use Rattle.trade_cross.proofs.legal_rules_proofs.Leaving.{Leaves, leaves_as}
+use Rattle.trade_cross.proofs.legal_rules_proofs.LinesLeft.{line_legal}
+use Rattle.trade_cross.proofs.legal_rules_proofs.LinesLeft.{line_left as line_of_any_left, line_kept as line_of_any_kept}
+use Rattle.trade_cross.specs.legal_rules.EntryKeys.{is_key}
 
 -- ---- a line that is changed
 

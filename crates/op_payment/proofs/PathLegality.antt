@@ -7,10 +7,10 @@ use Rattle.ledger_types.specs.declared.asset.Asset.{Asset}
 use Rattle.entry_map.specs.EntryMap.{EntryMap}
 use Rattle.entry_map.specs.Undo.{Undo}
 use Rattle.sponsor_rules.specs.declared.context.Ctx.{Ctx}
-use Rattle.legal_rules.specs.Legal.{view}
-use Rattle.legal_rules.specs.Owing.{AreEntriesLegal}
-use Rattle.legal_rules.proofs.Bounded.{account_legal}
-use Rattle.legal_rules.proofs.LinesLeft.{line_legal}
+use Rattle.trade_cross.specs.legal_rules.Legal.{view}
+use Rattle.trade_cross.specs.legal_rules.Owing.{AreEntriesLegal}
+use Rattle.trade_cross.proofs.legal_rules_proofs.Bounded.{account_legal}
+use Rattle.trade_cross.proofs.legal_rules_proofs.LinesLeft.{line_legal}
 use Rattle.trade_cross.specs.Crossable.{IsCrossable}
 use Rattle.trade_cross.proofs.Crossables.{crossable_of}
 use Rattle.op_form.specs.declared.amounts.CreditFault.{CreditFault}

@@ -6,20 +6,20 @@ use Rattle.std.specs.Ordering.{is_lt, int_cmp}
 use Rattle.ledger_types.specs.declared.ids.AccountId.{AccountId}
 use Rattle.ledger_types.specs.declared.account.AccountEntry.{AccountEntry}
 use Rattle.entry_map.specs.EntryMap.{EntryMap}
-use Rattle.entry_slots.specs.Accounts.{account_at, with_account}
-use Rattle.entry_slots.specs.AccountExtensions.{account_liabilities}
-use Rattle.reserve_rules.specs.Reserve.{available, room, min_balance}
+use Rattle.sponsor_rules.specs.entry_slots.Accounts.{account_at, with_account}
+use Rattle.sponsor_rules.specs.entry_slots.AccountExtensions.{account_liabilities}
+use Rattle.sponsor_rules.specs.reserve_rules.Reserve.{available, room, min_balance}
 use Rattle.sponsor_rules.specs.declared.context.Ctx.{Ctx}
-use Rattle.legal_rules.specs.Books.{View}
-use Rattle.legal_rules.specs.Owing.{nothing_owed, IsLegalOwing}
-use Rattle.legal_rules.specs.Supply.{lumens_of}
-use Rattle.legal_rules.proofs.Bounded.{account_legal}
-use Rattle.legal_rules.proofs.Covered.{not_above_balance}
-use Rattle.legal_rules.proofs.Paid.{paid_legal, debit_legal}
+use Rattle.trade_cross.specs.legal_rules.Books.{View}
+use Rattle.trade_cross.specs.legal_rules.Owing.{nothing_owed, IsLegalOwing}
+use Rattle.trade_cross.specs.legal_rules.Supply.{lumens_of}
+use Rattle.trade_cross.proofs.legal_rules_proofs.Bounded.{account_legal}
+use Rattle.trade_cross.proofs.legal_rules_proofs.Covered.{not_above_balance}
+use Rattle.trade_cross.proofs.legal_rules_proofs.Paid.{paid_legal, debit_legal}
 use Rattle.op_form.specs.Lumens.{with_less_lumens, map_after_lumens_debit_of, map_after_lumens_debit, with_more_lumens}
 use Rattle.op_form.specs.Lumens.{map_after_lumens_credit_of, map_after_lumens_credit}
-use Rattle.legal_rules.specs.Holdings.{IsKeyed, for_one}
-use Rattle.legal_rules.proofs.Leaving.{Leaves, account_changed}
+use Rattle.trade_cross.specs.legal_rules.Holdings.{IsKeyed, for_one}
+use Rattle.trade_cross.proofs.legal_rules_proofs.Leaving.{Leaves, account_changed}
 
 pub not_less : (x y : ℤ) → is_lt (int_cmp x y) ≡ false → y ≤ℤ x
 not_less x y h = grind (arith, ints)

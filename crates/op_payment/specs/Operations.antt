@@ -5,7 +5,7 @@ use Rattle.op_types.specs.declared.operation.OperationBody.TheVariants as body
 use Rattle.op_types.specs.declared.operation_result.OperationResult.TheVariants.{NotSupported}
 use Rattle.entry_map.specs.EntryMap.{EntryMap}
 use Rattle.sponsor_rules.specs.declared.context.Ctx.{Ctx}
-use Rattle.legal_rules.specs.Owing.{AreEntriesLegal}
+use Rattle.trade_cross.specs.legal_rules.Owing.{AreEntriesLegal}
 use Rattle.op_form.specs.Done.{Attempt, Done, done_of}
 use Rattle.op_payment.specs.PathReceive.{path_payment_strict_receive}
 use Rattle.op_payment.specs.PathSend.{path_payment_strict_send}

@@ -6,7 +6,7 @@ use Rattle.ledger_types.specs.declared.claim_atom.ClaimAtom.{ClaimAtom}
 use Rattle.op_types.specs.declared.payment_results.PathPaymentSuccess.{PathPaymentSuccess}
 use Rattle.valid_values.specs.Assets.{is_valid_asset}
 use Rattle.entry_map.specs.EntryMap.{EntryMap}
-use Rattle.entry_slots.specs.Accounts.{account_at}
+use Rattle.sponsor_rules.specs.entry_slots.Accounts.{account_at}
 use Rattle.sponsor_rules.specs.declared.context.Ctx.{Ctx}
 use Rattle.op_form.specs.AtomMoves.{moves_of}
 use Rattle.op_form.specs.Assets.{is_issued_by}

@@ -8,7 +8,7 @@ use Rattle.op_types.specs.declared.payment_ops.PathPaymentStrictReceiveOp.{PathP
 use Rattle.op_types.specs.declared.payment_results.PathPaymentStrictReceiveResult.{PathPaymentStrictReceiveResult}
 use Rattle.op_types.specs.declared.payment_results.PathPaymentStrictReceiveResult.TheVariants as path
 use Rattle.entry_map.specs.EntryMap.{EntryMap}
-use Rattle.entry_slots.specs.Tests.{Tests}
+use Rattle.sponsor_rules.specs.entry_slots.Tests.{Tests}
 use Rattle.sponsor_rules.specs.declared.context.Ctx.{Ctx}
 use Rattle.op_form.specs.declared.amounts.CreditFault.{CreditFault}
 use Rattle.op_form.specs.declared.amounts.CreditFault.TheVariants as credit

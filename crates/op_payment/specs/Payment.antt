@@ -9,8 +9,8 @@ use Rattle.op_types.specs.declared.payment_results.PaymentResult.{PaymentResult}
 use Rattle.op_types.specs.declared.payment_results.PaymentResult.TheVariants as pay
 use Rattle.valid_values.specs.Assets.{is_valid_asset}
 use Rattle.entry_map.specs.EntryMap.{EntryMap}
-use Rattle.entry_slots.specs.Accounts.{account_at}
-use Rattle.entry_slots.specs.Tests.{Tests}
+use Rattle.sponsor_rules.specs.entry_slots.Accounts.{account_at}
+use Rattle.sponsor_rules.specs.entry_slots.Tests.{Tests}
 use Rattle.sponsor_rules.specs.declared.context.Ctx.{Ctx}
 use Rattle.sponsor_rules.specs.Payers.{is_same_account}
 use Rattle.op_form.specs.declared.amounts.CreditFault.{CreditFault}

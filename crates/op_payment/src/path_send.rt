@@ -1,7 +1,7 @@
 //! PATH_PAYMENT_STRICT_SEND.
 
 ghost use Rattle.std.specs.Prelude.{◌≡◌, ◌≤ℤ◌, ◌<ℤ◌, pos, IfOk};
-ghost use Rattle.legal_rules.specs.Owing.{AreEntriesLegal};
+ghost use Rattle.trade_cross.specs.legal_rules.Owing.{AreEntriesLegal};
 ghost use Rattle.op_form.specs.Done.{Makes};
 ghost use Rattle.op_form.specs.Premises.{BalancesAreInRange};
 ghost use Rattle.op_payment.specs.PathCalls as calls;

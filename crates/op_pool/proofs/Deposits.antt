@@ -25,9 +25,9 @@ use Rattle.pool_math.specs.declared.deposits.Deposited.{Deposited}
 use Rattle.pool_math.specs.Calls.{numbers_of, AnswersDeposit, IsUnsigned}
 use Rattle.pool_math.specs.Parts.{signed}
 use Rattle.pool_math.specs.Pools.{Deposit, greatest, IsWhole}
-use Rattle.legal_rules.specs.Bounds.{IsFilledOrEmpty}
-use Rattle.legal_rules.specs.Ranges.{IsPoolInRange}
-use Rattle.legal_rules.specs.Trades.{holder}
+use Rattle.trade_cross.specs.legal_rules.Bounds.{IsFilledOrEmpty}
+use Rattle.trade_cross.specs.legal_rules.Ranges.{IsPoolInRange}
+use Rattle.trade_cross.specs.legal_rules.Trades.{holder}
 use Rattle.trade_cross.specs.Holdings.{is_short_of, has_at}
 use Rattle.trade_cross.specs.Places.{DoesFit}
 use Rattle.op_form.specs.Done.{Attempt, Move}

@@ -24,9 +24,9 @@ use Rattle.entry_slots.specs.AccountExtensions.{account_liabilities}
 use Rattle.entry_slots.specs.Lines.{line_of, line_at}
 use Rattle.entry_slots.specs.LineExtensions.{line_liabilities}
 use Rattle.reserve_rules.specs.Reserve.{greatest_i64, min_balance, available, room, line_available, line_room}
-use Rattle.offer_exchange.specs.Exchange.{unlimited}
-use Rattle.legal_rules.specs.Holdings.{IsKeyed}
-use Rattle.legal_rules.specs.Trades.{holder}
+use Rattle.trade_cross.specs.offer_exchange.Exchange.{unlimited}
+use Rattle.trade_cross.specs.legal_rules.Holdings.{IsKeyed}
+use Rattle.trade_cross.specs.legal_rules.Trades.{holder}
 use Rattle.trade_cross.specs.Amounts.{payment, DoesPaymentFit}
 use Rattle.trade_cross.specs.Holdings.{at_least_nothing, is_short_of, account_has, line_has, has_at, account_takes}
 use Rattle.trade_cross.specs.Holdings.{line_takes, most_taken, paying}

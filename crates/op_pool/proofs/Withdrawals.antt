@@ -15,8 +15,8 @@ use Rattle.entry_slots.specs.Lines.{line_at, line_slot_at}
 use Rattle.entry_slots.specs.Pools.{pool_at, pool_slot_at}
 use Rattle.entry_slots.specs.Tests.{first_fault}
 use Rattle.sponsor_rules.specs.declared.context.Ctx.{Ctx}
-use Rattle.legal_rules.specs.Ranges.{IsPoolInRange}
-use Rattle.legal_rules.specs.Trades.{holder}
+use Rattle.trade_cross.specs.legal_rules.Ranges.{IsPoolInRange}
+use Rattle.trade_cross.specs.legal_rules.Trades.{holder}
 use Rattle.trade_cross.specs.Places.{DoesFit}
 use Rattle.pool_shares.specs.declared.withdrawing.Part.{Part as PartOfCall}
 use Rattle.pool_shares.specs.Withdrawing.{Part, part_of}

@@ -17,7 +17,7 @@ use Rattle.sponsor_rules.specs.declared.context.Ctx.{Ctx}
 use Rattle.pool_math.specs.declared.deposits.Deposited.{Deposited}
 use Rattle.pool_math.specs.Calls.{IsUnsigned}
 use Rattle.pool_math.specs.Parts.{signed}
-use Rattle.legal_rules.specs.Trades.{holder}
+use Rattle.trade_cross.specs.legal_rules.Trades.{holder}
 use Rattle.trade_cross.specs.Amounts.{DoesPaymentFit}
 use Rattle.trade_cross.specs.Holdings.{has_at, is_short_of, most_taken, paying}
 use Rattle.trade_cross.specs.Places.{DoesFit}

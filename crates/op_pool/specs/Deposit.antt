@@ -21,7 +21,7 @@ use Rattle.entry_slots.specs.Tests.{Tests}
 use Rattle.reserve_rules.specs.Reserve.{greatest_i64, line_room}
 use Rattle.sponsor_rules.specs.declared.context.Ctx.{Ctx}
 use Rattle.pool_math.specs.Pools.{Deposit, greatest, shares_for, deposited}
-use Rattle.legal_rules.specs.Trades.{holder}
+use Rattle.trade_cross.specs.legal_rules.Trades.{holder}
 use Rattle.trade_cross.specs.Holdings.{has_at, is_short_of, paying}
 use Rattle.op_form.specs.Done.{Attempt, Move, OfAccount, OfPool}
 use Rattle.op_form.specs.Flags.{has_any, is_authorized}

@@ -15,7 +15,7 @@ use Rattle.entry_slots.specs.Lines.{line_at}
 use Rattle.entry_slots.specs.Pools.{pool_at}
 use Rattle.entry_slots.specs.Tests.{Tests}
 use Rattle.sponsor_rules.specs.declared.context.Ctx.{Ctx}
-use Rattle.legal_rules.specs.Trades.{holder}
+use Rattle.trade_cross.specs.legal_rules.Trades.{holder}
 use Rattle.trade_cross.specs.Holdings.{most_taken, paying}
 use Rattle.op_form.specs.Done.{Attempt, Move, OfAccount, OfPool}
 use Rattle.op_form.specs.Flags.{has_any}

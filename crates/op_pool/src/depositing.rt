@@ -2,8 +2,8 @@
 
 ghost use Rattle.std.specs.Prelude.{◌≡◌, ◌*ℤ◌, ◌≤ℤ◌, pos};
 ghost use Rattle.ledger_types.specs.declared.entry.LedgerEntryBody.TheVariants.{LiquidityPool};
-ghost use Rattle.legal_rules.specs.Bounds.{IsFilledOrEmpty};
-ghost use Rattle.legal_rules.specs.Ranges.{IsPoolInRange};
+ghost use Rattle.trade_cross.specs.legal_rules.Bounds.{IsFilledOrEmpty};
+ghost use Rattle.trade_cross.specs.legal_rules.Ranges.{IsPoolInRange};
 ghost use Rattle.op_pool.specs.Calls as calls;
 ghost use Rattle.op_pool.specs.Deposit as spec;
 

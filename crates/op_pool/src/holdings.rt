@@ -2,7 +2,7 @@
 
 ghost use Rattle.std.specs.Prelude.{◌≡◌, ◌≤ℤ◌, neg_ℤ, pos, IfOk, OnOk};
 ghost use Rattle.entry_map.specs.Undo.{with_current};
-ghost use Rattle.legal_rules.specs.Trades.{holder};
+ghost use Rattle.trade_cross.specs.legal_rules.Trades.{holder};
 ghost use Rattle.trade_cross.specs.Amounts.{DoesPaymentFit};
 ghost use Rattle.trade_cross.specs.Holdings as holdings;
 ghost use Rattle.trade_cross.specs.Places.{place_key};

@@ -6,7 +6,7 @@ ghost use Rattle.entry_map.specs.Undo.{with_current};
 ghost use Rattle.entry_slots.specs.Lines.{line_slot_at};
 ghost use Rattle.entry_slots.specs.Pools.{pool_slot_at};
 ghost use Rattle.entry_slots.specs.Tests.{first_fault};
-ghost use Rattle.legal_rules.specs.Ranges.{IsPoolInRange};
+ghost use Rattle.trade_cross.specs.legal_rules.Ranges.{IsPoolInRange};
 ghost use Rattle.pool_shares.specs.Withdrawing as withdrawing;
 ghost use Rattle.op_form.specs.Done.{Makes};
 ghost use Rattle.op_form.specs.Premises.{BalancesAreInRange};

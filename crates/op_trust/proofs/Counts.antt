@@ -24,8 +24,8 @@ use Rattle.entry_slots.specs.Accounts.{account_of, account_at}
 use Rattle.entry_slots.specs.Lines.{line_at}
 use Rattle.entry_slots.specs.LineExtensions.{use_count}
 use Rattle.entry_slots.specs.Pools.{pool_of, pool_at}
-use Rattle.entry_sums.proofs.Lookups.{put_there, put_elsewhere}
-use Rattle.reserve_rules.specs.Reserve.{greatest_i64}
+use Rattle.trade_cross.proofs.entry_sums_proofs.Lookups.{put_there, put_elsewhere}
+use Rattle.sponsor_rules.specs.reserve_rules.Reserve.{greatest_i64}
 use Rattle.sponsor_rules.specs.declared.context.Ctx.{Ctx}
 use Rattle.sponsor_rules.specs.declared.count.Count.TheVariants.{SubEntries, Sponsoring, Sponsored}
 use Rattle.sponsor_rules.specs.Adding.{map_after_adding, map_after_counting, sponsored_entry}
@@ -33,13 +33,13 @@ use Rattle.sponsor_rules.specs.Counting.{with_more}
 use Rattle.sponsor_rules.specs.Payers.{open_sponsor, subentry_tests_at, IsReady}
 use Rattle.sponsor_rules.specs.Paying.{map_after_charging, with_subentry, with_more_paid}
 use Rattle.sponsor_rules.proofs.Keeping.{with_count_means}
-use Rattle.sponsor_laws.proofs.Bounds.{done_by}
-use Rattle.legal_rules.specs.Holdings.{IsKeyed}
-use Rattle.legal_rules.specs.PoolLaws.{new_pool}
-use Rattle.legal_rules.specs.PoolShares.{needed_line}
-use Rattle.legal_rules.specs.ShareLaws.{share_line}
-use Rattle.legal_rules.proofs.Leaving.{keyed_put}
-use Rattle.legal_rules.proofs.Liable.{int_same}
+use Rattle.trade_cross.proofs.sponsor_laws_proofs.Bounds.{done_by}
+use Rattle.trade_cross.specs.legal_rules.Holdings.{IsKeyed}
+use Rattle.trade_cross.specs.legal_rules.PoolLaws.{new_pool}
+use Rattle.trade_cross.specs.legal_rules.PoolShares.{needed_line}
+use Rattle.trade_cross.specs.legal_rules.ShareLaws.{share_line}
+use Rattle.trade_cross.proofs.legal_rules_proofs.Leaving.{keyed_put}
+use Rattle.trade_cross.proofs.legal_rules_proofs.Liable.{int_same}
 use Rattle.trade_cross.specs.Places.{DoesFit}
 use Rattle.pool_shares.specs.Fits.{DoesCountFit, DoUsesFitAt, DoLinesFit, DoShareLinesFit}
 use Rattle.pool_shares.specs.Premises.{ArePoolsSound}

@@ -21,11 +21,11 @@ use Rattle.entry_slots.specs.Lines.{line_at, with_line}
 use Rattle.entry_slots.specs.LineExtensions.{use_count}
 use Rattle.entry_slots.specs.Pools.{pool_at}
 use Rattle.entry_slots.specs.Tests.{Tests, first_fault}
-use Rattle.reserve_rules.specs.Reserve.{greatest_i64}
+use Rattle.sponsor_rules.specs.reserve_rules.Reserve.{greatest_i64}
 use Rattle.sponsor_rules.specs.declared.context.Ctx.{Ctx}
 use Rattle.sponsor_rules.specs.Adding.{map_after_adding}
-use Rattle.legal_rules.specs.PoolShares.{needed_line}
-use Rattle.legal_rules.specs.ShareLaws.{share_line, map_with_share_lines}
+use Rattle.trade_cross.specs.legal_rules.PoolShares.{needed_line}
+use Rattle.trade_cross.specs.legal_rules.ShareLaws.{share_line, map_with_share_lines}
 use Rattle.op_form.specs.Done.{Attempt}
 use Rattle.op_form.specs.Flags.{has_any}
 use Rattle.op_form.specs.Steps.{unless_refused, after_charge, success}

@@ -4,7 +4,7 @@ ghost use Rattle.std.specs.Prelude.{◌≡◌, ◌<◌, Some, None, IfOk, OnOk};
 ghost use Rattle.entry_map.specs.EntryMap.{EntryMap as AMap};
 ghost use Rattle.entry_map.specs.Undo.{with_current};
 ghost use Rattle.entry_slots.specs.Lines as lines;
-ghost use Rattle.reserve_rules.specs.Reserve.{IsLineInRange};
+ghost use Rattle.sponsor_rules.specs.reserve_rules.Reserve.{IsLineInRange};
 ghost use Rattle.sponsor_rules.specs.Adding.{AreReady};
 ghost use Rattle.sponsor_rules.specs.Payers.{IsReady};
 ghost use Rattle.op_form.specs.Sequences.{last_seq};

@@ -19,7 +19,7 @@ use Rattle.entry_slots.specs.Accounts.{with_account, with_account_in, with_accou
 use Rattle.entry_slots.specs.EntrySponsor.{sponsor_of}
 use Rattle.entry_slots.specs.Lines.{with_line, with_line_in, with_line_of}
 use Rattle.entry_slots.specs.Pools.{pool_slot_of, pool_slot_at, with_pool, with_pool_in, with_pool_of}
-use Rattle.entry_sums.proofs.Lookups.{put_elsewhere, erase_elsewhere, erase_each}
+use Rattle.trade_cross.proofs.entry_sums_proofs.Lookups.{put_elsewhere, erase_elsewhere, erase_each}
 use Rattle.sponsor_rules.specs.declared.charge.Charge.{Charge}
 use Rattle.sponsor_rules.specs.declared.charge.Charge.TheVariants as charge
 use Rattle.sponsor_rules.specs.declared.count.Count.TheVariants.{SubEntries, Sponsoring, Sponsored}
@@ -28,9 +28,9 @@ use Rattle.sponsor_rules.specs.Counting.{with_less}
 use Rattle.sponsor_rules.specs.Paying.{map_after_releasing, without_subentry, with_less_paid}
 use Rattle.sponsor_rules.specs.Removing.{map_without_charge, map_after_removing_entry, map_after_removing}
 use Rattle.sponsor_rules.proofs.Keeping.{with_count_means}
-use Rattle.legal_rules.specs.Holdings.{IsKeyed}
-use Rattle.legal_rules.specs.Payments.{paid}
-use Rattle.legal_rules.proofs.Leaving.{keyed_put}
+use Rattle.trade_cross.specs.legal_rules.Holdings.{IsKeyed}
+use Rattle.trade_cross.specs.legal_rules.Payments.{paid}
+use Rattle.trade_cross.proofs.legal_rules_proofs.Leaving.{keyed_put}
 use Rattle.trade_cross.specs.Holdings.{line_paid, paying}
 
 -- ---- what stands of pools beside a line

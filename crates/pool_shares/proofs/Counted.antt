@@ -18,17 +18,17 @@ use Rattle.ledger_types.specs.Keys.{key_of_body}
 use Rattle.entry_map.specs.EntryMap.{EntryMap, put}
 use Rattle.entry_slots.specs.Lines.{line_in, line_of, line_at, with_line_in, with_line_of, with_line}
 use Rattle.entry_slots.specs.Pools.{pool_in, pool_of, pool_at, with_pool_in, with_pool_of, with_pool}
-use Rattle.entry_sums.specs.Sums.{part}
-use Rattle.legal_rules.specs.Holdings.{IsKeyed, none_more}
-use Rattle.legal_rules.specs.PoolShares.{needed_line}
-use Rattle.legal_rules.specs.ShareLaws.{with_uses, map_with_uses_at, map_with_uses, with_lines, map_with_lines}
-use Rattle.legal_rules.specs.ShareLaws.{map_with_share_lines}
-use Rattle.legal_rules.specs.Supply.{held, held_in}
-use Rattle.legal_rules.proofs.Changed.{with_pool_body, IsPoolEntry, pool_entry}
-use Rattle.legal_rules.proofs.ChargesLeft.{put_beside}
-use Rattle.legal_rules.proofs.Holdings.{put_same}
-use Rattle.legal_rules.proofs.Leaving.{Leaves, leaves_itself, keeps_both, accounts_kept, keyed_put}
-use Rattle.legal_rules.proofs.LinesLeft.{line_kept}
+use Rattle.trade_cross.specs.entry_sums.Sums.{part}
+use Rattle.trade_cross.specs.legal_rules.Holdings.{IsKeyed, none_more}
+use Rattle.trade_cross.specs.legal_rules.PoolShares.{needed_line}
+use Rattle.trade_cross.specs.legal_rules.ShareLaws.{with_uses, map_with_uses_at, map_with_uses, with_lines, map_with_lines}
+use Rattle.trade_cross.specs.legal_rules.ShareLaws.{map_with_share_lines}
+use Rattle.trade_cross.specs.legal_rules.Supply.{held, held_in}
+use Rattle.trade_cross.proofs.legal_rules_proofs.Changed.{with_pool_body, IsPoolEntry, pool_entry}
+use Rattle.trade_cross.proofs.legal_rules_proofs.ChargesLeft.{put_beside}
+use Rattle.trade_cross.proofs.legal_rules_proofs.Holdings.{put_same}
+use Rattle.trade_cross.proofs.legal_rules_proofs.Leaving.{Leaves, leaves_itself, keeps_both, accounts_kept, keyed_put}
+use Rattle.trade_cross.proofs.legal_rules_proofs.LinesLeft.{line_kept}
 use Rattle.trade_cross.proofs.PoolsLegal.{with_pool_is}
 
 -- ---- what doesn't stand isn't changed

@@ -11,15 +11,15 @@ use Rattle.entry_map.specs.EntryMap.{EntryMap, erase}
 use Rattle.entry_slots.specs.Lines.{line_at}
 use Rattle.entry_slots.specs.Pools.{pool_at}
 use Rattle.sponsor_rules.specs.Removing.{map_after_removing}
-use Rattle.legal_rules.specs.Books.{View}
-use Rattle.legal_rules.specs.Legal.{pools_in}
-use Rattle.legal_rules.specs.Owing.{nothing_owed, IsLegalOwing}
-use Rattle.legal_rules.specs.PoolShares.{Pools}
-use Rattle.legal_rules.specs.ShareLaws.{map_with_share_lines}
-use Rattle.legal_rules.proofs.Changed.{pool_entry}
-use Rattle.legal_rules.proofs.Liable.{int_same}
-use Rattle.legal_rules.proofs.PoolsKept.{pool_erased}
-use Rattle.legal_rules.proofs.ShareLinesKept.{share_line_gone}
+use Rattle.trade_cross.specs.legal_rules.Books.{View}
+use Rattle.trade_cross.specs.legal_rules.Legal.{pools_in}
+use Rattle.trade_cross.specs.legal_rules.Owing.{nothing_owed, IsLegalOwing}
+use Rattle.trade_cross.specs.legal_rules.PoolShares.{Pools}
+use Rattle.trade_cross.specs.legal_rules.ShareLaws.{map_with_share_lines}
+use Rattle.trade_cross.proofs.legal_rules_proofs.Changed.{pool_entry}
+use Rattle.trade_cross.proofs.legal_rules_proofs.Liable.{int_same}
+use Rattle.trade_cross.proofs.legal_rules_proofs.PoolsKept.{pool_erased}
+use Rattle.trade_cross.proofs.legal_rules_proofs.ShareLinesKept.{share_line_gone}
 use Rattle.pool_shares.specs.ShareLines.{has_no_line, map_without_bare_pool, map_without_share_line}
 
 module _ (v : View) (id_pool : ℕ) (sum : ℤ) where

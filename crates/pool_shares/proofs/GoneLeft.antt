@@ -20,28 +20,28 @@ use Rattle.entry_slots.specs.Accounts.{account_at}
 use Rattle.entry_slots.specs.EntrySponsor.{sponsor_of}
 use Rattle.entry_slots.specs.Lines.{line_at}
 use Rattle.entry_slots.specs.Pools.{pool_at}
-use Rattle.entry_sums.specs.Sums.{total, part}
-use Rattle.entry_sums.proofs.Summing.{total_erase}
+use Rattle.trade_cross.specs.entry_sums.Sums.{total, part}
+use Rattle.trade_cross.proofs.entry_sums_proofs.Summing.{total_erase}
 use Rattle.sponsor_rules.specs.Paying.{without_subentry}
 use Rattle.sponsor_rules.specs.Removing.{map_after_discounting, map_after_removing, map_after_removing_entry}
-use Rattle.legal_rules.specs.Books.{View}
-use Rattle.legal_rules.specs.Holdings.{none_more}
-use Rattle.legal_rules.specs.Legal.{view}
-use Rattle.legal_rules.specs.Owing.{nothing_owed, IsLegalOwing, AreEntriesLegal}
-use Rattle.legal_rules.specs.ShareLaws.{map_with_share_lines}
-use Rattle.legal_rules.specs.Supply.{held, held_in}
-use Rattle.legal_rules.proofs.ChargesLeft.{discharged_kept, erased_kept}
-use Rattle.legal_rules.proofs.Changed.{pool_entry}
-use Rattle.legal_rules.proofs.Holdings.{still_holds}
-use Rattle.legal_rules.proofs.Leaving.{Leaves, leaves_itself, keeps_both}
-use Rattle.legal_rules.proofs.Legality.{view_of, owing_of}
-use Rattle.legal_rules.proofs.Liable.{int_same, line_entry, with_line_body}
-use Rattle.legal_rules.proofs.LinesLeft.{line_named}
-use Rattle.legal_rules.proofs.PaidFor.{nothing_settled}
-use Rattle.legal_rules.proofs.PoolsKept.{pool_erased}
-use Rattle.legal_rules.proofs.Removing.{owns}
-use Rattle.legal_rules.proofs.ShareLinesKept.{share_line_gone}
-use Rattle.legal_rules.proofs.Subentries.{subentry_of}
+use Rattle.trade_cross.specs.legal_rules.Books.{View}
+use Rattle.trade_cross.specs.legal_rules.Holdings.{none_more}
+use Rattle.trade_cross.specs.legal_rules.Legal.{view}
+use Rattle.trade_cross.specs.legal_rules.Owing.{nothing_owed, IsLegalOwing, AreEntriesLegal}
+use Rattle.trade_cross.specs.legal_rules.ShareLaws.{map_with_share_lines}
+use Rattle.trade_cross.specs.legal_rules.Supply.{held, held_in}
+use Rattle.trade_cross.proofs.legal_rules_proofs.ChargesLeft.{discharged_kept, erased_kept}
+use Rattle.trade_cross.proofs.legal_rules_proofs.Changed.{pool_entry}
+use Rattle.trade_cross.proofs.legal_rules_proofs.Holdings.{still_holds}
+use Rattle.trade_cross.proofs.legal_rules_proofs.Leaving.{Leaves, leaves_itself, keeps_both}
+use Rattle.trade_cross.proofs.legal_rules_proofs.Legality.{view_of, owing_of}
+use Rattle.trade_cross.proofs.legal_rules_proofs.Liable.{int_same, line_entry, with_line_body}
+use Rattle.trade_cross.proofs.legal_rules_proofs.LinesLeft.{line_named}
+use Rattle.trade_cross.proofs.legal_rules_proofs.PaidFor.{nothing_settled}
+use Rattle.trade_cross.proofs.legal_rules_proofs.PoolsKept.{pool_erased}
+use Rattle.trade_cross.proofs.legal_rules_proofs.Removing.{owns}
+use Rattle.trade_cross.proofs.legal_rules_proofs.ShareLinesKept.{share_line_gone}
+use Rattle.trade_cross.proofs.legal_rules_proofs.Subentries.{subentry_of}
 use Rattle.pool_shares.specs.ShareLines.{has_no_line, map_without_bare_pool, map_without_share_line}
 use Rattle.pool_shares.proofs.Counted.{counts_left}
 

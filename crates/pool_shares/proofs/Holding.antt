@@ -24,10 +24,10 @@ use Rattle.ledger_types.specs.KeyOrder.{account_cmp, line_cmp, key_cmp}
 use Rattle.entry_map.specs.EntryMap.{EntryMap, IsKeyed, IsLeastAbove, IsNextAfter}
 use Rattle.sponsor_rules.specs.Payers.{is_same_account}
 use Rattle.sponsor_rules.proofs.Ids.{same_account, is_itself}
-use Rattle.legal_rules.specs.Holdings.{IsKeyed as AreKeyed}
-use Rattle.offer_book.specs.Sold.{above}
-use Rattle.offer_book.proofs.Above.{Pairs, skipped, taken, nothing_left, next_left}
-use Rattle.offer_book.proofs.Selling.{same_account as same_by_order, IsOwn, all_own}
+use Rattle.trade_cross.specs.legal_rules.Holdings.{IsKeyed as AreKeyed}
+use Rattle.trade_cross.specs.offer_book.Sold.{above}
+use Rattle.trade_cross.proofs.offer_book_proofs.Above.{Pairs, skipped, taken, nothing_left, next_left}
+use Rattle.trade_cross.proofs.offer_book_proofs.Selling.{same_account as same_by_order, IsOwn, all_own}
 use Rattle.pool_shares.specs.AccountPools.{pool_in_line, pool_held_by, pools_held_by}
 use Rattle.pool_shares.specs.Held.{line_held, left, held_in, IsNextLine, IsAheadOfShares}
 

@@ -9,3 +9,4 @@ pub mod GoneLeft
 pub mod Shared
 pub mod Loaded
 pub mod Parts
+pub use Rattle.pool_math.proofs.wide_math_proofs

@@ -12,8 +12,8 @@ use Rattle.entry_slots.specs.LineExtensions.{line_liabilities}
 use Rattle.pool_math.specs.Laws.{IsFairWithdrawal}
 use Rattle.pool_math.specs.Pools.{withdrawn}
 use Rattle.pool_math.proofs.WithdrawalLaws.{withdrawn_fair}
-use Rattle.legal_rules.specs.Bounds.{IsFilledOrEmpty}
-use Rattle.legal_rules.proofs.LinesLeft.{IsLegalLine}
+use Rattle.trade_cross.specs.legal_rules.Bounds.{IsFilledOrEmpty}
+use Rattle.trade_cross.proofs.legal_rules_proofs.LinesLeft.{IsLegalLine}
 use Rattle.pool_shares.specs.Withdrawing.{Part, part_of, with_change}
 use Rattle.pool_shares.proofs.Sharing.{CanShare}
 use Rattle.pool_shares.proofs.Sound.{IsLegalPool}

@@ -13,10 +13,10 @@ use Rattle.ledger_types.specs.Keys.{key_of_body}
 use Rattle.entry_map.specs.EntryMap.{EntryMap, put}
 use Rattle.entry_slots.specs.Lines.{line_of, line_at}
 use Rattle.entry_slots.specs.Pools.{pool_of, pool_at}
-use Rattle.entry_sums.proofs.Lookups.{put_there}
-use Rattle.legal_rules.specs.Holdings.{IsKeyed}
-use Rattle.legal_rules.proofs.Changed.{with_pool_body, pool_entry}
-use Rattle.legal_rules.proofs.Liable.{line_entry, with_line_body, with_line_is}
+use Rattle.trade_cross.proofs.entry_sums_proofs.Lookups.{put_there}
+use Rattle.trade_cross.specs.legal_rules.Holdings.{IsKeyed}
+use Rattle.trade_cross.proofs.legal_rules_proofs.Changed.{with_pool_body, pool_entry}
+use Rattle.trade_cross.proofs.legal_rules_proofs.Liable.{line_entry, with_line_body, with_line_is}
 use Rattle.trade_cross.specs.Holdings.{line_paid, paying}
 use Rattle.trade_cross.specs.Places.{DoesFit}
 use Rattle.trade_cross.proofs.PoolsLegal.{with_pool_is}

@@ -18,18 +18,18 @@ use Rattle.entry_map.specs.EntryMap.{EntryMap}
 use Rattle.entry_slots.specs.LineExtensions.{line_liabilities}
 use Rattle.entry_slots.specs.Lines.{line_at}
 use Rattle.entry_slots.specs.Pools.{pool_of, pool_at, with_pool}
-use Rattle.legal_rules.specs.Bounds.{IsFilledOrEmpty}
-use Rattle.legal_rules.specs.Books.{Kind, Shares, ShareLines, View}
-use Rattle.legal_rules.specs.ChangeLaws.{in_shares}
-use Rattle.legal_rules.specs.EntryKeys.{is_key}
-use Rattle.legal_rules.specs.Holdings.{IsKeyed, none_more, under_key}
-use Rattle.legal_rules.specs.Owing.{nothing_owed, in_book, plus, IsEntryLegal, IsLegalOwing}
-use Rattle.legal_rules.specs.Ranges.{AreLineFlags, IsPoolInRange, IsTrustLineInRange}
-use Rattle.legal_rules.specs.Supply.{of_line}
-use Rattle.legal_rules.proofs.Changed.{line_changed, pool_changed}
-use Rattle.legal_rules.proofs.Leaving.{Leaves, leaves_as, keeps_then}
-use Rattle.legal_rules.proofs.LinesLeft.{IsLegalLine, line_left, line_legal}
-use Rattle.legal_rules.proofs.Steps.{legal_as}
+use Rattle.trade_cross.specs.legal_rules.Bounds.{IsFilledOrEmpty}
+use Rattle.trade_cross.specs.legal_rules.Books.{Kind, Shares, ShareLines, View}
+use Rattle.trade_cross.specs.legal_rules.ChangeLaws.{in_shares}
+use Rattle.trade_cross.specs.legal_rules.EntryKeys.{is_key}
+use Rattle.trade_cross.specs.legal_rules.Holdings.{IsKeyed, none_more, under_key}
+use Rattle.trade_cross.specs.legal_rules.Owing.{nothing_owed, in_book, plus, IsEntryLegal, IsLegalOwing}
+use Rattle.trade_cross.specs.legal_rules.Ranges.{AreLineFlags, IsPoolInRange, IsTrustLineInRange}
+use Rattle.trade_cross.specs.legal_rules.Supply.{of_line}
+use Rattle.trade_cross.proofs.legal_rules_proofs.Changed.{line_changed, pool_changed}
+use Rattle.trade_cross.proofs.legal_rules_proofs.Leaving.{Leaves, leaves_as, keeps_then}
+use Rattle.trade_cross.proofs.legal_rules_proofs.LinesLeft.{IsLegalLine, line_left, line_legal}
+use Rattle.trade_cross.proofs.legal_rules_proofs.Steps.{legal_as}
 use Rattle.trade_cross.specs.Holdings.{line_paid, paying}
 pub use Rattle.trade_cross.proofs.PoolsLeft.{both_of}
 use Rattle.trade_cross.proofs.PoolsLeft.{pool_left as pool_rises}

@@ -24,22 +24,22 @@ use Rattle.entry_map.proofs.Pairs.{tied}
 use Rattle.entry_slots.specs.LineExtensions.{use_count}
 use Rattle.entry_slots.specs.Lines.{line_in, line_of, line_at}
 use Rattle.entry_slots.specs.Pools.{pool_in, pool_of, pool_at}
-use Rattle.entry_sums.specs.Sums.{total}
-use Rattle.legal_rules.specs.Books.{Kind, Shares, ShareLines, Uses, View, counted, stated, stated_at}
-use Rattle.legal_rules.specs.EntryKeys.{for_key}
-use Rattle.legal_rules.specs.Legal.{view}
-use Rattle.legal_rules.specs.Owing.{nothing_owed, IsLegalOwing}
-use Rattle.legal_rules.specs.PoolShares.{pool_named, needed_line, shares_in, share_lines, uses, uses_by, uses_of}
-use Rattle.legal_rules.specs.Supply.{held}
-use Rattle.legal_rules.proofs.Changed.{pool_entry}
-use Rattle.legal_rules.proofs.Covered.{minimum_not_below}
-use Rattle.legal_rules.proofs.Liable.{IsLineEntry, line_entry}
-use Rattle.legal_rules.proofs.LinesLeft.{IsLegalLine, line_legal}
-use Rattle.legal_rules.proofs.Lows.{natural_low, for_key_low}
-use Rattle.legal_rules.proofs.Needed.{for_itself}
-use Rattle.legal_rules.proofs.Numbers.{natural_some}
-use Rattle.legal_rules.proofs.ShareLinesKept.{params_known}
-use Rattle.legal_rules.proofs.Standing.{counted_stated}
+use Rattle.trade_cross.specs.entry_sums.Sums.{total}
+use Rattle.trade_cross.specs.legal_rules.Books.{Kind, Shares, ShareLines, Uses, View, counted, stated, stated_at}
+use Rattle.trade_cross.specs.legal_rules.EntryKeys.{for_key}
+use Rattle.trade_cross.specs.legal_rules.Legal.{view}
+use Rattle.trade_cross.specs.legal_rules.Owing.{nothing_owed, IsLegalOwing}
+use Rattle.trade_cross.specs.legal_rules.PoolShares.{pool_named, needed_line, shares_in, share_lines, uses, uses_by, uses_of}
+use Rattle.trade_cross.specs.legal_rules.Supply.{held}
+use Rattle.trade_cross.proofs.legal_rules_proofs.Changed.{pool_entry}
+use Rattle.trade_cross.proofs.legal_rules_proofs.Covered.{minimum_not_below}
+use Rattle.trade_cross.proofs.legal_rules_proofs.Liable.{IsLineEntry, line_entry}
+use Rattle.trade_cross.proofs.legal_rules_proofs.LinesLeft.{IsLegalLine, line_legal}
+use Rattle.trade_cross.proofs.legal_rules_proofs.Lows.{natural_low, for_key_low}
+use Rattle.trade_cross.proofs.legal_rules_proofs.Needed.{for_itself}
+use Rattle.trade_cross.proofs.legal_rules_proofs.Numbers.{natural_some}
+use Rattle.trade_cross.proofs.legal_rules_proofs.ShareLinesKept.{params_known}
+use Rattle.trade_cross.proofs.legal_rules_proofs.Standing.{counted_stated}
 pub use Rattle.trade_cross.proofs.PoolsLegal.{IsLegalPool, pool_legal}
 use Rattle.pool_shares.specs.Fits.{DoUsesFitAt, DoShareLinesFit}
 use Rattle.pool_shares.specs.Laws.{EntriesSound}

@@ -16,9 +16,9 @@ use Rattle.entry_slots.specs.Lines.{line_of, line_at}
 use Rattle.entry_slots.specs.Pools.{pool_of, pool_at}
 use Rattle.sponsor_rules.specs.Payers.{is_same_account}
 use Rattle.sponsor_rules.specs.Removing.{map_after_removing}
-use Rattle.legal_rules.specs.Holdings.{IsKeyed}
-use Rattle.legal_rules.specs.ShareLaws.{with_uses, map_with_uses_at, map_with_uses}
-use Rattle.legal_rules.specs.Trades.{holder}
+use Rattle.trade_cross.specs.legal_rules.Holdings.{IsKeyed}
+use Rattle.trade_cross.specs.legal_rules.ShareLaws.{with_uses, map_with_uses_at, map_with_uses}
+use Rattle.trade_cross.specs.legal_rules.Trades.{holder}
 use Rattle.trade_cross.proofs.HoldersApart.{holders_apart}
 use Rattle.pool_shares.specs.Fits.{DoUsesFitAt, DoUsesFit, DoLinesFit, DoShareLinesFit}
 use Rattle.pool_shares.proofs.Beside.{line_beside, line_keyed, removing_beside, removing_keyed}

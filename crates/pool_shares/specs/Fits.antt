@@ -13,8 +13,8 @@ use Rattle.entry_map.specs.EntryMap.{EntryMap}
 use Rattle.entry_slots.specs.LineExtensions.{use_count}
 use Rattle.entry_slots.specs.Lines.{line_at}
 use Rattle.entry_slots.specs.Pools.{pool_at}
-use Rattle.legal_rules.specs.Holdings.{IsKeyed}
-use Rattle.legal_rules.specs.PoolShares.{needed_line}
+use Rattle.trade_cross.specs.legal_rules.Holdings.{IsKeyed}
+use Rattle.trade_cross.specs.legal_rules.PoolShares.{needed_line}
 use Rattle.trade_cross.specs.Places.{DoesFit}
 use Rattle.pool_shares.specs.declared.withdrawing.ShareChange.{ShareChange}
 

@@ -15,8 +15,8 @@ use Rattle.ledger_types.specs.declared.key.LedgerKey.TheVariants as key
 use Rattle.ledger_types.specs.KeyOrder.{line_cmp}
 use Rattle.entry_map.specs.EntryMap.{EntryMap}
 use Rattle.sponsor_rules.specs.Payers.{is_same_account}
-use Rattle.legal_rules.specs.Holdings.{IsKeyed}
-use Rattle.offer_book.specs.Sold.{above}
+use Rattle.trade_cross.specs.legal_rules.Holdings.{IsKeyed}
+use Rattle.trade_cross.specs.offer_book.Sold.{above}
 use Rattle.pool_shares.specs.AccountPools.{pool_in_line, pool_held_by}
 
 -- what the line is in that an entry is, if it is one of the account

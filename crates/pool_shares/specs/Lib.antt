@@ -5,3 +5,4 @@ pub mod AccountPools
 pub mod Held
 pub mod Premises
 pub mod Laws
+pub use Rattle.pool_math.specs.wide_math

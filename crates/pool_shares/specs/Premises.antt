@@ -14,10 +14,10 @@ use Rattle.entry_slots.specs.Accounts.{account_at}
 use Rattle.entry_slots.specs.LineExtensions.{use_count}
 use Rattle.entry_slots.specs.Lines.{line_at}
 use Rattle.entry_slots.specs.Pools.{pool_at}
-use Rattle.reserve_rules.specs.Reserve.{greatest_i64, min_balance}
-use Rattle.legal_rules.specs.Bounds.{IsFilledOrEmpty}
-use Rattle.legal_rules.specs.Holdings.{IsKeyed}
-use Rattle.legal_rules.specs.Ranges.{IsPoolInRange}
+use Rattle.sponsor_rules.specs.reserve_rules.Reserve.{greatest_i64, min_balance}
+use Rattle.trade_cross.specs.legal_rules.Bounds.{IsFilledOrEmpty}
+use Rattle.trade_cross.specs.legal_rules.Holdings.{IsKeyed}
+use Rattle.trade_cross.specs.legal_rules.Ranges.{IsPoolInRange}
 use Rattle.pool_shares.specs.Fits.{DoShareLinesFit}
 
 pub record ArePoolsSound (m : EntryMap) : Type 0 where

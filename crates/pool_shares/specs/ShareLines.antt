@@ -11,8 +11,8 @@ use Rattle.ledger_types.specs.declared.key.LedgerKey.TheVariants as key
 use Rattle.entry_map.specs.EntryMap.{EntryMap, put, erase}
 use Rattle.entry_slots.specs.Pools.{pool_at}
 use Rattle.sponsor_rules.specs.Removing.{map_after_removing}
-use Rattle.legal_rules.specs.PoolLaws.{new_pool}
-use Rattle.legal_rules.specs.ShareLaws.{map_with_share_lines}
+use Rattle.trade_cross.specs.legal_rules.PoolLaws.{new_pool}
+use Rattle.trade_cross.specs.legal_rules.ShareLaws.{map_with_share_lines}
 
 -- ---- pools
 

@@ -2,7 +2,7 @@
 
 ghost use Rattle.std.specs.Prelude.{◌≡◌, IfOk, OnOk};
 ghost use Rattle.ledger_types.specs.declared.key.LedgerKey.TheVariants.{TrustLine};
-ghost use Rattle.legal_rules.specs.Holdings.{IsKeyed};
+ghost use Rattle.trade_cross.specs.legal_rules.Holdings.{IsKeyed};
 ghost use Rattle.pool_shares.specs.AccountPools as spec;
 ghost use Rattle.pool_shares.specs.Held as held;
 

@@ -5,7 +5,7 @@ ghost use Rattle.entry_map.specs.Undo.{with_current};
 ghost use Rattle.entry_slots.specs.LineExtensions as extensions;
 ghost use Rattle.entry_slots.specs.Lines as lines;
 ghost use Rattle.entry_slots.specs.Pools as pools;
-ghost use Rattle.legal_rules.specs.ShareLaws as laws;
+ghost use Rattle.trade_cross.specs.legal_rules.ShareLaws as laws;
 ghost use Rattle.trade_cross.specs.Places.{DoesFit, place_key};
 ghost use Rattle.pool_shares.specs.Fits as fits;
 ghost use Rattle.pool_shares.specs.ShareLines as spec;

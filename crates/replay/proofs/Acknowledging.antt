@@ -5,11 +5,11 @@ use Rattle.std.proofs.Common.{subst, ◌∙◌, append_assoc, append-nil, take-a
 use Rattle.std.proofs.lemmas.List.Elements.{All-head, All-tail}
 use Rattle.std.proofs.lemmas.Bool.Decides.{leb_tells}
 use Rattle.xdr_core.specs.Place.{start_of}
-use Rattle.close_rules.specs.State.{ClosingState}
-use Rattle.close_rules.specs.Close.{PreparedClose, IsClose}
-use Rattle.run_outcome.specs.declared.status.Status.{Status}
-use Rattle.run_outcome.specs.Outcome.{Outcome, framed, frames, max_record_len, lines_of, AreClosed, IsEnd, IsFront}
-use Rattle.run_outcome.specs.Outcome.{IsRun}
+use Rattle.stored_outcome.specs.close_rules.State.{ClosingState}
+use Rattle.stored_outcome.specs.close_rules.Close.{PreparedClose, IsClose}
+use Rattle.stored_outcome.specs.run_outcome.declared.status.Status.{Status}
+use Rattle.stored_outcome.specs.run_outcome.Outcome.{Outcome, framed, frames, max_record_len, lines_of, AreClosed, IsEnd, IsFront}
+use Rattle.stored_outcome.specs.run_outcome.Outcome.{IsRun}
 use Rattle.stored_outcome.specs.Behind.{IsBehind, AreAcknowledged, closed_count}
 use Rattle.stored_outcome.specs.StoredRun.{IsAnswerBehind}
 use Rattle.replay.specs.StoredLaws.{AcknowledgedAreCounted}

@@ -6,11 +6,11 @@ use Rattle.xdr_core.specs.Leaves.{mark}
 use Rattle.xdr_core.specs.Place.{Place, Reading, start_of}
 use Rattle.xdr_header.specs.declared.image.StartImage.{StartImage}
 use Rattle.hash_ids.specs.Ids.{network_id_of}
-use Rattle.close_rules.specs.declared.image_fault.ImageFault.{ImageFault}
-use Rattle.close_rules.specs.State.{ClosingState}
-use Rattle.close_rules.specs.Images.{IsJudged}
-use Rattle.close_laws.proofs.OneImage.{images_are_one}
-use Rattle.run_outcome.specs.Outcome.{Outcome, IsStopped, IsEnd, IsRun, IsStarted, IsOutcomeOf, frames, max_record_len}
+use Rattle.stored_outcome.specs.close_rules.declared.image_fault.ImageFault.{ImageFault}
+use Rattle.stored_outcome.specs.close_rules.State.{ClosingState}
+use Rattle.stored_outcome.specs.close_rules.Images.{IsJudged}
+use Rattle.worker_merges.proofs.close_laws_proofs.OneImage.{images_are_one}
+use Rattle.stored_outcome.specs.run_outcome.Outcome.{Outcome, IsStopped, IsEnd, IsRun, IsStarted, IsOutcomeOf, frames, max_record_len}
 use Rattle.replay.specs.CommandLaws.{outcome_behind, CatchupsAgree}
 use Rattle.replay.proofs.Marking.{moved, Moved, mark_moves}
 use Rattle.replay.proofs.OneOutcome.{runs_are_one}

@@ -3,9 +3,9 @@ use Rattle.std.proofs.Common.{◌≡◌, ℕ, ◌+◌, ◌≤◌, ◌<◌, List,
 use Rattle.std.proofs.Common.{append_assoc, append-nil, arith}
 use Rattle.std.proofs.lemmas.List.{length-append}
 use Rattle.std.proofs.lemmas.List.Elements.{All-cons, All-head, All-tail}
-use Rattle.close_rules.specs.State.{ClosingState}
-use Rattle.close_rules.specs.Close.{PreparedClose, IsClose}
-use Rattle.run_outcome.specs.Outcome.{framed, frames, max_record_len, lines_of, AreClosed, IsFront}
+use Rattle.stored_outcome.specs.close_rules.State.{ClosingState}
+use Rattle.stored_outcome.specs.close_rules.Close.{PreparedClose, IsClose}
+use Rattle.stored_outcome.specs.run_outcome.Outcome.{framed, frames, max_record_len, lines_of, AreClosed, IsFront}
 use Rattle.outside.specs.Disk.{Image}
 use Rattle.stored_outcome.specs.Opening.{OpensTo}
 use Rattle.stored_outcome.specs.Behind.{IsBehind, OpensBehind, AreAcknowledged}

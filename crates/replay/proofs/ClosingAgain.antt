@@ -5,10 +5,10 @@ use Rattle.std.proofs.Math.Seq.{take-suc}
 use Rattle.std.proofs.lemmas.List.{length-append, take-append-drop}
 use Rattle.byteorder.specs.Endian.{big_bytes}
 use Rattle.xdr_core.proofs.Numbers.{wide4}
-use Rattle.close_rules.specs.declared.close_fault.CloseFault.{CloseFault}
-use Rattle.close_rules.specs.State.{ClosingState}
-use Rattle.close_rules.specs.Close.{PreparedClose, IsClose}
-use Rattle.gate_journal.specs.Records.{block, blocks}
+use Rattle.stored_outcome.specs.close_rules.declared.close_fault.CloseFault.{CloseFault}
+use Rattle.stored_outcome.specs.close_rules.State.{ClosingState}
+use Rattle.stored_outcome.specs.close_rules.Close.{PreparedClose, IsClose}
+use Rattle.image_store.specs.gate_journal.Records.{block, blocks}
 use Rattle.replay.proofs.Comes.{closed_more}
 use Rattle.replay.specs.ClosingAgain.{AreClosedTo, IsRefusedAt}
 

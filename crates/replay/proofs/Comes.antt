@@ -3,12 +3,12 @@ use Rattle.std.proofs.Common.{◌≡◌, ℕ, List, [], ◌∷◌, ◌++◌, Ok,
 use Rattle.std.proofs.Common.{◌⊎◌, inl, inr}
 use Rattle.ledger_types.specs.declared.ids.Hash.{Hash}
 use Rattle.xdr_header.specs.declared.image.StartImage.{StartImage}
-use Rattle.close_rules.specs.State.{ClosingState}
-use Rattle.close_rules.specs.Close.{PreparedClose, IsClose}
-use Rattle.close_rules.specs.Images.{IsJudged}
-use Rattle.run_outcome.specs.Outcome.{AreClosed, lines_of}
+use Rattle.stored_outcome.specs.close_rules.State.{ClosingState}
+use Rattle.stored_outcome.specs.close_rules.Close.{PreparedClose, IsClose}
+use Rattle.stored_outcome.specs.close_rules.Images.{IsJudged}
+use Rattle.stored_outcome.specs.run_outcome.Outcome.{AreClosed, lines_of}
 use Rattle.outside.specs.Disk.{Image, Disk, Runs}
-use Rattle.gate_journal.proofs.Moments.{widened_from}
+use Rattle.image_store.proofs.gate_journal_proofs.Moments.{widened_from}
 use Rattle.image_store.specs.State.{StoreState}
 use Rattle.image_store.specs.Opening.{Kept, grown, rolled, Holds}
 use Rattle.image_store.specs.Calls.{IsSettled, HoldsEither}

@@ -1,6 +1,6 @@
 -- What words leave is what their command leaves.
 use Rattle.std.proofs.Common.{subst, inl, inr}
-use Rattle.run_streams.specs.SeenVolume.{SeenVolume}
+use Rattle.stored_outcome.specs.run_streams.SeenVolume.{SeenVolume}
 use Rattle.command_words.specs.Words.{Command}
 use Rattle.command_words.proofs.OneCommand.{commands_are_one}
 use Rattle.stored_outcome.specs.Program.{RanAs}

@@ -1,19 +1,19 @@
 -- Where nothing failed a run is whole, and an outcome is answered unless something failed.
 use Rattle.std.proofs.Common.{◌≡◌, ℕ, List, [], ◌++◌, Option, Some, IfSome, Ok, refl, sym, subst, ◌∙◌, inl, inr, ◌⊎◌}
 use Rattle.std.proofs.Common.{append-nil}
-use Rattle.run_streams.specs.Seen.{Seen, Failed, Received}
+use Rattle.stored_outcome.specs.run_streams.Seen.{Seen, Failed, Received}
 use Rattle.xdr_core.specs.declared.fault.XdrFault.{XdrFault}
 use Rattle.xdr_core.specs.Place.{Reading}
 use Rattle.xdr_header.specs.declared.image.StartImage.{StartImage}
 use Rattle.hash_ids.specs.Ids.{network_id_of}
-use Rattle.close_rules.specs.State.{ClosingState}
-use Rattle.run_outcome.specs.declared.status.Status.{Status}
-use Rattle.run_outcome.specs.declared.status.Status.TheVariants as status
-use Rattle.run_outcome.specs.Statuses.{IsCutShort}
-use Rattle.run_outcome.specs.Lines.{end_line}
-use Rattle.run_outcome.specs.Outcome.{Outcome, frames, IsOutcomeOf, IsOutcome}
-use Rattle.run_outcome.specs.Run.{AnsweredTo, DidCatchUp}
-use Rattle.run_streams.specs.SeenVolume.{SeenVolume}
+use Rattle.stored_outcome.specs.close_rules.State.{ClosingState}
+use Rattle.stored_outcome.specs.run_outcome.declared.status.Status.{Status}
+use Rattle.stored_outcome.specs.run_outcome.declared.status.Status.TheVariants as status
+use Rattle.stored_outcome.specs.run_outcome.Statuses.{IsCutShort}
+use Rattle.stored_outcome.specs.run_outcome.Lines.{end_line}
+use Rattle.stored_outcome.specs.run_outcome.Outcome.{Outcome, frames, IsOutcomeOf, IsOutcome}
+use Rattle.stored_outcome.specs.run_outcome.Run.{AnsweredTo, DidCatchUp}
+use Rattle.stored_outcome.specs.run_streams.SeenVolume.{SeenVolume}
 use Rattle.command_words.specs.Words.{Command, CatchUp, Spells}
 use Rattle.command_words.proofs.OneCommand.{commands_are_one}
 use Rattle.stored_outcome.specs.Program.{DidNothing, RanAs, Ran}

@@ -11,21 +11,21 @@ use Rattle.std.proofs.lemmas.List.Sums.{sum_by-cons}
 use Rattle.std.proofs.lemmas.Bool.Decides.{leb_tells}
 use Rattle.std.proofs.Math.Seq.{take-append-add}
 use Rattle.ledger_types.specs.declared.header.LedgerHeader.{LedgerHeader}
-use Rattle.op_types.specs.declared.transaction_result.TransactionResultPair.{TransactionResultPair}
-use Rattle.op_types.specs.Codes.{outcome_code}
+use Rattle.run_text.specs.op_types.declared.transaction_result.TransactionResultPair.{TransactionResultPair}
+use Rattle.run_text.specs.op_types.Codes.{outcome_code}
 use Rattle.xdr_core.specs.declared.fault.XdrFault.{XdrFault}
 use Rattle.xdr_core.specs.declared.fault.XdrKind.{XdrKind}
 use Rattle.xdr_core.specs.declared.fault.XdrKind.TheVariants as kind
 use Rattle.xdr_core.specs.Place.{Reading}
-use Rattle.value_hashes.specs.Hashes.{ledger_hash_of}
-use Rattle.close_rules.specs.declared.close_fault.CloseFault.{CloseFault}
-use Rattle.close_rules.specs.declared.close_fault.CloseFault.TheVariants as fault
-use Rattle.close_rules.specs.State.{ClosingState}
-use Rattle.close_rules.specs.Close.{PreparedClose}
-use Rattle.run_outcome.specs.Statuses.{ended_line}
-use Rattle.run_outcome.specs.Lines.{spaced, hash_text, success_count, tx_line, closed_line, closed_lines, end_line}
-use Rattle.run_outcome.specs.Lines.{kind_name, fault_text, refused_line}
-use Rattle.run_outcome.specs.Outcome.{Outcome, lines_of, IsFront, IsStopped, IsEnd}
+use Rattle.stored_outcome.specs.value_hashes.Hashes.{ledger_hash_of}
+use Rattle.stored_outcome.specs.close_rules.declared.close_fault.CloseFault.{CloseFault}
+use Rattle.stored_outcome.specs.close_rules.declared.close_fault.CloseFault.TheVariants as fault
+use Rattle.stored_outcome.specs.close_rules.State.{ClosingState}
+use Rattle.stored_outcome.specs.close_rules.Close.{PreparedClose}
+use Rattle.stored_outcome.specs.run_outcome.Statuses.{ended_line}
+use Rattle.stored_outcome.specs.run_outcome.Lines.{spaced, hash_text, success_count, tx_line, closed_line, closed_lines, end_line}
+use Rattle.stored_outcome.specs.run_outcome.Lines.{kind_name, fault_text, refused_line}
+use Rattle.stored_outcome.specs.run_outcome.Outcome.{Outcome, lines_of, IsFront, IsStopped, IsEnd}
 use Rattle.stored_outcome.specs.Behind.{whole_lines, is_closed_line, closed_count}
 use Rattle.replay.proofs.Fronts.{whole_or_less}
 use Rattle.replay.proofs.LineEnds.{IsUnbroken, both_unbroken, lines_none, lines_one, decimal_unbroken, signed_unbroken}

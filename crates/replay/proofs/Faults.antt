@@ -1,8 +1,8 @@
 -- What a fault of a store is to a run.
 use Rattle.std.proofs.Common.{◌≡◌, ℕ, Bool, true, false, Err, refl}
 use Rattle.image_store.specs.Calls.{IsRollFault}
-use Rattle.gate_journal.specs.declared.fault.StoreFault.{StoreFault}
-use Rattle.gate_journal.specs.declared.fault.StoreFault.TheVariants as fault
+use Rattle.image_store.specs.gate_journal.declared.fault.StoreFault.{StoreFault}
+use Rattle.image_store.specs.gate_journal.declared.fault.StoreFault.TheVariants as fault
 use Rattle.replay.specs.Keeping.{UnlessDisk, IsCaused}
 use Rattle.replay.specs.Stored.{keep_fault_of}
 

@@ -5,7 +5,7 @@ use Rattle.std.proofs.lemmas.Bool.Decides.{leb_tells}
 use Rattle.std.proofs.lemmas.List.{length-append, take-append-le, length-take-le}
 use Rattle.xdr_core.proofs.LeafLaws.{drop_front}
 use Rattle.std.proofs.Math.Seq.{take-append-add, take-length}
-use Rattle.run_outcome.specs.Outcome.{IsFront}
+use Rattle.stored_outcome.specs.run_outcome.Outcome.{IsFront}
 
 pub nothing_front : (text : List ℕ) → IsFront [] text
 nothing_front text = (0, omega arith, refl)

@@ -3,8 +3,8 @@ use Rattle.std.proofs.Common.{◌≡◌, ℕ, ◌+◌, ◌≤◌, List, [], ◌�
 use Rattle.std.proofs.Common.{arith}
 use Rattle.std.proofs.lemmas.List.{length-append}
 use Rattle.std.proofs.lemmas.List.Elements.{All-head, All-tail}
-use Rattle.close_rules.specs.State.{ClosingState}
-use Rattle.run_outcome.specs.Outcome.{Outcome, behind, framed, max_record_len, frames, lines_of, IsRun}
+use Rattle.stored_outcome.specs.close_rules.State.{ClosingState}
+use Rattle.stored_outcome.specs.run_outcome.Outcome.{Outcome, behind, framed, max_record_len, frames, lines_of, IsRun}
 use Rattle.replay.specs.Outcomes.{RunsGoOn}
 use Rattle.replay.proofs.Runs.{prepended}
 

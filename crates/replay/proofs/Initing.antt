@@ -9,22 +9,22 @@ use Rattle.xdr_core.specs.Place.{Place, start_of}
 use Rattle.xdr_header.specs.declared.image.StartImage.{StartImage}
 use Rattle.xdr_header.specs.Image.{start_image}
 use Rattle.hash_ids.specs.Ids.{network_id_of}
-use Rattle.close_rules.specs.declared.image_fault.ImageRule.{ImageRule}
-use Rattle.close_rules.specs.declared.image_fault.ImageFault.TheVariants as image_fault
-use Rattle.close_rules.specs.State.{ClosingState}
-use Rattle.close_rules.specs.Images.{IsJudged}
+use Rattle.stored_outcome.specs.close_rules.declared.image_fault.ImageRule.{ImageRule}
+use Rattle.stored_outcome.specs.close_rules.declared.image_fault.ImageFault.TheVariants as image_fault
+use Rattle.stored_outcome.specs.close_rules.State.{ClosingState}
+use Rattle.stored_outcome.specs.close_rules.Images.{IsJudged}
 use Rattle.outside.specs.Disk.{Image, Disk, Runs}
-use Rattle.run_streams.specs.Seen.{Seen, Failed}
-use Rattle.run_streams.specs.SeenVolume.{SeenVolume}
-use Rattle.gate_journal.specs.declared.fault.StoreFault.{StoreFault}
-use Rattle.gate_journal.specs.declared.fault.StoreFault.TheVariants as fault
+use Rattle.stored_outcome.specs.run_streams.Seen.{Seen, Failed}
+use Rattle.stored_outcome.specs.run_streams.SeenVolume.{SeenVolume}
+use Rattle.image_store.specs.gate_journal.declared.fault.StoreFault.{StoreFault}
+use Rattle.image_store.specs.gate_journal.declared.fault.StoreFault.TheVariants as fault
 use Rattle.image_store.specs.State.{StoreState}
 use Rattle.image_store.specs.ImageFiles.{IsImage}
 use Rattle.image_store.specs.Opening.{Holds, HoldsNothing}
 use Rattle.image_store.specs.Calls.{IsSettled, first_kept, Creates, IsCreated, IsCreateFault}
-use Rattle.run_outcome.specs.declared.status.Status.{Status}
-use Rattle.run_outcome.specs.declared.status.Status.TheVariants as status
-use Rattle.run_outcome.specs.Run.{IsTold}
+use Rattle.stored_outcome.specs.run_outcome.declared.status.Status.{Status}
+use Rattle.stored_outcome.specs.run_outcome.declared.status.Status.TheVariants as status
+use Rattle.stored_outcome.specs.run_outcome.Run.{IsTold}
 use Rattle.stored_outcome.specs.Opening.{OpensTo, OpensOn, IsSound}
 use Rattle.stored_outcome.specs.Init.{IsBadInput, IsBadImage, MomentsOfInit, Asked, Stored, IsInitEnd, InitLeft}
 use Rattle.stored_outcome.specs.Init.{DidInit}

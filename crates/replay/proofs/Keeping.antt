@@ -7,24 +7,24 @@ use Rattle.xdr_core.specs.declared.fault.XdrFault.{XdrFault}
 use Rattle.xdr_core.specs.Place.{Place, start_of}
 use Rattle.xdr_core.specs.Format.{IsBytes}
 use Rattle.std.specs.Prelude.{◌≢◌}
-use Rattle.run_streams.specs.Seen.{Seen, Gave, Received, ReceivedPrefix}
+use Rattle.stored_outcome.specs.run_streams.Seen.{Seen, Gave, Received, ReceivedPrefix}
 use Rattle.record_stream.specs.Filling.{Grown}
 use Rattle.record_stream.specs.Measured.{record_end}
 use Rattle.record_stream.specs.Piece.{IsShort, IsPiece}
 use Rattle.record_stream.specs.declared.piece.PieceFault.{PieceFault}
 use Rattle.record_stream.specs.declared.piece.PieceFault.TheVariants as piece
-use Rattle.close_rules.specs.declared.close_fault.CloseFault.{CloseFault}
-use Rattle.close_rules.specs.declared.close_fault.CloseFault.TheVariants as close
-use Rattle.close_rules.specs.State.{ClosingState}
-use Rattle.close_rules.specs.Close.{PreparedClose, IsClose}
-use Rattle.ledger_close.specs.Answers.{FaultIs}
-use Rattle.run_outcome.specs.declared.status.Status.{Status}
-use Rattle.run_outcome.specs.declared.status.Status.TheVariants as status
-use Rattle.run_outcome.specs.Statuses.{IsCutShort}
-use Rattle.run_outcome.specs.Lines.{end_line, refused_line}
-use Rattle.run_outcome.specs.Outcome.{Outcome, silent, framed, max_record_len, lines_of, IsRun, IsRunFront}
-use Rattle.run_outcome.specs.Outcome.{IsEnd}
-use Rattle.run_outcome.specs.Run.{IsAnswer}
+use Rattle.stored_outcome.specs.close_rules.declared.close_fault.CloseFault.{CloseFault}
+use Rattle.stored_outcome.specs.close_rules.declared.close_fault.CloseFault.TheVariants as close
+use Rattle.stored_outcome.specs.close_rules.State.{ClosingState}
+use Rattle.stored_outcome.specs.close_rules.Close.{PreparedClose, IsClose}
+use Rattle.worker_merges.specs.ledger_close.Answers.{FaultIs}
+use Rattle.stored_outcome.specs.run_outcome.declared.status.Status.{Status}
+use Rattle.stored_outcome.specs.run_outcome.declared.status.Status.TheVariants as status
+use Rattle.stored_outcome.specs.run_outcome.Statuses.{IsCutShort}
+use Rattle.stored_outcome.specs.run_outcome.Lines.{end_line, refused_line}
+use Rattle.stored_outcome.specs.run_outcome.Outcome.{Outcome, silent, framed, max_record_len, lines_of, IsRun, IsRunFront}
+use Rattle.stored_outcome.specs.run_outcome.Outcome.{IsEnd}
+use Rattle.stored_outcome.specs.run_outcome.Run.{IsAnswer}
 use Rattle.outside.specs.Disk.{Image, Disk, Runs, Same, IsSafe}
 use Rattle.outside.proofs.Running.{widened, onward}
 use Rattle.stored_outcome.specs.Opening.{OpensTo}

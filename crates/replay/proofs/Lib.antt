@@ -31,3 +31,10 @@ pub mod Agreeing
 pub mod Sampling
 pub mod SampleSteps
 pub mod SampleTelling
+pub use Rattle.stored_outcome.proofs.bucket_core_proofs
+pub use Rattle.worker_merges.proofs.bucket_merge_proofs
+pub use Rattle.stored_outcome.proofs.entry_sums_proofs
+pub use Rattle.worker_merges.proofs.entry_table_proofs
+pub use Rattle.worker_merges.proofs.image_rules_proofs
+pub use Rattle.worker_merges.proofs.ledger_close_proofs
+pub use Rattle.xdr_core.proofs as xdr_core_proofs

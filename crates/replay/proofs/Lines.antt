@@ -4,12 +4,12 @@ use Rattle.std.specs.List.{flat_map}
 use Rattle.std.specs.Prelude.{codes}
 use Rattle.std.specs.Fmt.{decimal}
 use Rattle.ledger_types.specs.declared.header.LedgerHeader.{LedgerHeader}
-use Rattle.op_types.specs.declared.transaction_result.TransactionResultPair.{TransactionResultPair}
-use Rattle.value_hashes.specs.Hashes.{ledger_hash_of}
-use Rattle.close_rules.specs.Close.{PreparedClose}
-use Rattle.run_outcome.specs.Statuses.{ended_line}
-use Rattle.run_outcome.specs.Lines.{spaced, hash_text, success_count, tx_line, closed_line, closed_lines}
-use Rattle.run_outcome.specs.Outcome.{lines_of}
+use Rattle.run_text.specs.op_types.declared.transaction_result.TransactionResultPair.{TransactionResultPair}
+use Rattle.stored_outcome.specs.value_hashes.Hashes.{ledger_hash_of}
+use Rattle.stored_outcome.specs.close_rules.Close.{PreparedClose}
+use Rattle.stored_outcome.specs.run_outcome.Statuses.{ended_line}
+use Rattle.stored_outcome.specs.run_outcome.Lines.{spaced, hash_text, success_count, tx_line, closed_line, closed_lines}
+use Rattle.stored_outcome.specs.run_outcome.Outcome.{lines_of}
 
 ended_some : (text : List ℕ) → 1 ≤ length (ended_line text)
 ended_some text = omega (arith, length-append text (10 ∷ []))

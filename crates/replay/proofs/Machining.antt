@@ -6,17 +6,17 @@ use Rattle.std.specs.Prelude.{slice_get}
 use Rattle.std.proofs.lemmas.Bool.{cases_eq, cases_lt}
 use Rattle.std.proofs.lemmas.List.{append-nil, ext_get_or, length-append}
 use Rattle.std.proofs.lemmas.Option.{none-some, same_Some}
-use Rattle.bucket_core.specs.Bucket.{Contents}
-use Rattle.bucket_merge.specs.Merge.{IsMerge}
-use Rattle.bucket_levels.specs.Spills.{level_count}
-use Rattle.bucket_levels.specs.Pairs.{Pair, empty_pair, pair_at}
-use Rattle.bucket_levels.specs.Step.{IsStep}
-use Rattle.bucket_levels.specs.Size.{file_total}
-use Rattle.bucket_levels.specs.InOrder.{PendingInputs, InOrder, put_at, IsOfFiles}
-use Rattle.bucket_levels.proofs.Ordering.{put_same, put_other, steps_are_in_order}
-use Rattle.close_rules.specs.State.{ClosingState, max_file_total}
-use Rattle.close_rules.specs.Close.{PreparedClose, IsTaken, IsClosed, ClosesWith, IsClose}
-use Rattle.close_rules.specs.declared.close_fault.CloseFault.TheVariants as fault
+use Rattle.stored_outcome.specs.bucket_core.Bucket.{Contents}
+use Rattle.worker_merges.specs.bucket_merge.Merge.{IsMerge}
+use Rattle.stored_outcome.specs.bucket_levels.Spills.{level_count}
+use Rattle.stored_outcome.specs.bucket_levels.Pairs.{Pair, empty_pair, pair_at}
+use Rattle.stored_outcome.specs.bucket_levels.Step.{IsStep}
+use Rattle.stored_outcome.specs.bucket_levels.Size.{file_total}
+use Rattle.stored_outcome.specs.bucket_levels.InOrder.{PendingInputs, InOrder, put_at, IsOfFiles}
+use Rattle.stored_outcome.proofs.bucket_levels_proofs.Ordering.{put_same, put_other, steps_are_in_order}
+use Rattle.stored_outcome.specs.close_rules.State.{ClosingState, max_file_total}
+use Rattle.stored_outcome.specs.close_rules.Close.{PreparedClose, IsTaken, IsClosed, ClosesWith, IsClose}
+use Rattle.stored_outcome.specs.close_rules.declared.close_fault.CloseFault.TheVariants as fault
 use Rattle.replay.specs.ClosingAgain.{AreClosedTo}
 use Rattle.replay.specs.Machine.{Machine, MadeMerge, IsTake, MayGo, IsWrite, StepsInOrder, IsInstall, IsDue, IsHandIn}
 use Rattle.replay.specs.Machine.{IsLeft, IsReopening, Event, Take, Write, Install, HandIn, Reopen, Happens, AllHappen}

@@ -4,20 +4,20 @@ use Rattle.std.proofs.Common.{append_assoc, inl, inr, arith}
 use Rattle.std.specs.Io.KnownBytes.{Appends}
 use Rattle.std.proofs.lemmas.List.{length-append}
 use Rattle.std.proofs.lemmas.List.Elements.{All-head, All-tail}
-use Rattle.run_streams.specs.Seen.{Seen, Received, ReceivedPrefix}
+use Rattle.stored_outcome.specs.run_streams.Seen.{Seen, Received, ReceivedPrefix}
 use Rattle.ledger_types.specs.declared.ids.Hash.{Hash}
 use Rattle.xdr_core.specs.declared.fault.XdrFault.{XdrFault}
 use Rattle.xdr_core.specs.Place.{Place, Reading, start_of}
 use Rattle.xdr_header.specs.declared.image.StartImage.{StartImage}
 use Rattle.xdr_header.specs.Image.{start_image}
 use Rattle.hash_ids.specs.Ids.{network_id_of}
-use Rattle.close_rules.specs.declared.image_fault.ImageFault.{ImageFault}
-use Rattle.close_rules.specs.declared.image_fault.ImageFault.TheVariants as fault
-use Rattle.close_rules.specs.State.{ClosingState}
-use Rattle.close_laws.proofs.OneImage.{images_are_one}
-use Rattle.run_outcome.specs.declared.status.Status.{Status}
-use Rattle.run_outcome.specs.Outcome.{Outcome, behind, framed, frames, max_record_len, lines_of, AreClosed, IsEnd}
-use Rattle.run_outcome.specs.Outcome.{IsRun, IsStarted, IsOutcomeOf, IsFront, IsOutputFrontOf}
+use Rattle.stored_outcome.specs.close_rules.declared.image_fault.ImageFault.{ImageFault}
+use Rattle.stored_outcome.specs.close_rules.declared.image_fault.ImageFault.TheVariants as fault
+use Rattle.stored_outcome.specs.close_rules.State.{ClosingState}
+use Rattle.worker_merges.proofs.close_laws_proofs.OneImage.{images_are_one}
+use Rattle.stored_outcome.specs.run_outcome.declared.status.Status.{Status}
+use Rattle.stored_outcome.specs.run_outcome.Outcome.{Outcome, behind, framed, frames, max_record_len, lines_of, AreClosed, IsEnd}
+use Rattle.stored_outcome.specs.run_outcome.Outcome.{IsRun, IsStarted, IsOutcomeOf, IsFront, IsOutputFrontOf}
 use Rattle.replay.specs.Outcomes.{RunsAreOne, OutcomesAreOne, FrontsAreOfRuns, FrontsAreOfOutcomes, OutputsAreFronts}
 use Rattle.replay.proofs.Fronts.{nothing_front, whole_front, front_more}
 use Rattle.replay.proofs.Runs.{AreShort, at_front, one_end, peeled}

@@ -1,16 +1,16 @@
 -- A content opens to one state, and to no fault beside it.
 use Rattle.std.proofs.Common.{◌≡◌, refl, sym, ap, subst, ◌∙◌, ℕ, length, List, [], ◌∷◌, ◌++◌, Result, Ok, Err, ◌⊎◌}
 use Rattle.std.proofs.Common.{inl, inr}
-use Rattle.close_rules.specs.declared.close_fault.CloseFault.{CloseFault}
-use Rattle.close_rules.specs.declared.image_fault.ImageFault.{ImageFault}
-use Rattle.close_rules.specs.State.{ClosingState}
-use Rattle.close_rules.specs.Close.{PreparedClose, IsClose}
-use Rattle.close_laws.proofs.OneImage.{images_are_one}
-use Rattle.run_outcome.specs.Outcome.{AreClosed}
+use Rattle.stored_outcome.specs.close_rules.declared.close_fault.CloseFault.{CloseFault}
+use Rattle.stored_outcome.specs.close_rules.declared.image_fault.ImageFault.{ImageFault}
+use Rattle.stored_outcome.specs.close_rules.State.{ClosingState}
+use Rattle.stored_outcome.specs.close_rules.Close.{PreparedClose, IsClose}
+use Rattle.worker_merges.proofs.close_laws_proofs.OneImage.{images_are_one}
+use Rattle.stored_outcome.specs.run_outcome.Outcome.{AreClosed}
 use Rattle.outside.specs.Disk.{Image}
-use Rattle.gate_journal.specs.Records.{blocks}
-use Rattle.gate_journal.specs.declared.fault.StoreFault.{StoreFault}
-use Rattle.gate_journal.specs.declared.fault.StoreFault.TheVariants as fault
+use Rattle.image_store.specs.gate_journal.Records.{blocks}
+use Rattle.image_store.specs.gate_journal.declared.fault.StoreFault.{StoreFault}
+use Rattle.image_store.specs.gate_journal.declared.fault.StoreFault.TheVariants as fault
 use Rattle.image_store.specs.Opening.{Kept, Holds, HoldsNoStore, HoldsNothing}
 use Rattle.image_store.proofs.OneOpening.{openings_are_one}
 use Rattle.stored_outcome.specs.Opening.{ComesTo, OpensTo, BreaksRule, RefusesRecord, IsBadStore}

@@ -3,14 +3,14 @@ use Rattle.std.proofs.Common.{◌≡◌, ℕ, List, [], Option, refl, sym, subst
 use Rattle.std.specs.Io.KnownBytes.{Appends, Consumes}
 use Rattle.std.proofs.KnownBytes.{Appends-nil, Consumes-nil}
 use Rattle.xdr_core.specs.Place.{start_of}
-use Rattle.run_streams.specs.Seen.{Seen, Failed, IsUntouched, Received}
-use Rattle.close_rules.specs.State.{ClosingState}
-use Rattle.run_outcome.specs.declared.status.Status.{Status}
-use Rattle.run_outcome.specs.declared.status.Status.TheVariants as status
-use Rattle.run_outcome.specs.Statuses.{IsCutShort, IsRecordsEnd}
-use Rattle.run_outcome.specs.Outcome.{IsRun, IsRunFront}
+use Rattle.stored_outcome.specs.run_streams.Seen.{Seen, Failed, IsUntouched, Received}
+use Rattle.stored_outcome.specs.close_rules.State.{ClosingState}
+use Rattle.stored_outcome.specs.run_outcome.declared.status.Status.{Status}
+use Rattle.stored_outcome.specs.run_outcome.declared.status.Status.TheVariants as status
+use Rattle.stored_outcome.specs.run_outcome.Statuses.{IsCutShort, IsRecordsEnd}
+use Rattle.stored_outcome.specs.run_outcome.Outcome.{IsRun, IsRunFront}
 use Rattle.outside.specs.Disk.{Image, Runs, Same}
-use Rattle.run_streams.specs.SeenVolume.{SeenVolume, VolumeFailed}
+use Rattle.stored_outcome.specs.run_streams.SeenVolume.{SeenVolume, VolumeFailed}
 use Rattle.image_store.specs.Opening.{HoldsNothing}
 use Rattle.stored_outcome.specs.Opening.{OpensTo, IsBadStore}
 use Rattle.stored_outcome.specs.StoredRun.{RanFrom, IsFailedEnd, MayRead, DidNotRun, DidNotOpen, IsOpenedEnd}

@@ -6,20 +6,20 @@ use Rattle.std.proofs.lemmas.List.{length-append}
 use Rattle.std.proofs.lemmas.List.Elements.{All-cons, All-head, All-tail}
 use Rattle.xdr_core.specs.declared.fault.XdrFault.{XdrFault}
 use Rattle.xdr_core.specs.Place.{Place, Reading}
-use Rattle.close_rules.specs.declared.close_fault.CloseFault.{CloseFault}
-use Rattle.close_rules.specs.State.{ClosingState}
-use Rattle.close_rules.specs.Close.{PreparedClose, IsClose}
-use Rattle.close_rules.specs.Close.{filled_header}
-use Rattle.header_chain.specs.Upgrades.{upgrade_in, upgraded_if, all_upgraded}
+use Rattle.stored_outcome.specs.close_rules.declared.close_fault.CloseFault.{CloseFault}
+use Rattle.stored_outcome.specs.close_rules.State.{ClosingState}
+use Rattle.stored_outcome.specs.close_rules.Close.{PreparedClose, IsClose}
+use Rattle.stored_outcome.specs.close_rules.Close.{filled_header}
+use Rattle.stored_outcome.specs.header_chain.Upgrades.{upgrade_in, upgraded_if, all_upgraded}
 use Rattle.ledger_types.specs.declared.header.LedgerHeader.{LedgerHeader}
 use Rattle.ledger_types.specs.declared.header.LedgerUpgrade.{LedgerUpgrade}
 use Rattle.ledger_types.specs.declared.header.LedgerUpgrade.TheVariants as upgrade
-use Rattle.close_laws.proofs.OneClose.{closes_are_one}
-use Rattle.run_outcome.specs.declared.status.Status.{Status}
-use Rattle.run_outcome.specs.declared.status.Status.TheVariants as status
-use Rattle.run_outcome.specs.Lines.{refused_line}
-use Rattle.run_outcome.specs.Outcome.{Outcome, behind, framed, frames, max_record_len, lines_of, AreClosed, IsStopped}
-use Rattle.run_outcome.specs.Outcome.{IsEnd, IsRun, AreClosedAhead, IsRunFront}
+use Rattle.worker_merges.proofs.close_laws_proofs.OneClose.{closes_are_one}
+use Rattle.stored_outcome.specs.run_outcome.declared.status.Status.{Status}
+use Rattle.stored_outcome.specs.run_outcome.declared.status.Status.TheVariants as status
+use Rattle.stored_outcome.specs.run_outcome.Lines.{refused_line}
+use Rattle.stored_outcome.specs.run_outcome.Outcome.{Outcome, behind, framed, frames, max_record_len, lines_of, AreClosed, IsStopped}
+use Rattle.stored_outcome.specs.run_outcome.Outcome.{IsEnd, IsRun, AreClosedAhead, IsRunFront}
 use Rattle.replay.proofs.Fronts.{front_later, nothing_front}
 use Rattle.replay.proofs.Marking.{read_mark, framed_is_read, framed_above}
 

@@ -3,26 +3,26 @@ use Rattle.std.proofs.Common.{◌≡◌, ℕ, suc, ◌+◌, ◌<◌, ◌^◌, Li
 use Rattle.std.proofs.Common.{arith, length-append, inl, inr, ◌∙◌}
 use Rattle.std.specs.Prelude.{cond, MatchResult}
 use Rattle.std.proofs.lemmas.List.Sums.{sum_by-append}
-use Rattle.run_streams.specs.Seen.{Seen}
+use Rattle.stored_outcome.specs.run_streams.Seen.{Seen}
 use Rattle.ledger_types.specs.declared.ids.Hash.{Hash}
-use Rattle.op_types.specs.declared.transaction_result.TransactionResultPair.{TransactionResultPair}
+use Rattle.run_text.specs.op_types.declared.transaction_result.TransactionResultPair.{TransactionResultPair}
 use Rattle.xdr_header.specs.declared.image.StartImage.{StartImage}
 use Rattle.xdr_header.specs.Header.{ledger_header}
-use Rattle.close_rules.specs.declared.close_fault.CloseFault.{CloseFault}
-use Rattle.close_rules.specs.declared.close_fault.CloseFault.TheVariants as close
-use Rattle.close_rules.specs.declared.image_fault.ImageFault.{ImageFault}
-use Rattle.close_rules.specs.declared.image_fault.ImageFault.TheVariants as image_fault
-use Rattle.close_rules.specs.State.{ClosingState}
-use Rattle.close_rules.specs.Close.{PreparedClose, IsClose}
-use Rattle.close_laws.specs.Images.{ImagesAreOne}
-use Rattle.ledger_close.specs.Answers.{FaultIs}
-use Rattle.ledger_close.specs.States.{LedgerAt}
-use Rattle.run_outcome.specs.declared.status.Status.{Status}
-use Rattle.run_outcome.specs.declared.status.Status.TheVariants as status
-use Rattle.run_outcome.specs.Lines.{is_success, success_count, sample_line, refused_line}
-use Rattle.sample_ledger.specs.Image.{first_image}
-use Rattle.sample_ledger.specs.Samples.{HaveClosed, progress_behind, first_progress, first_state, sample_network}
-use Rattle.sample_ledger.specs.Samples.{record_bytes, FirstStatesClose, SamplesStand}
+use Rattle.stored_outcome.specs.close_rules.declared.close_fault.CloseFault.{CloseFault}
+use Rattle.stored_outcome.specs.close_rules.declared.close_fault.CloseFault.TheVariants as close
+use Rattle.stored_outcome.specs.close_rules.declared.image_fault.ImageFault.{ImageFault}
+use Rattle.stored_outcome.specs.close_rules.declared.image_fault.ImageFault.TheVariants as image_fault
+use Rattle.stored_outcome.specs.close_rules.State.{ClosingState}
+use Rattle.stored_outcome.specs.close_rules.Close.{PreparedClose, IsClose}
+use Rattle.worker_merges.specs.close_laws.Images.{ImagesAreOne}
+use Rattle.worker_merges.specs.ledger_close.Answers.{FaultIs}
+use Rattle.worker_merges.specs.ledger_close.States.{LedgerAt}
+use Rattle.stored_outcome.specs.run_outcome.declared.status.Status.{Status}
+use Rattle.stored_outcome.specs.run_outcome.declared.status.Status.TheVariants as status
+use Rattle.stored_outcome.specs.run_outcome.Lines.{is_success, success_count, sample_line, refused_line}
+use Rattle.stored_outcome.specs.sample_ledger.Image.{first_image}
+use Rattle.stored_outcome.specs.sample_ledger.Samples.{HaveClosed, progress_behind, first_progress, first_state, sample_network}
+use Rattle.stored_outcome.specs.sample_ledger.Samples.{record_bytes, FirstStatesClose, SamplesStand}
 use Rattle.replay.specs.Following.{Wrote, Refuses}
 use Rattle.replay.specs.Starting.{IsJudgedSo}
 use Rattle.replay.specs.Sampling.{HasCome, Samples}

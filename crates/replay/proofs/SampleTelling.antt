@@ -1,12 +1,12 @@
 -- What a sample leaves, once its end is told.
 use Rattle.std.proofs.Common.{◌≡◌, ℕ, List, [], take, length, refl, sym, subst, ◌∙◌, arith, inl, inr}
 use Rattle.std.proofs.lemmas.List.{take_all}
-use Rattle.run_streams.specs.Seen.{Seen, Failed, Received}
-use Rattle.run_outcome.specs.declared.status.Status.{Status}
-use Rattle.run_outcome.specs.declared.status.Status.TheVariants as status
-use Rattle.run_outcome.specs.Statuses.{status_line, IsCutShort}
-use Rattle.run_outcome.specs.Outcome.{Outcome}
-use Rattle.run_outcome.specs.Run.{IsTold, Answered}
+use Rattle.stored_outcome.specs.run_streams.Seen.{Seen, Failed, Received}
+use Rattle.stored_outcome.specs.run_outcome.declared.status.Status.{Status}
+use Rattle.stored_outcome.specs.run_outcome.declared.status.Status.TheVariants as status
+use Rattle.stored_outcome.specs.run_outcome.Statuses.{status_line, IsCutShort}
+use Rattle.stored_outcome.specs.run_outcome.Outcome.{Outcome}
+use Rattle.stored_outcome.specs.run_outcome.Run.{IsTold, Answered}
 use Rattle.stored_outcome.specs.Sample.{IsSampled, IsSampleFront, IsSampleEnd, DidSample}
 use Rattle.replay.specs.Following.{Wrote}
 use Rattle.replay.specs.Sampling.{Samples}

@@ -1,19 +1,19 @@
 -- What a sample comes to is one thing, and how its run is told.
 use Rattle.std.proofs.Common.{◌≡◌, ℕ, zero, suc, ◌<◌, length, Result, Ok, Err, refl, sym, ap, subst, ◌∙◌, arith}
 use Rattle.std.proofs.Common.{inl, inr, ◌⊎◌}
-use Rattle.run_streams.specs.Seen.{Seen, Failed, Received}
-use Rattle.close_rules.specs.declared.close_fault.CloseFault.{CloseFault}
-use Rattle.close_rules.specs.declared.close_fault.CloseFault.TheVariants as fault
-use Rattle.close_rules.specs.Close.{PreparedClose, IsClose}
-use Rattle.close_laws.proofs.OneClose.{closes_are_one}
-use Rattle.run_outcome.specs.declared.status.Status.TheVariants as status
-use Rattle.run_outcome.specs.declared.status.Status.{Status}
-use Rattle.run_outcome.specs.Lines.{sample_line, refused_line, success_count}
-use Rattle.run_outcome.specs.Statuses.{IsCutShort}
-use Rattle.run_outcome.specs.Outcome.{Outcome}
-use Rattle.run_outcome.specs.Run.{Answered}
-use Rattle.sample_ledger.specs.Samples.{Progress, HaveClosed, progress_behind, record_bytes, SamplesGoOn}
-use Rattle.sample_ledger.specs.Samples.{IsAcceptedOrFull}
+use Rattle.stored_outcome.specs.run_streams.Seen.{Seen, Failed, Received}
+use Rattle.stored_outcome.specs.close_rules.declared.close_fault.CloseFault.{CloseFault}
+use Rattle.stored_outcome.specs.close_rules.declared.close_fault.CloseFault.TheVariants as fault
+use Rattle.stored_outcome.specs.close_rules.Close.{PreparedClose, IsClose}
+use Rattle.worker_merges.proofs.close_laws_proofs.OneClose.{closes_are_one}
+use Rattle.stored_outcome.specs.run_outcome.declared.status.Status.TheVariants as status
+use Rattle.stored_outcome.specs.run_outcome.declared.status.Status.{Status}
+use Rattle.stored_outcome.specs.run_outcome.Lines.{sample_line, refused_line, success_count}
+use Rattle.stored_outcome.specs.run_outcome.Statuses.{IsCutShort}
+use Rattle.stored_outcome.specs.run_outcome.Outcome.{Outcome}
+use Rattle.stored_outcome.specs.run_outcome.Run.{Answered}
+use Rattle.stored_outcome.specs.sample_ledger.Samples.{Progress, HaveClosed, progress_behind, record_bytes, SamplesGoOn}
+use Rattle.stored_outcome.specs.sample_ledger.Samples.{IsAcceptedOrFull}
 use Rattle.stored_outcome.specs.Sample.{IsWhole, IsRefusedBehind, IsSampled, IsSampleFront, IsSampleEnd, DidSample}
 use Rattle.replay.specs.CommandLaws.{IsFullAt, SamplesAreWholeOrFull, SamplesAreOne, SamplesAreComplete}
 use Rattle.replay.proofs.Runs.{same_close}

@@ -1,10 +1,10 @@
 -- What `show` answers on a volume that opens, and on one that doesn't.
 use Rattle.std.proofs.Common.{◌≡◌, ℕ, refl, subst, inl, inr, ◌⊎◌}
-use Rattle.run_streams.specs.Seen.{Seen, Failed}
-use Rattle.run_streams.specs.SeenVolume.{SeenVolume}
-use Rattle.close_rules.specs.State.{ClosingState}
-use Rattle.run_outcome.specs.declared.status.Status.{Status}
-use Rattle.run_outcome.specs.declared.status.Status.TheVariants as status
+use Rattle.stored_outcome.specs.run_streams.Seen.{Seen, Failed}
+use Rattle.stored_outcome.specs.run_streams.SeenVolume.{SeenVolume}
+use Rattle.stored_outcome.specs.close_rules.State.{ClosingState}
+use Rattle.stored_outcome.specs.run_outcome.declared.status.Status.{Status}
+use Rattle.stored_outcome.specs.run_outcome.declared.status.Status.TheVariants as status
 use Rattle.image_store.specs.Opening.{Kept, Holds, HoldsNothing}
 use Rattle.stored_outcome.specs.Opening.{ComesTo, IsBadStore}
 use Rattle.stored_outcome.specs.Show.{lines_shown, IsShown, IsUnshown}

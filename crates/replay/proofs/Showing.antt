@@ -1,12 +1,12 @@
 -- What showing a ledger leaves, once its end is told.
 use Rattle.std.proofs.Common.{◌≡◌, ℕ, List, [], length, refl, sym, subst, ◌∙◌, arith, inl, inr, ◌⊎◌}
 use Rattle.std.proofs.lemmas.List.{take_all}
-use Rattle.run_streams.specs.Seen.{Seen, Failed, Received, ReceivedPrefix, IsUntouched}
-use Rattle.run_streams.specs.SeenVolume.{SeenVolume, VolumeFailed}
-use Rattle.run_outcome.specs.declared.status.Status.{Status}
-use Rattle.run_outcome.specs.declared.status.Status.TheVariants as status
-use Rattle.run_outcome.specs.Statuses.{status_line}
-use Rattle.run_outcome.specs.Run.{IsTold}
+use Rattle.stored_outcome.specs.run_streams.Seen.{Seen, Failed, Received, ReceivedPrefix, IsUntouched}
+use Rattle.stored_outcome.specs.run_streams.SeenVolume.{SeenVolume, VolumeFailed}
+use Rattle.stored_outcome.specs.run_outcome.declared.status.Status.{Status}
+use Rattle.stored_outcome.specs.run_outcome.declared.status.Status.TheVariants as status
+use Rattle.stored_outcome.specs.run_outcome.Statuses.{status_line}
+use Rattle.stored_outcome.specs.run_outcome.Run.{IsTold}
 use Rattle.stored_outcome.specs.StoredRun.{IsFailedEnd, IsUnopenedEnd}
 use Rattle.stored_outcome.specs.Show.{lines_shown, ReadsStay, IsShown, IsUnshown, DidShow}
 use Rattle.replay.specs.Following.{Wrote}

@@ -4,7 +4,7 @@ use Rattle.std.proofs.Common.{Ok, Err}
 use Rattle.std.proofs.Common.{refl, sym, ap, subst, ◌∙◌, append_assoc, append-nil, zero-add, arith, inl, inr}
 use Rattle.std.specs.Io.KnownBytes.{Consumes, IsAtEnd}
 use Rattle.std.proofs.KnownBytes.{Consumes-trans}
-use Rattle.run_streams.specs.Seen.{Seen, Failed, Received}
+use Rattle.stored_outcome.specs.run_streams.Seen.{Seen, Failed, Received}
 use Rattle.record_stream.specs.Filling.{Grown}
 use Rattle.record_stream.specs.Layouts.{IsTaken}
 use Rattle.record_stream.specs.Measured.{end_by, image_end}
@@ -20,16 +20,16 @@ use Rattle.xdr_header.specs.declared.image.StartImage.{StartImage}
 use Rattle.xdr_header.specs.Image.{start_image}
 use Rattle.xdr_header.proofs.ImageLaws.{start_image_laws}
 use Rattle.hash_ids.specs.Ids.{network_id_of}
-use Rattle.close_rules.specs.declared.image_fault.ImageFault.{ImageFault}
-use Rattle.close_rules.specs.declared.image_fault.ImageFault.TheVariants as image_fault
-use Rattle.close_rules.specs.State.{ClosingState}
-use Rattle.close_rules.specs.Images.{IsJudged}
-use Rattle.run_outcome.specs.declared.status.Status.{Status}
-use Rattle.run_outcome.specs.declared.status.Status.TheVariants as status
-use Rattle.run_outcome.specs.Statuses.{IsCutShort, IsRecordsEnd, IsCatchUpEnd}
-use Rattle.run_outcome.specs.Outcome.{silent, IsRun, IsStarted, IsOutcomeOf, IsOutcome, AreLinesOf}
-use Rattle.run_outcome.specs.Outcome.{IsRunFront, IsOutputFrontOf, IsOutputFront}
-use Rattle.run_outcome.specs.Run.{Answered, AnsweredTo}
+use Rattle.stored_outcome.specs.close_rules.declared.image_fault.ImageFault.{ImageFault}
+use Rattle.stored_outcome.specs.close_rules.declared.image_fault.ImageFault.TheVariants as image_fault
+use Rattle.stored_outcome.specs.close_rules.State.{ClosingState}
+use Rattle.stored_outcome.specs.close_rules.Images.{IsJudged}
+use Rattle.stored_outcome.specs.run_outcome.declared.status.Status.{Status}
+use Rattle.stored_outcome.specs.run_outcome.declared.status.Status.TheVariants as status
+use Rattle.stored_outcome.specs.run_outcome.Statuses.{IsCutShort, IsRecordsEnd, IsCatchUpEnd}
+use Rattle.stored_outcome.specs.run_outcome.Outcome.{silent, IsRun, IsStarted, IsOutcomeOf, IsOutcome, AreLinesOf}
+use Rattle.stored_outcome.specs.run_outcome.Outcome.{IsRunFront, IsOutputFrontOf, IsOutputFront}
+use Rattle.stored_outcome.specs.run_outcome.Run.{Answered, AnsweredTo}
 use Rattle.replay.specs.Following.{AnsweredFrom, Followed}
 use Rattle.replay.specs.Starting.{Cut, CaughtUp, IsFaulty, GaveNoImage, IsUncut, IsUnstarted, IsJudgedSo, StartsAt}
 use Rattle.replay.proofs.Turning.{over, told_front, none_left, short_or_not, cut_answered, rose_before}

@@ -3,24 +3,24 @@ use Rattle.std.proofs.Common.{◌≡◌, ℕ, List, [], ◌++◌, Option, Some, 
 use Rattle.std.proofs.Common.{refl, sym}
 use Rattle.std.proofs.Common.{ap, subst, ◌∙◌, append-nil, inl, inr, ◌⊎◌}
 use Rattle.std.specs.Io.KnownBytes.{IsAtEnd}
-use Rattle.run_streams.specs.Seen.{Seen, Failed, Gave, Received}
-use Rattle.run_streams.specs.SeenVolume.{SeenVolume, VolumeFailed}
+use Rattle.stored_outcome.specs.run_streams.Seen.{Seen, Failed, Gave, Received}
+use Rattle.stored_outcome.specs.run_streams.SeenVolume.{SeenVolume, VolumeFailed}
 use Rattle.ledger_types.specs.declared.ids.Hash.{Hash}
 use Rattle.xdr_core.specs.declared.fault.XdrFault.{XdrFault}
 use Rattle.xdr_core.specs.Place.{Place, Reading, start_of}
 use Rattle.xdr_header.specs.declared.image.StartImage.{StartImage}
 use Rattle.hash_ids.specs.Ids.{network_id_of}
-use Rattle.close_rules.specs.declared.image_fault.ImageFault.{ImageFault}
-use Rattle.close_rules.specs.declared.image_fault.ImageFault.TheVariants as image
-use Rattle.close_rules.specs.declared.image_fault.ImageRule.{ImageRule}
-use Rattle.close_rules.specs.State.{ClosingState}
-use Rattle.close_rules.specs.Images.{IsJudged}
-use Rattle.close_laws.proofs.OneImage.{images_are_one}
-use Rattle.run_outcome.specs.declared.status.Status.{Status}
-use Rattle.run_outcome.specs.declared.status.Status.TheVariants as status
-use Rattle.run_outcome.specs.Statuses.{IsCutShort}
-use Rattle.run_outcome.specs.Lines.{end_line}
-use Rattle.run_outcome.specs.Outcome.{Outcome, frames, IsRun}
+use Rattle.stored_outcome.specs.close_rules.declared.image_fault.ImageFault.{ImageFault}
+use Rattle.stored_outcome.specs.close_rules.declared.image_fault.ImageFault.TheVariants as image
+use Rattle.stored_outcome.specs.close_rules.declared.image_fault.ImageRule.{ImageRule}
+use Rattle.stored_outcome.specs.close_rules.State.{ClosingState}
+use Rattle.stored_outcome.specs.close_rules.Images.{IsJudged}
+use Rattle.worker_merges.proofs.close_laws_proofs.OneImage.{images_are_one}
+use Rattle.stored_outcome.specs.run_outcome.declared.status.Status.{Status}
+use Rattle.stored_outcome.specs.run_outcome.declared.status.Status.TheVariants as status
+use Rattle.stored_outcome.specs.run_outcome.Statuses.{IsCutShort}
+use Rattle.stored_outcome.specs.run_outcome.Lines.{end_line}
+use Rattle.stored_outcome.specs.run_outcome.Outcome.{Outcome, frames, IsRun}
 use Rattle.outside.specs.Disk.{Disk}
 use Rattle.image_store.specs.ImageFiles.{IsImage}
 use Rattle.image_store.specs.Opening.{HoldsNothing}

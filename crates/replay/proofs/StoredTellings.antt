@@ -1,14 +1,14 @@
 -- An end that is told as another one.
 use Rattle.std.proofs.Common.{◌≡◌, ℕ, List, Option, Some, None, IfSome, refl, sym, subst, ◌⊎◌, inl, inr}
 use Rattle.std.specs.Io.KnownBytes.{IsAtEnd}
-use Rattle.run_streams.specs.Seen.{Seen, Failed}
-use Rattle.close_rules.specs.State.{ClosingState}
-use Rattle.run_outcome.specs.declared.status.Status.{Status}
-use Rattle.run_outcome.specs.declared.status.Status.TheVariants as status
-use Rattle.run_outcome.specs.Statuses.{IsCutShort}
-use Rattle.run_outcome.specs.Run.{IsTold, IsLineTold}
-use Rattle.run_streams.specs.SeenVolume.{SeenVolume, VolumeFailed}
-use Rattle.run_outcome.specs.Outcome.{IsFront}
+use Rattle.stored_outcome.specs.run_streams.Seen.{Seen, Failed}
+use Rattle.stored_outcome.specs.close_rules.State.{ClosingState}
+use Rattle.stored_outcome.specs.run_outcome.declared.status.Status.{Status}
+use Rattle.stored_outcome.specs.run_outcome.declared.status.Status.TheVariants as status
+use Rattle.stored_outcome.specs.run_outcome.Statuses.{IsCutShort}
+use Rattle.stored_outcome.specs.run_outcome.Run.{IsTold, IsLineTold}
+use Rattle.stored_outcome.specs.run_streams.SeenVolume.{SeenVolume, VolumeFailed}
+use Rattle.stored_outcome.specs.run_outcome.Outcome.{IsFront}
 use Rattle.outside.specs.Disk.{Image}
 use Rattle.image_store.specs.Opening.{HoldsNothing}
 use Rattle.stored_outcome.specs.Opening.{OpensTo, IsBadStore}

@@ -1,12 +1,12 @@
 -- The headline, from what mounting and the run behind it leave.
 use Rattle.std.proofs.Common.{◌≡◌, ℕ, ◌+◌, List, [], refl, sym, ap, subst, ◌∙◌}
 use Rattle.std.proofs.Common.{arith, ◌⊎◌, inl, inr}
-use Rattle.run_streams.specs.Seen.{Seen}
+use Rattle.stored_outcome.specs.run_streams.Seen.{Seen}
 use Rattle.replay.proofs.Behind.{ack_empty}
-use Rattle.close_rules.specs.State.{ClosingState}
-use Rattle.run_outcome.specs.declared.status.Status.{Status}
+use Rattle.stored_outcome.specs.close_rules.State.{ClosingState}
+use Rattle.stored_outcome.specs.run_outcome.declared.status.Status.{Status}
 use Rattle.outside.specs.Disk.{Image, Disk, Runs, Same, IsSafe}
-use Rattle.run_streams.specs.SeenVolume.{SeenVolume}
+use Rattle.stored_outcome.specs.run_streams.SeenVolume.{SeenVolume}
 use Rattle.outside.proofs.Running.{onward}
 use Rattle.stored_outcome.specs.Opening.{OpensTo, OpensOn}
 use Rattle.stored_outcome.specs.Behind.{IsBehind, OpensBehind, OpensWithin}

@@ -1,21 +1,21 @@
 -- The line of an end behind a run of `catchup`.
 use Rattle.std.proofs.Common.{ℕ, List, Option, Some, None, IfSome, Result, Ok, Err, refl, sym, ap, subst, inl, inr}
-use Rattle.run_streams.specs.Seen.{Seen, Failed, Received}
+use Rattle.stored_outcome.specs.run_streams.Seen.{Seen, Failed, Received}
 use Rattle.ledger_types.specs.declared.ids.Hash.{Hash}
 use Rattle.xdr_core.specs.declared.fault.XdrFault.{XdrFault}
 use Rattle.xdr_core.specs.Place.{Place, Reading, start_of}
 use Rattle.xdr_header.specs.declared.image.StartImage.{StartImage}
 use Rattle.xdr_header.specs.Image.{start_image}
 use Rattle.hash_ids.specs.Ids.{network_id_of}
-use Rattle.close_rules.specs.declared.image_fault.ImageFault.{ImageFault}
-use Rattle.close_rules.specs.declared.image_fault.ImageFault.TheVariants as fault
-use Rattle.close_rules.specs.State.{ClosingState}
-use Rattle.close_rules.specs.Images.{IsJudged}
-use Rattle.run_outcome.specs.declared.status.Status.{Status}
-use Rattle.run_outcome.specs.declared.status.Status.TheVariants as status
-use Rattle.run_outcome.specs.Statuses.{status_line, IsCutShort}
-use Rattle.run_outcome.specs.Outcome.{Outcome, IsStarted, IsOutcomeOf, IsOutcome, IsOutputFrontOf, IsOutputFront}
-use Rattle.run_outcome.specs.Run.{IsAnswer, AnsweredTo, DidCatchUp}
+use Rattle.stored_outcome.specs.close_rules.declared.image_fault.ImageFault.{ImageFault}
+use Rattle.stored_outcome.specs.close_rules.declared.image_fault.ImageFault.TheVariants as fault
+use Rattle.stored_outcome.specs.close_rules.State.{ClosingState}
+use Rattle.stored_outcome.specs.close_rules.Images.{IsJudged}
+use Rattle.stored_outcome.specs.run_outcome.declared.status.Status.{Status}
+use Rattle.stored_outcome.specs.run_outcome.declared.status.Status.TheVariants as status
+use Rattle.stored_outcome.specs.run_outcome.Statuses.{status_line, IsCutShort}
+use Rattle.stored_outcome.specs.run_outcome.Outcome.{Outcome, IsStarted, IsOutcomeOf, IsOutcome, IsOutputFrontOf, IsOutputFront}
+use Rattle.stored_outcome.specs.run_outcome.Run.{IsAnswer, AnsweredTo, DidCatchUp}
 use Rattle.replay.specs.Starting.{CaughtUp}
 use Rattle.replay.specs.Telling.{IsToldOrRefused, IsToldSo}
 use Rattle.replay.proofs.Fronts.{whole_front}

@@ -8,37 +8,37 @@ use Rattle.std.specs.Io.KnownBytes.{Consumes, IsAtEnd}
 use Rattle.std.proofs.KnownBytes.{Appends-trans, Consumes-trans}
 use Rattle.std.proofs.lemmas.List.{length-append}
 use Rattle.outside.specs.Streams.{Rose}
-use Rattle.run_streams.specs.Seen.{Seen, Failed, Received}
+use Rattle.stored_outcome.specs.run_streams.Seen.{Seen, Failed, Received}
 use Rattle.record_stream.specs.Filling.{Grown}
 use Rattle.record_stream.specs.Measured.{end_by, record_end}
 use Rattle.record_stream.specs.Piece.{IsShort, IsPiece}
 use Rattle.record_stream.specs.declared.piece.PieceFault.{PieceFault}
 use Rattle.record_stream.specs.declared.piece.PieceFault.TheVariants as piece
-use Rattle.close_rules.specs.declared.close_fault.CloseFault.TheVariants as close
-use Rattle.ledger_close.specs.Answers.{FaultIs}
+use Rattle.stored_outcome.specs.close_rules.declared.close_fault.CloseFault.TheVariants as close
+use Rattle.worker_merges.specs.ledger_close.Answers.{FaultIs}
 use Rattle.xdr_core.specs.declared.fault.XdrFault.{XdrFault}
 use Rattle.xdr_core.specs.declared.fault.XdrKind.{XdrKind}
 use Rattle.xdr_core.specs.declared.fault.XdrKind.TheVariants as kind
 use Rattle.xdr_core.specs.Place.{Reading, start_of}
 use Rattle.xdr_core.specs.Format.{IsBytes}
-use Rattle.close_rules.specs.declared.close_fault.CloseFault.{CloseFault}
-use Rattle.close_rules.specs.State.{ClosingState}
-use Rattle.close_rules.specs.Close.{PreparedClose, IsClose}
-use Rattle.run_outcome.specs.declared.status.Status.{Status}
-use Rattle.run_outcome.specs.declared.status.Status.TheVariants as status
-use Rattle.run_outcome.specs.Statuses.{IsCutShort, IsRecordsEnd}
-use Rattle.run_outcome.specs.Lines.{end_line, refused_line}
-use Rattle.run_outcome.specs.Outcome.{Outcome, silent, behind, framed, max_record_len, lines_of, IsStopped, IsEnd}
-use Rattle.run_outcome.specs.Outcome.{IsRun}
-use Rattle.run_outcome.specs.Outcome.{IsFront, IsRunFront, AreWhole}
-use Rattle.run_outcome.specs.Run.{IsAnswer, Answered}
+use Rattle.stored_outcome.specs.close_rules.declared.close_fault.CloseFault.{CloseFault}
+use Rattle.stored_outcome.specs.close_rules.State.{ClosingState}
+use Rattle.stored_outcome.specs.close_rules.Close.{PreparedClose, IsClose}
+use Rattle.stored_outcome.specs.run_outcome.declared.status.Status.{Status}
+use Rattle.stored_outcome.specs.run_outcome.declared.status.Status.TheVariants as status
+use Rattle.stored_outcome.specs.run_outcome.Statuses.{IsCutShort, IsRecordsEnd}
+use Rattle.stored_outcome.specs.run_outcome.Lines.{end_line, refused_line}
+use Rattle.stored_outcome.specs.run_outcome.Outcome.{Outcome, silent, behind, framed, max_record_len, lines_of, IsStopped, IsEnd}
+use Rattle.stored_outcome.specs.run_outcome.Outcome.{IsRun}
+use Rattle.stored_outcome.specs.run_outcome.Outcome.{IsFront, IsRunFront, AreWhole}
+use Rattle.stored_outcome.specs.run_outcome.Run.{IsAnswer, Answered}
 use Rattle.replay.specs.Following.{Refuses, Closes, Passes, EndsAt, Turned, IsCut, Told}
 use Rattle.replay.specs.Following.{Wrote, Stops, AnsweredFrom, Followed, FollowedFrom, Standing, Goes, WholeLines}
 use Rattle.xdr_core.proofs.FormatLaws.{faults_placed, mark_laws}
 use Rattle.replay.proofs.Marking.{read_mark, framed_is_read, framed_above, framed_len, fault_behind, empty_is_short}
 use Rattle.replay.proofs.Marking.{front_of}
 use Rattle.ledger_types.specs.declared.header.LedgerHeader.{LedgerHeader}
-use Rattle.op_form.specs.Sequences.{last_seq}
+use Rattle.stored_outcome.specs.op_form.Sequences.{last_seq}
 use Rattle.replay.proofs.Fronts.{front_more}
 use Rattle.replay.proofs.Runs.{next_seq}
 use Rattle.replay.proofs.Runs.{prepended, ended_run, no_records, one_more, empty_front, later_front}

@@ -1,17 +1,17 @@
 -- A whole run.
 use Rattle.std.proofs.Common.{◌≡◌, ◌≤◌, ℕ, List, [], refl, subst, ◌⊎◌, inl, inr}
-use Rattle.run_streams.specs.Seen.{Seen, IsUntouched}
-use Rattle.close_rules.specs.State.{ClosingState}
-use Rattle.run_outcome.specs.declared.status.Status.{Status}
-use Rattle.run_outcome.specs.declared.status.Status.TheVariants as status
+use Rattle.stored_outcome.specs.run_streams.Seen.{Seen, IsUntouched}
+use Rattle.stored_outcome.specs.close_rules.State.{ClosingState}
+use Rattle.stored_outcome.specs.run_outcome.declared.status.Status.{Status}
+use Rattle.stored_outcome.specs.run_outcome.declared.status.Status.TheVariants as status
 use Rattle.outside.specs.Disk.{Image, Disk, Runs, Same}
-use Rattle.run_streams.specs.SeenVolume.{SeenVolume, VolumeFailed}
+use Rattle.stored_outcome.specs.run_streams.SeenVolume.{SeenVolume, VolumeFailed}
 use Rattle.stored_outcome.specs.Opening.{OpensTo}
 use Rattle.replay.specs.Following.{Followed}
 use Rattle.replay.specs.Keeping.{Ready, DiskFailed, KeptOn}
 use Rattle.replay.proofs.Surviving.{ran_from}
 use Rattle.stored_outcome.specs.StoredRun.{DidNotRun, IsUnopenedEnd, IsRunEnd}
-use Rattle.run_outcome.specs.Statuses.{IsRecordsEnd}
+use Rattle.stored_outcome.specs.run_outcome.Statuses.{IsRecordsEnd}
 use Rattle.replay.proofs.Opening.{not_of_records}
 use Rattle.replay.proofs.Turning.{rose_before}
 use Rattle.replay.specs.StoredRuns.{OpensNot, IsUnbegun, Unopened, RanSo, RanStored}

@@ -1,10 +1,10 @@
 -- The records of a journal, closed again.
 use Rattle.std.specs.Prelude.{◌≡◌, ℕ, List, ◌∷◌, ◌++◌, length, Result, Ok, Err}
-use Rattle.close_rules.specs.declared.close_fault.CloseFault.{CloseFault}
-use Rattle.close_rules.specs.State.{ClosingState}
-use Rattle.close_rules.specs.Close.{PreparedClose, IsClose}
-use Rattle.run_outcome.specs.Outcome.{AreClosed}
-use Rattle.gate_journal.specs.Records.{blocks}
+use Rattle.stored_outcome.specs.close_rules.declared.close_fault.CloseFault.{CloseFault}
+use Rattle.stored_outcome.specs.close_rules.State.{ClosingState}
+use Rattle.stored_outcome.specs.close_rules.Close.{PreparedClose, IsClose}
+use Rattle.stored_outcome.specs.run_outcome.Outcome.{AreClosed}
+use Rattle.image_store.specs.gate_journal.Records.{blocks}
 use Rattle.replay.specs.declared.again.AgainFault.{AgainFault}
 use Rattle.replay.specs.declared.again.AgainFault.TheVariants as again
 use Rattle.replay.specs.declared.again.OneFault.{OneFault}

@@ -1,22 +1,22 @@
 -- What the words of the program come to, what `show` and `sample` answer, and that `catchup` agrees with `run`.
 use Rattle.std.specs.Prelude.{◌≡◌, ◌<◌, ◌≤◌, ◌^◌, ℕ, ◌+◌, suc, List, Ok, Err, ◌⊎◌}
-use Rattle.run_streams.specs.Seen.{Seen, Failed, Received}
-use Rattle.run_streams.specs.SeenVolume.{SeenVolume, VolumeFailed}
+use Rattle.stored_outcome.specs.run_streams.Seen.{Seen, Failed, Received}
+use Rattle.stored_outcome.specs.run_streams.SeenVolume.{SeenVolume, VolumeFailed}
 use Rattle.xdr_core.specs.Place.{Place, start_of}
 use Rattle.xdr_header.specs.declared.image.StartImage.{StartImage}
 use Rattle.xdr_header.specs.Image.{start_image}
 use Rattle.hash_ids.specs.Ids.{network_id_of}
-use Rattle.close_rules.specs.declared.close_fault.CloseFault.TheVariants as fault
-use Rattle.close_rules.specs.State.{ClosingState}
-use Rattle.close_rules.specs.Close.{IsClose}
-use Rattle.close_rules.specs.Images.{IsJudged}
-use Rattle.run_outcome.specs.declared.status.Status.{Status}
-use Rattle.run_outcome.specs.declared.status.Status.TheVariants as status
-use Rattle.run_outcome.specs.Lines.{refused_line}
-use Rattle.run_outcome.specs.Outcome.{Outcome, IsRun, IsOutcome}
+use Rattle.stored_outcome.specs.close_rules.declared.close_fault.CloseFault.TheVariants as fault
+use Rattle.stored_outcome.specs.close_rules.State.{ClosingState}
+use Rattle.stored_outcome.specs.close_rules.Close.{IsClose}
+use Rattle.stored_outcome.specs.close_rules.Images.{IsJudged}
+use Rattle.stored_outcome.specs.run_outcome.declared.status.Status.{Status}
+use Rattle.stored_outcome.specs.run_outcome.declared.status.Status.TheVariants as status
+use Rattle.stored_outcome.specs.run_outcome.Lines.{refused_line}
+use Rattle.stored_outcome.specs.run_outcome.Outcome.{Outcome, IsRun, IsOutcome}
 use Rattle.image_store.specs.Opening.{Kept, Holds, HoldsNothing}
 use Rattle.command_words.specs.Words.{Command, Spells, SpellsNone}
-use Rattle.sample_ledger.specs.Samples.{Progress, HaveClosed, record_bytes}
+use Rattle.stored_outcome.specs.sample_ledger.Samples.{Progress, HaveClosed, record_bytes}
 use Rattle.stored_outcome.specs.Opening.{ComesTo, IsBadStore}
 use Rattle.stored_outcome.specs.Show.{lines_shown, DidShow}
 use Rattle.stored_outcome.specs.Sample.{IsSampled, IsWhole, DidSample}

@@ -1,19 +1,19 @@
 -- What runs of `catchup` answer, as they are run by the words or alone: where nothing failed, where all records are
 -- accepted, and where the outcome is another one.
 use Rattle.std.specs.Prelude.{◌≡◌, ℕ, ◌≤◌, List, ◌++◌, length, All, Some, Ok, ◌⊎◌}
-use Rattle.run_streams.specs.Seen.{Seen, Failed, Received}
+use Rattle.stored_outcome.specs.run_streams.Seen.{Seen, Failed, Received}
 use Rattle.xdr_core.specs.Place.{Place, start_of}
 use Rattle.xdr_header.specs.declared.image.StartImage.{StartImage}
 use Rattle.xdr_header.specs.Image.{start_image}
 use Rattle.hash_ids.specs.Ids.{network_id_of}
-use Rattle.close_rules.specs.State.{ClosingState}
-use Rattle.close_rules.specs.Images.{IsJudged}
-use Rattle.run_outcome.specs.declared.status.Status.{Status}
-use Rattle.run_outcome.specs.declared.status.Status.TheVariants as status
-use Rattle.run_outcome.specs.Lines.{end_line}
-use Rattle.run_outcome.specs.Outcome.{Outcome, IsOutcome, max_record_len, frames, AreClosed}
-use Rattle.run_outcome.specs.Run.{DidCatchUp}
-use Rattle.run_streams.specs.SeenVolume.{SeenVolume}
+use Rattle.stored_outcome.specs.close_rules.State.{ClosingState}
+use Rattle.stored_outcome.specs.close_rules.Images.{IsJudged}
+use Rattle.stored_outcome.specs.run_outcome.declared.status.Status.{Status}
+use Rattle.stored_outcome.specs.run_outcome.declared.status.Status.TheVariants as status
+use Rattle.stored_outcome.specs.run_outcome.Lines.{end_line}
+use Rattle.stored_outcome.specs.run_outcome.Outcome.{Outcome, IsOutcome, max_record_len, frames, AreClosed}
+use Rattle.stored_outcome.specs.run_outcome.Run.{DidCatchUp}
+use Rattle.stored_outcome.specs.run_streams.SeenVolume.{SeenVolume}
 use Rattle.command_words.specs.Words.{CatchUp, Spells}
 use Rattle.stored_outcome.specs.Program.{DidNothing, Ran}
 

@@ -2,21 +2,21 @@
 use Rattle.std.specs.Prelude.{◌≡◌, ℕ, ◌+◌, ◌<◌, ◌≤◌, List, [], ◌++◌, length, take, Option, Some, None, IfSome, Ok}
 use Rattle.std.specs.Prelude.{Err, ◌⊎◌}
 use Rattle.std.specs.Io.KnownBytes.{IsAtEnd}
-use Rattle.run_streams.specs.Seen.{Seen, Failed, Gave, Received, ReceivedPrefix}
+use Rattle.stored_outcome.specs.run_streams.Seen.{Seen, Failed, Gave, Received, ReceivedPrefix}
 use Rattle.record_stream.specs.declared.piece.PieceFault.{PieceFault}
 use Rattle.record_stream.specs.declared.piece.PieceFault.TheVariants as fault
 use Rattle.ledger_types.specs.declared.header.LedgerHeader.{LedgerHeader}
-use Rattle.op_form.specs.Sequences.{last_seq}
-use Rattle.close_rules.specs.declared.close_fault.CloseFault.{CloseFault}
-use Rattle.close_rules.specs.declared.close_fault.CloseFault.TheVariants as close
-use Rattle.close_rules.specs.State.{ClosingState}
-use Rattle.close_rules.specs.Close.{PreparedClose, IsClose}
-use Rattle.run_outcome.specs.declared.status.Status.{Status}
-use Rattle.run_outcome.specs.declared.status.Status.TheVariants as status
-use Rattle.run_outcome.specs.Statuses.{IsRecordsEnd}
-use Rattle.run_outcome.specs.Lines.{end_line, refused_line}
-use Rattle.run_outcome.specs.Outcome.{framed, max_record_len, lines_of, IsRun, AreWhole, IsRunFront}
-use Rattle.run_outcome.specs.Run.{Answered}
+use Rattle.stored_outcome.specs.op_form.Sequences.{last_seq}
+use Rattle.stored_outcome.specs.close_rules.declared.close_fault.CloseFault.{CloseFault}
+use Rattle.stored_outcome.specs.close_rules.declared.close_fault.CloseFault.TheVariants as close
+use Rattle.stored_outcome.specs.close_rules.State.{ClosingState}
+use Rattle.stored_outcome.specs.close_rules.Close.{PreparedClose, IsClose}
+use Rattle.stored_outcome.specs.run_outcome.declared.status.Status.{Status}
+use Rattle.stored_outcome.specs.run_outcome.declared.status.Status.TheVariants as status
+use Rattle.stored_outcome.specs.run_outcome.Statuses.{IsRecordsEnd}
+use Rattle.stored_outcome.specs.run_outcome.Lines.{end_line, refused_line}
+use Rattle.stored_outcome.specs.run_outcome.Outcome.{framed, max_record_len, lines_of, IsRun, AreWhole, IsRunFront}
+use Rattle.stored_outcome.specs.run_outcome.Run.{Answered}
 
 -- ---- writing
 

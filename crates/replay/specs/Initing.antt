@@ -4,12 +4,12 @@ use Rattle.std.specs.Io.KnownBytes.{IsAtEnd}
 use Rattle.ledger_types.specs.declared.ids.Hash.{Hash}
 use Rattle.xdr_header.specs.declared.image.StartImage.{StartImage}
 use Rattle.xdr_header.specs.Image.{start_image}
-use Rattle.run_streams.specs.Seen.{Seen, Failed, Gave}
-use Rattle.run_streams.specs.SeenVolume.{SeenVolume, VolumeFailed}
-use Rattle.close_rules.specs.State.{ClosingState}
-use Rattle.close_rules.specs.Images.{IsJudged}
-use Rattle.run_outcome.specs.declared.status.Status.{Status}
-use Rattle.run_outcome.specs.declared.status.Status.TheVariants as status
+use Rattle.stored_outcome.specs.run_streams.Seen.{Seen, Failed, Gave}
+use Rattle.stored_outcome.specs.run_streams.SeenVolume.{SeenVolume, VolumeFailed}
+use Rattle.stored_outcome.specs.close_rules.State.{ClosingState}
+use Rattle.stored_outcome.specs.close_rules.Images.{IsJudged}
+use Rattle.stored_outcome.specs.run_outcome.declared.status.Status.{Status}
+use Rattle.stored_outcome.specs.run_outcome.declared.status.Status.TheVariants as status
 use Rattle.image_store.specs.ImageFiles.{IsImage}
 use Rattle.image_store.specs.Opening.{HoldsNothing}
 use Rattle.stored_outcome.specs.Opening.{IsSound}

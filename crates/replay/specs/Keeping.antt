@@ -1,18 +1,18 @@
 -- What a run leaves of the volume upon which it keeps its records.
 use Rattle.std.specs.Prelude.{◌≡◌, ℕ, ◌≤◌, List, [], ◌++◌, length, take, Option, Some, None, Result, Ok, Err, ◌⊎◌}
 use Rattle.outside.specs.Streams.{Rose}
-use Rattle.run_streams.specs.Seen.{Seen, Gave, Received}
-use Rattle.close_rules.specs.declared.close_fault.CloseFault.{CloseFault}
-use Rattle.close_rules.specs.State.{ClosingState}
-use Rattle.close_rules.specs.Close.{PreparedClose, IsClose}
-use Rattle.run_outcome.specs.declared.status.Status.{Status}
-use Rattle.run_outcome.specs.declared.status.Status.TheVariants as status
+use Rattle.stored_outcome.specs.run_streams.Seen.{Seen, Gave, Received}
+use Rattle.stored_outcome.specs.close_rules.declared.close_fault.CloseFault.{CloseFault}
+use Rattle.stored_outcome.specs.close_rules.State.{ClosingState}
+use Rattle.stored_outcome.specs.close_rules.Close.{PreparedClose, IsClose}
+use Rattle.stored_outcome.specs.run_outcome.declared.status.Status.{Status}
+use Rattle.stored_outcome.specs.run_outcome.declared.status.Status.TheVariants as status
 use Rattle.xdr_core.specs.Place.{Place}
-use Rattle.run_outcome.specs.Lines.{refused_line}
-use Rattle.run_outcome.specs.Outcome.{framed, max_record_len, lines_of, IsFront, IsRun, AreWhole, IsRunFront}
-use Rattle.run_outcome.specs.Run.{IsAnswer}
+use Rattle.stored_outcome.specs.run_outcome.Lines.{refused_line}
+use Rattle.stored_outcome.specs.run_outcome.Outcome.{framed, max_record_len, lines_of, IsFront, IsRun, AreWhole, IsRunFront}
+use Rattle.stored_outcome.specs.run_outcome.Run.{IsAnswer}
 use Rattle.outside.specs.Disk.{Image, Disk, Runs, Same, IsSafe}
-use Rattle.run_streams.specs.SeenVolume.{SeenVolume}
+use Rattle.stored_outcome.specs.run_streams.SeenVolume.{SeenVolume}
 use Rattle.stored_outcome.specs.Opening.{OpensTo}
 use Rattle.stored_outcome.specs.Behind.{OpensWithin, AreAcknowledged}
 use Rattle.stored_outcome.specs.StoredRun.{IsFailedEnd, IsUnbrokenEnd, OpensAcknowledged}

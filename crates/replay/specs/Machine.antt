@@ -2,13 +2,13 @@
 -- begin, are handed in at any time and are committed; and it may crash at any time and open again.
 use Rattle.std.specs.Prelude.{◌≡◌, ◌⊎◌, ℕ, ◌+◌, ◌≤◌, ◌<◌, List, [], ◌∷◌, ◌++◌, length, slice_get, Option, Some, None}
 use Rattle.std.specs.Prelude.{Ok, IsSome}
-use Rattle.bucket_core.specs.Bucket.{Contents}
-use Rattle.bucket_merge.specs.Merge.{IsMerge}
-use Rattle.bucket_levels.specs.Spills.{level_count}
-use Rattle.bucket_levels.specs.Pairs.{Pair, pair_at}
-use Rattle.bucket_levels.specs.InOrder.{PendingInputs, put_at, pending_inputs, IsStepInOrder}
-use Rattle.close_rules.specs.State.{ClosingState}
-use Rattle.close_rules.specs.Close.{PreparedClose, IsTaken, IsClosedOver, IsClose}
+use Rattle.stored_outcome.specs.bucket_core.Bucket.{Contents}
+use Rattle.worker_merges.specs.bucket_merge.Merge.{IsMerge}
+use Rattle.stored_outcome.specs.bucket_levels.Spills.{level_count}
+use Rattle.stored_outcome.specs.bucket_levels.Pairs.{Pair, pair_at}
+use Rattle.stored_outcome.specs.bucket_levels.InOrder.{PendingInputs, put_at, pending_inputs, IsStepInOrder}
+use Rattle.stored_outcome.specs.close_rules.State.{ClosingState}
+use Rattle.stored_outcome.specs.close_rules.Close.{PreparedClose, IsTaken, IsClosedOver, IsClose}
 use Rattle.replay.specs.ClosingAgain.{AreClosedTo}
 
 pub record Machine : Type 0 where

@@ -1,12 +1,12 @@
 -- That an input has one outcome, and that an output that is cut short is a front of its text.
 use Rattle.std.specs.Prelude.{◌≡◌, ℕ, ◌+◌, ◌≤◌, List, ◌++◌, length, All}
-use Rattle.run_streams.specs.Seen.{Seen, ReceivedPrefix}
+use Rattle.stored_outcome.specs.run_streams.Seen.{Seen, ReceivedPrefix}
 use Rattle.xdr_core.specs.Place.{Place}
-use Rattle.close_rules.specs.State.{ClosingState}
-use Rattle.run_outcome.specs.declared.status.Status.{Status}
-use Rattle.run_outcome.specs.Outcome.{Outcome, behind, max_record_len, frames, AreClosed, IsRun, IsOutcome}
-use Rattle.run_outcome.specs.Outcome.{IsFront, IsRunFront, IsOutputFront}
-use Rattle.run_outcome.specs.Run.{AnsweredTo}
+use Rattle.stored_outcome.specs.close_rules.State.{ClosingState}
+use Rattle.stored_outcome.specs.run_outcome.declared.status.Status.{Status}
+use Rattle.stored_outcome.specs.run_outcome.Outcome.{Outcome, behind, max_record_len, frames, AreClosed, IsRun, IsOutcome}
+use Rattle.stored_outcome.specs.run_outcome.Outcome.{IsFront, IsRunFront, IsOutputFront}
+use Rattle.stored_outcome.specs.run_outcome.Run.{AnsweredTo}
 
 -- what the records behind a state come to is one thing
 abbrev pub RunsAreOne : Type 0

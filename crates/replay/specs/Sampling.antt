@@ -1,15 +1,15 @@
 -- What closing the ledgers of a sample comes to, before its end is told.
 use Rattle.std.specs.Prelude.{◌≡◌, ◌≤◌, ◌*◌, ◌^◌, ℕ, suc, [], length, Result, Ok, Err, ◌⊎◌}
-use Rattle.run_streams.specs.Seen.{Seen, Received}
-use Rattle.close_rules.specs.declared.close_fault.CloseFault.{CloseFault}
-use Rattle.close_rules.specs.State.{ClosingState}
-use Rattle.close_rules.specs.Close.{IsClose}
-use Rattle.run_outcome.specs.declared.status.Status.{Status}
-use Rattle.run_outcome.specs.declared.status.Status.TheVariants as status
-use Rattle.run_outcome.specs.Lines.{success_count}
-use Rattle.run_outcome.specs.Outcome.{Outcome}
-use Rattle.ledger_close.specs.Answers.{FaultIs}
-use Rattle.sample_ledger.specs.Samples.{Progress, HaveClosed, record_bytes}
+use Rattle.stored_outcome.specs.run_streams.Seen.{Seen, Received}
+use Rattle.stored_outcome.specs.close_rules.declared.close_fault.CloseFault.{CloseFault}
+use Rattle.stored_outcome.specs.close_rules.State.{ClosingState}
+use Rattle.stored_outcome.specs.close_rules.Close.{IsClose}
+use Rattle.stored_outcome.specs.run_outcome.declared.status.Status.{Status}
+use Rattle.stored_outcome.specs.run_outcome.declared.status.Status.TheVariants as status
+use Rattle.stored_outcome.specs.run_outcome.Lines.{success_count}
+use Rattle.stored_outcome.specs.run_outcome.Outcome.{Outcome}
+use Rattle.worker_merges.specs.ledger_close.Answers.{FaultIs}
+use Rattle.stored_outcome.specs.sample_ledger.Samples.{Progress, HaveClosed, record_bytes}
 use Rattle.stored_outcome.specs.Sample.{IsSampled}
 use Rattle.replay.specs.Following.{Wrote}
 

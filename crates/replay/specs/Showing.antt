@@ -1,10 +1,10 @@
 -- What showing a ledger comes to, before its end is told.
 use Rattle.std.specs.Prelude.{◌≡◌, List, ℕ, ◌⊎◌}
-use Rattle.run_streams.specs.Seen.{Seen, IsUntouched}
-use Rattle.run_streams.specs.SeenVolume.{SeenVolume, VolumeFailed}
-use Rattle.close_rules.specs.State.{ClosingState}
-use Rattle.run_outcome.specs.declared.status.Status.{Status}
-use Rattle.run_outcome.specs.declared.status.Status.TheVariants as status
+use Rattle.stored_outcome.specs.run_streams.Seen.{Seen, IsUntouched}
+use Rattle.stored_outcome.specs.run_streams.SeenVolume.{SeenVolume, VolumeFailed}
+use Rattle.stored_outcome.specs.close_rules.State.{ClosingState}
+use Rattle.stored_outcome.specs.run_outcome.declared.status.Status.{Status}
+use Rattle.stored_outcome.specs.run_outcome.declared.status.Status.TheVariants as status
 use Rattle.outside.specs.Disk.{Runs, Same}
 use Rattle.image_store.specs.Opening.{Kept, Holds}
 use Rattle.stored_outcome.specs.Opening.{ComesTo}

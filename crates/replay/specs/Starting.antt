@@ -1,22 +1,22 @@
 -- What the start image at the front of an input comes to.
 use Rattle.std.specs.Prelude.{◌≡◌, ℕ, ◌≤◌, ◌^◌, List, [], ◌++◌, length, IfSome, Result, Ok, Err}
 use Rattle.std.specs.Io.KnownBytes.{IsAtEnd}
-use Rattle.run_streams.specs.Seen.{Seen, Failed, Gave, Received}
+use Rattle.stored_outcome.specs.run_streams.Seen.{Seen, Failed, Gave, Received}
 use Rattle.ledger_types.specs.declared.ids.Hash.{Hash}
 use Rattle.xdr_core.specs.declared.fault.XdrFault.{XdrFault}
 use Rattle.xdr_core.specs.Place.{start_of}
 use Rattle.xdr_header.specs.declared.image.StartImage.{StartImage}
 use Rattle.xdr_header.specs.Image.{start_image}
 use Rattle.hash_ids.specs.Ids.{network_id_of}
-use Rattle.close_rules.specs.State.{ClosingState}
-use Rattle.close_rules.specs.Images.{IsJudged}
-use Rattle.close_rules.specs.declared.image_fault.ImageFault.TheVariants as image_fault
-use Rattle.close_rules.specs.declared.image_fault.ImageRule.{ImageRule}
-use Rattle.ledger_close.specs.States.{LedgerAt}
-use Rattle.run_outcome.specs.declared.status.Status.{Status}
-use Rattle.run_outcome.specs.declared.status.Status.TheVariants as status
-use Rattle.run_outcome.specs.Statuses.{IsCatchUpEnd}
-use Rattle.run_outcome.specs.Run.{AnsweredTo, Told}
+use Rattle.stored_outcome.specs.close_rules.State.{ClosingState}
+use Rattle.stored_outcome.specs.close_rules.Images.{IsJudged}
+use Rattle.stored_outcome.specs.close_rules.declared.image_fault.ImageFault.TheVariants as image_fault
+use Rattle.stored_outcome.specs.close_rules.declared.image_fault.ImageRule.{ImageRule}
+use Rattle.worker_merges.specs.ledger_close.States.{LedgerAt}
+use Rattle.stored_outcome.specs.run_outcome.declared.status.Status.{Status}
+use Rattle.stored_outcome.specs.run_outcome.declared.status.Status.TheVariants as status
+use Rattle.stored_outcome.specs.run_outcome.Statuses.{IsCatchUpEnd}
+use Rattle.stored_outcome.specs.run_outcome.Run.{AnsweredTo, Told}
 
 -- a passphrase's run of `catchup`, over these streams, with this end; all but the line on standard error
 pub record CaughtUp (passphrase : List ℕ) (input out : Seen) (end : Status) : Type 0 where

@@ -1,11 +1,11 @@
 -- What a store keeps, as the ledger that it comes to.
-use Rattle.close_rules.specs.State.{ClosingState}
+use Rattle.stored_outcome.specs.close_rules.State.{ClosingState}
 use Rattle.outside.specs.Disk.{Disk}
 use Rattle.image_store.specs.State.{StoreState}
 use Rattle.image_store.specs.Opening.{Kept}
 use Rattle.image_store.specs.Calls.{IsSettled}
-use Rattle.gate_journal.specs.declared.fault.StoreFault.{StoreFault}
-use Rattle.gate_journal.specs.declared.fault.StoreFault.TheVariants as fault
+use Rattle.image_store.specs.gate_journal.declared.fault.StoreFault.{StoreFault}
+use Rattle.image_store.specs.gate_journal.declared.fault.StoreFault.TheVariants as fault
 use Rattle.stored_outcome.specs.Opening.{ComesTo}
 use Rattle.replay.specs.declared.keeper.KeepFault.{KeepFault}
 use Rattle.replay.specs.declared.keeper.KeepFault.TheVariants as keep

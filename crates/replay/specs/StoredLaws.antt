@@ -1,17 +1,17 @@
 -- Laws of runs over a store: what they answer where nothing failed, where all records are accepted, and where the
 -- outcome is another one; what `init` answers; what is acknowledged; and that a volume that is opened again is sound.
 use Rattle.std.specs.Prelude.{◌≡◌, ℕ, ◌≤◌, List, ◌++◌, length, All, Some, ◌⊎◌}
-use Rattle.run_streams.specs.Seen.{Seen, Failed, Received}
-use Rattle.run_streams.specs.SeenVolume.{SeenVolume, VolumeFailed, MightLeave}
+use Rattle.stored_outcome.specs.run_streams.Seen.{Seen, Failed, Received}
+use Rattle.stored_outcome.specs.run_streams.SeenVolume.{SeenVolume, VolumeFailed, MightLeave}
 use Rattle.xdr_core.specs.Place.{start_of}
 use Rattle.xdr_header.specs.declared.image.StartImage.{StartImage}
 use Rattle.hash_ids.specs.Ids.{network_id_of}
-use Rattle.close_rules.specs.State.{ClosingState}
-use Rattle.close_rules.specs.declared.image_fault.ImageRule.{ImageRule}
-use Rattle.run_outcome.specs.declared.status.Status.{Status}
-use Rattle.run_outcome.specs.declared.status.Status.TheVariants as status
-use Rattle.run_outcome.specs.Lines.{end_line}
-use Rattle.run_outcome.specs.Outcome.{Outcome, max_record_len, frames, AreClosed, IsRun}
+use Rattle.stored_outcome.specs.close_rules.State.{ClosingState}
+use Rattle.stored_outcome.specs.close_rules.declared.image_fault.ImageRule.{ImageRule}
+use Rattle.stored_outcome.specs.run_outcome.declared.status.Status.{Status}
+use Rattle.stored_outcome.specs.run_outcome.declared.status.Status.TheVariants as status
+use Rattle.stored_outcome.specs.run_outcome.Lines.{end_line}
+use Rattle.stored_outcome.specs.run_outcome.Outcome.{Outcome, max_record_len, frames, AreClosed, IsRun}
 use Rattle.outside.specs.Disk.{Image, Disk}
 use Rattle.image_store.specs.Opening.{HoldsNothing}
 use Rattle.stored_outcome.specs.Opening.{OpensTo, IsBadStore, IsSound, IsReopened}

@@ -3,23 +3,23 @@ use Rattle.std.specs.Prelude.{◌≡◌, ℕ, ◌%◌, ◌≤◌, List, length, 
 use Rattle.ledger_types.specs.declared.ids.Hash.{Hash}
 use Rattle.xdr_header.specs.declared.image.StartImage.{StartImage}
 use Rattle.std.specs.Io.KnownBytes.{IsAtEnd}
-use Rattle.run_streams.specs.Seen.{Seen, Failed}
-use Rattle.close_rules.specs.declared.image_fault.ImageFault.{ImageFault}
-use Rattle.close_rules.specs.declared.image_fault.ImageFault.TheVariants as image
-use Rattle.close_rules.specs.State.{ClosingState}
-use Rattle.ledger_close.specs.States.{LedgerAt}
-use Rattle.run_outcome.specs.declared.status.Status.{Status}
-use Rattle.run_outcome.specs.declared.status.Status.TheVariants as status
+use Rattle.stored_outcome.specs.run_streams.Seen.{Seen, Failed}
+use Rattle.stored_outcome.specs.close_rules.declared.image_fault.ImageFault.{ImageFault}
+use Rattle.stored_outcome.specs.close_rules.declared.image_fault.ImageFault.TheVariants as image
+use Rattle.stored_outcome.specs.close_rules.State.{ClosingState}
+use Rattle.worker_merges.specs.ledger_close.States.{LedgerAt}
+use Rattle.stored_outcome.specs.run_outcome.declared.status.Status.{Status}
+use Rattle.stored_outcome.specs.run_outcome.declared.status.Status.TheVariants as status
 use Rattle.outside.specs.Disk.{Image, Disk}
 use Rattle.image_store.specs.State.{StoreState}
 use Rattle.replay.specs.Keeping.{Ready}
 use Rattle.replay.specs.Stored.{IsStored}
-use Rattle.run_streams.specs.SeenVolume.{SeenVolume, VolumeFailed}
-use Rattle.gate_journal.specs.Records.{max_record}
+use Rattle.stored_outcome.specs.run_streams.SeenVolume.{SeenVolume, VolumeFailed}
+use Rattle.image_store.specs.gate_journal.Records.{max_record}
 use Rattle.image_store.specs.ImageFiles.{head_len}
 use Rattle.image_store.specs.Opening.{Kept, HoldsNothing}
-use Rattle.gate_journal.specs.declared.fault.StoreFault.{StoreFault}
-use Rattle.gate_journal.specs.declared.fault.StoreFault.TheVariants as fault
+use Rattle.image_store.specs.gate_journal.declared.fault.StoreFault.{StoreFault}
+use Rattle.image_store.specs.gate_journal.declared.fault.StoreFault.TheVariants as fault
 use Rattle.stored_outcome.specs.Opening.{OpensTo, ComesTo, BreaksRule, RefusesRecord, IsBadStore}
 use Rattle.stored_outcome.specs.StoredRun.{AnsweredBehind, RanFrom, DidNotRun, IsUnopenedEnd, IsRunEnd}
 

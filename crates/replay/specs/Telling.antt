@@ -1,9 +1,9 @@
 -- What is told of the end of a run on standard error.
 use Rattle.std.specs.Prelude.{◌⊎◌}
-use Rattle.run_streams.specs.Seen.{Seen}
-use Rattle.run_outcome.specs.declared.status.Status.{Status}
-use Rattle.run_outcome.specs.declared.status.Status.TheVariants as status
-use Rattle.run_outcome.specs.Run.{IsTold}
+use Rattle.stored_outcome.specs.run_streams.Seen.{Seen}
+use Rattle.stored_outcome.specs.run_outcome.declared.status.Status.{Status}
+use Rattle.stored_outcome.specs.run_outcome.declared.status.Status.TheVariants as status
+use Rattle.stored_outcome.specs.run_outcome.Run.{IsTold}
 
 -- the line of an end was told, or memory was refused for it, which is the end then
 abbrev pub IsToldOrRefused : (before : Status) → (err : Seen) → (end : Status) → Type 0

@@ -1,14 +1,14 @@
 //! The records of a journal, closed again.
 
 ghost use Rattle.std.specs.Prelude.{◌≡◌, ◌≤◌, ◌<◌, ◌^◌, length};
-ghost use Rattle.gate_journal.specs.Records.{blocks};
+ghost use Rattle.image_store.specs.gate_journal.Records.{blocks};
 ghost use Rattle.replay.specs.ClosingAgain as spec;
 ghost use Rattle.replay.specs.StoredRuns.{AreShort};
 
 use item_list::ItemList;
-use ledger_close::{CloseFault, Ledger};
 use outside::Steps;
 use std::sync::ledger::Ledger as Count;
+use worker_merges::ledger_close::{CloseFault, Ledger};
 
 /// Why the records of a journal don't all close.
 #[derive(Clone, Copy)]

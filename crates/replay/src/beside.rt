@@ -2,8 +2,8 @@
 
 ghost use Rattle.std.specs.Prelude.{◌≡◌, ◌≤◌, [], All, IfSome, Some, false, length, vec_len};
 ghost use denote.Param.Send.{IsSync};
-ghost use Rattle.run_streams.specs.Seen.{seen};
-ghost use Rattle.run_streams.specs.SeenVolume.{seen_volume};
+ghost use Rattle.stored_outcome.specs.run_streams.Seen.{seen};
+ghost use Rattle.stored_outcome.specs.run_streams.SeenVolume.{seen_volume};
 ghost use Rattle.worker_merges.specs.Places.{IsManned, HasEnded, IsSideOf, IsSideEndOf};
 ghost use Rattle.replay.specs.Stored.{IsStored};
 ghost use Rattle.replay.specs.Keeping.{Ready, DidFollow};
@@ -13,14 +13,14 @@ ghost use Rattle.replay.specs.Beside as spec;
 use crate::closer::{Opened, follow_with};
 use crate::crew::Crew;
 use crate::stored_run::open;
-use ledger_close::Ledger;
 use merge_board::Room;
 use outside::{Gate, Sink, Source, Steps, Volume};
-use run_outcome::Status;
 use std::alloc::Global;
 use std::sync::Wait;
 use std::sync::ledger::Ledger as Count;
 use std::thread::{Threads, join_mut};
+use stored_outcome::run_outcome::Status;
+use worker_merges::ledger_close::Ledger;
 use worker_merges::{Place, Side, SideEnd, Workshop, adopt, gather, hire, post_due, work_all};
 
 /// The workers of a room, as the closing thread sees them.

@@ -1,6 +1,6 @@
 //! The command `catchup`, but for the line on standard error.
 
-ghost use Rattle.run_streams.specs.Seen.{seen};
+ghost use Rattle.stored_outcome.specs.run_streams.Seen.{seen};
 ghost use Rattle.replay.specs.Starting.{CaughtUp};
 
 use crate::closes::follow;
@@ -8,9 +8,9 @@ use crate::crew::Nobody;
 use crate::nowhere::Nowhere;
 use crate::start::{Started, start};
 use outside::{MemVolume, Sink, Source, Steps};
-use run_outcome::Status;
 use std::alloc::Global;
 use std::sync::ledger::Ledger as Count;
+use stored_outcome::run_outcome::Status;
 
 /// Starts from the image at the front of the input and closes a ledger for each record behind it.
 pub(crate) fn catch_up<I: Source, O: Sink, L: Count>(

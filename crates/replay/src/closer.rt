@@ -1,19 +1,19 @@
 //! How the records of a run over an opened store are closed.
 
 ghost use Rattle.std.specs.Prelude.{◌≡◌, [], false};
-ghost use Rattle.run_streams.specs.Seen.{seen};
-ghost use Rattle.run_streams.specs.SeenVolume.{seen_volume};
+ghost use Rattle.stored_outcome.specs.run_streams.Seen.{seen};
+ghost use Rattle.stored_outcome.specs.run_streams.SeenVolume.{seen_volume};
 ghost use Rattle.replay.specs.Stored.{IsStored};
 ghost use Rattle.replay.specs.Keeping.{Ready, DidFollow};
 
 use crate::closes::follow;
 use crate::crew::Crew;
 use crate::stored::Stored;
-use ledger_close::Ledger;
 use outside::{Sink, Source, Steps, Volume};
-use run_outcome::Status;
 use std::alloc::Global;
 use std::sync::ledger::Ledger as Count;
+use stored_outcome::run_outcome::Status;
+use worker_merges::ledger_close::Ledger;
 
 /// A ledger, the store that keeps it, and how many records stood behind the store's image as it was opened.
 #[derive(Drop)]

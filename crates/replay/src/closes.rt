@@ -2,24 +2,24 @@
 
 ghost use Rattle.std.specs.Prelude.{◌≡◌, ◌≤◌, ◌+◌, ◌*◌, ◌^◌, ℕ, List, Ok, length, take, drop, IsNone};
 ghost use Rattle.xdr_core.specs.Format.{IsBytes};
-ghost use Rattle.run_streams.specs.Seen.{seen};
+ghost use Rattle.stored_outcome.specs.run_streams.Seen.{seen};
 ghost use Rattle.record_stream.specs.Measured.{record_end};
-ghost use Rattle.close_rules.specs.Close.{IsClose};
-ghost use Rattle.run_outcome.specs.Outcome.{framed, lines_of};
+ghost use Rattle.stored_outcome.specs.close_rules.Close.{IsClose};
+ghost use Rattle.stored_outcome.specs.run_outcome.Outcome.{framed, lines_of};
 ghost use Rattle.replay.specs.Following.{Told, Turned, Refuses, Closes, Passes, EndsAt, Followed};
 ghost use Rattle.replay.specs.Keeping.{DiskFailed, Ready, KeptTelling, KeptClose, KeptPass, KeptTurn, KeptOn};
 
 use crate::crew::Crew;
 use crate::ends::{write_end, write_refusal};
 use crate::keeper::{KeepFault, Keeper};
-use close_rules::LAST_SEQ;
-use ledger_close::{CloseFault, Ledger, Prepared};
 use outside::{Sink, Source, Steps, Volume, write_all};
 use record_stream::{PieceFault, RecordLength, read_piece, without_front};
-use run_outcome::Status;
 use run_text::closed_text;
 use std::alloc::Global;
 use std::sync::ledger::Ledger as Count;
+use stored_outcome::close_rules::LAST_SEQ;
+use stored_outcome::run_outcome::Status;
+use worker_merges::ledger_close::{CloseFault, Ledger, Prepared};
 
 /// The bytes of a mark.
 const MARK_LEN: usize = 4;

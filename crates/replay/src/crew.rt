@@ -2,7 +2,7 @@
 
 ghost use Rattle.std.specs.Prelude.{◌≡◌};
 
-use ledger_close::Ledger;
+use worker_merges::ledger_close::Ledger;
 
 /// Makes merges beside the closing thread, or nobody does.
 pub(crate) trait Crew {

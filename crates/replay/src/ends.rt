@@ -1,19 +1,19 @@
 //! The last text of a run, and the line of its end.
 
 ghost use Rattle.std.specs.Prelude.{◌≡◌, ◌≤◌, IfOk};
-ghost use Rattle.run_streams.specs.Seen.{seen};
-ghost use Rattle.run_outcome.specs.Lines.{end_line, refused_line};
-ghost use Rattle.run_outcome.specs.Statuses.{status_line};
-ghost use Rattle.run_outcome.specs.declared.status.Status.TheVariants as status;
+ghost use Rattle.stored_outcome.specs.run_streams.Seen.{seen};
+ghost use Rattle.stored_outcome.specs.run_outcome.Lines.{end_line, refused_line};
+ghost use Rattle.stored_outcome.specs.run_outcome.Statuses.{status_line};
+ghost use Rattle.stored_outcome.specs.run_outcome.declared.status.Status.TheVariants as status;
 ghost use Rattle.replay.specs.Following.{Wrote};
-ghost use Rattle.run_outcome.specs.Run.{IsTold};
+ghost use Rattle.stored_outcome.specs.run_outcome.Run.{IsTold};
 ghost use Rattle.replay.specs.Telling.{IsToldOrRefused, IsToldSo};
 
-use ledger_close::{CloseFault, Ledger};
 use outside::{Sink, write_all};
-use run_outcome::Status;
 use run_text::{bad_image_line, bad_input_line, bad_store_line, end_text, refused_text};
 use std::alloc::{AllocError, Global};
+use stored_outcome::run_outcome::Status;
+use worker_merges::ledger_close::{CloseFault, Ledger};
 
 /// Writes the last text of a run that ends with `whole`, where the sink takes it.
 pub(crate) fn write_last<O: Sink>(text: &[u8], whole: Status, out: &mut O) -> Status

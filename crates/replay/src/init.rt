@@ -3,9 +3,9 @@
 ghost use Rattle.std.specs.Prelude.{◌≡◌, ◌≢◌, Err, IfOk, MatchResult};
 ghost use Rattle.xdr_header.specs.Image.{start_image};
 ghost use Rattle.hash_ids.specs.Ids.{network_id_of};
-ghost use Rattle.run_streams.specs.Seen.{seen};
-ghost use Rattle.run_streams.specs.SeenVolume.{seen_volume};
-ghost use Rattle.run_outcome.specs.declared.status.Status.TheVariants as status;
+ghost use Rattle.stored_outcome.specs.run_streams.Seen.{seen};
+ghost use Rattle.stored_outcome.specs.run_streams.SeenVolume.{seen_volume};
+ghost use Rattle.stored_outcome.specs.run_outcome.declared.status.Status.TheVariants as status;
 ghost use Rattle.stored_outcome.specs.Init.{InitLeft};
 ghost use Rattle.replay.specs.Starting.{IsJudgedSo};
 ghost use Rattle.replay.specs.Initing as spec;
@@ -16,8 +16,8 @@ use image_store::{Store, StoreFault};
 use item_list::ItemList;
 use ledger_types::Hash;
 use outside::{Failed, Source, Volume};
-use run_outcome::Status;
 use std::alloc::{AllocError, Global};
+use stored_outcome::run_outcome::Status;
 use xdr_header::StartImage;
 
 /// Sees to it that nothing stands behind an image, which ends at a place. Bytes may be ahead.

@@ -2,14 +2,14 @@
 
 ghost use Rattle.std.specs.Prelude.{◌≡◌, ◌≤◌, ℕ, List, Ok, IsErr, IfOk, OnOk, length};
 ghost use Rattle.outside.specs.Streams.{HasCause};
-ghost use Rattle.close_rules.specs.State.{ClosingState};
-ghost use Rattle.close_rules.specs.Close.{PreparedClose, IsClose};
+ghost use Rattle.stored_outcome.specs.close_rules.State.{ClosingState};
+ghost use Rattle.stored_outcome.specs.close_rules.Close.{PreparedClose, IsClose};
 ghost use Rattle.outside.specs.Disk.{Disk, Runs};
 ghost use Rattle.replay.specs.Keeping as spec;
 
-use ledger_close::Ledger;
 use outside::{Failed, Volume};
 use std::alloc::{AllocError, Global};
+use worker_merges::ledger_close::Ledger;
 
 /// Why what is due behind a close wasn't done.
 #[derive(Clone, Copy)]

@@ -5,7 +5,7 @@ ghost use Rattle.replay.specs.Completeness as whole;
 ghost use Rattle.replay.specs.Machine as machine;
 ghost use Rattle.replay.specs.StoredLaws as stored;
 ghost use Rattle.replay.specs.CommandLaws as command;
-ghost use Rattle.run_streams.specs.SeenVolume.{seen_volume};
+ghost use Rattle.stored_outcome.specs.run_streams.SeenVolume.{seen_volume};
 
 use outside::Volume;
 use sample_laws::samples_go_on;

@@ -1,12 +1,12 @@
 //! The top call: one command over the words, the input, the outputs and the volume of the process.
 
 ghost use Rattle.std.specs.Prelude.{◌≡◌, ◌≤◌, ℕ, List};
-ghost use Rattle.run_streams.specs.Seen.{seen};
-ghost use Rattle.run_streams.specs.SeenVolume.{seen_volume};
-ghost use Rattle.run_outcome.specs.Run.{IsTold, DidCatchUp};
-ghost use Rattle.run_outcome.specs.Statuses.{status_code};
-ghost use Rattle.run_outcome.specs.declared.status.Status.{Status};
-ghost use Rattle.run_outcome.specs.declared.status.Status.TheVariants as status;
+ghost use Rattle.stored_outcome.specs.run_streams.Seen.{seen};
+ghost use Rattle.stored_outcome.specs.run_streams.SeenVolume.{seen_volume};
+ghost use Rattle.stored_outcome.specs.run_outcome.Run.{IsTold, DidCatchUp};
+ghost use Rattle.stored_outcome.specs.run_outcome.Statuses.{status_code};
+ghost use Rattle.stored_outcome.specs.run_outcome.declared.status.Status.{Status};
+ghost use Rattle.stored_outcome.specs.run_outcome.declared.status.Status.TheVariants as status;
 ghost use Rattle.command_words.specs.Words.{words_of, Spells};
 ghost use Rattle.command_words.specs.Commands.{command_at};
 ghost use Rattle.stored_outcome.specs.StoredRun.{DidRun};
@@ -24,11 +24,11 @@ use crate::show::show;
 use crate::stored_run::run_stored;
 use command_words::{Command, read_command};
 use outside::{Gate, Sink, Source, Steps, Volume};
-use run_outcome::Status;
 use std::alloc::Global;
 use std::sync::Wait;
 use std::sync::ledger::Ledger as Count;
 use std::thread::Threads;
+use stored_outcome::run_outcome::Status;
 
 /// Runs `catchup`, with its line on standard error.
 fn catch_up_told<I: Source, O: Sink, E: Sink, L: Count>(

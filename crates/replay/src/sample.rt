@@ -1,26 +1,26 @@
 //! The command `sample`, but for the line on standard error.
 
 ghost use Rattle.std.specs.Prelude.{◌≡◌, ◌<◌, ◌≤◌, ◌+◌, ◌*◌, ◌^◌, ℕ, List, Ok, IfOk, MatchResult, length};
-ghost use Rattle.run_streams.specs.Seen.{seen};
-ghost use Rattle.close_rules.specs.Close.{IsClose};
-ghost use Rattle.run_outcome.specs.Lines.{sample_line, success_count as success_count_of};
-ghost use Rattle.run_outcome.specs.declared.status.Status.TheVariants as status;
-ghost use Rattle.sample_ledger.specs.Samples.{first_state, record_bytes as bytes_of};
+ghost use Rattle.stored_outcome.specs.run_streams.Seen.{seen};
+ghost use Rattle.stored_outcome.specs.close_rules.Close.{IsClose};
+ghost use Rattle.stored_outcome.specs.run_outcome.Lines.{sample_line, success_count as success_count_of};
+ghost use Rattle.stored_outcome.specs.run_outcome.declared.status.Status.TheVariants as status;
+ghost use Rattle.stored_outcome.specs.sample_ledger.Samples.{first_state, record_bytes as bytes_of};
 ghost use Rattle.replay.specs.Following.{Wrote};
 ghost use Rattle.replay.specs.Sampling.{HasCome, Advances, Samples};
 
 use crate::closes::refuse;
 use crate::ends::write_last;
 use crate::start::judge;
-use close_laws::images::images_are_one;
-use ledger_close::{CloseFault, Ledger, Prepared};
 use outside::{Sink, Steps};
-use run_outcome::Status;
 use run_text::{sample_text, success_count};
 use sample_laws::{first_states_close, samples_stand};
-use sample_ledger::{image, make_record, records_are_written};
 use std::alloc::{AllocError, Global};
 use std::sync::ledger::Ledger as Count;
+use stored_outcome::run_outcome::Status;
+use stored_outcome::sample_ledger::{image, make_record, records_are_written};
+use worker_merges::close_laws::images::images_are_one;
+use worker_merges::ledger_close::{CloseFault, Ledger, Prepared};
 use xdr_core::Builder;
 use xdr_header::write_close_record;
 

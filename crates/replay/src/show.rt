@@ -4,10 +4,10 @@ ghost use Rattle.std.specs.Prelude.{◌≡◌, ◌≤◌, length};
 ghost use Rattle.std.specs.FinMap.{entries};
 ghost use Rattle.outside.specs.Streams.{Rose};
 ghost use Rattle.outside.specs.Disk.{Runs, Same};
-ghost use Rattle.run_streams.specs.Seen.{seen, IsUntouched};
-ghost use Rattle.run_streams.specs.SeenVolume.{seen_volume};
-ghost use Rattle.run_outcome.specs.Lines.{shown_lines};
-ghost use Rattle.run_outcome.specs.declared.status.Status.TheVariants as status;
+ghost use Rattle.stored_outcome.specs.run_streams.Seen.{seen, IsUntouched};
+ghost use Rattle.stored_outcome.specs.run_streams.SeenVolume.{seen_volume};
+ghost use Rattle.stored_outcome.specs.run_outcome.Lines.{shown_lines};
+ghost use Rattle.stored_outcome.specs.run_outcome.declared.status.Status.TheVariants as status;
 ghost use Rattle.stored_outcome.specs.StoredRun.{IsUnopenedEnd};
 ghost use Rattle.replay.specs.Following.{Wrote};
 ghost use Rattle.replay.specs.Showing as spec;
@@ -16,10 +16,10 @@ use crate::closer::Opened;
 use crate::ends::write_last;
 use crate::stored_run::open;
 use outside::{Sink, Steps, Volume};
-use run_outcome::Status;
 use run_text::shown_text;
 use std::alloc::Global;
 use std::sync::ledger::Ledger as Count;
+use stored_outcome::run_outcome::Status;
 
 /// Writes the lines of an opened store.
 fn show_opened<O: Sink>(alloc: Global, opened: &Opened, out: &mut O) -> Status

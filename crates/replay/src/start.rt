@@ -2,17 +2,17 @@
 
 ghost use Rattle.std.specs.Prelude.{◌≡◌, [], MatchResult};
 ghost use Rattle.xdr_core.specs.Format.{IsBytes};
-ghost use Rattle.run_streams.specs.Seen.{seen};
+ghost use Rattle.stored_outcome.specs.run_streams.Seen.{seen};
 ghost use Rattle.hash_ids.specs.Ids.{network_id_of};
-ghost use Rattle.run_outcome.specs.declared.status.Status.TheVariants as status;
+ghost use Rattle.stored_outcome.specs.run_outcome.declared.status.Status.TheVariants as status;
 ghost use Rattle.replay.specs.Starting.{Cut, IsUncut, IsUnstarted, StartsAt, IsJudgedSo};
 
 use hash_ids::network_id;
-use ledger_close::{ImageFault, Ledger};
 use outside::Source;
 use record_stream::{ImageLength, PieceFault, read_piece, take_image};
-use run_outcome::Status;
 use std::alloc::Global;
+use stored_outcome::run_outcome::Status;
+use worker_merges::ledger_close::{ImageFault, Ledger};
 use xdr_core::XdrFault;
 use xdr_header::StartImage;
 

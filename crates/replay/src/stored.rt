@@ -2,17 +2,17 @@
 
 ghost use Rattle.std.specs.Prelude.{◌≡◌, ◌≤◌, ℕ, List, Ok, IfOk, OnOk, length, false};
 ghost use Rattle.outside.specs.Streams.{HasCause};
-ghost use Rattle.close_rules.specs.State.{ClosingState};
-ghost use Rattle.close_rules.specs.Close.{PreparedClose, IsClose};
+ghost use Rattle.stored_outcome.specs.close_rules.State.{ClosingState};
+ghost use Rattle.stored_outcome.specs.close_rules.Close.{PreparedClose, IsClose};
 ghost use Rattle.outside.specs.Disk.{Disk, Runs};
 ghost use Rattle.replay.specs.Keeping as spec;
 ghost use Rattle.replay.specs.Stored as stored;
 
 use crate::keeper::{KeepFault, Keeper};
 use image_store::{AppendBuf, Store, StoreFault};
-use ledger_close::Ledger;
 use outside::{Failed, Volume};
 use std::alloc::{AllocError, Global};
+use worker_merges::ledger_close::Ledger;
 
 /// A store that keeps the records of a run. Behind each ledger whose successor's number 64 divides it goes on to the
 /// next epoch.

@@ -4,10 +4,10 @@ ghost use Rattle.std.specs.Prelude.{◌≡◌, ◌≤◌, ◌<◌, ◌^◌, fals
 ghost use Rattle.std.specs.Io.KnownBytes.{IsAtEnd};
 ghost use Rattle.outside.specs.Streams.{Rose};
 ghost use Rattle.outside.specs.Disk.{Runs, Same};
-ghost use Rattle.run_streams.specs.Seen.{seen};
-ghost use Rattle.run_streams.specs.SeenVolume.{seen_volume};
-ghost use Rattle.run_outcome.specs.declared.status.Status.TheVariants as status;
-ghost use Rattle.gate_journal.specs.Records.{blocks};
+ghost use Rattle.stored_outcome.specs.run_streams.Seen.{seen};
+ghost use Rattle.stored_outcome.specs.run_streams.SeenVolume.{seen_volume};
+ghost use Rattle.stored_outcome.specs.run_outcome.declared.status.Status.TheVariants as status;
+ghost use Rattle.image_store.specs.gate_journal.Records.{blocks};
 ghost use Rattle.stored_outcome.specs.StoredRun.{IsRunEnd, IsUnopenedEnd, DidNotRun};
 ghost use Rattle.replay.specs.Stored.{IsStored};
 ghost use Rattle.replay.specs.Keeping.{Ready};
@@ -19,12 +19,12 @@ use crate::crew::Nobody;
 use crate::stored::Stored;
 use image_store::{Mounted, Store, StoreFault};
 use item_list::ItemList;
-use ledger_close::{ImageFault, Ledger};
 use ledger_types::Hash;
 use outside::{Sink, Source, Steps, Volume};
-use run_outcome::Status;
 use std::alloc::Global;
 use std::sync::ledger::Ledger as Count;
+use stored_outcome::run_outcome::Status;
+use worker_merges::ledger_close::{ImageFault, Ledger};
 use xdr_header::StartImage;
 
 /// The end of a run whose store isn't mounted.

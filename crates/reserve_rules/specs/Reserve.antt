@@ -1,8 +1,8 @@
 -- What an account or a trust line can spend and take, as sums of whole numbers (CAP-0003, CAP-0033; TransactionUtils in
 -- stellar-core).
 use Rattle.std.specs.Prelude.{ℕ, ◌+◌, ℤ, pos, neg_ℤ, ◌⊎◌, ◌+ℤ◌, ◌-ℤ◌, ◌*ℤ◌, ◌≤ℤ◌, ◌<ℤ◌}
-use Rattle.ledger_types.specs.declared.account.AccountEntry.{AccountEntry}
-use Rattle.ledger_types.specs.declared.trust_line.TrustLineEntry.{TrustLineEntry}
+use Rattle.entry_slots.specs.ledger_types.declared.account.AccountEntry.{AccountEntry}
+use Rattle.entry_slots.specs.ledger_types.declared.trust_line.TrustLineEntry.{TrustLineEntry}
 use Rattle.entry_slots.specs.declared.account_facts.AccountFacts.{AccountFacts}
 use Rattle.entry_slots.specs.AccountExtensions.{account_liabilities, num_sponsoring, num_sponsored}
 use Rattle.entry_slots.specs.LineExtensions.{line_liabilities}

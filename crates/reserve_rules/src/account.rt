@@ -5,8 +5,8 @@ ghost use Rattle.entry_slots.specs.AccountExtensions as extensions;
 ghost use Rattle.reserve_rules.specs.Reserve as spec;
 
 use crate::change::changed;
+use entry_slots::ledger_types::AccountEntry;
 use entry_slots::{AccountFacts, account_liabilities, num_sponsored, num_sponsoring};
-use ledger_types::AccountEntry;
 
 /// What an account has to keep, in stroops: two reserves, one for each subentry and each reserve that it pays for
 /// others, less those that others pay. `base_reserve` is in stroops.

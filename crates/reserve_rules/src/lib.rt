@@ -6,4 +6,6 @@ mod change;
 mod line;
 
 pub use account::{add_balance, available, facts_available, min_balance, room};
+pub use entry_slots;
+pub use entry_slots::entry_map;
 pub use line::{line_add, line_available, line_room};

@@ -4,8 +4,8 @@ ghost use Rattle.std.specs.Prelude.{◌≡◌, ◌+ℤ◌, ◌↔◌, true, fals
 ghost use Rattle.reserve_rules.specs.Reserve as spec;
 
 use crate::change::changed;
+use entry_slots::ledger_types::TrustLineEntry;
 use entry_slots::line_liabilities;
-use ledger_types::TrustLineEntry;
 
 /// What can be spent of a trust line: its balance less what the account's offers would give.
 pub fn line_available(line: &TrustLineEntry) -> i64

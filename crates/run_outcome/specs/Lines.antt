@@ -3,15 +3,15 @@ use Rattle.std.specs.Prelude.{ℕ, ◌+◌, List, [], ◌∷◌, ◌++◌, lengt
 use Rattle.std.specs.List.{flat_map}
 use Rattle.std.specs.Fmt.{decimal, signed_decimal}
 use Rattle.hex.specs.Hex.{encode_lower}
-use Rattle.ledger_types.specs.declared.ids.Hash.{Hash}
-use Rattle.ledger_types.specs.declared.header.LedgerHeader.{LedgerHeader}
-use Rattle.xdr_core.specs.declared.fault.XdrKind.{XdrKind}
-use Rattle.xdr_core.specs.declared.fault.XdrKind.TheVariants as kind
-use Rattle.op_types.specs.declared.transaction_result.TransactionOutcome.{TransactionOutcome}
-use Rattle.op_types.specs.declared.transaction_result.TransactionOutcome.TheVariants as outcome
-use Rattle.op_types.specs.declared.transaction_result.TransactionResultPair.{TransactionResultPair}
-use Rattle.op_types.specs.Codes.{outcome_code}
-use Rattle.value_hashes.specs.Hashes.{ledger_hash_of}
+use Rattle.close_rules.specs.ledger_types.declared.ids.Hash.{Hash}
+use Rattle.close_rules.specs.ledger_types.declared.header.LedgerHeader.{LedgerHeader}
+use Rattle.close_rules.specs.xdr_core.declared.fault.XdrKind.{XdrKind}
+use Rattle.close_rules.specs.xdr_core.declared.fault.XdrKind.TheVariants as kind
+use Rattle.close_rules.specs.op_types.declared.transaction_result.TransactionOutcome.{TransactionOutcome}
+use Rattle.close_rules.specs.op_types.declared.transaction_result.TransactionOutcome.TheVariants as outcome
+use Rattle.close_rules.specs.op_types.declared.transaction_result.TransactionResultPair.{TransactionResultPair}
+use Rattle.close_rules.specs.op_types.Codes.{outcome_code}
+use Rattle.close_rules.specs.value_hashes.Hashes.{ledger_hash_of}
 use Rattle.close_rules.specs.declared.close_fault.CloseFault.{CloseFault}
 use Rattle.close_rules.specs.declared.close_fault.CloseFault.TheVariants as fault
 use Rattle.run_outcome.specs.Statuses.{ended_line}

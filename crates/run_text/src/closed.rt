@@ -4,7 +4,7 @@ ghost use Rattle.std.specs.Prelude.{◌≡◌, ◌++◌, OnOk, IfOk, count_by};
 ghost use Rattle.std.specs.List.{flat_map};
 ghost use Rattle.std.specs.Fmt.{signed_decimal};
 ghost use Rattle.op_types.specs.Codes.{outcome_code};
-ghost use Rattle.value_hashes.specs.Hashes.{ledger_hash_of};
+ghost use Rattle.run_outcome.specs.value_hashes.Hashes.{ledger_hash_of};
 ghost use Rattle.run_outcome.specs.Lines as spec;
 
 use crate::pieces::{

@@ -2,12 +2,12 @@
 
 ghost use Rattle.std.specs.Prelude.{◌≡◌, ◌++◌, OnOk, IfOk};
 ghost use Rattle.std.specs.Fmt.{decimal};
-ghost use Rattle.close_rules.specs.declared.close_fault.CloseFault.TheVariants as fault;
+ghost use Rattle.run_outcome.specs.close_rules.declared.close_fault.CloseFault.TheVariants as fault;
 ghost use Rattle.run_outcome.specs.Lines as spec;
 
 use crate::pieces::{push_hash_word, push_number, push_number_word, push_word};
-use close_rules::CloseFault;
 use ledger_types::{Hash, LedgerHeader};
+use run_outcome::close_rules::CloseFault;
 use std::alloc::{AllocError, Global};
 use xdr_core::XdrKind;
 

@@ -1,7 +1,7 @@
 //! The line of a sample.
 
 ghost use Rattle.std.specs.Prelude.{◌≡◌, IfOk};
-ghost use Rattle.value_hashes.specs.Hashes.{ledger_hash_of};
+ghost use Rattle.run_outcome.specs.value_hashes.Hashes.{ledger_hash_of};
 ghost use Rattle.run_outcome.specs.Lines as spec;
 
 use crate::pieces::{push_hash_word, push_number_word};

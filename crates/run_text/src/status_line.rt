@@ -6,7 +6,7 @@ ghost use Rattle.run_outcome.specs.Statuses as spec;
 ghost use Rattle.run_outcome.specs.declared.status.Status.TheVariants as status;
 
 use crate::pieces::push_number;
-use close_rules::ImageRule;
+use run_outcome::close_rules::ImageRule;
 use std::alloc::{AllocError, Global};
 
 /// The line of a text and a number.

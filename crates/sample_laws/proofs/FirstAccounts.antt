@@ -6,11 +6,11 @@ use Rattle.std.proofs.lemmas.List.Elements.{All-nil, All-cons}
 use Rattle.std.specs.Prelude.{if◌then◌else◌}
 use Rattle.std.specs.List.{AllPairs}
 use Rattle.std.specs.declared.cmp.Ordering.TheVariants.{Less}
-use Rattle.ledger_types.specs.declared.ids.AccountId.{AccountId}
-use Rattle.ledger_types.specs.declared.signer.Signer.{Signer}
-use Rattle.ledger_types.specs.declared.signer.SignerKey.TheVariants as signer
-use Rattle.ledger_types.specs.KeyOrder.{signer_key_cmp}
-use Rattle.valid_values.specs.Texts.{is_valid_text}
+use Rattle.sample_ledger.specs.ledger_types.declared.ids.AccountId.{AccountId}
+use Rattle.sample_ledger.specs.ledger_types.declared.signer.Signer.{Signer}
+use Rattle.sample_ledger.specs.ledger_types.declared.signer.SignerKey.TheVariants as signer
+use Rattle.sample_ledger.specs.ledger_types.KeyOrder.{signer_key_cmp}
+use Rattle.legal_rules.specs.valid_values.Texts.{is_valid_text}
 use Rattle.legal_rules.specs.Ranges.{AreAccountFlags, AreSignersInRange, IsAccountInRange}
 use Rattle.legal_rules.specs.FirstStates.{IsPlainAccount}
 use Rattle.sample_ledger.specs.Accounts.{account_id, account_entry, ledger_entry, signer_of, flags_of}

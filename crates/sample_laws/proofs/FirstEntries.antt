@@ -12,18 +12,18 @@ use Rattle.std.specs.FinMap.{get, get-from_entries}
 use Rattle.std.specs.FinMap.Entries.{find}
 use Rattle.sha2.specs.Sha256.{sha256}
 use Rattle.sha2.proofs.Facts256.{length-sha256}
-use Rattle.ledger_types.specs.declared.asset.Asset.TheVariants as asset
-use Rattle.ledger_types.specs.declared.entry.LedgerEntry.{LedgerEntry}
-use Rattle.ledger_types.specs.declared.key.LedgerKey.{LedgerKey}
-use Rattle.ledger_types.specs.declared.key.LedgerKey.TheVariants as key
-use Rattle.ledger_types.specs.Keys.{key_of}
-use Rattle.ledger_types.specs.KeyOrder.{key_cmp}
-use Rattle.ledger_types.proofs.KeyOrdering.{keys_total, keys_exact}
-use Rattle.entry_map.specs.EntryMap.{EntryMap, put}
-use Rattle.entry_slots.specs.Accounts.{account_at, account_of, HasAccount}
-use Rattle.entry_sums.specs.Sums.{EachEntry, part, total}
-use Rattle.entry_sums.proofs.Lookups.{put_there, put_elsewhere}
-use Rattle.entry_sums.proofs.Summing.{total_put, total_none}
+use Rattle.sample_ledger.specs.ledger_types.declared.asset.Asset.TheVariants as asset
+use Rattle.sample_ledger.specs.ledger_types.declared.entry.LedgerEntry.{LedgerEntry}
+use Rattle.sample_ledger.specs.ledger_types.declared.key.LedgerKey.{LedgerKey}
+use Rattle.sample_ledger.specs.ledger_types.declared.key.LedgerKey.TheVariants as key
+use Rattle.sample_ledger.specs.ledger_types.Keys.{key_of}
+use Rattle.sample_ledger.specs.ledger_types.KeyOrder.{key_cmp}
+use Rattle.sample_ledger.proofs.ledger_types_proofs.KeyOrdering.{keys_total, keys_exact}
+use Rattle.account_laws.specs.entry_map.EntryMap.{EntryMap, put}
+use Rattle.account_laws.specs.entry_slots.Accounts.{account_at, account_of, HasAccount}
+use Rattle.legal_rules.specs.entry_sums.Sums.{EachEntry, part, total}
+use Rattle.legal_rules.proofs.entry_sums_proofs.Lookups.{put_there, put_elsewhere}
+use Rattle.legal_rules.proofs.entry_sums_proofs.Summing.{total_put, total_none}
 use Rattle.legal_rules.specs.Supply.{held}
 use Rattle.sample_ledger.specs.Accounts.{sample_text, key_bytes, account_id, account_entry, ledger_entry}
 use Rattle.sample_ledger.specs.Samples.{keyed_entry, entries_of, first_entries}

@@ -6,15 +6,15 @@ use Rattle.std.specs.List.{AllByRecursion, flat_map}
 use Rattle.std.specs.declared.cmp.Ordering.TheVariants.{Less, Equal, Greater}
 use Rattle.std.specs.FinMap.{entries}
 use Rattle.std.specs.FinMap.Entries.{by_order}
-use Rattle.ledger_types.specs.declared.ids.AccountId.{AccountId}
-use Rattle.ledger_types.specs.declared.entry.LedgerEntry.{LedgerEntry}
-use Rattle.ledger_types.specs.declared.bucket.BucketEntry.TheVariants as item
-use Rattle.ledger_types.specs.KeyOrder.{account_cmp}
-use Rattle.shared_tree.specs.Rows.{changed}
-use Rattle.bucket_items.specs.MarkedItem.{record_of, IsSpellable}
-use Rattle.bucket_core.specs.File.{HasFile, file_of}
-use Rattle.bucket_levels.specs.Pairs.{empty_pair}
-use Rattle.bucket_levels.specs.Size.{file_total, pair_size}
+use Rattle.sample_ledger.specs.ledger_types.declared.ids.AccountId.{AccountId}
+use Rattle.sample_ledger.specs.ledger_types.declared.entry.LedgerEntry.{LedgerEntry}
+use Rattle.sample_ledger.specs.ledger_types.declared.bucket.BucketEntry.TheVariants as item
+use Rattle.sample_ledger.specs.ledger_types.KeyOrder.{account_cmp}
+use Rattle.sample_ledger.specs.shared_tree.Rows.{changed}
+use Rattle.account_laws.specs.bucket_items.MarkedItem.{record_of, IsSpellable}
+use Rattle.sample_ledger.specs.bucket_core.File.{HasFile, file_of}
+use Rattle.sample_ledger.specs.bucket_levels.Pairs.{empty_pair}
+use Rattle.sample_ledger.specs.bucket_levels.Size.{file_total, pair_size}
 use Rattle.sample_ledger.specs.Accounts.{account_id, ledger_entry}
 use Rattle.sample_ledger.specs.Image.{changes_of, first_bucket, levels_with}
 use Rattle.sample_ledger.specs.Rows.{as_change}

@@ -5,13 +5,13 @@ use Rattle.std.specs.declared.cmp.Ordering.TheVariants.{Less, Equal, Greater}
 use Rattle.std.specs.Ordering.{is_eq}
 use Rattle.std.specs.FinMap.{get, get-from_entries}
 use Rattle.std.specs.FinMap.Entries.{find}
-use Rattle.ledger_types.specs.declared.key.LedgerKey.{LedgerKey}
-use Rattle.ledger_types.specs.Keys.{key_of}
-use Rattle.ledger_types.specs.KeyOrder.{key_cmp}
-use Rattle.ledger_types.proofs.KeyOrdering.{keys_total}
-use Rattle.bucket_core.specs.Bucket.{Change, Init, Live, Dead}
-use Rattle.bucket_levels.specs.Meaning.{changes_of, files_of, in_front, entry_by}
-use Rattle.bucket_levels.specs.Meaning.{AreMarkedWell, StandFor, AreWellMarked}
+use Rattle.sample_ledger.specs.ledger_types.declared.key.LedgerKey.{LedgerKey}
+use Rattle.sample_ledger.specs.ledger_types.Keys.{key_of}
+use Rattle.sample_ledger.specs.ledger_types.KeyOrder.{key_cmp}
+use Rattle.sample_ledger.proofs.ledger_types_proofs.KeyOrdering.{keys_total}
+use Rattle.sample_ledger.specs.bucket_core.Bucket.{Change, Init, Live, Dead}
+use Rattle.sample_ledger.specs.bucket_levels.Meaning.{changes_of, files_of, in_front, entry_by}
+use Rattle.sample_ledger.specs.bucket_levels.Meaning.{AreMarkedWell, StandFor, AreWellMarked}
 use Rattle.sample_ledger.specs.Accounts.{ledger_entry}
 use Rattle.sample_ledger.specs.Image.{new_account, first_changes, first_bucket, levels_with}
 use Rattle.sample_ledger.specs.Image as image

@@ -4,17 +4,17 @@ use Rattle.std.proofs.lemmas.Int.{ints}
 use Rattle.std.proofs.lemmas.List.Elements.{All-from_recursion}
 use Rattle.std.specs.Prelude.{None}
 use Rattle.sha2.proofs.Facts256.{length-sha256}
-use Rattle.ledger_types.specs.Keys.{key_of}
-use Rattle.xdr_header.specs.Header.{ledger_header}
-use Rattle.entry_changes.specs.Spellable.{AreSpellable, IsEntrySpellable}
+use Rattle.sample_ledger.specs.ledger_types.Keys.{key_of}
+use Rattle.sample_ledger.specs.xdr_header.Header.{ledger_header}
+use Rattle.account_laws.specs.entry_changes.Spellable.{AreSpellable, IsEntrySpellable}
 use Rattle.legal_rules.specs.Headers.{IsHeaderInRange}
 use Rattle.legal_rules.specs.Legal.{IsLegal}
 use Rattle.legal_rules.specs.FirstStates.{IsPlainAccount, PlainStatesAreLegal}
-use Rattle.bucket_core.specs.File.{HasFile}
-use Rattle.bucket_levels.specs.Pairs.{Pair, empty_pair}
-use Rattle.close_rules.specs.State.{IsSpelled, IsClosingState}
-use Rattle.close_rules.specs.Images.{AreFilesOf}
-use Rattle.close_laws.specs.Images.{ImagesStandForStates}
+use Rattle.sample_ledger.specs.bucket_core.File.{HasFile}
+use Rattle.sample_ledger.specs.bucket_levels.Pairs.{Pair, empty_pair}
+use Rattle.sample_ledger.specs.close_rules.State.{IsSpelled, IsClosingState}
+use Rattle.sample_ledger.specs.close_rules.Images.{AreFilesOf}
+use Rattle.account_laws.specs.close_laws.Images.{ImagesStandForStates}
 use Rattle.sample_ledger.specs.Image.{first_bucket, first_header, first_image, levels_with}
 use Rattle.sample_ledger.specs.Samples.{first_entries, first_state, FirstStatesClose}
 use Rattle.sample_ledger.proofs.Bytes.{hash_fits}

@@ -1,20 +1,20 @@
 -- The next record of a sample closes its ledger, or is refused since the files would be too long.
 use Rattle.std.proofs.Common.{◌≡◌, ℕ, zero, suc, ◌+◌, ◌*◌, ◌<◌, ◌≤◌, ◌^◌, List, [], Some, None, Result, Ok, Err}
 use Rattle.std.proofs.Common.{refl, sym, ap, subst, ◌∙◌, arith, append-nil}
-use Rattle.ledger_types.specs.declared.header.LedgerHeader.{LedgerHeader}
-use Rattle.xdr_core.specs.declared.fault.XdrFault.{XdrFault}
-use Rattle.xdr_core.specs.Place.{start_of, ◌>>=◌}
-use Rattle.xdr_header.specs.declared.record.CloseRecord.{CloseRecord}
-use Rattle.xdr_header.specs.Records.{close_record}
-use Rattle.xdr_header.proofs.HeaderLaws.{close_record_laws}
-use Rattle.close_rules.specs.declared.close_fault.CloseFault.{CloseFault}
-use Rattle.close_rules.specs.declared.close_fault.CloseFault.TheVariants as fault
-use Rattle.close_rules.specs.State.{ClosingState, IsClosingState, IsSpelled}
-use Rattle.close_rules.specs.Refusals.{ended, record_in, record_fault}
-use Rattle.bucket_levels.specs.Hash.{list_hash}
-use Rattle.header_chain.specs.SkipList.{finished}
-use Rattle.close_rules.specs.Close.{PreparedClose, IsClose, IsTaken, IsRefused, upgraded_header}
-use Rattle.close_laws.specs.Closes.{NextIsClosing, TakenIsClosable}
+use Rattle.sample_ledger.specs.ledger_types.declared.header.LedgerHeader.{LedgerHeader}
+use Rattle.legal_rules.specs.xdr_core.declared.fault.XdrFault.{XdrFault}
+use Rattle.legal_rules.specs.xdr_core.Place.{start_of, ◌>>=◌}
+use Rattle.sample_ledger.specs.xdr_header.declared.record.CloseRecord.{CloseRecord}
+use Rattle.sample_ledger.specs.xdr_header.Records.{close_record}
+use Rattle.sample_ledger.proofs.xdr_header_proofs.HeaderLaws.{close_record_laws}
+use Rattle.sample_ledger.specs.close_rules.declared.close_fault.CloseFault.{CloseFault}
+use Rattle.sample_ledger.specs.close_rules.declared.close_fault.CloseFault.TheVariants as fault
+use Rattle.sample_ledger.specs.close_rules.State.{ClosingState, IsClosingState, IsSpelled}
+use Rattle.sample_ledger.specs.close_rules.Refusals.{ended, record_in, record_fault}
+use Rattle.sample_ledger.specs.bucket_levels.Hash.{list_hash}
+use Rattle.account_laws.specs.header_chain.SkipList.{finished}
+use Rattle.sample_ledger.specs.close_rules.Close.{PreparedClose, IsClose, IsTaken, IsRefused, upgraded_header}
+use Rattle.account_laws.specs.close_laws.Closes.{NextIsClosing, TakenIsClosable}
 use Rattle.account_laws.specs.Standing.{ClosesKeepAccounts, MergesNone}
 use Rattle.sample_ledger.specs.Accounts.{account_id}
 use Rattle.sample_ledger.specs.Records.{record_of}

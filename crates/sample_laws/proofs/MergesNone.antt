@@ -3,11 +3,11 @@ use Rattle.std.proofs.Common.{◌≡◌, ℕ, zero, suc, ◌+◌, false, List, [
 use Rattle.std.proofs.lemmas.List.Elements.{All-from_recursion}
 use Rattle.std.specs.Prelude.{nat_le, ◌%◌, All}
 use Rattle.std.specs.List.{AllByRecursion, range_with_len}
-use Rattle.ledger_types.specs.declared.header.LedgerHeader.{LedgerHeader}
-use Rattle.op_types.specs.declared.operation.Operation.{Operation}
-use Rattle.op_types.specs.declared.operation.OperationBody.{OperationBody}
-use Rattle.op_types.specs.declared.transaction.TransactionEnvelope.{TransactionEnvelope}
-use Rattle.tx_apply.specs.Operations.{operations_of}
+use Rattle.sample_ledger.specs.ledger_types.declared.header.LedgerHeader.{LedgerHeader}
+use Rattle.sample_ledger.specs.op_types.declared.operation.Operation.{Operation}
+use Rattle.sample_ledger.specs.op_types.declared.operation.OperationBody.{OperationBody}
+use Rattle.sample_ledger.specs.op_types.declared.transaction.TransactionEnvelope.{TransactionEnvelope}
+use Rattle.account_laws.specs.tx_apply.Operations.{operations_of}
 use Rattle.account_laws.specs.Standing.{is_merge, MergesNone}
 use Rattle.sample_ledger.specs.Records as spec
 use Rattle.sample_ledger.specs.Records.{issuer_turn, drawn_turn, issuer_operations, other_operation}

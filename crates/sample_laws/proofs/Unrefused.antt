@@ -8,16 +8,16 @@ use Rattle.std.specs.Prelude.{slice_get, option_map}
 use Rattle.std.specs.List.{AllByRecursion, find, range_with_len}
 use Rattle.std.specs.Option.{option_or}
 use Rattle.std.specs.Str.{bytes_eq}
-use Rattle.op_types.specs.declared.transaction.TransactionEnvelope.{TransactionEnvelope}
-use Rattle.entry_map.specs.EntryMap.{EntryMap}
-use Rattle.entry_slots.specs.Accounts.{HasAccount}
-use Rattle.tx_apply.specs.Set.{lacks_fee_source, missing_among}
-use Rattle.value_hashes.specs.Hashes.{ledger_hash_of}
-use Rattle.fee_rules.specs.SetHash.{hash_of_set}
-use Rattle.fee_rules.specs.Turns.{apply_order_of}
-use Rattle.close_rules.specs.declared.close_fault.CloseFault.TheVariants as fault
-use Rattle.close_rules.specs.State.{ClosingState}
-use Rattle.close_rules.specs.Refusals.{record_fault, term_fault, upgrade_fault, set_fault}
+use Rattle.sample_ledger.specs.op_types.declared.transaction.TransactionEnvelope.{TransactionEnvelope}
+use Rattle.account_laws.specs.entry_map.EntryMap.{EntryMap}
+use Rattle.account_laws.specs.entry_slots.Accounts.{HasAccount}
+use Rattle.account_laws.specs.tx_apply.Set.{lacks_fee_source, missing_among}
+use Rattle.sample_ledger.specs.value_hashes.Hashes.{ledger_hash_of}
+use Rattle.sample_ledger.specs.fee_rules.SetHash.{hash_of_set}
+use Rattle.sample_ledger.specs.fee_rules.Turns.{apply_order_of}
+use Rattle.sample_ledger.specs.close_rules.declared.close_fault.CloseFault.TheVariants as fault
+use Rattle.sample_ledger.specs.close_rules.State.{ClosingState}
+use Rattle.sample_ledger.specs.close_rules.Refusals.{record_fault, term_fault, upgrade_fault, set_fault}
 use Rattle.sample_ledger.specs.Accounts.{account_id}
 use Rattle.sample_ledger.specs.Records.{envelope_of, record_of}
 

@@ -3,9 +3,9 @@
 
 ghost use Rattle.sample_ledger.specs.Samples as spec;
 
+use account_laws::close_laws::closes::{next_is_closing, taken_is_closable};
+use account_laws::close_laws::images::images_stand_for_states;
 use account_laws::closes_keep_accounts;
-use close_laws::closes::{next_is_closing, taken_is_closable};
-use close_laws::images::images_stand_for_states;
 use legal_rules::first_states::plain_states_are_legal;
 use sample_ledger::records_are_written;
 

@@ -11,7 +11,7 @@ use Rattle.xdr_entries.specs.Basic.{signer, signer_fields, signer_key, signer_ke
 use Rattle.xdr_entries.specs.Entries.{account_head, account_tail, account_fields, ledger_entry_body, entry_fields}
 use Rattle.xdr_entries.specs.Entries as entries
 use Rattle.xdr_entries.specs.Keys.{bucket_entry, bucket_part, bucket_arms, init_arm}
-use Rattle.bucket_items.specs.MarkedItem.{record_of, IsSpellable}
+use Rattle.bucket_core.specs.bucket_items.MarkedItem.{record_of, IsSpellable}
 use Rattle.sample_ledger.specs.Accounts.{account_id, secret, signer_of, flags_of, account_entry, ledger_entry}
 use Rattle.sample_ledger.specs.Image.{account_count}
 use Rattle.sample_ledger.proofs.Bytes.{bytes_listed}

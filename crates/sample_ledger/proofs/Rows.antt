@@ -20,7 +20,7 @@ use Rattle.ledger_types.specs.KeyOrder.{account_cmp, key_cmp}
 use Rattle.ledger_types.specs.Keys.{key_of}
 use Rattle.ledger_types.proofs.KeyOrdering.{keys_total, keys_exact}
 use Rattle.shared_tree.specs.Rows.{changed, IsRising}
-use Rattle.bucket_items.specs.MarkedItem.{record_of, IsSpellable}
+use Rattle.bucket_core.specs.bucket_items.MarkedItem.{record_of, IsSpellable}
 use Rattle.bucket_core.specs.Bucket.{Change, Init, IsUnderKey}
 use Rattle.bucket_core.specs.File.{item_of, file_of, HasFile}
 use Rattle.sample_ledger.specs.Accounts.{account_id, ledger_entry}

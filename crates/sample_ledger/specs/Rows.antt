@@ -6,7 +6,7 @@ use Rattle.ledger_types.specs.declared.entry.LedgerEntry.{LedgerEntry}
 use Rattle.ledger_types.specs.declared.key.LedgerKey.{LedgerKey}
 use Rattle.ledger_types.specs.declared.key.LedgerKey.TheVariants as key
 use Rattle.ledger_types.specs.declared.bucket.BucketEntry.TheVariants as item
-use Rattle.bucket_items.specs.MarkedItem.{IsSpellable}
+use Rattle.bucket_core.specs.bucket_items.MarkedItem.{IsSpellable}
 use Rattle.bucket_core.specs.Bucket.{Change, Init}
 
 -- what a bucket says of an account that is new

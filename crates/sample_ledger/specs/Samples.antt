@@ -10,7 +10,7 @@ use Rattle.ledger_types.specs.Keys.{key_of}
 use Rattle.op_types.specs.declared.transaction_result.TransactionResultPair.{TransactionResultPair}
 use Rattle.xdr_header.specs.Records.{close_record}
 use Rattle.hash_ids.specs.Ids.{network_id_of}
-use Rattle.entry_map.specs.EntryMap.{EntryMap}
+use Rattle.bucket_levels.specs.entry_map.EntryMap.{EntryMap}
 use Rattle.close_rules.specs.declared.close_fault.CloseFault.{CloseFault}
 use Rattle.close_rules.specs.declared.close_fault.CloseFault.TheVariants as fault
 use Rattle.close_rules.specs.State.{ClosingState, IsClosingState, IsSpelled}

@@ -5,7 +5,7 @@ ghost use Rattle.std.specs.List.{flat_map};
 ghost use Rattle.std.specs.FinMap.{entries};
 ghost use Rattle.ledger_types.specs.declared.bucket.BucketEntry.TheVariants as item;
 ghost use Rattle.xdr_entries.specs.Keys.{bucket_entry};
-ghost use Rattle.bucket_items.specs.MarkedItem.{record_of, IsSpellable};
+ghost use Rattle.bucket_core.specs.bucket_items.MarkedItem.{record_of, IsSpellable};
 ghost use Rattle.bucket_core.specs.File.{HasFile, file_of as file_with};
 ghost use Rattle.sample_ledger.specs.Image as spec;
 ghost use Rattle.sample_ledger.specs.Rows.{as_change, AreSpellable};

@@ -3,7 +3,7 @@
 ghost use Rattle.std.specs.Prelude.{◌≡◌, ◌≤◌, IfOk};
 ghost use Rattle.xdr_header.specs.Header.{ledger_header};
 ghost use Rattle.xdr_header.specs.Records.{close_record};
-ghost use Rattle.xdr_tx.specs.Transactions.{transaction_set};
+ghost use Rattle.value_hashes.specs.xdr_tx.Transactions.{transaction_set};
 ghost use Rattle.fee_rules.specs.SetHash.{hash_of_set};
 ghost use Rattle.sample_ledger.specs.Records as spec;
 

@@ -1,22 +1,5 @@
-//! What the scripts in bench/ time: values read from a file and written again, entries put over a base and got, merges
-//! of buckets, and books of offers.
-//!
-//!     speed entries FILE            reads the ledger entries of a file, one behind another
-//!     speed entries-again FILE      reads them, and writes them again
-//!     speed set FILE                reads the transaction set of a file
-//!     speed set-again FILE          reads it, and writes it again
-//!
-//! Each of these prints how many values were read and how many bytes were written.
-//!
-//!     speed map COUNT               makes a base of so many offers, puts as many over it, and gets as many
-//!     speed map-base COUNT          makes the base alone
-//!
-//! Both print how many offers were put, how many were found, and the sum of the amounts of those.
-//!
-//!     speed merge OLDER NEWER       reads two files of buckets, and merges them
-//!     speed buckets OLDER NEWER     reads them alone
-//!
-//! Both print how many bytes the merge has, or both files together.
+//! What the scripts in bench/ hold to a bound and the program `ledger` can't show apart: books of offers, and a store in
+//! a directory.
 //!
 //!     speed book COUNT              makes a map of so many offers, a thousand of them changed; walks their book for a
 //!                                   million answers
@@ -38,77 +21,12 @@
 #![tactic(auto)]
 
 mod books;
-mod buckets;
-mod codecs;
-mod entries;
 mod stores;
 
 use books::{Seen, pass_book, pass_head, pass_index};
-use buckets::pass_buckets;
-use codecs::{Done, pass_entries, pass_set};
-use entries::{Tally, pass_offers};
 use std::rt::Files;
-use std::{env, fs, io};
+use std::{env, io};
 use stores::pass_store;
-
-/// Runs a command on a text, where there is such a command.
-fn run<R: AllocGlobal>(rt: &R, command: &str, text: &[u8]) -> Option<Done> {
-    match command.as_bytes() {
-        b"entries" => pass_entries(rt.alloc(), text, false),
-        b"entries-again" => pass_entries(rt.alloc(), text, true),
-        b"set" => pass_set(rt.alloc(), text, false),
-        b"set-again" => pass_set(rt.alloc(), text, true),
-        _ => None,
-    }
-}
-
-/// Runs a command on a file and prints what it did.
-fn report<R: Files + Print + AllocGlobal>(rt: &R, command: &str, path: &str) -> io::Result<()> {
-    let text = fs::read(rt, path)?;
-    let Some(done) = run(rt, command, text.as_slice()) else {
-        return println!(rt; "{command}: nothing was done");
-    };
-    let values = done.values;
-    let written = done.written;
-    println!(rt; "{command}: {values} values, {written} bytes written")
-}
-
-/// Passes offers, as many as a word says.
-fn run_offers<R: AllocGlobal>(rt: &R, count: &str, over: bool) -> Option<Tally> {
-    let count = count.parse().ok()?;
-    pass_offers(rt.alloc(), count, over).ok()
-}
-
-/// Passes offers and prints what was done.
-fn report_offers<R: Print + AllocGlobal>(
-    rt: &R,
-    command: &str,
-    count: &str,
-    over: bool,
-) -> io::Result<()> {
-    let Some(tally) = run_offers(rt, count, over) else {
-        return println!(rt; "{command}: nothing was done");
-    };
-    let puts = tally.puts;
-    let found = tally.found;
-    let amounts = tally.amounts;
-    println!(rt; "{command}: {puts} puts, {found} found, amounts {amounts}")
-}
-
-/// Passes two files of buckets and prints how long what was made of them is.
-fn report_buckets<R: Files + Print + AllocGlobal>(
-    rt: &R,
-    command: &str,
-    older: &str,
-    newer: &str,
-) -> io::Result<()> {
-    let older = fs::read(rt, older)?;
-    let newer = fs::read(rt, newer)?;
-    match pass_buckets(older, newer, command == "merge") {
-        Some(length) => println!(rt; "{command}: {length} bytes"),
-        None => println!(rt; "{command}: nothing was done"),
-    }
-}
 
 /// Runs a command on books of so many offers, where there is such a command.
 fn run_books<R: AllocGlobal>(rt: &R, command: &str, count: &str) -> Option<Seen> {
@@ -159,34 +77,16 @@ fn report_store<R: Files + Print + AllocGlobal>(
     }
 }
 
-/// Runs a command on two words, where there is such a command.
+/// Runs a command on two words.
 fn report_two<R: Files + Print + AllocGlobal>(
     rt: &R,
     command: &str,
-    older: &str,
-    newer: &str,
+    first: &str,
+    second: &str,
 ) -> io::Result<()> {
     match command.as_bytes() {
-        b"merge" | b"buckets" => report_buckets(rt, command, older, newer),
-        b"index" | b"index-base" => {
-            report_seen(rt, command, run_index(rt, command, older, newer))
-        }
-        b"store-make" | b"store-append" | b"store-roll" | b"store-open" => {
-            report_store(rt, command, older, newer)
-        }
-        _ => println!(rt; "{command}: nothing was done"),
-    }
-}
-
-/// Runs a command on one word.
-fn report_one<R: Files + Print + AllocGlobal>(rt: &R, command: &str, word: &str) -> io::Result<()> {
-    match command.as_bytes() {
-        b"map" => report_offers(rt, command, word, true),
-        b"map-base" => report_offers(rt, command, word, false),
-        b"book" | b"book-base" | b"head" | b"head-base" => {
-            report_seen(rt, command, run_books(rt, command, word))
-        }
-        _ => report(rt, command, word),
+        b"index" | b"index-base" => report_seen(rt, command, run_index(rt, command, first, second)),
+        _ => report_store(rt, command, first, second),
     }
 }
 
@@ -198,6 +98,10 @@ fn main(rt: HostRuntime) -> io::Result<()> {
     };
     match words.next() {
         Some(other) => report_two(&rt, command.as_str(), word.as_str(), other.as_str()),
-        None => report_one(&rt, command.as_str(), word.as_str()),
+        None => report_seen(
+            &rt,
+            command.as_str(),
+            run_books(&rt, command.as_str(), word.as_str()),
+        ),
     }
 }

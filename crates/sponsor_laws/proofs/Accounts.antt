@@ -4,15 +4,15 @@ use Rattle.std.proofs.Common.{Option, Some, None, nat_eq, arith}
 use Rattle.std.specs.Prelude.{if◌then◌else◌}
 use Rattle.std.specs.List.{count_by}
 use borrow.Author.Tests.{eqb-true}
-use Rattle.ledger_types.specs.declared.ids.AccountId.{AccountId}
-use Rattle.ledger_types.specs.declared.signer.Signer.{Signer}
-use Rattle.ledger_types.specs.declared.account.AccountEntry.{AccountEntry}
-use Rattle.ledger_types.specs.declared.account.AccountEntryExtensionV2.{AccountEntryExtensionV2}
-use Rattle.ledger_types.specs.declared.entry.LedgerEntry.{LedgerEntry}
-use Rattle.ledger_types.specs.declared.entry.LedgerEntryBody.{LedgerEntryBody}
-use Rattle.ledger_types.specs.declared.entry.LedgerEntryBody.TheVariants as body
-use Rattle.entry_slots.specs.AccountExtensions.{second_in, sponsored_in, sponsoring_in, sponsorship_in}
-use Rattle.entry_slots.specs.EntrySponsor.{sponsor_of}
+use Rattle.sponsor_rules.specs.ledger_types.declared.ids.AccountId.{AccountId}
+use Rattle.sponsor_rules.specs.ledger_types.declared.signer.Signer.{Signer}
+use Rattle.sponsor_rules.specs.ledger_types.declared.account.AccountEntry.{AccountEntry}
+use Rattle.sponsor_rules.specs.ledger_types.declared.account.AccountEntryExtensionV2.{AccountEntryExtensionV2}
+use Rattle.sponsor_rules.specs.ledger_types.declared.entry.LedgerEntry.{LedgerEntry}
+use Rattle.sponsor_rules.specs.ledger_types.declared.entry.LedgerEntryBody.{LedgerEntryBody}
+use Rattle.sponsor_rules.specs.ledger_types.declared.entry.LedgerEntryBody.TheVariants as body
+use Rattle.sponsor_rules.specs.entry_slots.AccountExtensions.{second_in, sponsored_in, sponsoring_in, sponsorship_in}
+use Rattle.sponsor_rules.specs.entry_slots.EntrySponsor.{sponsor_of}
 use Rattle.sponsor_rules.specs.Charge.{multiplicity, owner_of}
 use Rattle.sponsor_rules.specs.Counting.{count_in, with_count, with_new_count}
 use Rattle.sponsor_rules.specs.Payers.{is_same_account}

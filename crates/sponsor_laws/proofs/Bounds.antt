@@ -3,16 +3,16 @@ use Rattle.std.proofs.Common.{◌≡◌, ◌≢◌, refl, sym, ap, subst, ◌∙
 use Rattle.std.proofs.Common.{Option, Some, None, Ok, arith}
 use Rattle.std.specs.Prelude.{if◌then◌else◌}
 use borrow.Author.Tests.{ltb-false}
-use Rattle.ledger_types.specs.declared.ids.AccountId.{AccountId}
-use Rattle.entry_map.specs.EntryMap.{EntryMap}
+use Rattle.sponsor_rules.specs.ledger_types.declared.ids.AccountId.{AccountId}
+use Rattle.sponsor_rules.specs.entry_map.EntryMap.{EntryMap}
 use Rattle.sponsor_rules.specs.declared.count.Count.{Count}
 use Rattle.sponsor_rules.specs.declared.count.Count.TheVariants.{SubEntries, Sponsoring}
 use Rattle.sponsor_rules.specs.declared.context.Ctx.{Ctx}
 use Rattle.sponsor_rules.specs.declared.fault.AddFault.{AddFault}
 use Rattle.sponsor_rules.specs.declared.fault.AddFault.TheVariants.{TooManySubentries, TooManySponsoring}
 use Rattle.sponsor_rules.specs.declared.fault.AddFault.TheVariants.{LowReserve}
-use Rattle.entry_slots.specs.Accounts.{account_at, HasAccount}
-use Rattle.entry_slots.specs.Tests.{Tests, first_fault, unless_fault, unless_first}
+use Rattle.sponsor_rules.specs.entry_slots.Accounts.{account_at, HasAccount}
+use Rattle.sponsor_rules.specs.entry_slots.Tests.{Tests, first_fault, unless_fault, unless_first}
 use Rattle.sponsor_rules.specs.Counting.{count_at, count_if}
 use Rattle.sponsor_rules.specs.Payers.{is_full, is_over, is_short, payer_of, payer_tests_at, subentry_tests_at}
 use Rattle.sponsor_rules.specs.Payers.{is_same_account}

@@ -4,23 +4,23 @@ use Rattle.std.proofs.Common.{Option, Some, None, arith}
 use Rattle.std.specs.Prelude.{if◌then◌else◌}
 use Rattle.std.specs.Ordering.{eq_by_cmp}
 use Rattle.std.specs.FinMap.{get, get-insert, same_map}
-use Rattle.ledger_types.specs.declared.ids.AccountId.{AccountId}
-use Rattle.ledger_types.specs.declared.account.AccountEntry.{AccountEntry}
-use Rattle.ledger_types.specs.declared.entry.LedgerEntry.{LedgerEntry}
-use Rattle.ledger_types.specs.declared.entry.LedgerEntryBody.{LedgerEntryBody}
-use Rattle.ledger_types.specs.declared.entry.LedgerEntryBody.TheVariants as body
-use Rattle.ledger_types.specs.declared.key.LedgerKey.{LedgerKey}
-use Rattle.ledger_types.specs.declared.key.LedgerKey.TheVariants as key
-use Rattle.ledger_types.specs.Keys.{key_of, key_of_body}
-use Rattle.ledger_types.specs.KeyOrder.{key_cmp}
-use Rattle.ledger_types.proofs.KeyOrdering.{keys_total, keys_exact}
-use Rattle.entry_map.specs.EntryMap.{EntryMap, put}
-use Rattle.entry_map.proofs.KeyMaps.{same_keys, same_itself}
-use Rattle.entry_map.proofs.Layers.{after_insert}
+use Rattle.sponsor_rules.specs.ledger_types.declared.ids.AccountId.{AccountId}
+use Rattle.sponsor_rules.specs.ledger_types.declared.account.AccountEntry.{AccountEntry}
+use Rattle.sponsor_rules.specs.ledger_types.declared.entry.LedgerEntry.{LedgerEntry}
+use Rattle.sponsor_rules.specs.ledger_types.declared.entry.LedgerEntryBody.{LedgerEntryBody}
+use Rattle.sponsor_rules.specs.ledger_types.declared.entry.LedgerEntryBody.TheVariants as body
+use Rattle.sponsor_rules.specs.ledger_types.declared.key.LedgerKey.{LedgerKey}
+use Rattle.sponsor_rules.specs.ledger_types.declared.key.LedgerKey.TheVariants as key
+use Rattle.sponsor_rules.specs.ledger_types.Keys.{key_of, key_of_body}
+use Rattle.sponsor_rules.specs.ledger_types.KeyOrder.{key_cmp}
+use Rattle.sponsor_rules.proofs.ledger_types_proofs.KeyOrdering.{keys_total, keys_exact}
+use Rattle.sponsor_rules.specs.entry_map.EntryMap.{EntryMap, put}
+use Rattle.sponsor_rules.proofs.entry_map_proofs.KeyMaps.{same_keys, same_itself}
+use Rattle.sponsor_rules.proofs.entry_map_proofs.Layers.{after_insert}
 use Rattle.sponsor_rules.specs.declared.count.Count.{Count}
 use Rattle.sponsor_rules.specs.declared.count.Count.TheVariants.{SubEntries, Sponsoring, Sponsored}
-use Rattle.entry_slots.specs.Accounts.{account_in, account_of, account_at, with_account, with_account_of}
-use Rattle.entry_slots.specs.Accounts.{with_account_in}
+use Rattle.sponsor_rules.specs.entry_slots.Accounts.{account_in, account_of, account_at, with_account, with_account_of}
+use Rattle.sponsor_rules.specs.entry_slots.Accounts.{with_account_in}
 use Rattle.sponsor_rules.specs.Counting.{count_in, with_more, with_less}
 use Rattle.sponsor_rules.specs.Payers.{is_same_account}
 use Rattle.sponsor_laws.specs.Sums.{total, counted_for}

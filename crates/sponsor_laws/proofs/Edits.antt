@@ -5,17 +5,17 @@ use Rattle.std.specs.Prelude.{if◌then◌else◌}
 use Rattle.std.specs.List.{sum_by, count_by}
 use Rattle.std.specs.FinMap.{get}
 use Rattle.std.proofs.lemmas.List.Sums.{get_or-le-sum_by}
-use Rattle.ledger_types.specs.declared.ids.AccountId.{AccountId}
-use Rattle.ledger_types.specs.declared.account.AccountEntry.{AccountEntry}
-use Rattle.ledger_types.specs.declared.entry.LedgerEntry.{LedgerEntry}
-use Rattle.ledger_types.specs.declared.entry.LedgerEntryBody.TheVariants as body
-use Rattle.ledger_types.specs.declared.key.LedgerKey.TheVariants as key
-use Rattle.ledger_types.specs.Keys.{key_of, key_of_body}
-use Rattle.entry_map.specs.EntryMap.{EntryMap, put}
+use Rattle.sponsor_rules.specs.ledger_types.declared.ids.AccountId.{AccountId}
+use Rattle.sponsor_rules.specs.ledger_types.declared.account.AccountEntry.{AccountEntry}
+use Rattle.sponsor_rules.specs.ledger_types.declared.entry.LedgerEntry.{LedgerEntry}
+use Rattle.sponsor_rules.specs.ledger_types.declared.entry.LedgerEntryBody.TheVariants as body
+use Rattle.sponsor_rules.specs.ledger_types.declared.key.LedgerKey.TheVariants as key
+use Rattle.sponsor_rules.specs.ledger_types.Keys.{key_of, key_of_body}
+use Rattle.sponsor_rules.specs.entry_map.EntryMap.{EntryMap, put}
 use Rattle.sponsor_rules.specs.declared.count.Count.{Count}
 use Rattle.sponsor_rules.specs.declared.count.Count.TheVariants.{SubEntries, Sponsoring, Sponsored}
-use Rattle.entry_slots.specs.Accounts.{account_in, with_account, HasAccount}
-use Rattle.entry_slots.specs.EntrySponsor.{sponsor_of}
+use Rattle.sponsor_rules.specs.entry_slots.Accounts.{account_in, with_account, HasAccount}
+use Rattle.sponsor_rules.specs.entry_slots.EntrySponsor.{sponsor_of}
 use Rattle.sponsor_rules.specs.Charge.{multiplicity, owner_of}
 use Rattle.sponsor_rules.specs.Counting.{count_in}
 use Rattle.sponsor_rules.specs.Payers.{is_same_account}

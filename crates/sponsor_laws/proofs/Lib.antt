@@ -18,3 +18,5 @@ pub mod RemovingSigners
 pub mod MovingSigners
 pub mod Sponsoring
 pub mod Sponsored
+pub use Rattle.sponsor_rules.proofs.entry_slots_proofs
+pub use Rattle.sponsor_rules.proofs as sponsor_rules_proofs

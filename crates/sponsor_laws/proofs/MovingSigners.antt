@@ -2,17 +2,17 @@
 use Rattle.std.proofs.Common.{◌≡◌, ◌≢◌, inl, inr, refl, sym, ap, subst, ◌∙◌, ℕ, ◌+◌, ◌<◌, ◌≤◌, cond, length, Option}
 use Rattle.std.proofs.Common.{Some, None, Ok, slice_set, arith}
 use Rattle.std.proofs.lemmas.List.{length-set}
-use Rattle.ledger_types.specs.declared.ids.AccountId.{AccountId}
-use Rattle.ledger_types.specs.declared.signer.SignerKey.{SignerKey}
-use Rattle.ledger_types.specs.declared.account.AccountEntry.{AccountEntry}
-use Rattle.ledger_types.specs.declared.key.LedgerKey.TheVariants as key
-use Rattle.entry_map.specs.EntryMap.{EntryMap}
+use Rattle.sponsor_rules.specs.ledger_types.declared.ids.AccountId.{AccountId}
+use Rattle.sponsor_rules.specs.ledger_types.declared.signer.SignerKey.{SignerKey}
+use Rattle.sponsor_rules.specs.ledger_types.declared.account.AccountEntry.{AccountEntry}
+use Rattle.sponsor_rules.specs.ledger_types.declared.key.LedgerKey.TheVariants as key
+use Rattle.sponsor_rules.specs.entry_map.EntryMap.{EntryMap}
 use Rattle.sponsor_rules.specs.declared.context.Ctx.{Ctx}
 use Rattle.sponsor_rules.specs.declared.count.Count.TheVariants.{Sponsoring, Sponsored}
-use Rattle.entry_slots.specs.Accounts.{account_at, with_account, HasAccount}
-use Rattle.entry_slots.specs.AccountExtensions.{signer_sponsor}
+use Rattle.sponsor_rules.specs.entry_slots.Accounts.{account_at, with_account, HasAccount}
+use Rattle.sponsor_rules.specs.entry_slots.AccountExtensions.{signer_sponsor}
 use Rattle.sponsor_rules.specs.Counting.{count_in, with_less}
-use Rattle.entry_slots.specs.Tests.{unless_first}
+use Rattle.sponsor_rules.specs.entry_slots.Tests.{unless_first}
 use Rattle.sponsor_rules.specs.Paying.{map_after_releasing, map_after_exchange, with_other_payer}
 use Rattle.sponsor_rules.specs.Payers.{payer_other_than, move_tests_at}
 use Rattle.sponsor_rules.specs.Moving.{map_with_other_payer}

@@ -3,26 +3,26 @@ use Rattle.std.proofs.Common.{◌≡◌, ◌≢◌, refl, ap, ◌∙◌, ℕ, �
 use Rattle.std.specs.Prelude.{if◌then◌else◌}
 use Rattle.std.specs.List.{count_by}
 use Rattle.std.specs.FinMap.{get}
-use Rattle.ledger_types.specs.declared.ids.AccountId.{AccountId}
-use Rattle.ledger_types.specs.declared.account.AccountEntry.{AccountEntry}
-use Rattle.ledger_types.specs.declared.asset.TrustLineAsset.{TrustLineAsset}
-use Rattle.ledger_types.specs.declared.asset.TrustLineAsset.TheVariants as asset
-use Rattle.ledger_types.specs.declared.claimable_balance.ClaimableBalanceEntry.{ClaimableBalanceEntry}
-use Rattle.ledger_types.specs.declared.liquidity_pool.LiquidityPoolEntry.{LiquidityPoolEntry}
-use Rattle.ledger_types.specs.declared.trust_line.TrustLineEntry.{TrustLineEntry}
-use Rattle.ledger_types.specs.declared.offer.OfferEntry.{OfferEntry}
-use Rattle.ledger_types.specs.declared.data_entry.DataEntry.{DataEntry}
-use Rattle.ledger_types.specs.declared.entry.LedgerEntry.{LedgerEntry}
-use Rattle.ledger_types.specs.declared.entry.LedgerEntryBody.{LedgerEntryBody}
-use Rattle.ledger_types.specs.declared.entry.LedgerEntryBody.TheVariants as body
-use Rattle.ledger_types.specs.declared.key.LedgerKey.{LedgerKey}
-use Rattle.ledger_types.specs.declared.key.LedgerKey.TheVariants as key
-use Rattle.ledger_types.specs.Keys.{key_of_body}
-use Rattle.entry_map.specs.EntryMap.{EntryMap}
+use Rattle.sponsor_rules.specs.ledger_types.declared.ids.AccountId.{AccountId}
+use Rattle.sponsor_rules.specs.ledger_types.declared.account.AccountEntry.{AccountEntry}
+use Rattle.sponsor_rules.specs.ledger_types.declared.asset.TrustLineAsset.{TrustLineAsset}
+use Rattle.sponsor_rules.specs.ledger_types.declared.asset.TrustLineAsset.TheVariants as asset
+use Rattle.sponsor_rules.specs.ledger_types.declared.claimable_balance.ClaimableBalanceEntry.{ClaimableBalanceEntry}
+use Rattle.sponsor_rules.specs.ledger_types.declared.liquidity_pool.LiquidityPoolEntry.{LiquidityPoolEntry}
+use Rattle.sponsor_rules.specs.ledger_types.declared.trust_line.TrustLineEntry.{TrustLineEntry}
+use Rattle.sponsor_rules.specs.ledger_types.declared.offer.OfferEntry.{OfferEntry}
+use Rattle.sponsor_rules.specs.ledger_types.declared.data_entry.DataEntry.{DataEntry}
+use Rattle.sponsor_rules.specs.ledger_types.declared.entry.LedgerEntry.{LedgerEntry}
+use Rattle.sponsor_rules.specs.ledger_types.declared.entry.LedgerEntryBody.{LedgerEntryBody}
+use Rattle.sponsor_rules.specs.ledger_types.declared.entry.LedgerEntryBody.TheVariants as body
+use Rattle.sponsor_rules.specs.ledger_types.declared.key.LedgerKey.{LedgerKey}
+use Rattle.sponsor_rules.specs.ledger_types.declared.key.LedgerKey.TheVariants as key
+use Rattle.sponsor_rules.specs.ledger_types.Keys.{key_of_body}
+use Rattle.sponsor_rules.specs.entry_map.EntryMap.{EntryMap}
 use Rattle.sponsor_rules.specs.declared.count.Count.{Count}
 use Rattle.sponsor_rules.specs.declared.count.Count.TheVariants.{SubEntries, Sponsoring, Sponsored}
-use Rattle.entry_slots.specs.Accounts.{account_in}
-use Rattle.entry_slots.specs.EntrySponsor.{sponsor_of}
+use Rattle.sponsor_rules.specs.entry_slots.Accounts.{account_in}
+use Rattle.sponsor_rules.specs.entry_slots.EntrySponsor.{sponsor_of}
 use Rattle.sponsor_rules.specs.Charge.{line_multiplicity, multiplicity, owner_of}
 use Rattle.sponsor_rules.specs.Payers.{is_same_account}
 use Rattle.sponsor_laws.specs.Sums.{is_this, is_there, signer_sponsors, subentries_for, total, counted_for}

@@ -1,11 +1,11 @@
 -- What sponsors pay, as counts that move.
 use Rattle.std.proofs.Common.{◌≡◌, ◌⊎◌, inl, inr, refl, subst, ℕ, ◌+◌, ◌≤◌, Option, Some, None, arith}
-use Rattle.ledger_types.specs.declared.ids.AccountId.{AccountId}
-use Rattle.ledger_types.specs.declared.account.AccountEntry.{AccountEntry}
-use Rattle.entry_map.specs.EntryMap.{EntryMap}
+use Rattle.sponsor_rules.specs.ledger_types.declared.ids.AccountId.{AccountId}
+use Rattle.sponsor_rules.specs.ledger_types.declared.account.AccountEntry.{AccountEntry}
+use Rattle.sponsor_rules.specs.entry_map.EntryMap.{EntryMap}
 use Rattle.sponsor_rules.specs.declared.count.Count.{Count}
 use Rattle.sponsor_rules.specs.declared.count.Count.TheVariants.{SubEntries, Sponsoring, Sponsored}
-use Rattle.entry_slots.specs.Accounts.{account_at}
+use Rattle.sponsor_rules.specs.entry_slots.Accounts.{account_at}
 use Rattle.sponsor_rules.specs.Counting.{count_in, with_more, with_less}
 use Rattle.sponsor_rules.specs.Paying.{map_after_releasing}
 use Rattle.sponsor_rules.specs.Adding.{map_after_counting}

@@ -2,14 +2,14 @@
 use Rattle.std.proofs.Common.{◌≡◌, refl, ap, subst, ◌∙◌, ℕ, ◌+◌, ◌<◌, cond, length, Option, Some, None, arith}
 use Rattle.std.specs.List.{remove}
 use Rattle.std.proofs.lemmas.List.Edits.{length-remove}
-use Rattle.ledger_types.specs.declared.ids.AccountId.{AccountId}
-use Rattle.ledger_types.specs.declared.signer.SignerKey.{SignerKey}
-use Rattle.ledger_types.specs.declared.account.AccountEntry.{AccountEntry}
-use Rattle.ledger_types.specs.declared.key.LedgerKey.TheVariants as key
-use Rattle.entry_map.specs.EntryMap.{EntryMap}
+use Rattle.sponsor_rules.specs.ledger_types.declared.ids.AccountId.{AccountId}
+use Rattle.sponsor_rules.specs.ledger_types.declared.signer.SignerKey.{SignerKey}
+use Rattle.sponsor_rules.specs.ledger_types.declared.account.AccountEntry.{AccountEntry}
+use Rattle.sponsor_rules.specs.ledger_types.declared.key.LedgerKey.TheVariants as key
+use Rattle.sponsor_rules.specs.entry_map.EntryMap.{EntryMap}
 use Rattle.sponsor_rules.specs.declared.count.Count.TheVariants.{SubEntries, Sponsored}
-use Rattle.entry_slots.specs.Accounts.{account_at, with_account}
-use Rattle.entry_slots.specs.AccountExtensions.{signer_sponsor}
+use Rattle.sponsor_rules.specs.entry_slots.Accounts.{account_at, with_account}
+use Rattle.sponsor_rules.specs.entry_slots.AccountExtensions.{signer_sponsor}
 use Rattle.sponsor_rules.specs.Counting.{with_less}
 use Rattle.sponsor_rules.specs.Paying.{map_after_releasing, without_subentry}
 use Rattle.sponsor_rules.specs.declared.signer_place.FoundSigner.{FoundSigner}

@@ -6,18 +6,18 @@ use Rattle.std.specs.List.{sum_by, count_by, remove, position, position_or_len}
 use Rattle.std.specs.FinMap.{get}
 use Rattle.std.proofs.lemmas.List.Sums.{sum_by-remove, sum_by-set, get_or-le-sum_by}
 use borrow.Author.Tests.{ltb-true}
-use Rattle.ledger_types.specs.declared.ids.AccountId.{AccountId}
-use Rattle.ledger_types.specs.declared.signer.Signer.{Signer}
-use Rattle.ledger_types.specs.declared.signer.SignerKey.{SignerKey}
-use Rattle.ledger_types.specs.declared.account.AccountEntry.{AccountEntry}
-use Rattle.ledger_types.specs.declared.entry.LedgerEntry.{LedgerEntry}
-use Rattle.ledger_types.specs.declared.entry.LedgerEntryBody.TheVariants as body
-use Rattle.ledger_types.specs.declared.key.LedgerKey.TheVariants as key
-use Rattle.entry_map.specs.EntryMap.{EntryMap}
+use Rattle.sponsor_rules.specs.ledger_types.declared.ids.AccountId.{AccountId}
+use Rattle.sponsor_rules.specs.ledger_types.declared.signer.Signer.{Signer}
+use Rattle.sponsor_rules.specs.ledger_types.declared.signer.SignerKey.{SignerKey}
+use Rattle.sponsor_rules.specs.ledger_types.declared.account.AccountEntry.{AccountEntry}
+use Rattle.sponsor_rules.specs.ledger_types.declared.entry.LedgerEntry.{LedgerEntry}
+use Rattle.sponsor_rules.specs.ledger_types.declared.entry.LedgerEntryBody.TheVariants as body
+use Rattle.sponsor_rules.specs.ledger_types.declared.key.LedgerKey.TheVariants as key
+use Rattle.sponsor_rules.specs.entry_map.EntryMap.{EntryMap}
 use Rattle.sponsor_rules.specs.declared.count.Count.{Count}
 use Rattle.sponsor_rules.specs.declared.count.Count.TheVariants.{SubEntries, Sponsoring, Sponsored}
-use Rattle.entry_slots.specs.Accounts.{account_in, account_at, HasAccount}
-use Rattle.entry_slots.specs.AccountExtensions.{signer_sponsor}
+use Rattle.sponsor_rules.specs.entry_slots.Accounts.{account_in, account_at, HasAccount}
+use Rattle.sponsor_rules.specs.entry_slots.AccountExtensions.{signer_sponsor}
 use Rattle.sponsor_rules.specs.Charge.{owner_of}
 use Rattle.sponsor_rules.specs.Counting.{count_in}
 use Rattle.sponsor_rules.specs.SignerPlace.{place_of}

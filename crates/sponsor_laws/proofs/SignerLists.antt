@@ -4,12 +4,12 @@ use Rattle.std.proofs.Common.{get_or, Option, Some, None, slice_set, arith}
 use Rattle.std.specs.List.{insert, remove, slice_get, take-map, drop-map}
 use Rattle.std.specs.Option.{option_and_then}
 use Rattle.std.proofs.lemmas.List.{map-append}
-use Rattle.ledger_types.specs.declared.ids.AccountId.{AccountId}
-use Rattle.ledger_types.specs.declared.signer.Signer.{Signer}
-use Rattle.ledger_types.specs.declared.account.AccountEntry.{AccountEntry}
-use Rattle.ledger_types.specs.declared.account.AccountEntryExtensionV1.{AccountEntryExtensionV1}
-use Rattle.ledger_types.specs.declared.account.AccountEntryExtensionV2.{AccountEntryExtensionV2}
-use Rattle.entry_slots.specs.AccountExtensions.{second_in, sponsored_in, sponsorship_in, signer_sponsor}
+use Rattle.sponsor_rules.specs.ledger_types.declared.ids.AccountId.{AccountId}
+use Rattle.sponsor_rules.specs.ledger_types.declared.signer.Signer.{Signer}
+use Rattle.sponsor_rules.specs.ledger_types.declared.account.AccountEntry.{AccountEntry}
+use Rattle.sponsor_rules.specs.ledger_types.declared.account.AccountEntryExtensionV1.{AccountEntryExtensionV1}
+use Rattle.sponsor_rules.specs.ledger_types.declared.account.AccountEntryExtensionV2.{AccountEntryExtensionV2}
+use Rattle.sponsor_rules.specs.entry_slots.AccountExtensions.{second_in, sponsored_in, sponsorship_in, signer_sponsor}
 use Rattle.sponsor_rules.specs.Counting.{count_in}
 use Rattle.sponsor_rules.specs.SignerPlace.{with_sponsors, with_sponsors_in, with_signer_at, without_signer}
 use Rattle.sponsor_rules.specs.SignerPlace.{with_signer_sponsor}

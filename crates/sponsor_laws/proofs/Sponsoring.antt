@@ -2,15 +2,15 @@
 use Rattle.std.proofs.Common.{◌≡◌, ◌≢◌, refl, sym, ap, ◌∙◌, ◌≤◌, List, [], ◌∷◌, length, Some, arith}
 use Rattle.std.specs.List.{count_by}
 use Rattle.std.specs.FinMap.{get}
-use Rattle.ledger_types.specs.declared.ids.AccountId.{AccountId}
-use Rattle.ledger_types.specs.declared.entry.LedgerEntry.{LedgerEntry}
-use Rattle.ledger_types.specs.declared.entry.LedgerEntryBody.{LedgerEntryBody}
-use Rattle.ledger_types.specs.declared.entry.LedgerEntryBody.TheVariants as body
-use Rattle.ledger_types.specs.declared.key.LedgerKey.{LedgerKey}
-use Rattle.ledger_types.specs.declared.key.LedgerKey.TheVariants as key
-use Rattle.entry_map.specs.EntryMap.{EntryMap}
+use Rattle.sponsor_rules.specs.ledger_types.declared.ids.AccountId.{AccountId}
+use Rattle.sponsor_rules.specs.ledger_types.declared.entry.LedgerEntry.{LedgerEntry}
+use Rattle.sponsor_rules.specs.ledger_types.declared.entry.LedgerEntryBody.{LedgerEntryBody}
+use Rattle.sponsor_rules.specs.ledger_types.declared.entry.LedgerEntryBody.TheVariants as body
+use Rattle.sponsor_rules.specs.ledger_types.declared.key.LedgerKey.{LedgerKey}
+use Rattle.sponsor_rules.specs.ledger_types.declared.key.LedgerKey.TheVariants as key
+use Rattle.sponsor_rules.specs.entry_map.EntryMap.{EntryMap}
 use Rattle.sponsor_rules.specs.declared.count.Count.TheVariants.{Sponsoring}
-use Rattle.entry_slots.specs.EntrySponsor.{sponsor_of}
+use Rattle.sponsor_rules.specs.entry_slots.EntrySponsor.{sponsor_of}
 use Rattle.sponsor_rules.specs.Charge.{multiplicity}
 use Rattle.sponsor_laws.specs.Sums.{is_this, signer_sponsors, total}
 use Rattle.sponsor_laws.specs.Laws.{SponsoredEntriesCount, ZeroSponsorsNothing}

@@ -13,13 +13,13 @@ use Rattle.ledger_types.specs.declared.key.LedgerKey.TheVariants as key
 use Rattle.ledger_types.specs.KeyOrder.{key_cmp}
 use Rattle.ledger_types.specs.Keys.{key_of}
 use Rattle.ledger_types.proofs.KeyOrdering.{keys_total}
-use Rattle.entry_map.specs.EntryMap.{EntryMap, put, erase}
-use Rattle.entry_map.proofs.KeyMaps.{same_keys, same_itself}
-use Rattle.entry_slots.specs.declared.accounts.AccountSlot.{AccountSlot}
-use Rattle.entry_slots.specs.Accounts.{account_of, account_at, account_slot_by, account_slot_of, account_slot_at}
-use Rattle.entry_slots.specs.Accounts.{account_of_slot, account_in, entry_of_account, with_account, with_account_in}
-use Rattle.entry_slots.specs.Accounts.{with_account_of}
-use Rattle.entry_slots.specs.EntrySponsor.{with_sponsor}
+use Rattle.reserve_rules.specs.entry_map.EntryMap.{EntryMap, put, erase}
+use Rattle.reserve_rules.proofs.entry_map_proofs.KeyMaps.{same_keys, same_itself}
+use Rattle.reserve_rules.specs.entry_slots.declared.accounts.AccountSlot.{AccountSlot}
+use Rattle.reserve_rules.specs.entry_slots.Accounts.{account_of, account_at, account_slot_by, account_slot_of, account_slot_at}
+use Rattle.reserve_rules.specs.entry_slots.Accounts.{account_of_slot, account_in, entry_of_account, with_account, with_account_in}
+use Rattle.reserve_rules.specs.entry_slots.Accounts.{with_account_of}
+use Rattle.reserve_rules.specs.entry_slots.EntrySponsor.{with_sponsor}
 use Rattle.sponsor_rules.specs.declared.count.Count.{Count}
 use Rattle.sponsor_rules.specs.Counting.{count_if, count_at}
 use Rattle.sponsor_rules.specs.Keeping.{KeepsMeans, KeepsOtherCounts, RaisesNoCount, IsChanged, IsChangeOf, KeepsOthers}

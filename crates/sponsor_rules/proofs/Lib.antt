@@ -2,3 +2,6 @@ pub mod Ids
 pub mod Keeping
 pub mod Outcomes
 pub mod AccountMaps
+pub use Rattle.reserve_rules.proofs.entry_map_proofs
+pub use Rattle.reserve_rules.proofs.entry_slots_proofs
+pub use Rattle.ledger_types.proofs as ledger_types_proofs

@@ -1,8 +1,8 @@
 -- What a call leaves, by the tests that were made first.
 use Rattle.std.proofs.Common.{◌≡◌, ap, None, Ok}
-use Rattle.entry_map.specs.EntryMap.{EntryMap}
-use Rattle.entry_map.specs.Undo.{Undo}
-use Rattle.entry_slots.specs.Tests.{Tests, first_fault, unless_fault, unless_first}
+use Rattle.reserve_rules.specs.entry_map.EntryMap.{EntryMap}
+use Rattle.reserve_rules.specs.entry_map.Undo.{Undo}
+use Rattle.reserve_rules.specs.entry_slots.Tests.{Tests, first_fault, unless_fault, unless_first}
 use Rattle.sponsor_rules.specs.declared.fault.AddFault.{AddFault}
 use Rattle.sponsor_rules.specs.declared.fault.AddFault.TheVariants.{TooManySubentries, TooManySponsoring}
 use Rattle.sponsor_rules.specs.declared.fault.AddFault.TheVariants.{LowReserve}

@@ -6,10 +6,10 @@ use Rattle.ledger_types.specs.declared.account.AccountEntry.{AccountEntry}
 use Rattle.ledger_types.specs.declared.entry.LedgerEntry.{LedgerEntry}
 use Rattle.ledger_types.specs.declared.entry.LedgerEntryBody.{LedgerEntryBody}
 use Rattle.ledger_types.specs.declared.entry.LedgerEntryBody.TheVariants as body
-use Rattle.entry_map.specs.EntryMap.{EntryMap, put}
-use Rattle.entry_slots.specs.Accounts.{account_in, with_account}
-use Rattle.entry_slots.specs.EntrySponsor.{with_sponsor}
-use Rattle.entry_slots.specs.Tests.{Tests, unless_first}
+use Rattle.reserve_rules.specs.entry_map.EntryMap.{EntryMap, put}
+use Rattle.reserve_rules.specs.entry_slots.Accounts.{account_in, with_account}
+use Rattle.reserve_rules.specs.entry_slots.EntrySponsor.{with_sponsor}
+use Rattle.reserve_rules.specs.entry_slots.Tests.{Tests, unless_first}
 use Rattle.sponsor_rules.specs.declared.charge.Charge.{Charge}
 use Rattle.sponsor_rules.specs.declared.charge.Charge.TheVariants as charge
 use Rattle.sponsor_rules.specs.declared.count.Count.TheVariants.{Sponsored}

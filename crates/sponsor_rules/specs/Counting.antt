@@ -3,9 +3,9 @@ use Rattle.std.specs.Prelude.{ℕ, ◌+◌, ◌-◌, nat_eq, Option, Some, None,
 use Rattle.ledger_types.specs.declared.ids.AccountId.{AccountId}
 use Rattle.ledger_types.specs.declared.account.AccountEntry.{AccountEntry}
 use Rattle.ledger_types.specs.declared.account.AccountEntryExtensionV2.{AccountEntryExtensionV2}
-use Rattle.entry_map.specs.EntryMap.{EntryMap}
-use Rattle.entry_slots.specs.Accounts.{account_at}
-use Rattle.entry_slots.specs.AccountExtensions.{num_sponsoring, num_sponsored, sponsorship_of, with_sponsorship}
+use Rattle.reserve_rules.specs.entry_map.EntryMap.{EntryMap}
+use Rattle.reserve_rules.specs.entry_slots.Accounts.{account_at}
+use Rattle.reserve_rules.specs.entry_slots.AccountExtensions.{num_sponsoring, num_sponsored, sponsorship_of, with_sponsorship}
 use Rattle.sponsor_rules.specs.declared.count.Count.{Count}
 use Rattle.sponsor_rules.specs.declared.count.Count.TheVariants.{SubEntries, Sponsoring, Sponsored}
 

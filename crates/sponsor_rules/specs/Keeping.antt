@@ -5,10 +5,10 @@ use Rattle.ledger_types.specs.declared.ids.AccountId.{AccountId}
 use Rattle.ledger_types.specs.declared.account.AccountEntry.{AccountEntry}
 use Rattle.ledger_types.specs.declared.key.LedgerKey.{LedgerKey}
 use Rattle.ledger_types.specs.declared.key.LedgerKey.TheVariants as key
-use Rattle.entry_map.specs.EntryMap.{EntryMap}
-use Rattle.entry_slots.specs.declared.accounts.AccountSlot.{AccountSlot}
-use Rattle.entry_slots.specs.Accounts.{account_at, account_slot_at, account_of_slot}
-use Rattle.entry_slots.specs.AccountExtensions.{account_liabilities}
+use Rattle.reserve_rules.specs.entry_map.EntryMap.{EntryMap}
+use Rattle.reserve_rules.specs.entry_slots.declared.accounts.AccountSlot.{AccountSlot}
+use Rattle.reserve_rules.specs.entry_slots.Accounts.{account_at, account_slot_at, account_of_slot}
+use Rattle.reserve_rules.specs.entry_slots.AccountExtensions.{account_liabilities}
 use Rattle.sponsor_rules.specs.declared.count.Count.{Count}
 use Rattle.sponsor_rules.specs.declared.count.Count.TheVariants.{SubEntries, Sponsored}
 use Rattle.sponsor_rules.specs.Counting.{count_in, count_if, count_at}

@@ -9,3 +9,7 @@ pub mod Removing
 pub mod Moving
 pub mod SignerPlace
 pub mod Signers
+pub use Rattle.reserve_rules.specs.entry_map
+pub use Rattle.reserve_rules.specs.entry_slots
+pub use Rattle.ledger_types.specs as ledger_types
+pub use Rattle.reserve_rules.specs as reserve_rules

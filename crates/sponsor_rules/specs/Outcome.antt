@@ -1,7 +1,7 @@
 -- What a call that adds or moves something leaves.
 use Rattle.std.specs.Prelude.{◌≡◌, Option, Some, Result, Ok, Err}
-use Rattle.entry_map.specs.EntryMap.{EntryMap}
-use Rattle.entry_map.specs.Undo.{Undo, with_current}
+use Rattle.reserve_rules.specs.entry_map.EntryMap.{EntryMap}
+use Rattle.reserve_rules.specs.entry_map.Undo.{Undo, with_current}
 use Rattle.sponsor_rules.specs.declared.fault.AddFault.{AddFault}
 use Rattle.sponsor_rules.specs.declared.fault.AddFault.TheVariants.{NoMemory}
 

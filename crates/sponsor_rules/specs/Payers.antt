@@ -7,10 +7,10 @@ use Rattle.std.specs.Ordering.{is_lt, int_cmp}
 use Rattle.std.specs.Str.{bytes_eq}
 use Rattle.ledger_types.specs.declared.ids.AccountId.{AccountId}
 use Rattle.ledger_types.specs.declared.account.AccountEntry.{AccountEntry}
-use Rattle.entry_map.specs.EntryMap.{EntryMap}
-use Rattle.entry_slots.specs.Accounts.{account_at}
-use Rattle.entry_slots.specs.AccountExtensions.{num_sponsored}
-use Rattle.entry_slots.specs.Tests.{Tests}
+use Rattle.reserve_rules.specs.entry_map.EntryMap.{EntryMap}
+use Rattle.reserve_rules.specs.entry_slots.Accounts.{account_at}
+use Rattle.reserve_rules.specs.entry_slots.AccountExtensions.{num_sponsored}
+use Rattle.reserve_rules.specs.entry_slots.Tests.{Tests}
 use Rattle.reserve_rules.specs.Reserve.{available}
 use Rattle.sponsor_rules.specs.declared.count.Count.TheVariants.{SubEntries, Sponsoring}
 use Rattle.sponsor_rules.specs.declared.context.Ctx.{Ctx}

@@ -3,8 +3,8 @@
 use Rattle.std.specs.Prelude.{ℕ, Option, Some, None}
 use Rattle.ledger_types.specs.declared.ids.AccountId.{AccountId}
 use Rattle.ledger_types.specs.declared.account.AccountEntry.{AccountEntry}
-use Rattle.entry_map.specs.EntryMap.{EntryMap}
-use Rattle.entry_slots.specs.Accounts.{with_account}
+use Rattle.reserve_rules.specs.entry_map.EntryMap.{EntryMap}
+use Rattle.reserve_rules.specs.entry_slots.Accounts.{with_account}
 use Rattle.sponsor_rules.specs.declared.count.Count.TheVariants.{SubEntries, Sponsoring, Sponsored}
 use Rattle.sponsor_rules.specs.Counting.{with_more, with_less}
 

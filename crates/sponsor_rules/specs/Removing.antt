@@ -4,9 +4,9 @@ use Rattle.std.specs.FinMap.{get}
 use Rattle.ledger_types.specs.declared.ids.AccountId.{AccountId}
 use Rattle.ledger_types.specs.declared.entry.LedgerEntry.{LedgerEntry}
 use Rattle.ledger_types.specs.declared.key.LedgerKey.{LedgerKey}
-use Rattle.entry_map.specs.EntryMap.{EntryMap, erase}
-use Rattle.entry_slots.specs.Accounts.{with_account}
-use Rattle.entry_slots.specs.EntrySponsor.{sponsor_of}
+use Rattle.reserve_rules.specs.entry_map.EntryMap.{EntryMap, erase}
+use Rattle.reserve_rules.specs.entry_slots.Accounts.{with_account}
+use Rattle.reserve_rules.specs.entry_slots.EntrySponsor.{sponsor_of}
 use Rattle.sponsor_rules.specs.declared.charge.Charge.{Charge}
 use Rattle.sponsor_rules.specs.declared.charge.Charge.TheVariants as charge
 use Rattle.sponsor_rules.specs.Charge.{charge_of}

@@ -9,7 +9,7 @@ use Rattle.ledger_types.specs.declared.account.AccountEntry.{AccountEntry}
 use Rattle.ledger_types.specs.declared.account.AccountEntryExtensionV1.{AccountEntryExtensionV1}
 use Rattle.ledger_types.specs.declared.account.AccountEntryExtensionV2.{AccountEntryExtensionV2}
 use Rattle.ledger_types.specs.KeyOrder.{signer_key_cmp}
-use Rattle.entry_slots.specs.AccountExtensions.{signer_sponsor}
+use Rattle.reserve_rules.specs.entry_slots.AccountExtensions.{signer_sponsor}
 use Rattle.sponsor_rules.specs.declared.signer_place.FoundSigner.{FoundSigner}
 
 -- ---- places

@@ -2,9 +2,9 @@
 
 ghost use Rattle.std.specs.Prelude.{◌≡◌, ◌≤◌, Some, Ok, IfOk, OnOk};
 ghost use Rattle.ledger_types.specs.Keys.{key_of};
-ghost use Rattle.entry_map.specs.EntryMap.{put};
-ghost use Rattle.entry_map.specs.Undo.{with_current};
-ghost use Rattle.entry_slots.specs.Accounts.{account_of_slot, entry_of_account, with_account};
+ghost use Rattle.reserve_rules.specs.entry_map.EntryMap.{put};
+ghost use Rattle.reserve_rules.specs.entry_map.Undo.{with_current};
+ghost use Rattle.reserve_rules.specs.entry_slots.Accounts.{account_of_slot, entry_of_account, with_account};
 ghost use Rattle.sponsor_rules.specs.Adding as spec;
 ghost use Rattle.sponsor_rules.specs.Keeping as keeping;
 ghost use Rattle.sponsor_rules.specs.Outcome.{IsOutcome};
@@ -20,9 +20,9 @@ use crate::owner::gain_subentry;
 use crate::payers::{open_sponsor, payer_by, payer_fault};
 use crate::paying::{pay_for_subentry, raise_sponsoring};
 use crate::stored::{load, put_entry, store_changed};
-use entry_map::{Base, Entries};
-use entry_slots::{AccountSlot, account_slot_in, set_sponsor, store_account};
 use ledger_types::{AccountId, LedgerEntry, LedgerEntryExtensionV1};
+use reserve_rules::entry_map::{Base, Entries};
+use reserve_rules::entry_slots::{AccountSlot, account_slot_in, set_sponsor, store_account};
 use std::alloc::AllocError;
 
 /// Adds an entry, for which its owner or that account's open sponsor pays: the counts change, and a sponsor is recorded

@@ -1,13 +1,13 @@
 //! The counts of an account.
 
 ghost use Rattle.std.specs.Prelude.{◌≡◌, ◌+◌, ◌<◌, ◌^◌, OnOk};
-ghost use Rattle.entry_slots.specs.AccountExtensions.{sponsorship_of, with_sponsorship};
+ghost use Rattle.reserve_rules.specs.entry_slots.AccountExtensions.{sponsorship_of, with_sponsorship};
 ghost use Rattle.sponsor_rules.specs.Counting as spec;
 ghost use Rattle.sponsor_rules.specs.Keeping.{KeepsMeans, KeepsOtherCounts, RaisesNoCount};
 
 use crate::count::Count;
-use entry_slots::{both_extensions, num_sponsored, num_sponsoring};
 use ledger_types::{AccountEntry, AccountEntryExtensionV1, AccountEntryExtensionV2};
+use reserve_rules::entry_slots::{both_extensions, num_sponsored, num_sponsoring};
 use std::alloc::AllocError;
 
 /// A count of an account: 0 where its extension isn't there.

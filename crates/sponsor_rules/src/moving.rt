@@ -4,8 +4,8 @@ ghost use Rattle.std.specs.Prelude.{◌≡◌, ◌+◌, ◌<◌, ◌≤◌, ◌^
 ghost use Rattle.std.specs.FinMap.{get};
 ghost use Rattle.ledger_types.specs.declared.ids.AccountId.{AccountId as AnId};
 ghost use Rattle.ledger_types.specs.declared.entry.LedgerEntry.{LedgerEntry as AnEntry};
-ghost use Rattle.entry_map.specs.Undo.{with_current};
-ghost use Rattle.entry_slots.specs.Accounts.{account_of_slot, with_account};
+ghost use Rattle.reserve_rules.specs.entry_map.Undo.{with_current};
+ghost use Rattle.reserve_rules.specs.entry_slots.Accounts.{account_of_slot, with_account};
 ghost use Rattle.sponsor_rules.specs.declared.count.Count.TheVariants.{Sponsored};
 ghost use Rattle.sponsor_rules.specs.Charge.{owner_of};
 ghost use Rattle.sponsor_rules.specs.Counting.{count_if};
@@ -22,9 +22,9 @@ use crate::owner::change_payer;
 use crate::payers::payer_other_than;
 use crate::paying::{exchange_payers, exchange_sponsors};
 use crate::stored::store_changed;
-use entry_map::{Base, Entries};
-use entry_slots::{AccountSlot, set_sponsor, sponsor_in};
 use ledger_types::{AccountId, LedgerKey};
+use reserve_rules::entry_map::{Base, Entries};
+use reserve_rules::entry_slots::{AccountSlot, set_sponsor, sponsor_in};
 use std::alloc::AllocError;
 
 /// Moves the entry with a key to another payer, or to its owner where none is given: the counts of those that pay for

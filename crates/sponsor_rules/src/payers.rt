@@ -1,17 +1,17 @@
 //! Open sponsorships, and the tests of who pays.
 
 ghost use Rattle.std.specs.Prelude.{◌≡◌, ◌≢◌, ◌+◌, ◌*◌, ◌≤◌, pos, true, false, IfNone};
-ghost use Rattle.entry_slots.specs.Accounts.{account_of_slot};
-ghost use Rattle.entry_slots.specs.Tests.{first_fault};
+ghost use Rattle.reserve_rules.specs.entry_slots.Accounts.{account_of_slot};
+ghost use Rattle.reserve_rules.specs.entry_slots.Tests.{first_fault};
 ghost use Rattle.sponsor_rules.specs.declared.count.Count.TheVariants.{SubEntries, Sponsoring};
 ghost use Rattle.sponsor_rules.specs.Counting.{count_if};
 ghost use Rattle.sponsor_rules.specs.Payers as spec;
 
 use crate::context::Ctx;
 use crate::fault::AddFault;
-use entry_slots::{AccountSlot, num_sponsoring};
 use ledger_types::AccountId;
 use reserve_rules::available;
+use reserve_rules::entry_slots::{AccountSlot, num_sponsoring};
 
 /// No account has more subentries.
 const MAX_SUBENTRIES: u128 = 1000;

@@ -1,9 +1,9 @@
 //! Payers that are tested, charged and released.
 
 ghost use Rattle.std.specs.Prelude.{◌≡◌, ◌+◌, ◌<◌, ◌≤◌, ◌^◌, Some, None, OnOk, IfOk, IfErr};
-ghost use Rattle.entry_map.specs.Undo.{with_current};
-ghost use Rattle.entry_slots.specs.Accounts.{account_of_slot};
-ghost use Rattle.entry_slots.specs.Tests.{first_fault};
+ghost use Rattle.reserve_rules.specs.entry_map.Undo.{with_current};
+ghost use Rattle.reserve_rules.specs.entry_slots.Accounts.{account_of_slot};
+ghost use Rattle.reserve_rules.specs.entry_slots.Tests.{first_fault};
 ghost use Rattle.sponsor_rules.specs.declared.count.Count.TheVariants.{Sponsoring, Sponsored};
 ghost use Rattle.ledger_types.specs.declared.ids.AccountId.{AccountId as AnId};
 ghost use Rattle.sponsor_rules.specs.Counting.{count_at, count_if};
@@ -18,9 +18,9 @@ use crate::counting::{lower, raise};
 use crate::fault::AddFault;
 use crate::payers::{is_short, payer_fault, subentry_fault};
 use crate::stored::{load, still_loaded, store_changed};
-use entry_map::{Base, Entries};
-use entry_slots::AccountSlot;
 use ledger_types::AccountId;
+use reserve_rules::entry_map::{Base, Entries};
+use reserve_rules::entry_slots::AccountSlot;
 use std::alloc::AllocError;
 
 /// A sponsor pays `multiplicity` reserves more. `slot` is what stands under its id.

@@ -1,8 +1,8 @@
 //! Removing entries.
 
 ghost use Rattle.std.specs.Prelude.{◌≡◌, OnOk};
-ghost use Rattle.entry_map.specs.Undo.{with_current};
-ghost use Rattle.entry_slots.specs.Accounts.{with_account};
+ghost use Rattle.reserve_rules.specs.entry_map.Undo.{with_current};
+ghost use Rattle.reserve_rules.specs.entry_slots.Accounts.{with_account};
 ghost use Rattle.sponsor_rules.specs.Keeping as keeping;
 ghost use Rattle.sponsor_rules.specs.Paying as paying;
 ghost use Rattle.sponsor_rules.specs.Removing as spec;
@@ -12,9 +12,9 @@ use crate::context::Ctx;
 use crate::owner::lose_subentry;
 use crate::paying::lower_sponsoring;
 use crate::stored::{erase_entry, load, store_changed};
-use entry_map::{Base, Entries};
-use entry_slots::sponsor_in;
 use ledger_types::{AccountId, LedgerKey};
+use reserve_rules::entry_map::{Base, Entries};
+use reserve_rules::entry_slots::sponsor_in;
 use std::alloc::AllocError;
 
 /// Removes the entry with a key: the counts of its sponsor, and of a subentry's owner, fall. Nothing changes where

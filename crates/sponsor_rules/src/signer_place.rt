@@ -3,12 +3,12 @@
 ghost use Rattle.std.specs.Prelude.{◌≡◌, ◌≤◌, length, IfOk, Some};
 ghost use Rattle.std.specs.Option.{option_copied};
 ghost use Rattle.ledger_types.specs.KeyOrder.{signer_key_cmp};
-ghost use Rattle.entry_slots.specs.Accounts.{account_at, account_of, account_of_slot};
+ghost use Rattle.reserve_rules.specs.entry_slots.Accounts.{account_at, account_of, account_of_slot};
 ghost use Rattle.sponsor_rules.specs.SignerPlace as spec;
 
-use entry_map::{Base, Entries};
-use entry_slots::{AccountSlot, account_in, signer_sponsor};
 use ledger_types::{AccountEntry, AccountId, LedgerEntry, LedgerKey, Signer, SignerKey};
+use reserve_rules::entry_map::{Base, Entries};
+use reserve_rules::entry_slots::{AccountSlot, account_in, signer_sponsor};
 use std::alloc::AllocError;
 use std::cmp::Ordering;
 
@@ -80,7 +80,6 @@ fn signer_of_entry(key: &SignerKey, entry: Option<&LedgerEntry>) -> Option<Found
 
 /// Where the signer with a key stands among those of the account with an id, and who pays for it. An account that has
 /// changed is looked at where it is.
-#[tactic(auto, unfolding(entry_slots::specs::Accounts::account_at))]
 pub fn find_signer<B: Base>(
     entries: &Entries<'_, B>,
     account: &AccountId,

@@ -1,8 +1,8 @@
 //! Adding, removing and moving signers.
 
 ghost use Rattle.std.specs.Prelude.{◌≡◌, ◌+◌, ◌<◌, ◌^◌, OnOk};
-ghost use Rattle.entry_map.specs.Undo.{with_current};
-ghost use Rattle.entry_slots.specs.Accounts.{account_of_slot, with_account};
+ghost use Rattle.reserve_rules.specs.entry_map.Undo.{with_current};
+ghost use Rattle.reserve_rules.specs.entry_slots.Accounts.{account_of_slot, with_account};
 ghost use Rattle.sponsor_rules.specs.declared.count.Count.TheVariants.{Sponsored};
 ghost use Rattle.sponsor_rules.specs.Counting.{count_if};
 ghost use Rattle.sponsor_rules.specs.Keeping as keeping;
@@ -18,9 +18,9 @@ use crate::paying::{exchange_payers, lower_sponsoring, pay_for_subentry};
 use crate::signer_edits::{insert_signer, remove_signer_at, set_signer_sponsor};
 use crate::signer_place::{FoundSigner, find_signer};
 use crate::stored::{load, store_changed};
-use entry_map::{Base, Entries};
-use entry_slots::AccountSlot;
 use ledger_types::{AccountId, Hash, Signer, SignerKey};
+use reserve_rules::entry_map::{Base, Entries};
+use reserve_rules::entry_slots::AccountSlot;
 use std::alloc::AllocError;
 
 /// Adds a signer to an account, for which the account or its open sponsor pays: the counts change, the signer stands

@@ -2,16 +2,16 @@
 
 ghost use Rattle.std.specs.Prelude.{◌≡◌, ◌≢◌, Some, OnOk, IfOk};
 ghost use Rattle.ledger_types.specs.Keys.{key_of};
-ghost use Rattle.entry_map.specs.EntryMap.{put, erase};
-ghost use Rattle.entry_map.specs.Undo.{with_current};
-ghost use Rattle.entry_slots.specs.Accounts.{entry_of_account};
+ghost use Rattle.reserve_rules.specs.entry_map.EntryMap.{put, erase};
+ghost use Rattle.reserve_rules.specs.entry_map.Undo.{with_current};
+ghost use Rattle.reserve_rules.specs.entry_slots.Accounts.{entry_of_account};
 ghost use Rattle.sponsor_rules.specs.declared.count.Count.{Count as ACount};
 ghost use Rattle.sponsor_rules.specs.Keeping as spec;
 
 use crate::payers::is_same_account;
-use entry_map::{Base, Entries};
-use entry_slots::{AccountSlot, load_account, store_account};
 use ledger_types::{AccountId, LedgerEntry, LedgerKey};
+use reserve_rules::entry_map::{Base, Entries};
+use reserve_rules::entry_slots::{AccountSlot, load_account, store_account};
 use std::alloc::AllocError;
 
 /// What stands under an account's id.

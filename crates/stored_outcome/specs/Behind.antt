@@ -2,10 +2,10 @@
 use Rattle.std.specs.Prelude.{◌≡◌, ℕ, ◌+◌, List, [], ◌∷◌, ◌++◌, length, take, codes, nat_eq, count_by, Bool}
 use Rattle.std.specs.Prelude.{if◌then◌else◌}
 use Rattle.std.specs.Str.{bytes_eq}
-use Rattle.xdr_core.specs.Place.{start_of}
-use Rattle.close_rules.specs.State.{ClosingState}
+use Rattle.sample_ledger.specs.xdr_core.Place.{start_of}
+use Rattle.run_outcome.specs.close_rules.State.{ClosingState}
 use Rattle.run_outcome.specs.Outcome.{AreClosedAhead, IsFront}
-use Rattle.outside.specs.Disk.{Image}
+use Rattle.image_store.specs.outside.Disk.{Image}
 use Rattle.stored_outcome.specs.Opening.{OpensTo}
 
 -- the first k records of a text close ledgers behind s: their lines, and the state behind the last

@@ -1,22 +1,22 @@
 -- What `init` leaves, over what was seen of its source, of standard error and of its volume before and after.
 use Rattle.std.specs.Prelude.{◌≡◌, ◌≢◌, ◌≤◌, ℕ, List, [], ◌⊎◌, IfSome, Ok, Err}
 use Rattle.std.specs.Io.KnownBytes.{IsAtEnd}
-use Rattle.ledger_types.specs.declared.ids.Hash.{Hash}
-use Rattle.xdr_core.specs.declared.fault.XdrFault.{XdrFault}
-use Rattle.xdr_core.specs.Place.{Place, start_of}
-use Rattle.xdr_header.specs.declared.image.StartImage.{StartImage}
-use Rattle.xdr_header.specs.Image.{start_image}
-use Rattle.hash_ids.specs.Ids.{network_id_of}
-use Rattle.run_streams.specs.Seen.{Seen, Failed, Gave}
-use Rattle.close_rules.specs.declared.image_fault.ImageRule.{ImageRule}
-use Rattle.close_rules.specs.declared.image_fault.ImageFault.TheVariants as image
-use Rattle.close_rules.specs.State.{ClosingState}
-use Rattle.close_rules.specs.Images.{IsJudged}
+use Rattle.sample_ledger.specs.ledger_types.declared.ids.Hash.{Hash}
+use Rattle.sample_ledger.specs.xdr_core.declared.fault.XdrFault.{XdrFault}
+use Rattle.sample_ledger.specs.xdr_core.Place.{Place, start_of}
+use Rattle.sample_ledger.specs.xdr_header.declared.image.StartImage.{StartImage}
+use Rattle.sample_ledger.specs.xdr_header.Image.{start_image}
+use Rattle.sample_ledger.specs.hash_ids.Ids.{network_id_of}
+use Rattle.run_outcome.specs.run_streams.Seen.{Seen, Failed, Gave}
+use Rattle.run_outcome.specs.close_rules.declared.image_fault.ImageRule.{ImageRule}
+use Rattle.run_outcome.specs.close_rules.declared.image_fault.ImageFault.TheVariants as image
+use Rattle.run_outcome.specs.close_rules.State.{ClosingState}
+use Rattle.run_outcome.specs.close_rules.Images.{IsJudged}
 use Rattle.run_outcome.specs.declared.status.Status.{Status}
 use Rattle.run_outcome.specs.declared.status.Status.TheVariants as status
 use Rattle.run_outcome.specs.Run.{IsLineTold}
-use Rattle.outside.specs.Disk.{Image, IsSafe}
-use Rattle.run_streams.specs.SeenVolume.{SeenVolume, VolumeFailed, MightLeave}
+use Rattle.image_store.specs.outside.Disk.{Image, IsSafe}
+use Rattle.run_outcome.specs.run_streams.SeenVolume.{SeenVolume, VolumeFailed, MightLeave}
 use Rattle.image_store.specs.ImageFiles.{IsImage}
 use Rattle.image_store.specs.Opening.{Holds, HoldsNothing}
 use Rattle.image_store.specs.Calls.{first_kept}

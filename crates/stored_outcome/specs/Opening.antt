@@ -1,14 +1,14 @@
 -- What a volume's content opens to: the state behind its image and all records of its journal.
 use Rattle.std.specs.Prelude.{◌≡◌, ℕ, ◌+◌, ◌%◌, List, ◌∷◌, ◌++◌, length, Ok, Err, ◌⊎◌}
-use Rattle.ledger_types.specs.declared.ids.Hash.{Hash}
-use Rattle.close_rules.specs.declared.close_fault.CloseFault.{CloseFault}
-use Rattle.close_rules.specs.declared.image_fault.ImageFault.{ImageFault}
-use Rattle.close_rules.specs.State.{ClosingState}
-use Rattle.close_rules.specs.Close.{IsClose}
-use Rattle.close_rules.specs.Images.{IsJudged}
+use Rattle.sample_ledger.specs.ledger_types.declared.ids.Hash.{Hash}
+use Rattle.run_outcome.specs.close_rules.declared.close_fault.CloseFault.{CloseFault}
+use Rattle.run_outcome.specs.close_rules.declared.image_fault.ImageFault.{ImageFault}
+use Rattle.run_outcome.specs.close_rules.State.{ClosingState}
+use Rattle.run_outcome.specs.close_rules.Close.{IsClose}
+use Rattle.run_outcome.specs.close_rules.Images.{IsJudged}
 use Rattle.run_outcome.specs.Outcome.{AreClosed}
-use Rattle.outside.specs.Disk.{Image, Disk, IsSafe}
-use Rattle.gate_journal.specs.Records.{blocks}
+use Rattle.image_store.specs.outside.Disk.{Image, Disk, IsSafe}
+use Rattle.image_store.specs.gate_journal.Records.{blocks}
 use Rattle.image_store.specs.ImageFiles.{head_len}
 use Rattle.image_store.specs.Opening.{Kept, Holds, HoldsNoStore}
 

@@ -1,7 +1,7 @@
 -- What a run of the program leaves, by its words, over what was seen of its streams and its volume before and after.
 use Rattle.std.specs.Prelude.{ℕ, List, ◌⊎◌}
-use Rattle.run_streams.specs.Seen.{Seen, IsUntouched}
-use Rattle.run_streams.specs.SeenVolume.{SeenVolume}
+use Rattle.run_outcome.specs.run_streams.Seen.{Seen, IsUntouched}
+use Rattle.run_outcome.specs.run_streams.SeenVolume.{SeenVolume}
 use Rattle.run_outcome.specs.declared.status.Status.{Status}
 use Rattle.run_outcome.specs.declared.status.Status.TheVariants as status
 use Rattle.run_outcome.specs.Run.{IsTold, DidCatchUp}

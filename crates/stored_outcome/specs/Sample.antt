@@ -1,8 +1,8 @@
 -- What `sample` leaves, over what was seen of its output and of standard error.
 use Rattle.std.specs.Prelude.{◌≡◌, ◌<◌, ℕ, suc, List, [], length, Err, ◌⊎◌}
-use Rattle.run_streams.specs.Seen.{Seen, Failed}
-use Rattle.close_rules.specs.declared.close_fault.CloseFault.{CloseFault}
-use Rattle.close_rules.specs.Close.{IsClose}
+use Rattle.run_outcome.specs.run_streams.Seen.{Seen, Failed}
+use Rattle.run_outcome.specs.close_rules.declared.close_fault.CloseFault.{CloseFault}
+use Rattle.run_outcome.specs.close_rules.Close.{IsClose}
 use Rattle.run_outcome.specs.declared.status.Status.{Status}
 use Rattle.run_outcome.specs.declared.status.Status.TheVariants as status
 use Rattle.run_outcome.specs.Lines.{sample_line, refused_line, success_count}

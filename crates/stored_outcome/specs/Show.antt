@@ -1,14 +1,14 @@
 -- What `show` leaves, over what was seen of its output, of standard error and of its volume before and after.
 use Rattle.std.specs.Prelude.{◌≡◌, List, ℕ, length, ◌⊎◌}
 use Rattle.std.specs.FinMap.{entries}
-use Rattle.run_streams.specs.Seen.{Seen, Failed, IsUntouched, Received, ReceivedPrefix}
-use Rattle.close_rules.specs.State.{ClosingState}
+use Rattle.run_outcome.specs.run_streams.Seen.{Seen, Failed, IsUntouched, Received, ReceivedPrefix}
+use Rattle.run_outcome.specs.close_rules.State.{ClosingState}
 use Rattle.run_outcome.specs.declared.status.Status.{Status}
 use Rattle.run_outcome.specs.declared.status.Status.TheVariants as status
 use Rattle.run_outcome.specs.Lines.{shown_lines}
 use Rattle.run_outcome.specs.Run.{IsLineTold}
-use Rattle.outside.specs.Disk.{Runs, Same}
-use Rattle.run_streams.specs.SeenVolume.{SeenVolume, VolumeFailed}
+use Rattle.image_store.specs.outside.Disk.{Runs, Same}
+use Rattle.run_outcome.specs.run_streams.SeenVolume.{SeenVolume, VolumeFailed}
 use Rattle.image_store.specs.Opening.{Kept, Holds, HoldsNothing}
 use Rattle.stored_outcome.specs.Opening.{ComesTo, IsBadStore}
 use Rattle.stored_outcome.specs.StoredRun.{IsFailedEnd, IsUnopenedEnd}

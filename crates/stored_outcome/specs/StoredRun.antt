@@ -1,16 +1,16 @@
 -- What `run` leaves, over what was seen of its streams and its volume before and after.
 use Rattle.std.specs.Prelude.{◌≡◌, ℕ, ◌+◌, ◌≤◌, List, ◌⊎◌, IfSome}
 use Rattle.std.specs.Io.KnownBytes.{IsAtEnd}
-use Rattle.xdr_core.specs.Place.{start_of}
-use Rattle.run_streams.specs.Seen.{Seen, Failed, IsUntouched, Gave, Received}
-use Rattle.close_rules.specs.State.{ClosingState}
+use Rattle.sample_ledger.specs.xdr_core.Place.{start_of}
+use Rattle.run_outcome.specs.run_streams.Seen.{Seen, Failed, IsUntouched, Gave, Received}
+use Rattle.run_outcome.specs.close_rules.State.{ClosingState}
 use Rattle.run_outcome.specs.declared.status.Status.{Status}
 use Rattle.run_outcome.specs.declared.status.Status.TheVariants as status
 use Rattle.run_outcome.specs.Statuses.{IsRecordsEnd}
 use Rattle.run_outcome.specs.Outcome.{IsRun, AreWhole, IsRunFront}
 use Rattle.run_outcome.specs.Run.{IsAnswer, Answered, IsLineTold}
-use Rattle.outside.specs.Disk.{Image, Runs, Same}
-use Rattle.run_streams.specs.SeenVolume.{SeenVolume, VolumeFailed, MightLeave}
+use Rattle.image_store.specs.outside.Disk.{Image, Runs, Same}
+use Rattle.run_outcome.specs.run_streams.SeenVolume.{SeenVolume, VolumeFailed, MightLeave}
 use Rattle.image_store.specs.Opening.{HoldsNothing}
 use Rattle.stored_outcome.specs.Opening.{OpensTo, IsBadStore, IsSound}
 use Rattle.stored_outcome.specs.Behind.{OpensBehind, OpensWithin, AreAcknowledged}

@@ -9,8 +9,8 @@ use Rattle.std.specs.Ordering.{is_eq, ordering_then}
 use Rattle.std.specs.Cmp.{nat_cmp_is}
 use Rattle.std.specs.FinMap.{get, entries, entries_sorted, get-entries}
 use Rattle.std.specs.FinMap.Entries.{find, is_sorted, below_all}
-use Rattle.shared_tree.proofs.Parts.{first, second, less}
-use Rattle.shared_tree.proofs.Changed.{below_less, below_tied}
+use Rattle.entry_map.proofs.shared_tree_proofs.Parts.{first, second, less}
+use Rattle.entry_map.proofs.shared_tree_proofs.Changed.{below_less, below_tied}
 use Rattle.ledger_types.specs.declared.entry.LedgerEntry.{LedgerEntry}
 use Rattle.ledger_types.specs.declared.key.LedgerKey.{LedgerKey}
 use Rattle.ledger_types.specs.declared.key.LedgerKey.TheVariants as key
@@ -19,11 +19,11 @@ use Rattle.ledger_types.specs.declared.entry.LedgerEntryBody.TheVariants as body
 use Rattle.ledger_types.specs.Keys.{key_of, key_of_body}
 use Rattle.ledger_types.specs.KeyOrder.{bytes_cmp, key_cmp}
 use Rattle.ledger_types.proofs.KeyOrdering.{keys_total}
-use Rattle.xdr_core.specs.Leaves.{fixed}
-use Rattle.xdr_entries.specs.Basic.{account_id}
-use Rattle.xdr_entries.specs.Entries.{account_head, account_entry, ledger_entry_body, ledger_entry}
+use Rattle.legal_rules.specs.xdr_core.Leaves.{fixed}
+use Rattle.entry_changes.specs.xdr_entries.Basic.{account_id}
+use Rattle.entry_changes.specs.xdr_entries.Entries.{account_head, account_entry, ledger_entry_body, ledger_entry}
 use Rattle.entry_map.specs.EntryMap.{EntryMap, IsKeyed, IsLeastAbove, IsNextAfter}
-use Rattle.entry_sums.specs.Sums.{Weight, sum_over, total, part}
+use Rattle.legal_rules.specs.entry_sums.Sums.{Weight, sum_over, total, part}
 use Rattle.entry_changes.specs.Spellable.{IsEntrySpellable, AreSpellable}
 use Rattle.offer_book.specs.Sold.{above}
 use Rattle.offer_book.proofs.Above.{Pairs, found_first, skipped, taken, nothing_left, next_left}

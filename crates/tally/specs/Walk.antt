@@ -6,7 +6,7 @@ use Rattle.ledger_types.specs.declared.liquidity_pool.LiquidityPoolEntry.{Liquid
 use Rattle.ledger_types.specs.declared.key.LedgerKey.{LedgerKey}
 use Rattle.ledger_types.specs.declared.key.LedgerKey.TheVariants as key
 use Rattle.entry_map.specs.EntryMap.{EntryMap}
-use Rattle.entry_sums.specs.Sums.{Weight, sum_over}
+use Rattle.legal_rules.specs.entry_sums.Sums.{Weight, sum_over}
 use Rattle.legal_rules.specs.Supply.{of_asset}
 use Rattle.offer_book.specs.Sold.{above}
 

@@ -1,7 +1,7 @@
 //! What one entry holds of an asset. Amounts are in units of 10^-7 (stroops), of 64 bits with a sign.
 
 ghost use Rattle.std.specs.Prelude.{◌≡◌, pos, negsuc, ◌≤ℤ◌};
-ghost use Rattle.entry_sums.specs.Sums.{part};
+ghost use Rattle.legal_rules.specs.entry_sums.Sums.{part};
 ghost use Rattle.legal_rules.specs.Supply as supply;
 ghost use Rattle.tally.specs.Walk as spec;
 

@@ -3,7 +3,7 @@
 ghost use Rattle.std.specs.Prelude.{◌≡◌, IfOk};
 ghost use Rattle.ledger_types.specs.declared.asset.Asset.TheVariants as asset;
 ghost use Rattle.entry_map.specs.EntryMap.{IsKeyed};
-ghost use Rattle.entry_sums.specs.Sums.{total};
+ghost use Rattle.legal_rules.specs.entry_sums.Sums.{total};
 ghost use Rattle.entry_changes.specs.Spellable.{AreSpellable};
 ghost use Rattle.legal_rules.specs.Supply.{held};
 ghost use Rattle.tally.specs.Walk as spec;

@@ -7,7 +7,7 @@ use Rattle.ledger_types.specs.Keys.{key_of}
 use Rattle.ledger_types.proofs.KeyOrdering.{keys_total, keys_exact}
 use Rattle.entry_map.specs.EntryMap.{EntryMap, put}
 use Rattle.entry_map.proofs.KeyMaps.{same_keys, same_itself}
-use Rattle.entry_sums.proofs.Lookups.{put_there, put_elsewhere}
+use Rattle.legal_rules.proofs.entry_sums_proofs.Lookups.{put_there, put_elsewhere}
 use Rattle.legal_rules.specs.EntryKeys.{is_key}
 use Rattle.legal_rules.specs.Holdings.{IsKeyed}
 use Rattle.legal_rules.proofs.Leaving.{keyed_put}

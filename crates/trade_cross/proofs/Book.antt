@@ -18,7 +18,7 @@ use Rattle.entry_map.specs.EntryMap.{EntryMap}
 use Rattle.entry_map.specs.Book.{offer_in, offer_of, offers_in, offers_of, is_of_pair, ranked, book_in, head}
 use Rattle.entry_map.proofs.Ranked.{all_ranked}
 use Rattle.entry_slots.specs.Offers.{offer_at}
-use Rattle.entry_sums.proofs.Lists.{found_first, found_later, first_of_both, second_of_both}
+use Rattle.legal_rules.proofs.entry_sums_proofs.Lists.{found_first, found_later, first_of_both, second_of_both}
 use Rattle.offer_book.specs.Book.{book, best}
 use Rattle.legal_rules.specs.Holdings.{IsKeyed}
 

@@ -14,7 +14,7 @@ use Rattle.ledger_types.specs.declared.key.LedgerKey.{LedgerKey}
 use Rattle.ledger_types.specs.Prices.{IsPriced}
 use Rattle.entry_map.specs.Book.{offer_in, offers_in, AreApart, AreOffersSound}
 use Rattle.entry_map.specs.EntryMap.{EntryMap}
-use Rattle.entry_sums.specs.Sums.{sum_over, total}
+use Rattle.legal_rules.specs.entry_sums.Sums.{sum_over, total}
 use Rattle.legal_rules.specs.Books.{View}
 use Rattle.legal_rules.specs.OfferIds.{offer_with, offer_with_in, AreOffersApart}
 use Rattle.legal_rules.specs.Owing.{Owed, IsLegalOwing}

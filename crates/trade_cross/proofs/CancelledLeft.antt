@@ -12,7 +12,7 @@ use Rattle.entry_map.specs.EntryMap.{EntryMap, erase}
 use Rattle.entry_slots.specs.Accounts.{account_at, with_account}
 use Rattle.entry_slots.specs.EntrySponsor.{sponsor_of}
 use Rattle.entry_slots.specs.Offers.{offer_at}
-use Rattle.entry_sums.proofs.Lookups.{erase_there, erase_elsewhere}
+use Rattle.legal_rules.proofs.entry_sums_proofs.Lookups.{erase_there, erase_elsewhere}
 use Rattle.sponsor_rules.specs.declared.count.Count.TheVariants as count
 use Rattle.sponsor_rules.specs.Counting.{with_less}
 use Rattle.sponsor_rules.specs.Paying.{map_after_releasing, without_subentry}

@@ -13,7 +13,7 @@ use Rattle.entry_map.specs.EntryMap.{EntryMap, put}
 use Rattle.entry_map.proofs.KeyMaps.{same_keys, same_itself}
 use Rattle.entry_slots.specs.Accounts.{account_of, account_at, with_account}
 use Rattle.entry_slots.specs.Lines.{line_of, line_at, with_line}
-use Rattle.entry_sums.proofs.Lookups.{put_elsewhere, put_there}
+use Rattle.legal_rules.proofs.entry_sums_proofs.Lookups.{put_elsewhere, put_there}
 use Rattle.legal_rules.specs.EntryKeys.{is_key}
 use Rattle.legal_rules.proofs.Liable.{line_entry, with_line_is, with_line_body, IsLineEntry}
 use Rattle.legal_rules.proofs.Places.{account_after, account_elsewhere, kept_elsewhere}

@@ -21,7 +21,7 @@ use Rattle.entry_slots.specs.AccountExtensions.{account_liabilities, sponsored_i
 use Rattle.entry_slots.specs.EntrySponsor.{sponsor_of}
 use Rattle.entry_slots.specs.Lines.{with_line}
 use Rattle.entry_slots.specs.Offers.{offer_at, with_offer}
-use Rattle.entry_sums.specs.Sums.{part}
+use Rattle.legal_rules.specs.entry_sums.Sums.{part}
 use Rattle.reserve_rules.specs.Reserve.{available, min_balance}
 use Rattle.sponsor_rules.specs.Payers.{is_same_account}
 use Rattle.sponsor_rules.specs.Paying.{without_subentry}

@@ -20,7 +20,7 @@ use Rattle.entry_slots.specs.Accounts.{account_at, with_account}
 use Rattle.entry_slots.specs.EntrySponsor.{sponsor_of}
 use Rattle.entry_slots.specs.Lines.{line_of, line_at, with_line}
 use Rattle.entry_slots.specs.Offers.{offer_of, offer_at, with_offer}
-use Rattle.entry_sums.proofs.Lookups.{erase_elsewhere, erase_get}
+use Rattle.legal_rules.proofs.entry_sums_proofs.Lookups.{erase_elsewhere, erase_get}
 use Rattle.reserve_rules.specs.Reserve.{available}
 use Rattle.sponsor_rules.specs.Payers.{is_same_account}
 use Rattle.legal_rules.specs.Binding.{binding, bound_account, bound_line, CanBind}

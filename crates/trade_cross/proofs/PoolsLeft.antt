@@ -15,7 +15,7 @@ use Rattle.ledger_types.specs.KeyOrder.{asset_cmp}
 use Rattle.ledger_types.specs.Keys.{key_of_body}
 use Rattle.entry_map.specs.EntryMap.{EntryMap, put}
 use Rattle.entry_slots.specs.Pools.{pool_at, with_pool}
-use Rattle.entry_sums.specs.Sums.{part}
+use Rattle.legal_rules.specs.entry_sums.Sums.{part}
 use Rattle.legal_rules.specs.ChangeLaws.{KeepsParams}
 use Rattle.legal_rules.specs.Holdings.{IsKeyed, under_key, HoldsMore}
 use Rattle.legal_rules.specs.Supply.{of_asset, held_in, held as held_of}

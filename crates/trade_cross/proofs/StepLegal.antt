@@ -17,7 +17,7 @@ use Rattle.entry_map.specs.EntryMap.{EntryMap}
 use Rattle.entry_slots.specs.Accounts.{account_of, account_at}
 use Rattle.entry_slots.specs.Lines.{line_of, line_at}
 use Rattle.entry_slots.specs.Offers.{offer_of, offer_at, with_offer}
-use Rattle.entry_sums.proofs.Lookups.{put_elsewhere}
+use Rattle.legal_rules.proofs.entry_sums_proofs.Lookups.{put_elsewhere}
 use Rattle.sponsor_rules.specs.Removing.{map_after_removing}
 use Rattle.offer_exchange.specs.declared.rounding.Rounding.{Rounding}
 use Rattle.offer_exchange.specs.declared.rounding.Rounding.TheVariants.{Normal}

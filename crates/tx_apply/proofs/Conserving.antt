@@ -12,7 +12,7 @@ use Rattle.entry_map.specs.EntryMap.{EntryMap}
 use Rattle.fee_rules.specs.Fees.{set_base_fee}
 use Rattle.fee_rules.specs.Ranking.{at_most_one}
 use Rattle.fee_rules.specs.Turns.{apply_order_of}
-use Rattle.legal_rules.proofs.Legality.{owing_nothing}
+use Rattle.op_laws.proofs.legal_rules_proofs.Legality.{owing_nothing}
 use Rattle.op_laws.specs.Laws.{IsLawful}
 use Rattle.op_laws.specs.Moves.{issued}
 use Rattle.op_laws.specs.Steps.{TransactionLaws, LegalSettles}

@@ -11,7 +11,7 @@ use Rattle.fee_rules.specs.Queues.{all_queued_from, all_queued}
 use Rattle.fee_rules.specs.Ranking.{at_rank, at_most_one, first_ranked}
 use Rattle.fee_rules.specs.SetHash.{hash_of_set}
 use Rattle.fee_rules.specs.Turns.{turn_cmp, turns_of, places_in_order, apply_order_of}
-use Rattle.legal_rules.specs.Legal.{IsLegal}
+use Rattle.op_laws.specs.legal_rules.Legal.{IsLegal}
 use Rattle.op_laws.specs.Underway.{AreDrawn}
 use Rattle.tx_apply.specs.Laws.{CanDraw}
 

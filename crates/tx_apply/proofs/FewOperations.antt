@@ -14,11 +14,11 @@ use Rattle.op_types.specs.declared.transaction.FeeBumpTransactionEnvelope.{FeeBu
 use Rattle.op_types.specs.declared.transaction.TransactionEnvelope.{TransactionEnvelope}
 use Rattle.op_types.specs.declared.transaction.TransactionEnvelope.TheVariants as envelope
 use Rattle.op_types.specs.declared.transaction.TransactionSet.{TransactionSet}
-use Rattle.xdr_core.specs.Leaves.{flag, count, fixed, u32, i32, i64}
-use Rattle.xdr_core.specs.Combinators.{◌⨾◌, Fields, struct_of, whole, closed, marked, option, list, spell_option}
-use Rattle.xdr_core.specs.Xdr.{Xdr, tag, optional, list_of}
-use Rattle.xdr_entries.specs.Basic.{muxed_account, hash}
-use Rattle.xdr_core.proofs.Numbers.{wide4}
+use Rattle.value_hashes.specs.xdr_core.Leaves.{flag, count, fixed, u32, i32, i64}
+use Rattle.value_hashes.specs.xdr_core.Combinators.{◌⨾◌, Fields, struct_of, whole, closed, marked, option, list, spell_option}
+use Rattle.value_hashes.specs.xdr_core.Xdr.{Xdr, tag, optional, list_of}
+use Rattle.xdr_tx.specs.xdr_entries.Basic.{muxed_account, hash}
+use Rattle.value_hashes.proofs.xdr_core_proofs.Numbers.{wide4}
 use Rattle.xdr_tx.specs.Operations.{operation, operation_body}
 use Rattle.xdr_tx.specs.Transactions.{behind_source_fields, transaction_fields, transaction_v0_fields, v1_fields}
 use Rattle.xdr_tx.specs.Transactions.{v0_fields, fee_bump_fields, bump_fields, set_fields}

@@ -16,7 +16,7 @@ use Rattle.reserve_rules.specs.Reserve.{greatest_i64}
 use Rattle.sponsor_rules.specs.declared.context.Ctx.{Ctx}
 use Rattle.sponsor_rules.specs.Signers.{map_after_removing_preauth}
 use Rattle.signer_check.specs.declared.held.HeldSignature.{HeldSignature}
-use Rattle.legal_rules.specs.Payments.{with_seq_num}
+use Rattle.op_laws.specs.legal_rules.Payments.{with_seq_num}
 use Rattle.op_laws.specs.Underway.{IsSettled, LeavesSettled}
 use Rattle.op_laws.specs.Steps.{SeqNumsSettle, PreauthsSettle}
 use Rattle.tx_apply.specs.Signing.{source_of}

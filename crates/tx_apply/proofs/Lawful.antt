@@ -11,7 +11,7 @@ use Rattle.op_types.specs.declared.transaction_result.TransactionOutcome.TheVari
 use Rattle.entry_map.specs.EntryMap.{EntryMap}
 use Rattle.entry_slots.specs.Accounts.{account_at}
 use Rattle.sponsor_rules.specs.declared.context.Ctx.{Ctx}
-use Rattle.legal_rules.specs.Sponsorships.{AreSponsorshipsSound}
+use Rattle.op_laws.specs.legal_rules.Sponsorships.{AreSponsorshipsSound}
 use Rattle.op_form.specs.Done.{Done}
 use Rattle.op_laws.specs.Underway.{IsUnderway, LeavesSettled, AreDrawn}
 use Rattle.op_laws.specs.Laws.{IsFit, IsLawful, AllLawful}

@@ -12,3 +12,14 @@ pub mod Fitting
 pub mod Within
 pub mod FewOperations
 pub mod Drawing
+pub use Rattle.fee_rules.proofs as fee_rules_proofs
+pub use Rattle.op_laws.proofs.legal_rules_proofs
+pub use Rattle.op_laws.proofs.offer_exchange_proofs
+pub use Rattle.op_laws.proofs.op_offers_proofs
+pub use Rattle.op_laws.proofs.op_payment_proofs
+pub use Rattle.op_laws.proofs.op_pool_proofs
+pub use Rattle.op_laws.proofs.pool_math_proofs
+pub use Rattle.op_laws.proofs.pool_shares_proofs
+pub use Rattle.op_laws.proofs.sponsor_laws_proofs
+pub use Rattle.sponsor_rules.proofs as sponsor_rules_proofs
+pub use Rattle.op_laws.proofs.trade_cross_proofs

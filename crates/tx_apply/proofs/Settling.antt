@@ -5,9 +5,9 @@ use Rattle.std.specs.Prelude.{◌+ℤ◌}
 use Rattle.std.proofs.lemmas.List.Elements.{All-nil}
 use Rattle.op_types.specs.declared.transaction_result.TransactionOutcome.{TransactionOutcome}
 use Rattle.entry_map.specs.EntryMap.{EntryMap}
-use Rattle.entry_sums.specs.Sums.{total}
+use Rattle.op_laws.specs.entry_sums.Sums.{total}
 use Rattle.sponsor_rules.specs.declared.context.Ctx.{Ctx}
-use Rattle.legal_rules.specs.Supply.{held}
+use Rattle.op_laws.specs.legal_rules.Supply.{held}
 use Rattle.op_form.specs.Done.{Move}
 use Rattle.op_laws.specs.Laws.{IsLawful}
 use Rattle.op_laws.specs.Moves.{issued}

@@ -1,6 +1,6 @@
 -- What an envelope that has a spelling says of its transaction.
 use Rattle.std.proofs.Common.{◌≤◌, length}
-use Rattle.xdr_core.specs.Combinators.{list}
+use Rattle.value_hashes.specs.xdr_core.Combinators.{list}
 use Rattle.op_types.specs.declared.transaction.Transaction.{Transaction}
 use Rattle.op_types.specs.declared.transaction.TransactionV0.{TransactionV0}
 use Rattle.op_types.specs.declared.transaction.TransactionV0Envelope.{TransactionV0Envelope}

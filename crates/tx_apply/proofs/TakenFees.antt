@@ -22,20 +22,20 @@ use Rattle.entry_map.specs.EntryMap.{EntryMap}
 use Rattle.entry_map.specs.Undo.{Undo, with_current}
 use Rattle.entry_slots.specs.Accounts.{account_at, account_of, account_in, with_account, with_account_of}
 use Rattle.entry_slots.specs.Accounts.{with_account_in}
-use Rattle.entry_sums.specs.Sums.{total}
+use Rattle.op_laws.specs.entry_sums.Sums.{total}
 use Rattle.fee_rules.specs.Envelopes.{fee_source_of, not_below_0}
 use Rattle.fee_rules.specs.Fees.{fee_charged}
 use Rattle.reserve_rules.specs.Reserve.{greatest_i64}
-use Rattle.legal_rules.specs.Payments.{paid, with_paid}
-use Rattle.legal_rules.specs.Supply.{held, lumens_of}
+use Rattle.op_laws.specs.legal_rules.Payments.{paid, with_paid}
+use Rattle.op_laws.specs.legal_rules.Supply.{held, lumens_of}
 use Rattle.op_form.specs.Done.{Holder, OfAccount, FeePool, Move}
 use Rattle.op_laws.specs.Moves.{is_holder, gained, holding, is_issuer, place_of, AreTold}
-use Rattle.legal_rules.specs.Supply.{lumens_in}
+use Rattle.op_laws.specs.legal_rules.Supply.{lumens_in}
 use Rattle.op_laws.specs.Steps.{TransactionLaws}
 use Rattle.op_laws.specs.Underway.{IsSettled}
-use Rattle.legal_rules.specs.Holdings.{none_more, for_one, HoldsMore}
-use Rattle.legal_rules.proofs.Holdings.{holds_itself, holds_as, no_lumens_more}
-use Rattle.legal_rules.proofs.Holdings.{account_holds}
+use Rattle.op_laws.specs.legal_rules.Holdings.{none_more, for_one, HoldsMore}
+use Rattle.op_laws.proofs.legal_rules_proofs.Holdings.{holds_itself, holds_as, no_lumens_more}
+use Rattle.op_laws.proofs.legal_rules_proofs.Holdings.{account_holds}
 use Rattle.op_laws.proofs.Issued.{plus_assoc}
 use Rattle.op_laws.proofs.Told.{more_at, told_at, told_itself, gained_twice, account_place, end_tells}
 use Rattle.tx_apply.specs.Fees.{fee_of, map_after_fee, fee_move, FeesTaken, behind_fee, fees_taken, sum_of}

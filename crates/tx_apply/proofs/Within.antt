@@ -1,7 +1,7 @@
 -- What operations in envelopes that have a spelling say of their lists.
 use Rattle.std.proofs.Common.{◌≤◌, length, All}
 use Rattle.std.proofs.lemmas.List.Elements.{All-from_recursion}
-use Rattle.xdr_core.specs.Combinators.{list}
+use Rattle.value_hashes.specs.xdr_core.Combinators.{list}
 use Rattle.op_types.specs.declared.balance_ops.CreateClaimableBalanceOp.{CreateClaimableBalanceOp}
 use Rattle.op_types.specs.declared.operation.Operation.{Operation}
 use Rattle.op_types.specs.declared.operation.OperationBody.TheVariants as body

@@ -20,7 +20,7 @@ use Rattle.reserve_rules.specs.Reserve.{available, greatest_i64}
 use Rattle.sponsor_rules.specs.declared.context.Ctx.{Ctx}
 use Rattle.signer_check.specs.declared.held.HeldSignature.{HeldSignature}
 use Rattle.op_form.specs.declared.levels.ThresholdLevel.TheVariants.{Low}
-use Rattle.legal_rules.specs.Payments.{with_seq_num}
+use Rattle.op_laws.specs.legal_rules.Payments.{with_seq_num}
 use Rattle.tx_apply.specs.Signing.{Auth, Auths, auth_of, auths_of, auth_results, are_used}
 
 abbrev pub source_account : Transaction → AccountId

@@ -3,7 +3,7 @@ use Rattle.std.specs.Prelude.{ℕ, ℤ, []}
 use Rattle.ledger_types.specs.declared.ids.AccountId.{AccountId}
 use Rattle.ledger_types.specs.declared.header.LedgerHeader.{LedgerHeader}
 use Rattle.sponsor_rules.specs.declared.context.Ctx.{Ctx}
-use Rattle.legal_rules.specs.Headers.{header_flags}
+use Rattle.op_laws.specs.legal_rules.Headers.{header_flags}
 
 -- the context of a transaction before its operations, under the header of the ledger before
 abbrev pub ctx_of : LedgerHeader → (close_time id_pool : ℕ) → (source : AccountId) → (seq_num : ℤ) → Ctx

@@ -5,9 +5,9 @@ use Rattle.entry_map.specs.EntryMap.{EntryMap}
 use Rattle.fee_rules.specs.Envelopes.{fee_source_of}
 use Rattle.fee_rules.specs.Fees.{fee_charged}
 use Rattle.ledger_types.specs.declared.asset.Asset.TheVariants.{Native}
-use Rattle.legal_rules.specs.Payments.{with_paid}
+use Rattle.op_laws.specs.legal_rules.Payments.{with_paid}
 use Rattle.op_form.specs.Done.{OfAccount, FeePool, Move}
-use Rattle.legal_rules.specs.Supply.{lumens_at}
+use Rattle.op_laws.specs.legal_rules.Supply.{lumens_at}
 
 -- the fee of a transaction, of what its fee source has
 abbrev pub fee_of : (base_fee : ℕ) → TransactionEnvelope → EntryMap → ℤ

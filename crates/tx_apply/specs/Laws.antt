@@ -8,9 +8,9 @@ use Rattle.op_types.specs.declared.operation.Operation.{Operation}
 use Rattle.op_types.specs.declared.transaction.TransactionEnvelope.{TransactionEnvelope}
 use Rattle.op_types.specs.declared.transaction.TransactionSet.{TransactionSet}
 use Rattle.entry_map.specs.EntryMap.{EntryMap}
-use Rattle.entry_sums.specs.Sums.{total}
-use Rattle.legal_rules.specs.Legal.{IsLegal}
-use Rattle.legal_rules.specs.Supply.{held}
+use Rattle.op_laws.specs.entry_sums.Sums.{total}
+use Rattle.op_laws.specs.legal_rules.Legal.{IsLegal}
+use Rattle.op_laws.specs.legal_rules.Supply.{held}
 use Rattle.op_form.specs.Sequences.{last_seq}
 use Rattle.op_laws.specs.Laws.{IsFit, IsLawful}
 use Rattle.op_form.specs.Done.{Holder, FeePool, Move}

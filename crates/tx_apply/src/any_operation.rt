@@ -2,13 +2,13 @@
 
 ghost use Rattle.std.specs.Prelude.{◌<◌, IfOk};
 ghost use Rattle.entry_slots.specs.Accounts.{HasAccount};
-ghost use Rattle.legal_rules.specs.Owing.{AreEntriesLegal};
-ghost use Rattle.pool_shares.specs.Premises.{ArePoolsSound};
+ghost use Rattle.op_laws.specs.legal_rules.Owing.{AreEntriesLegal};
+ghost use Rattle.op_laws.specs.pool_shares.Premises.{ArePoolsSound};
 ghost use Rattle.op_form.specs.Sequences.{last_seq};
 ghost use Rattle.op_form.specs.Done.{Does};
 ghost use Rattle.op_form.specs.Premises as premises;
 ghost use Rattle.op_laws.specs.AnyOperation as spec;
-ghost use Rattle.op_offers.specs.Calls.{IsManageable};
+ghost use Rattle.op_laws.specs.op_offers.Calls.{IsManageable};
 
 use entry_map::{Base, Entries};
 use op_types::{Operation, OperationBody, OperationResult};
@@ -44,20 +44,22 @@ pub(crate) fn apply_operation<B: Base>(
         }
         OperationBody::Payment(_)
         | OperationBody::PathPaymentStrictReceive(_)
-        | OperationBody::PathPaymentStrictSend(_) => op_payment::apply(operation, ctx, entries),
-        OperationBody::ChangeTrust(_) => op_trust::apply(operation, ctx, entries),
+        | OperationBody::PathPaymentStrictSend(_) => op_laws::op_payment::apply(
+            operation, ctx, entries,
+        ),
+        OperationBody::ChangeTrust(_) => op_laws::op_trust::apply(operation, ctx, entries),
         OperationBody::ManageSellOffer(_)
         | OperationBody::CreatePassiveSellOffer(_)
-        | OperationBody::ManageBuyOffer(_) => op_offers::apply(operation, ctx, entries),
+        | OperationBody::ManageBuyOffer(_) => op_laws::op_offers::apply(operation, ctx, entries),
         OperationBody::AllowTrust(_) | OperationBody::SetTrustLineFlags(_) => {
-            op_flags::apply(operation, ctx, entries)
+            op_laws::op_flags::apply(operation, ctx, entries)
         }
         OperationBody::CreateClaimableBalance(_)
         | OperationBody::ClaimClaimableBalance(_)
         | OperationBody::Clawback(_)
         | OperationBody::ClawbackClaimableBalance(_) => op_claim::apply(operation, ctx, entries),
         OperationBody::LiquidityPoolDeposit(_) | OperationBody::LiquidityPoolWithdraw(_) => {
-            op_pool::apply(operation, ctx, entries)
+            op_laws::op_pool::apply(operation, ctx, entries)
         }
         OperationBody::BeginSponsoringFutureReserves(_)
         | OperationBody::EndSponsoringFutureReserves

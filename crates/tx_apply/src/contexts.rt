@@ -2,7 +2,7 @@
 
 ghost use Rattle.std.specs.Prelude.{◌≡◌};
 ghost use Rattle.tx_apply.specs.Contexts as spec;
-ghost use Rattle.legal_rules.specs.Headers.{header_flags as flags_of};
+ghost use Rattle.op_laws.specs.legal_rules.Headers.{header_flags as flags_of};
 
 use item_list::ItemList;
 use ledger_types::{AccountId, LedgerHeader};

@@ -4,9 +4,9 @@ ghost use Rattle.std.specs.Prelude.{◌≡◌, ◌<◌, ◌≤ℤ◌, ◌+ℤ◌
 ghost use Rattle.std.specs.Prelude.{OnOk};
 ghost use Rattle.ledger_types.specs.declared.asset.Asset.TheVariants as asset;
 ghost use Rattle.entry_map.specs.Undo.{with_current};
-ghost use Rattle.entry_sums.specs.Sums.{total};
+ghost use Rattle.op_laws.specs.entry_sums.Sums.{total};
 ghost use Rattle.reserve_rules.specs.Reserve.{greatest_i64};
-ghost use Rattle.legal_rules.specs.Supply.{held};
+ghost use Rattle.op_laws.specs.legal_rules.Supply.{held};
 ghost use Rattle.op_laws.specs.Underway.{IsSettled};
 ghost use Rattle.op_laws.specs.Steps.{TransactionLaws};
 ghost use Rattle.tx_apply.specs.Places.{envelopes_at};

@@ -24,4 +24,5 @@ pub use fault::SetFault;
 pub use laws::{
     fees_conserve, operations_are_lawful, sets_conserve, transactions_conserve, turns_conserve,
 };
+pub use op_laws;
 pub use set::{SetDone, apply_set, apply_set_in_order};

@@ -3,11 +3,11 @@
 ghost use Rattle.std.specs.Prelude.{◌≡◌, ◌*◌, ◌<◌, ◌≤◌, ◌≤ℤ◌, ◌+ℤ◌, pos, ◌++◌, length, All, IfOk, OnOk};
 ghost use Rattle.ledger_types.specs.declared.asset.Asset.TheVariants as asset;
 ghost use Rattle.entry_map.specs.Undo.{with_current};
-ghost use Rattle.entry_sums.specs.Sums.{total};
+ghost use Rattle.op_laws.specs.entry_sums.Sums.{total};
 ghost use Rattle.fee_rules.specs.Turns.{apply_order_of};
-ghost use Rattle.legal_rules.specs.Supply.{held};
+ghost use Rattle.op_laws.specs.legal_rules.Supply.{held};
 ghost use Rattle.xdr_tx.specs.Transactions as xdr;
-ghost use Rattle.legal_rules.specs.Legal.{IsLegal};
+ghost use Rattle.op_laws.specs.legal_rules.Legal.{IsLegal};
 ghost use Rattle.op_form.specs.Sequences.{last_seq};
 ghost use Rattle.op_laws.specs.Underway.{IsSettled};
 ghost use Rattle.op_laws.specs.Steps.{TransactionLaws};

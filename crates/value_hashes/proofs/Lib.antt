@@ -1,0 +1,1 @@
+pub use Rattle.xdr_core.proofs as xdr_core_proofs

@@ -4,9 +4,9 @@ use Rattle.std.proofs.Common.{ap, ◌∙◌, subst, arith, inl, inr}
 use Rattle.std.specs.Prelude.{cond, Bool, ◌⊎◌}
 use Rattle.std.proofs.lemmas.List.Sums.{sum_by-cons}
 use Rattle.bucket_merge.specs.Job.{Job}
-use Rattle.bucket_levels.specs.Pending.{PendingAt, pending_at}
-use Rattle.bucket_levels.specs.HandIn.{drawn, Draws}
-use Rattle.bucket_levels.specs.Levels.{LevelsAt}
+use Rattle.ledger_close.specs.bucket_levels.Pending.{PendingAt, pending_at}
+use Rattle.ledger_close.specs.bucket_levels.HandIn.{drawn, Draws}
+use Rattle.ledger_close.specs.bucket_levels.Levels.{LevelsAt}
 use Rattle.merge_board.specs.Parts.{RoseBy}
 use Rattle.worker_merges.specs.Posting.{waiting_in, FoundNoPlace, Became}
 

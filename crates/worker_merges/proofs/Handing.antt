@@ -3,8 +3,8 @@ use Rattle.std.proofs.Common.{◌≡◌, List, [], ◌∷◌, ◌++◌, Result, 
 use Rattle.std.proofs.Common.{append-nil, inl, inr}
 use Rattle.std.specs.Prelude.{OnOk, IfErr}
 use Rattle.bucket_merge.specs.Job.{Job}
-use Rattle.bucket_levels.specs.HandIn.{TakesIn, IsRefusedFor}
-use Rattle.bucket_levels.specs.declared.hand_in.HandInBack.{HandInBack}
+use Rattle.ledger_close.specs.bucket_levels.HandIn.{TakesIn, IsRefusedFor}
+use Rattle.ledger_close.specs.bucket_levels.declared.hand_in.HandInBack.{HandInBack}
 use Rattle.ledger_close.specs.States.{LedgerAt, levels_at}
 use Rattle.merge_board.specs.Parts.{Grew}
 use Rattle.merge_board.specs.declared.log.Sent.{Sent}

@@ -1,8 +1,8 @@
 -- What a ledger is handed in of finished merges.
 use Rattle.std.specs.Prelude.{◌≡◌, ◌⊎◌, List, [], ◌∷◌, ◌++◌}
 use Rattle.bucket_merge.specs.Job.{Job}
-use Rattle.bucket_levels.specs.HandIn.{TakesIn, IsRefusedFor}
-use Rattle.bucket_levels.specs.declared.hand_in.HandInFault.{HandInFault}
+use Rattle.ledger_close.specs.bucket_levels.HandIn.{TakesIn, IsRefusedFor}
+use Rattle.ledger_close.specs.bucket_levels.declared.hand_in.HandInFault.{HandInFault}
 use Rattle.ledger_close.specs.States.{LedgerAt, levels_at}
 use Rattle.merge_board.specs.declared.log.Sent.{Sent}
 

@@ -1,7 +1,7 @@
 -- What is posted of the merges that are pending.
 use Rattle.std.specs.Prelude.{◌≡◌, ◌⊎◌, ℕ, ◌+◌, ◌≤◌, List, count_by}
 use Rattle.crossbeam_queue.specs.Fifo.{Held}
-use Rattle.bucket_levels.specs.Pending.{PendingAt}
+use Rattle.ledger_close.specs.bucket_levels.Pending.{PendingAt}
 use Rattle.merge_board.specs.JobOrder.{Waiting}
 
 -- how many jobs weren't drawn

@@ -8,6 +8,8 @@ mod posting;
 mod working;
 
 pub use adopting::adopt;
+pub use ledger_close;
+pub use ledger_close::close_laws;
 pub use places::{Place, Side, SideEnd, Workshop, gather, hire};
 pub use posting::post_due;
 pub use working::work_all;

@@ -1,7 +1,7 @@
 //! How merges that have begun are posted.
 
 ghost use Rattle.std.specs.Prelude.{◌≡◌, ◌+◌, ◌<◌, map};
-ghost use Rattle.bucket_levels.specs.HandIn.{drawn};
+ghost use Rattle.ledger_close.specs.bucket_levels.HandIn.{drawn};
 ghost use Rattle.merge_board.specs.Parts.{IsBoardIn, board_parts, posted_by, returned_to, RoseBy};
 ghost use Rattle.worker_merges.specs.Posting.{waiting_in, Became, FoundNoPlace};
 

@@ -1,2 +1,3 @@
 pub mod Operations
 pub mod Transactions
+pub use Rattle.xdr_entries.specs as xdr_entries

@@ -1,5 +1,5 @@
 use Rattle.std.proofs.Common.{◌∙◌, sym}
-use Rattle.ledger_types.specs.declared.bucket.BucketEntry.TheVariants as bucket
+use Rattle.bucket_core.specs.ledger_types.declared.bucket.BucketEntry.TheVariants as bucket
 use Rattle.bucket_merge.specs.declared.joining.Joining.TheVariants as give
 use Rattle.bucket_merge.proofs.Writing.{gives, tells_init, tells_live}
 use Rattle.bucket_merge.proofs.write.write_joined.Goals as goal

@@ -2,9 +2,9 @@ use Rattle.std.proofs.Common.{◌≡◌, ℕ, suc, ◌+◌, ◌<◌, sym, ap, �
 use Rattle.std.proofs.Common.{◌∷◌, ◌++◌}
 use Rattle.std.proofs.Math.Seq.{take-suc}
 use Rattle.std.proofs.lemmas.List.{map-append}
-use Rattle.ledger_types.specs.declared.ids.AccountId.{AccountId}
-use Rattle.ledger_types.specs.declared.signer.Signer.{Signer}
-use Rattle.ledger_types.specs.declared.signer.SignerKey.TheVariants.{Ed25519}
+use Rattle.entry_map.specs.ledger_types.declared.ids.AccountId.{AccountId}
+use Rattle.entry_map.specs.ledger_types.declared.signer.Signer.{Signer}
+use Rattle.entry_map.specs.ledger_types.declared.signer.SignerKey.TheVariants.{Ed25519}
 use Rattle.entry_slots.proofs.account_extensions.no_sponsors.Goals as goal
 
 abbrev no_sponsor : Signer → Option AccountId

@@ -1,6 +1,6 @@
 use Rattle.std.proofs.Common.{◌≡◌, None, Option, map, take}
-use Rattle.ledger_types.specs.declared.ids.AccountId.{AccountId}
-use Rattle.ledger_types.specs.declared.signer.Signer.{Signer}
+use Rattle.entry_map.specs.ledger_types.declared.ids.AccountId.{AccountId}
+use Rattle.entry_map.specs.ledger_types.declared.signer.Signer.{Signer}
 use Rattle.entry_slots.proofs.account_extensions.no_sponsors.Given as goal
 
 -- none for each signer so far

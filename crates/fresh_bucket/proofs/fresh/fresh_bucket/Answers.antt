@@ -3,7 +3,7 @@ use Rattle.std.specs.List.{AllByRecursion}
 use Rattle.std.proofs.lemmas.Result.{IfOk-weaker}
 use Rattle.std.proofs.lemmas.List.Elements.{All-from_recursion}
 use Rattle.ledger_types.specs.declared.key.LedgerKey.{LedgerKey}
-use Rattle.bucket_items.specs.MarkedItem.{IsSpellable}
+use Rattle.bucket_core.specs.bucket_items.MarkedItem.{IsSpellable}
 use Rattle.bucket_core.specs.Bucket.{version_of}
 use Rattle.bucket_levels.specs.Fresh.{IsFresh}
 use Rattle.fresh_bucket.specs.Items.{bucket_of}

@@ -1,6 +1,6 @@
 use Rattle.std.proofs.Common.{◌≡◌, ◌++◌, take, map}
 use Rattle.std.specs.List.{flat_map}
-use Rattle.bucket_items.specs.MarkedItem.{record_of}
+use Rattle.bucket_core.specs.bucket_items.MarkedItem.{record_of}
 use Rattle.fresh_bucket.specs.ItemRefs.{items_at}
 use Rattle.fresh_bucket.proofs.write.write_items.Given as goal
 

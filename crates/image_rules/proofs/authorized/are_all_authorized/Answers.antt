@@ -1,5 +1,5 @@
 use Rattle.std.proofs.Common.{refl, arith}
-use Rattle.legal_rules.specs.Legal.{AreLinesAuthorized}
+use Rattle.close_rules.specs.legal_rules.Legal.{AreLinesAuthorized}
 use Rattle.image_rules.proofs.Listed.{holds_of_all, holds_at}
 use Rattle.image_rules.proofs.authorized.are_all_authorized.Goals as goal
 

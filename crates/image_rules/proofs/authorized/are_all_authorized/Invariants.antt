@@ -1,4 +1,4 @@
-use Rattle.legal_rules.specs.Legal.{AreLinesAuthorized}
+use Rattle.close_rules.specs.legal_rules.Legal.{AreLinesAuthorized}
 use Rattle.image_rules.proofs.Listed.{HoldsBefore}
 use Rattle.image_rules.proofs.authorized.are_all_authorized.Given as goal
 

@@ -1,6 +1,6 @@
 use Rattle.std.proofs.Common.{subst, sym}
 use Rattle.std.specs.Prelude.{◌↔◌, IsTrue, IfOk}
-use Rattle.legal_rules.specs.Legal.{AreLinesAuthorized}
+use Rattle.close_rules.specs.legal_rules.Legal.{AreLinesAuthorized}
 use Rattle.image_rules.proofs.authorized.are_lines_authorized.Goals as goal
 
 pub returns-in-Offer : goal.returns-in-Offer

@@ -1,7 +1,7 @@
 use Rattle.std.proofs.lemmas.Result.{on_ok_weaker}
 use Rattle.std.specs.Prelude.{pos}
-use Rattle.legal_rules.specs.EntryKeys.{for_key}
-use Rattle.legal_rules.specs.Trades.{buys}
+use Rattle.close_rules.specs.legal_rules.EntryKeys.{for_key}
+use Rattle.close_rules.specs.legal_rules.Trades.{buys}
 use Rattle.image_rules.proofs.Counting.{added_as}
 use Rattle.image_rules.proofs.Naming.{bought_at}
 use Rattle.image_rules.proofs.books.add_bought.Goals as goal

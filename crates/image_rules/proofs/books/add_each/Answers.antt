@@ -1,6 +1,6 @@
 use Rattle.std.proofs.Common.{None, ◌+◌, take, get_or}
-use Rattle.legal_rules.specs.EntryKeys.{for_account}
-use Rattle.legal_rules.specs.Reserves.{for_each}
+use Rattle.close_rules.specs.legal_rules.EntryKeys.{for_account}
+use Rattle.close_rules.specs.legal_rules.Reserves.{for_each}
 use Rattle.image_rules.proofs.Counting.{added_both}
 use Rattle.image_rules.proofs.Naming.{for_each_more}
 use Rattle.image_rules.proofs.books.add_each.Goals as goal

@@ -1,5 +1,5 @@
 use Rattle.std.proofs.Common.{take}
-use Rattle.legal_rules.specs.Reserves.{for_each}
+use Rattle.close_rules.specs.legal_rules.Reserves.{for_each}
 use Rattle.image_rules.specs.Counts.{Adds}
 use Rattle.image_rules.proofs.books.add_each.Given as goal
 

@@ -1,5 +1,5 @@
 use Rattle.std.proofs.lemmas.Result.{on_ok_weaker}
-use Rattle.legal_rules.specs.EntryKeys.{for_account}
+use Rattle.close_rules.specs.legal_rules.EntryKeys.{for_account}
 use Rattle.image_rules.specs.Books.{owner_is_paid}
 use Rattle.image_rules.proofs.Counting.{added_both}
 use Rattle.image_rules.proofs.Naming.{sponsored_sum}

@@ -1,6 +1,6 @@
 use Rattle.std.proofs.lemmas.Result.{on_ok_weaker}
-use Rattle.legal_rules.specs.EntryKeys.{for_account}
-use Rattle.legal_rules.specs.Reserves.{for_each, signer_sponsors_in}
+use Rattle.close_rules.specs.legal_rules.EntryKeys.{for_account}
+use Rattle.close_rules.specs.legal_rules.Reserves.{for_each, signer_sponsors_in}
 use Rattle.image_rules.specs.Books.{payers_pay}
 use Rattle.image_rules.proofs.Counting.{added_both}
 use Rattle.image_rules.proofs.Naming.{sponsoring_sum}

@@ -1,6 +1,6 @@
 use Rattle.std.proofs.Common.{refl, sym, ap, ◌∙◌}
 use Rattle.std.specs.Prelude.{pos}
-use Rattle.legal_rules.specs.Reserves.{is_for, for_each, signer_sponsors_in}
+use Rattle.close_rules.specs.legal_rules.Reserves.{is_for, for_each, signer_sponsors_in}
 use Rattle.image_rules.proofs.Counting.{added_none}
 use Rattle.image_rules.proofs.Naming.{unsponsored, none_counted}
 use Rattle.image_rules.proofs.books.add_signers.Goals as goal

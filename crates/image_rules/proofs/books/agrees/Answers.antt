@@ -4,7 +4,7 @@ use Rattle.std.specs.Prelude.{FitsSigned}
 use Rattle.std.specs.Int.{w64}
 use Rattle.ledger_types.specs.declared.entry.LedgerEntryBody.TheVariants as body
 use Rattle.ledger_types.specs.declared.key.LedgerKey.TheVariants as key
-use Rattle.legal_rules.specs.Books.{stated}
+use Rattle.close_rules.specs.legal_rules.Books.{stated}
 use Rattle.image_rules.specs.Counts.{count_at}
 use Rattle.image_rules.specs.Books.{kind_of, own_count, AgreesIn}
 use Rattle.image_rules.proofs.Booked.{states_count}

@@ -1,5 +1,5 @@
 use Rattle.std.proofs.Common.{subst, sym, arith}
-use Rattle.legal_rules.specs.Legal.{pools_in}
+use Rattle.close_rules.specs.legal_rules.Legal.{pools_in}
 use Rattle.image_rules.specs.Counts.{count_at, IsCountOf}
 use Rattle.image_rules.specs.Books.{counted_else}
 use Rattle.image_rules.specs.Terms.{AreTerms}

@@ -1,5 +1,5 @@
 use Rattle.ledger_types.specs.declared.key.LedgerKey.{LedgerKey}
-use Rattle.legal_rules.specs.Legal.{pools_in}
+use Rattle.close_rules.specs.legal_rules.Legal.{pools_in}
 use Rattle.image_rules.specs.Counts.{count_at, IsCountOf}
 use Rattle.image_rules.specs.Books.{counted_else}
 use Rattle.image_rules.proofs.Listed.{sum_before}

@@ -1,6 +1,6 @@
 use Rattle.std.proofs.Common.{subst, OnOk}
 use Rattle.std.specs.Prelude.{pos}
-use Rattle.legal_rules.specs.EntryKeys.{for_key}
+use Rattle.close_rules.specs.legal_rules.EntryKeys.{for_key}
 use Rattle.image_rules.specs.Counts.{Adds}
 use Rattle.image_rules.proofs.counts.add_for.Goals as goal
 

@@ -3,7 +3,7 @@ use Rattle.std.proofs.lemmas.Int.{to_z-of_z}
 use Rattle.std.specs.Prelude.{FitsSigned}
 use Rattle.std.specs.Int.{w64}
 use Rattle.ledger_types.specs.declared.asset.Asset.TheVariants as asset
-use Rattle.legal_rules.specs.Supply.{of_asset}
+use Rattle.close_rules.specs.legal_rules.Supply.{of_asset}
 use Rattle.image_rules.proofs.Bounded.{lumens_of_pool}
 use Rattle.image_rules.proofs.lumens.lumens_in.Goals as goal
 

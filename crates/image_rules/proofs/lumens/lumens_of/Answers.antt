@@ -1,7 +1,7 @@
 use Rattle.std.proofs.Common.{◌∙◌, arith}
 use Rattle.std.proofs.lemmas.Int.{ints, to_z-of_z}
 use Rattle.ledger_types.specs.declared.asset.Asset.TheVariants as asset
-use Rattle.legal_rules.specs.Supply.{held}
+use Rattle.close_rules.specs.legal_rules.Supply.{held}
 use Rattle.image_rules.specs.Terms.{AreTerms}
 use Rattle.image_rules.proofs.Listed.{holds_at, sum_more, sum_of_all}
 use Rattle.image_rules.proofs.lumens.lumens_of.Goals as goal

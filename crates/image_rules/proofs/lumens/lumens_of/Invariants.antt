@@ -1,7 +1,7 @@
 use Rattle.std.proofs.Common.{◌≡◌, ◌*◌}
 use Rattle.std.specs.Prelude.{pos, neg_ℤ, ◌≤ℤ◌}
 use Rattle.ledger_types.specs.declared.asset.Asset.TheVariants as asset
-use Rattle.legal_rules.specs.Supply.{held}
+use Rattle.close_rules.specs.legal_rules.Supply.{held}
 use Rattle.image_rules.proofs.Listed.{sum_before}
 use Rattle.image_rules.proofs.lumens.lumens_of.Given as goal
 

@@ -1,6 +1,6 @@
 use Rattle.std.proofs.Common.{◌≡◌}
 use Rattle.std.specs.Prelude.{ℤ}
-use Rattle.legal_rules.specs.OfferIds.{offer_with}
+use Rattle.close_rules.specs.legal_rules.OfferIds.{offer_with}
 use Rattle.image_rules.specs.OfferSets.{id_among}
 use Rattle.image_rules.proofs.Listed.{sum_before}
 use Rattle.image_rules.proofs.offer_ids.are_offers_apart.Given as goal

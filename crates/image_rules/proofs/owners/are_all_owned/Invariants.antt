@@ -1,7 +1,7 @@
 use Rattle.std.proofs.Common.{◌≢◌, All, None}
 use Rattle.std.specs.FinMap.{get}
-use Rattle.legal_rules.specs.Needs.{needed_keys}
-use Rattle.legal_rules.specs.Legal.{pools_in}
+use Rattle.close_rules.specs.legal_rules.Needs.{needed_keys}
+use Rattle.close_rules.specs.legal_rules.Legal.{pools_in}
 use Rattle.image_rules.proofs.Listed.{HoldsBefore}
 use Rattle.image_rules.proofs.owners.are_all_owned.Given as goal
 

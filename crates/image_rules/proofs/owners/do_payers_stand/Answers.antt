@@ -3,8 +3,8 @@ use Rattle.std.proofs.lemmas.List.Elements.{All-nil}
 use Rattle.std.proofs.lemmas.Result.{IfOk-weaker}
 use Rattle.std.specs.List.{flat_map}
 use Rattle.std.specs.FinMap.{get}
-use Rattle.legal_rules.specs.Needs.{account_keys}
-use Rattle.legal_rules.specs.Reserves.{signer_sponsors_in}
+use Rattle.close_rules.specs.legal_rules.Needs.{account_keys}
+use Rattle.close_rules.specs.legal_rules.Reserves.{signer_sponsors_in}
 use Rattle.image_rules.proofs.Naming.{unsponsored, sponsors_by, none_named, flat_iff}
 use Rattle.image_rules.proofs.owners.do_payers_stand.Goals as goal
 

@@ -1,8 +1,8 @@
 use Rattle.std.proofs.Common.{◌≢◌, None, subst, All, IsTrue, ◌↔◌}
 use Rattle.std.specs.FinMap.{get}
 use Rattle.ledger_types.specs.declared.key.LedgerKey.{LedgerKey}
-use Rattle.legal_rules.specs.Needs.{account_keys}
-use Rattle.legal_rules.specs.Legal.{pools_in}
+use Rattle.close_rules.specs.legal_rules.Needs.{account_keys}
+use Rattle.close_rules.specs.legal_rules.Legal.{pools_in}
 use Rattle.image_rules.proofs.Naming.{needed_iff}
 use Rattle.image_rules.proofs.owners.is_owned.Goals as goal
 

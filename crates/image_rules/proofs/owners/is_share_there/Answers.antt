@@ -3,8 +3,8 @@ use Rattle.std.proofs.lemmas.List.Elements.{All-cons, All-tail}
 use Rattle.std.specs.FinMap.{get}
 use Rattle.ledger_types.specs.declared.key.LedgerKey.{LedgerKey}
 use Rattle.ledger_types.specs.declared.key.LedgerKey.TheVariants as key
-use Rattle.legal_rules.specs.Needs.{share_keys}
-use Rattle.legal_rules.specs.Legal.{pools_in}
+use Rattle.close_rules.specs.legal_rules.Needs.{share_keys}
+use Rattle.close_rules.specs.legal_rules.Legal.{pools_in}
 use Rattle.image_rules.proofs.owners.is_share_there.Goals as goal
 
 pub returns-then-pool : goal.returns-then-pool

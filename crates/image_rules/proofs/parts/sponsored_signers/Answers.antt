@@ -1,6 +1,6 @@
 use Rattle.std.proofs.Common.{refl, sym, ap, ◌∙◌}
 use Rattle.std.specs.List.{count_by}
-use Rattle.sponsor_laws.specs.Sums.{is_there}
+use Rattle.close_rules.specs.sponsor_laws.Sums.{is_there}
 use Rattle.image_rules.proofs.Naming.{unsponsored, none_counted}
 use Rattle.image_rules.proofs.parts.sponsored_signers.Goals as goal
 

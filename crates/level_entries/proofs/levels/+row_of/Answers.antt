@@ -2,7 +2,7 @@ use Rattle.std.proofs.Common.{List, [], ◌∷◌, ◌-◌, length, take, drop, 
 use Rattle.std.proofs.lemmas.Result.{IfOk-weaker}
 use Rattle.ledger_types.specs.declared.key.LedgerKey.{LedgerKey}
 use Rattle.ledger_types.specs.declared.bucket.BucketEntry.{BucketEntry}
-use Rattle.entry_map.proofs.KnownKeys.{first_and_rest}
+use Rattle.bucket_levels.proofs.entry_map_proofs.KnownKeys.{first_and_rest}
 use Rattle.entry_table.proofs.Turns.{nothing_left}
 use Rattle.bucket_core.specs.Bucket.{Contents}
 use Rattle.bucket_levels.specs.declared.pair.LevelPair.{LevelPair}

@@ -1,6 +1,6 @@
 use Rattle.std.proofs.Common.{◌≡◌, ◌+◌, ◌++◌, ◌≤◌, drop, length}
 use Rattle.ledger_types.specs.KeyOrder.{key_cmp}
-use Rattle.shared_tree.specs.Rows.{all_changed}
+use Rattle.entry_table.specs.shared_tree.Rows.{all_changed}
 use Rattle.entry_table.specs.Rows.{putting, IsRising}
 use Rattle.level_entries.proofs.overlay.overlay.Given as goal
 

@@ -1,7 +1,7 @@
 use Rattle.std.proofs.Common.{◌≡◌, sym, subst, true, rules}
-use Rattle.legal_rules.specs.Legal.{view}
-use Rattle.legal_rules.specs.Owing.{AreEntriesLegal}
-use Rattle.legal_rules.proofs.Legality.{entries_legal}
+use Rattle.trade_cross.specs.legal_rules.Legal.{view}
+use Rattle.trade_cross.specs.legal_rules.Owing.{AreEntriesLegal}
+use Rattle.trade_cross.proofs.legal_rules_proofs.Legality.{entries_legal}
 use Rattle.trade_cross.specs.Crossable.{IsCrossable}
 use Rattle.op_flags.specs.LineFlags.{map_after_flagging}
 use Rattle.op_flags.proofs.Flagged.{flagged_legal}

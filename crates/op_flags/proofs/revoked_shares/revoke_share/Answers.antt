@@ -1,7 +1,7 @@
 use Rattle.std.proofs.Common.{◌∙◌, ap}
 use Rattle.entry_slots.specs.Lines.{line_of_slot}
 use Rattle.entry_slots.specs.Pools.{pool_of_slot}
-use Rattle.legal_rules.specs.Owing.{AreEntriesLegal}
+use Rattle.trade_cross.specs.legal_rules.Owing.{AreEntriesLegal}
 use Rattle.op_flags.specs.Outcomes.{low_answer, IsRevoked, UnlessRefused}
 use Rattle.op_flags.specs.RevokedShares.{share_revoked_by}
 use Rattle.op_flags.proofs.SharesRevoked.{share_by}

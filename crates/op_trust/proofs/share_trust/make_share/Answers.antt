@@ -1,5 +1,5 @@
 use Rattle.std.proofs.Common.{◌≡◌, false, rules}
-use Rattle.legal_rules.specs.PoolShares.{needed_line}
+use Rattle.trade_cross.specs.legal_rules.PoolShares.{needed_line}
 use Rattle.op_trust.specs.ShareTrust.{is_used_fully_at, is_held_fully}
 use Rattle.entry_slots.specs.Pools.{pool_at}
 use Rattle.op_trust.proofs.Counts.{one_more}

@@ -1,7 +1,7 @@
 use Rattle.std.proofs.Common.{◌≡◌, sym, ap, subst, ◌∙◌, rules, w32, w64, to_z, of_z}
 use Rattle.std.proofs.lemmas.Int.{to_z-of_z}
 use Rattle.entry_slots.specs.Pools.{pool_at}
-use Rattle.legal_rules.specs.ShareLaws.{map_with_uses}
+use Rattle.trade_cross.specs.legal_rules.ShareLaws.{map_with_uses}
 use Rattle.trade_cross.specs.Places.{DoesFit}
 use Rattle.pool_shares.specs.Fits.{DoUsesFit, DoShareLinesFit}
 use Rattle.pool_shares.proofs.Uses.{second_fits, lines_fit}

@@ -1,6 +1,6 @@
 use Rattle.std.proofs.Common.{ℕ, List, length, Ok, Err, subst, ap, arith}
 use Rattle.std.proofs.Math.Facts.{Fits-of_lt}
-use Rattle.close_rules.specs.Close.{IsClose}
+use Rattle.stored_outcome.specs.close_rules.Close.{IsClose}
 use Rattle.replay.proofs.ClosingAgain.{place_more, place_fits, again_more, refused_at}
 use Rattle.replay.proofs.again.close_again.Goals as goal
 

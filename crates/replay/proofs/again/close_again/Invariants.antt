@@ -1,5 +1,5 @@
 use Rattle.std.proofs.Common.{◌≡◌, ◌-◌, ◌≤◌, length, take}
-use Rattle.gate_journal.specs.Records.{blocks}
+use Rattle.image_store.specs.gate_journal.Records.{blocks}
 use Rattle.replay.specs.ClosingAgain.{AreClosedTo}
 use Rattle.replay.proofs.again.close_again.Given as goal
 

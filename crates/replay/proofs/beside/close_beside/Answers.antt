@@ -5,8 +5,8 @@ use Rattle.std.specs.List.{All}
 use Rattle.std.proofs.lemmas.List.Elements.{All-same}
 use Rattle.worker_merges.specs.Places.{HasEnded}
 use Rattle.std.proofs.KnownBytes.{Appends-nil, Consumes-nil}
-use Rattle.run_streams.specs.Seen.{Seen, seen}
-use Rattle.close_rules.specs.State.{ClosingState}
+use Rattle.stored_outcome.specs.run_streams.Seen.{Seen, seen}
+use Rattle.stored_outcome.specs.close_rules.State.{ClosingState}
 use Rattle.replay.specs.Keeping.{DiskFailed}
 use Rattle.replay.proofs.Turning.{nothing_followed}
 use Rattle.replay.proofs.Keeping.{nothing_kept}

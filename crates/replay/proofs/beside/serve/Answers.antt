@@ -1,7 +1,7 @@
 use Rattle.std.proofs.Common.{[], sym, subst}
-use Rattle.run_streams.specs.Seen.{Seen, seen}
-use Rattle.run_streams.specs.SeenVolume.{SeenVolume, seen_volume}
-use Rattle.close_rules.specs.State.{ClosingState}
+use Rattle.stored_outcome.specs.run_streams.Seen.{Seen, seen}
+use Rattle.stored_outcome.specs.run_streams.SeenVolume.{SeenVolume, seen_volume}
+use Rattle.stored_outcome.specs.close_rules.State.{ClosingState}
 use Rattle.outside.specs.Disk.{Disk}
 use Rattle.replay.specs.Stored.{IsStored}
 use Rattle.replay.specs.Keeping.{Ready, DidFollow}

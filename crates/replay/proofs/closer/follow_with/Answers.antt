@@ -1,6 +1,6 @@
 use Rattle.std.proofs.Common.{List, ℕ, subst}
-use Rattle.run_streams.specs.Seen.{Seen, seen}
-use Rattle.close_rules.specs.State.{ClosingState}
+use Rattle.stored_outcome.specs.run_streams.Seen.{Seen, seen}
+use Rattle.stored_outcome.specs.close_rules.State.{ClosingState}
 use Rattle.replay.specs.Following.{Followed}
 use Rattle.replay.specs.Keeping.{DiskFailed, KeptOn}
 use Rattle.replay.proofs.closer.follow_with.Goals as goal

@@ -1,6 +1,6 @@
 use Rattle.std.proofs.Common.{inl, subst}
-use Rattle.run_streams.specs.Seen.{Seen, seen}
-use Rattle.close_rules.specs.State.{ClosingState}
+use Rattle.stored_outcome.specs.run_streams.Seen.{Seen, seen}
+use Rattle.stored_outcome.specs.close_rules.State.{ClosingState}
 use Rattle.outside.specs.Disk.{Disk}
 use Rattle.replay.specs.Following.{Closes, Stops}
 use Rattle.replay.specs.Keeping.{DiskFailed, IsUnkept}

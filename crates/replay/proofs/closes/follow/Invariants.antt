@@ -1,6 +1,6 @@
 use Rattle.std.proofs.Common.{ℕ, ◌+◌, ◌*◌, ◌-◌, ◌^◌, ◌≤◌, List, Option}
-use Rattle.run_streams.specs.Seen.{seen}
-use Rattle.run_outcome.specs.declared.status.Status.{Status}
+use Rattle.stored_outcome.specs.run_streams.Seen.{seen}
+use Rattle.stored_outcome.specs.run_outcome.declared.status.Status.{Status}
 use Rattle.replay.specs.Following.{Followed}
 use Rattle.replay.specs.Keeping.{Ready, DiskFailed}
 use Rattle.replay.proofs.Turning.{over}

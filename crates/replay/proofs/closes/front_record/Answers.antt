@@ -1,6 +1,6 @@
 use Rattle.std.proofs.Common.{◌≡◌, ℕ, List, drop, sym, ap, ◌∙◌, subst, length, take, ◌≤◌, arith, rules}
 use Rattle.std.proofs.lemmas.List.{length-take-le}
-use Rattle.run_outcome.specs.Outcome.{framed}
+use Rattle.stored_outcome.specs.run_outcome.Outcome.{framed}
 use Rattle.replay.proofs.Marking.{front_of, bytes_of}
 use Rattle.replay.proofs.closes.front_record.Goals as goal
 

@@ -1,6 +1,6 @@
 use Rattle.std.proofs.Common.{inl, ap, ◌∙◌, take}
 use Rattle.std.proofs.KnownBytes.{Appends-nil}
-use Rattle.run_streams.specs.Seen.{seen}
+use Rattle.stored_outcome.specs.run_streams.Seen.{seen}
 use Rattle.replay.proofs.Keeping.{unkept_nothing}
 use Rattle.replay.proofs.closes.pass_record.Goals as goal
 

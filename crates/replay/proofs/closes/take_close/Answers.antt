@@ -1,9 +1,9 @@
 use Rattle.std.proofs.Common.{◌≡◌, ◌∙◌, ℕ, List, Ok, sym, subst, inl, inr, arith, rules}
 use Rattle.std.proofs.KnownBytes.{Appends-nil}
-use Rattle.run_streams.specs.Seen.{Seen, seen}
-use Rattle.close_rules.specs.State.{ClosingState}
-use Rattle.close_rules.specs.Close.{PreparedClose, IsClose}
-use Rattle.run_outcome.specs.Outcome.{lines_of}
+use Rattle.stored_outcome.specs.run_streams.Seen.{Seen, seen}
+use Rattle.stored_outcome.specs.close_rules.State.{ClosingState}
+use Rattle.stored_outcome.specs.close_rules.Close.{PreparedClose, IsClose}
+use Rattle.stored_outcome.specs.run_outcome.Outcome.{lines_of}
 use Rattle.outside.specs.Disk.{Disk}
 use Rattle.replay.specs.Following.{Told}
 use Rattle.replay.specs.Keeping.{DiskFailed, KeptTelling}

@@ -1,4 +1,4 @@
-use Rattle.run_streams.specs.Seen.{Seen, seen}
+use Rattle.stored_outcome.specs.run_streams.Seen.{Seen, seen}
 use Rattle.replay.proofs.Keeping.{settle_failed, settle_refused}
 use Rattle.replay.proofs.closes.tell_close.Goals as goal
 

@@ -1,8 +1,8 @@
 use Rattle.std.proofs.Common.{ℕ, ◌≤◌, List, subst}
 use Rattle.ledger_types.specs.declared.header.LedgerHeader.{LedgerHeader}
 use Rattle.xdr_core.specs.Format.{IsBytes}
-use Rattle.op_form.specs.Sequences.{last_seq}
-use Rattle.run_streams.specs.Seen.{Seen, seen}
+use Rattle.stored_outcome.specs.op_form.Sequences.{last_seq}
+use Rattle.stored_outcome.specs.run_streams.Seen.{Seen, seen}
 use Rattle.replay.specs.Following.{EndsAt}
 use Rattle.replay.specs.Keeping.{DiskFailed}
 use Rattle.replay.proofs.Turning.{turned_at, turned_off}

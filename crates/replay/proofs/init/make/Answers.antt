@@ -1,6 +1,6 @@
 use Rattle.std.proofs.Common.{refl}
-use Rattle.run_streams.specs.Seen.{seen}
-use Rattle.run_streams.specs.SeenVolume.{seen_volume}
+use Rattle.stored_outcome.specs.run_streams.Seen.{seen}
+use Rattle.stored_outcome.specs.run_streams.SeenVolume.{seen_volume}
 use Rattle.hash_ids.specs.Ids.{network_id_of}
 use Rattle.replay.proofs.Initing.{unread_made, unread_no_write, kept_made, kept_no_write}
 use Rattle.replay.proofs.init.make.Goals as goal

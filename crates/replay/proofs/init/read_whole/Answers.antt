@@ -1,6 +1,6 @@
 use Rattle.std.proofs.Common.{List, ℕ, subst}
 use Rattle.std.proofs.lemmas.Result.{err_from_is_err_and}
-use Rattle.run_streams.specs.Seen.{Seen, seen}
+use Rattle.stored_outcome.specs.run_streams.Seen.{Seen, seen}
 use Rattle.replay.specs.Initing.{IsEnded, IsUnended}
 use Rattle.replay.proofs.Initing.{input_is, input_unended, uncut_unread}
 use Rattle.replay.proofs.init.read_whole.Goals as goal

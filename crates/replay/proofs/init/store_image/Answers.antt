@@ -1,5 +1,5 @@
-use Rattle.run_streams.specs.SeenVolume.{SeenVolume, seen_volume}
-use Rattle.gate_journal.specs.declared.fault.StoreFault.TheVariants as fault
+use Rattle.stored_outcome.specs.run_streams.SeenVolume.{SeenVolume, seen_volume}
+use Rattle.image_store.specs.gate_journal.declared.fault.StoreFault.TheVariants as fault
 use Rattle.replay.proofs.Initing.{moments_of, sound_still, storing_done, storing_fault}
 use Rattle.replay.proofs.init.store_image.Goals as goal
 

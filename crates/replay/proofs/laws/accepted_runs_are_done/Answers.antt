@@ -1,4 +1,4 @@
-use Rattle.run_streams.specs.SeenVolume.{seen_volume}
+use Rattle.stored_outcome.specs.run_streams.SeenVolume.{seen_volume}
 use Rattle.replay.proofs.Completing.{catchups_done, runs_done}
 use Rattle.replay.proofs.laws.accepted_runs_are_done.Goals as goal
 

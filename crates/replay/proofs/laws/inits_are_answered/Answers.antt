@@ -1,4 +1,4 @@
-use Rattle.run_streams.specs.SeenVolume.{seen_volume}
+use Rattle.stored_outcome.specs.run_streams.SeenVolume.{seen_volume}
 use Rattle.replay.proofs.StoredCompleting.{bad_inputs_answered, bad_images_answered, images_answered}
 use Rattle.replay.proofs.laws.inits_are_answered.Goals as goal
 

@@ -1,4 +1,4 @@
-use Rattle.run_streams.specs.SeenVolume.{seen_volume}
+use Rattle.stored_outcome.specs.run_streams.SeenVolume.{seen_volume}
 use Rattle.replay.proofs.Completing.{catchups_answered, runs_answered}
 use Rattle.replay.proofs.laws.outcomes_are_answered.Goals as goal
 

@@ -1,4 +1,4 @@
-use Rattle.run_streams.specs.SeenVolume.{seen_volume}
+use Rattle.stored_outcome.specs.run_streams.SeenVolume.{seen_volume}
 use Rattle.replay.proofs.StoredCompleting.{sound_again, sound_in_run}
 use Rattle.replay.proofs.laws.reopened_volumes_are_sound.Goals as goal
 

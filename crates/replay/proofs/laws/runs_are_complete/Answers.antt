@@ -1,4 +1,4 @@
-use Rattle.run_streams.specs.SeenVolume.{seen_volume}
+use Rattle.stored_outcome.specs.run_streams.SeenVolume.{seen_volume}
 use Rattle.replay.proofs.Completing.{catchups_complete, runs_complete}
 use Rattle.replay.proofs.laws.runs_are_complete.Goals as goal
 

@@ -1,4 +1,4 @@
-use Rattle.run_streams.specs.SeenVolume.{seen_volume}
+use Rattle.stored_outcome.specs.run_streams.SeenVolume.{seen_volume}
 use Rattle.replay.proofs.ShowCompleting.{show_complete, show_answered, unopened_shown}
 use Rattle.replay.proofs.laws.shows_are_answered.Goals as goal
 

@@ -1,4 +1,4 @@
-use Rattle.run_streams.specs.SeenVolume.{seen_volume}
+use Rattle.stored_outcome.specs.run_streams.SeenVolume.{seen_volume}
 use Rattle.replay.proofs.StoredCompleting.{stored_complete, stored_done, stored_answered}
 use Rattle.replay.proofs.laws.stored_runs_are_answered.Goals as goal
 

@@ -1,4 +1,4 @@
-use Rattle.run_streams.specs.SeenVolume.{seen_volume}
+use Rattle.stored_outcome.specs.run_streams.SeenVolume.{seen_volume}
 use Rattle.replay.proofs.Commands.{by_command, usage_told}
 use Rattle.replay.proofs.laws.words_are_commands.Goals as goal
 

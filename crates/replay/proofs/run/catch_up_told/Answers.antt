@@ -1,4 +1,4 @@
-use Rattle.run_streams.specs.Seen.{seen}
+use Rattle.stored_outcome.specs.run_streams.Seen.{seen}
 use Rattle.replay.proofs.Tellings.{did_catch_up, told_or_refused}
 use Rattle.replay.proofs.run.catch_up_told.Goals as goal
 

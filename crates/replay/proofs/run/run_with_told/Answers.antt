@@ -1,5 +1,5 @@
-use Rattle.run_streams.specs.Seen.{seen}
-use Rattle.run_streams.specs.SeenVolume.{seen_volume}
+use Rattle.stored_outcome.specs.run_streams.Seen.{seen}
+use Rattle.stored_outcome.specs.run_streams.SeenVolume.{seen_volume}
 use Rattle.replay.proofs.StoredTellings.{did_run}
 use Rattle.replay.proofs.run.run_with_told.Goals as goal
 

@@ -1,4 +1,4 @@
-use Rattle.run_streams.specs.Seen.{seen}
+use Rattle.stored_outcome.specs.run_streams.Seen.{seen}
 use Rattle.replay.proofs.SampleTelling.{did_sample}
 use Rattle.replay.proofs.run.sample_told.Goals as goal
 

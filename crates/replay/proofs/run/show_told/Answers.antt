@@ -1,5 +1,5 @@
-use Rattle.run_streams.specs.Seen.{seen}
-use Rattle.run_streams.specs.SeenVolume.{seen_volume}
+use Rattle.stored_outcome.specs.run_streams.Seen.{seen}
+use Rattle.stored_outcome.specs.run_streams.SeenVolume.{seen_volume}
 use Rattle.replay.proofs.Showing.{did_show}
 use Rattle.replay.proofs.run.show_told.Goals as goal
 

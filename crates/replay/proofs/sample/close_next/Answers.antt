@@ -1,7 +1,7 @@
 use Rattle.std.proofs.Common.{List, ℕ, ◌∙◌, Ok, Err, refl, subst}
-use Rattle.close_rules.specs.State.{ClosingState}
-use Rattle.close_rules.specs.Close.{IsClose}
-use Rattle.ledger_close.specs.Answers.{FaultIs}
+use Rattle.stored_outcome.specs.close_rules.State.{ClosingState}
+use Rattle.stored_outcome.specs.close_rules.Close.{IsClose}
+use Rattle.worker_merges.specs.ledger_close.Answers.{FaultIs}
 use Rattle.replay.proofs.SampleSteps.{one_more, bytes_next}
 use Rattle.replay.proofs.sample.close_next.Goals as goal
 

@@ -1,6 +1,6 @@
 use Rattle.std.proofs.Common.{ℕ, ◌≡◌, subst, arith}
-use Rattle.run_streams.specs.Seen.{Seen, seen}
-use Rattle.close_rules.specs.State.{ClosingState}
+use Rattle.stored_outcome.specs.run_streams.Seen.{Seen, seen}
+use Rattle.stored_outcome.specs.close_rules.State.{ClosingState}
 use Rattle.replay.specs.Following.{Refuses}
 use Rattle.replay.specs.Sampling.{HasCome, Samples}
 use Rattle.replay.proofs.SampleSteps.{refused_behind, all_closed, come_next}

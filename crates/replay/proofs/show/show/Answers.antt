@@ -1,9 +1,9 @@
 use Rattle.std.proofs.Common.{ℕ, length, refl, subst, inl, inr}
 use Rattle.std.specs.FinMap.{entries}
-use Rattle.run_streams.specs.Seen.{Seen, seen}
-use Rattle.close_rules.specs.State.{ClosingState}
-use Rattle.run_outcome.specs.Lines.{shown_lines}
-use Rattle.run_outcome.specs.declared.status.Status.TheVariants as status
+use Rattle.stored_outcome.specs.run_streams.Seen.{Seen, seen}
+use Rattle.stored_outcome.specs.close_rules.State.{ClosingState}
+use Rattle.stored_outcome.specs.run_outcome.Lines.{shown_lines}
+use Rattle.stored_outcome.specs.run_outcome.declared.status.Status.TheVariants as status
 use Rattle.outside.specs.Disk.{Image}
 use Rattle.image_store.specs.Opening.{Holds}
 use Rattle.replay.specs.Following.{Wrote}

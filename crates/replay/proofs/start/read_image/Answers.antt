@@ -1,5 +1,5 @@
 use Rattle.std.proofs.Common.{ℕ, ◌<◌, List, subst, sym, rules}
-use Rattle.run_streams.specs.Seen.{Seen, seen}
+use Rattle.stored_outcome.specs.run_streams.Seen.{Seen, seen}
 use Rattle.record_stream.specs.Filling.{Grown}
 use Rattle.xdr_core.specs.Format.{IsBytes}
 use Rattle.replay.specs.Starting.{IsUncut}

@@ -1,8 +1,8 @@
 use Rattle.std.proofs.Common.{refl}
 use Rattle.replay.specs.Stored.{IsStored}
-use Rattle.run_streams.specs.Seen.{seen}
+use Rattle.stored_outcome.specs.run_streams.Seen.{seen}
 use Rattle.outside.specs.Disk.{Disk}
-use Rattle.run_streams.specs.SeenVolume.{seen_volume}
+use Rattle.stored_outcome.specs.run_streams.SeenVolume.{seen_volume}
 use Rattle.replay.proofs.Whole.{stored_on, stored_off}
 use Rattle.replay.proofs.stored_run.run_stored.Goals as goal
 

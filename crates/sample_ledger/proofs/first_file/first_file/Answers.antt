@@ -1,7 +1,7 @@
 use Rattle.std.proofs.Common.{ℕ, List, ◌++◌, ap, sym, ◌∙◌}
 use Rattle.std.specs.List.{flat_map}
 use Rattle.ledger_types.specs.declared.bucket.BucketEntry.TheVariants as item
-use Rattle.bucket_items.specs.MarkedItem.{record_of}
+use Rattle.bucket_core.specs.bucket_items.MarkedItem.{record_of}
 use Rattle.sample_ledger.proofs.Entries.{meta_spellable}
 use Rattle.sample_ledger.proofs.Rows.{init_record, file_is, has_file}
 use Rattle.sample_ledger.proofs.first_file.first_file.Goals as goal

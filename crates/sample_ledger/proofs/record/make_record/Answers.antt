@@ -1,7 +1,7 @@
 use Rattle.std.proofs.Common.{ℕ, List, ◌+◌, ◌*◌, None, ap, sym, subst, ◌∙◌}
 use Rattle.ledger_types.specs.declared.ids.Hash.{Hash}
 use Rattle.op_types.specs.declared.transaction.TransactionSet.{TransactionSet}
-use Rattle.xdr_tx.specs.Transactions.{transaction_set}
+use Rattle.value_hashes.specs.xdr_tx.Transactions.{transaction_set}
 use Rattle.xdr_header.specs.declared.record.CloseRecord.{CloseRecord}
 use Rattle.xdr_header.specs.Records.{close_record}
 use Rattle.fee_rules.specs.SetHash.{hash_of_set}

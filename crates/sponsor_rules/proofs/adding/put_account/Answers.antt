@@ -1,7 +1,7 @@
 use Rattle.std.proofs.Common.{sym, subst}
 use Rattle.std.proofs.lemmas.Result.{on_ok_weaker}
 use Rattle.ledger_types.specs.Keys.{key_of}
-use Rattle.entry_slots.specs.Accounts.{entry_of_account}
+use Rattle.reserve_rules.specs.entry_slots.Accounts.{entry_of_account}
 use Rattle.sponsor_rules.specs.Keeping.{LeavesOtherMeans}
 use Rattle.sponsor_rules.proofs.AccountMaps.{put_balances}
 use Rattle.sponsor_rules.proofs.adding.put_account.Goals as goal

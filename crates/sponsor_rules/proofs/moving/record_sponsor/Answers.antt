@@ -2,7 +2,7 @@ use Rattle.std.proofs.Common.{rules, ◌≡◌, sym, subst, Some}
 use Rattle.std.proofs.lemmas.Result.{on_ok_weaker}
 use Rattle.std.specs.FinMap.{get}
 use Rattle.ledger_types.specs.Keys.{key_of}
-use Rattle.entry_map.specs.EntryMap.{put}
+use Rattle.reserve_rules.specs.entry_map.EntryMap.{put}
 use Rattle.sponsor_rules.specs.Keeping.{LeavesMeans}
 use Rattle.sponsor_rules.proofs.AccountMaps.{recorded_balances}
 use Rattle.sponsor_rules.proofs.moving.record_sponsor.Goals as goal

@@ -1,6 +1,6 @@
 use Rattle.std.proofs.Common.{rules, ◌∙◌, sym, ap, Some, None}
 use Rattle.std.proofs.lemmas.Result.{on_ok_weaker}
-use Rattle.entry_map.specs.Undo.{with_current}
+use Rattle.reserve_rules.specs.entry_map.Undo.{with_current}
 use Rattle.sponsor_rules.specs.Keeping.{IsLoaded}
 use Rattle.sponsor_rules.specs.declared.count.Count.TheVariants.{Sponsoring}
 use Rattle.sponsor_rules.specs.Counting.{with_more}

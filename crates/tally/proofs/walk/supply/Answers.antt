@@ -4,7 +4,7 @@ use Rattle.std.specs.Prelude.{FitsSigned, pos, ◌+ℤ◌}
 use Rattle.std.specs.Int.{w128}
 use Rattle.ledger_types.specs.Keys.{key_of}
 use Rattle.entry_map.specs.EntryMap.{IsNextAfter}
-use Rattle.entry_sums.specs.Sums.{part}
+use Rattle.legal_rules.specs.entry_sums.Sums.{part}
 use Rattle.legal_rules.specs.Supply.{held}
 use Rattle.tally.specs.Walk.{sum_behind}
 use Rattle.tally.proofs.Walking.{sum_next, none_behind, first_part, at_the_end}

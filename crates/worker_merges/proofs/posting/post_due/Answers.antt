@@ -1,5 +1,5 @@
 use Rattle.std.proofs.Common.{◌≡◌, ◌≤◌, ◌∙◌, sym, subst, arith, map}
-use Rattle.bucket_levels.specs.HandIn.{drawn}
+use Rattle.ledger_close.specs.bucket_levels.HandIn.{drawn}
 use Rattle.ledger_close.specs.States.{LedgerAt, levels_at}
 use Rattle.merge_board.specs.Parts.{posted_by, returned_to}
 use Rattle.worker_merges.proofs.Drawing.{none_left, one_more, rose_again}

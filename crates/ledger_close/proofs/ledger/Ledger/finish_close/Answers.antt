@@ -1,5 +1,5 @@
 use Rattle.std.proofs.Common.{◌≡◌, ◌≤◌, None, length, ℕ, refl, sym, ap, ◌∙◌, subst, arith}
-use Rattle.entry_changes.specs.Next.{IsExactBatch}
+use Rattle.entry_table.specs.entry_changes.Next.{IsExactBatch}
 use Rattle.ledger_close.specs.declared.apply.Worked.{Worked}
 use Rattle.ledger_close.specs.Counted.{AreStepsTo, AreStepsWith}
 use Rattle.ledger_close.specs.Worked.{Leaves}

@@ -1,4 +1,0 @@
-use Rattle.bucket_cases.proofs.handing.made.Given as goal
-
-abbrev pub ghosts-made_in : goal.ghosts-made_in
-ghosts-made_in a = record { name = a.blank.name; parts = a.blank.parts }

@@ -1,4 +1,0 @@
-use Rattle.bucket_cases.proofs.levels.Closing.close.Given as goal
-
-abbrev pub ghosts-close_in : goal.ghosts-close_in
-ghosts-close_in a = record { name = a.blank.name; parts = a.blank.parts }

@@ -1,0 +1,1 @@
+pub use Rattle.entry_sums.proofs as entry_sums_proofs

@@ -1,0 +1,5 @@
+pub mod Amounts
+pub mod Empty
+mod Extensions
+pub mod Plain
+mod Sparing

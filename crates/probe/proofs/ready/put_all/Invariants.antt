@@ -1,0 +1,5 @@
+use Rattle.probe.specs.Ready.{IsReadyLedger}
+use Rattle.probe.proofs.ready.put_all.Given as goal
+
+abbrev pub invariant-loop-entry : goal.invariant-loop-entry
+invariant-loop-entry l = IsReadyLedger l.are_plain l.entries.current

@@ -1,0 +1,1 @@
+pub use Rattle.close_rules.proofs.entry_sums_proofs

@@ -1,0 +1,1 @@
+pub use Rattle.op_types.specs as op_types

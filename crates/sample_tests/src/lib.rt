@@ -1,6 +1,0 @@
-//! Tests of made-up ledgers.
-#![tactic(auto)]
-
-mod record;
-#[cfg(test)]
-mod samples;

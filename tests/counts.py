@@ -1,0 +1,71 @@
+#!/usr/bin/env python3
+"""Counts what is tested, from the data: prints the table of docs/TESTING.md.
+
+Python 3.9 or later and its standard library.
+"""
+
+from __future__ import annotations
+
+import collections
+import glob
+import os
+import re
+from typing import Iterator
+
+from cases import names, read_case
+from words import CATCHUPS, INITS, NO_COMMAND, RUNS, SAMPLES
+
+TESTS = os.path.dirname(os.path.abspath(__file__))
+TOP = os.path.dirname(TESTS)
+# files of rows that have what rows are made of, and none
+HELPERS = {"Computed", "Readings", "BucketReadings", "Rows", "Opened"}
+
+
+def text_of(path: str) -> str:
+    with open(path, encoding="utf-8") as file:
+        return file.read()
+
+
+def cases_by_command() -> collections.Counter:
+    """How many cases there are of each command, and of words that are none."""
+    counts: collections.Counter = collections.Counter()
+    for name in names():
+        words = read_case(name).words
+        word = words[0].decode(errors="replace") if words else ""
+        counts[word if word in ("catchup", "init", "run", "show", "sample") else "other words"] += 1
+    return counts
+
+
+def rows_of(path: str) -> int:
+    """How many rows a file has: of each lemma that states rows, the terms that it joins."""
+    text, count = re.sub(r"(?m)^--.*\n", "", text_of(path)), 0
+    for block in re.split(r"\n\n+", text):
+        head = re.match(r"(\w+) :", block.strip())
+        if head and re.search(rf"(?m)^{head[1]}\b.* =", block):
+            count += 1 + block.count("&&")
+    return count
+
+
+def table() -> Iterator[str]:
+    yield "| what | where | count |"
+    yield "|---|---|---|"
+    for path in sorted(glob.glob(f"{TOP}/crates/definition_rows/proofs/*.antt")):
+        count, name = rows_of(path), os.path.basename(path)[:-len(".antt")]
+        if count and name not in HELPERS:
+            yield f"| rows that the checker evaluates | `definition_rows/proofs/{name}.antt` | {count} |"
+    lines = text_of(f"{TOP}/crates/probe/stdout").splitlines()
+    yield f"| lines that the probe has to answer | `probe/stdout` | {len(lines)} |"
+    for command, count in sorted(cases_by_command().items()):
+        yield f"| cases of runs: {command} | `tests/cases` | {count} |"
+    commands = sum(map(len, (INITS, CATCHUPS, RUNS, SAMPLES)))
+    yield f"| command lines that are a command | `tests/words.py` | {commands} |"
+    yield f"| command lines that are none | `tests/words.py` | {sum(map(len, NO_COMMAND.values()))} |"
+    tests = sum(text_of(path).count("#[test]") for path in glob.glob(f"{TOP}/crates/board_tests/src/*.rt"))
+    yield f"| tests with threads | `board_tests` | {tests} |"
+    edits = len(glob.glob(f"{TOP}/crates/*/must-fail/*.edit"))
+    yield f"| wrong bodies that the gate tries | `crates/*/must-fail` | {edits} |"
+    yield f"| wrong bodies beside it | `wrong_bodies/` | {len(glob.glob(f'{TOP}/wrong_bodies/*/*.edit'))} |"
+
+
+if __name__ == "__main__":
+    print("\n".join(table()))

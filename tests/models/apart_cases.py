@@ -1,0 +1,48 @@
+#!/usr/bin/env python3
+"""Makes cases of runs that come from elsewhere: from a program that shares nothing with this one.
+
+    apart_cases.py FOLDER NAME      writes cases/apart-NAME.case, and names it as the last of those that came from elsewhere
+
+FOLDER has a run: `args`, a word a line; `input.bin`; what must be written and answered, `expected_out`, `expected_err` and
+`expected_status`; and, where they are there, `before` and `after` with the files of the volume as the run begins and as it ends. Python
+3.9 or later and its standard library.
+"""
+
+import os
+import sys
+
+from case_tools import spelled, write, write_names
+from store_model import FILES
+
+CASES = os.path.join(os.path.dirname(os.path.dirname(os.path.abspath(__file__))), "cases")
+
+
+def content(path):
+    """The bytes of a file, which has none where it isn't there."""
+    if not os.path.exists(path):
+        return b""
+    with open(path, "rb") as file:
+        return file.read()
+
+
+def read_apart(folder):
+    """The words of a run, its input, what it must come to, and the files of the volume before and after it."""
+    out, err, status = (content(f"{folder}/expected_{kind}").decode() for kind in ("out", "err", "status"))
+    before, after = ([content(f"{folder}/{when}/{name}") for name in FILES] for when in ("before", "after"))
+    words = content(f"{folder}/args").decode().splitlines()
+    return words, content(f"{folder}/input.bin"), (out, err, int(status)), before, after
+
+
+def main():
+    folder, name = sys.argv[1:]
+    name = f"apart-{name}"
+    with open(f"{CASES}/names") as file:
+        names = file.read().split()
+    if name not in names:
+        names.insert(sum(name.startswith("apart-") for name in names), name)
+    write(f"{CASES}/{name}.case", spelled(*read_apart(folder)))
+    write_names(names)
+
+
+if __name__ == "__main__":
+    main()

@@ -1,0 +1,50 @@
+#!/usr/bin/env python3
+"""Writes the cases of crates/probe, data/cases, and what is wanted of them, stdout, from tables that were made by hand beside this script.
+
+    probe_cases.py            writes both
+    probe_cases.py --check    ends with status 1 where they aren't those of the tables
+
+Python 3.9 or later and its standard library.
+"""
+
+import os
+import sys
+from typing import Dict
+
+import level_cases
+import map_cases
+import operation_cases
+import sponsor_cases
+import stream_cases
+
+CRATE = f"{os.path.dirname(os.path.abspath(__file__))}/../../crates/probe"
+
+
+def files() -> Dict[str, str]:
+    ledgers = operation_cases.cases() + sponsor_cases.cases()
+    parts = [*map_cases.sheets(), *level_cases.boards(), stream_cases.cases()]
+    blocks = [["ledgers", *(f"{it.made} {it.name} {it.encoded.hex()}" for it in ledgers)], *(it.lines for it in parts)]
+    wanted = [f"{it.made} {it.name}: {it.wanted}" for it in ledgers] + [line for it in parts for line in it.wanted]
+    return {
+        "data/cases": "\n\n".join("\n".join(it) for it in blocks) + "\n",
+        "stdout": "".join(f"{it}\n" for it in wanted),
+    }
+
+
+def is_written(name: str, text: str) -> bool:
+    with open(f"{CRATE}/{name}", encoding="utf-8") as file:
+        return file.read() == text
+
+
+def main() -> int:
+    if sys.argv[1:] == ["--check"]:
+        return 0 if all(is_written(*it) for it in files().items()) else 1
+    os.makedirs(f"{CRATE}/data", exist_ok=True)
+    for name, text in files().items():
+        with open(f"{CRATE}/{name}", "w", encoding="utf-8") as file:
+            file.write(text)
+    return 0
+
+
+if __name__ == "__main__":
+    sys.exit(main())

@@ -11,6 +11,7 @@ import os
 import sys
 from typing import Dict
 
+import call_cases
 import level_cases
 import map_cases
 import operation_cases
@@ -22,7 +23,7 @@ CRATE = f"{os.path.dirname(os.path.abspath(__file__))}/../../crates/probe"
 
 def files() -> Dict[str, str]:
     ledgers = operation_cases.cases() + sponsor_cases.cases()
-    parts = [*map_cases.sheets(), *level_cases.boards(), stream_cases.cases()]
+    parts = [*map_cases.sheets(), *level_cases.boards(), stream_cases.cases(), call_cases.cases()]
     blocks = [["ledgers", *(f"{it.made} {it.name} {it.encoded.hex()}" for it in ledgers)], *(it.lines for it in parts)]
     wanted = [f"{it.made} {it.name}: {it.wanted}" for it in ledgers] + [line for it in parts for line in it.wanted]
     return {

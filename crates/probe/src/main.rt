@@ -1,14 +1,15 @@
 //! Runs cases: small ledgers to which an operation or a change of sponsorship is applied, maps of entries, levels of
-//! buckets, and streams. Prints a line a step, and `BAD` after its name where it can't be taken.
+//! buckets, streams, and single calls. Prints a line a step, and `BAD` after its name where it can't be taken.
 //!
 //! The program's one argument is the file of the cases. Blank lines part them. The first line of a case says what it is
-//! of: `ledgers`, `maps` with the files of levels, `levels` or `streams`. Each further line is the name of a step and
-//! its arguments, as XDR in hexadecimal. The scripts in `tests/` at the top write the cases, and what is wanted of
-//! them.
+//! of: `ledgers`, `maps` with the files of levels, `levels`, `streams` or `calls`. Each further line is the name of a
+//! step and its arguments, as XDR in hexadecimal. The scripts in `tests/probe` at the top write the cases, and what is
+//! wanted of them.
 #![tactic(auto)]
 
 mod answers;
 mod board;
+mod calls;
 mod case;
 mod levels;
 mod machine;
@@ -21,6 +22,7 @@ mod sponsoring;
 mod streams;
 
 use board::run_levels;
+use calls::Calls;
 use case::Ledgers;
 use machine::take_all;
 use maps::run_maps;
@@ -37,6 +39,7 @@ fn run(alloc: Global, head: &str, lines: &str, output: &mut Output) -> Option<()
         b"maps" => run_maps(alloc, digits, lines, output),
         b"levels" => run_levels(alloc, lines, output),
         b"streams" => Some(take_all(alloc, &mut Streams, lines, output)),
+        b"calls" => Some(take_all(alloc, &mut Calls, lines, output)),
         _ => None,
     }
 }

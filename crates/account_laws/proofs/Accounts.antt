@@ -18,7 +18,9 @@ use Rattle.close_laws.specs.op_types.declared.account_results.ManageDataResult.T
 use Rattle.close_laws.specs.op_types.declared.account_results.SetOptionsResult.TheVariants as set
 use Rattle.close_laws.specs.op_types.declared.operation_result.OperationResult.TheVariants.{NoAccount}
 use Rattle.close_laws.specs.op_types.declared.payment_results.CreateAccountResult.TheVariants as create
-use Rattle.close_laws.specs.op_types.declared.sponsor_ops.BeginSponsoringFutureReservesOp.{BeginSponsoringFutureReservesOp}
+use Rattle.close_laws.specs.op_types.declared.sponsor_ops.BeginSponsoringFutureReservesOp.{
+  BeginSponsoringFutureReservesOp,
+}
 use Rattle.close_laws.specs.op_types.declared.sponsor_ops.RevokeSponsorshipOp.{RevokeSponsorshipOp}
 use Rattle.close_laws.specs.op_types.declared.sponsor_ops.RevokeSponsorshipOp.TheVariants as revoked
 use Rattle.close_laws.specs.op_types.declared.sponsor_results.EndSponsoringFutureReservesResult.TheVariants as end
@@ -32,7 +34,8 @@ use Rattle.close_laws.specs.sponsor_rules.Adding.{map_after_adding}
 use Rattle.close_laws.specs.sponsor_rules.Moving.{map_after_moving}
 use Rattle.close_laws.specs.sponsor_rules.Payers.{open_sponsor}
 use Rattle.close_laws.specs.sponsor_rules.SignerPlace.{found_signer}
-use Rattle.close_laws.specs.sponsor_rules.Signers.{map_after_adding_signer, map_after_moving_signer, map_after_removing_signer}
+use Rattle.close_laws.specs.sponsor_rules.Signers.{map_after_adding_signer, map_after_moving_signer}
+use Rattle.close_laws.specs.sponsor_rules.Signers.{map_after_removing_signer}
 use Rattle.close_laws.specs.op_form.Lumens.{map_after_lumens_debit}
 use Rattle.close_laws.specs.op_account.BumpSequence as bumping
 use Rattle.close_laws.specs.op_account.CreateAccount as creating

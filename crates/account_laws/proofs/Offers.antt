@@ -25,12 +25,15 @@ use Rattle.close_laws.specs.op_offers.declared.ask.Ask.{Ask}
 use Rattle.close_laws.specs.op_offers.declared.fault.OfferFault.{OfferFault}
 use Rattle.close_laws.specs.op_offers.declared.fault.OfferFault.TheVariants as fault
 use Rattle.close_laws.specs.op_offers.Asked.{is_malformed}
-use Rattle.close_laws.specs.op_offers.Managing.{Changed, Effect, Made, Managed, Removed, Traded, buy_fault, changed, made, managed}
-use Rattle.close_laws.specs.op_offers.Managing.{managed_at, managed_old, new_asked, of_sold, old_asked, sell_fault, unless_lines}
+use Rattle.close_laws.specs.op_offers.Managing.{Changed, Effect, Made, Managed, Removed, Traded, buy_fault, changed}
+use Rattle.close_laws.specs.op_offers.Managing.{made, managed}
+use Rattle.close_laws.specs.op_offers.Managing.{managed_at, managed_old, new_asked, of_sold, old_asked, sell_fault}
+use Rattle.close_laws.specs.op_offers.Managing.{unless_lines}
 use Rattle.close_laws.specs.op_offers.Managing.{unless_some, with_reserve}
 use Rattle.close_laws.specs.op_offers.Operations.{Answer, attempt_of_managed}
 use Rattle.close_laws.specs.op_offers.Selling.{Asked, Sold, after_tests, by_end, crossed_by, left_of, map_after_keeping}
-use Rattle.close_laws.specs.op_offers.Selling.{map_without_offer, offer_left, settled, sold, source_gives_at, source_takes_at}
+use Rattle.close_laws.specs.op_offers.Selling.{map_without_offer, offer_left, settled, sold, source_gives_at}
+use Rattle.close_laws.specs.op_offers.Selling.{source_takes_at}
 use Rattle.close_laws.specs.op_offers.Selling.{trade_of, wanted_tests}
 use Rattle.account_laws.proofs.Amounts.{acquiring_keeps, cancelling_keeps, paying_keeps, releasing_offer_keeps}
 use Rattle.account_laws.proofs.Sponsored.{counting_keeps, discounting_keeps}

@@ -20,7 +20,8 @@ use Rattle.close_laws.specs.sponsor_rules.Charge.{charge_of}
 use Rattle.close_laws.specs.sponsor_rules.Counting.{with_less, with_more}
 use Rattle.close_laws.specs.sponsor_rules.Moving as moving
 use Rattle.close_laws.specs.sponsor_rules.Payers.{open_sponsor, payer_of, payer_other_than}
-use Rattle.close_laws.specs.sponsor_rules.Paying.{map_after_charging, map_after_exchange, map_after_releasing, with_other_payer}
+use Rattle.close_laws.specs.sponsor_rules.Paying.{map_after_charging, map_after_exchange, map_after_releasing}
+use Rattle.close_laws.specs.sponsor_rules.Paying.{with_other_payer}
 use Rattle.close_laws.specs.sponsor_rules.Paying.{with_subentry, without_subentry}
 use Rattle.close_laws.specs.sponsor_rules.Removing as removing
 use Rattle.close_laws.specs.sponsor_rules.SignerPlace.{found_signer}

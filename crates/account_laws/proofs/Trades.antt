@@ -14,10 +14,13 @@ use Rattle.close_laws.specs.trade_cross.declared.crossed.CrossEnd.TheVariants.{C
 use Rattle.close_laws.specs.trade_cross.declared.trade.Trade.{Trade}
 use Rattle.close_laws.specs.trade_cross.declared.turn.Turn.{Turn}
 use Rattle.close_laws.specs.trade_cross.declared.turn.Turn.TheVariants.{Ends, Meets}
-use Rattle.close_laws.specs.trade_cross.Crossing.{Crossing, Left, amount_at, at_limit, converted, crossed, ended, joined}
-use Rattle.close_laws.specs.trade_cross.Crossing.{left_after, left_of, map_after_rest, meeting, offer_key, seller_gives_at}
+use Rattle.close_laws.specs.trade_cross.Crossing.{Crossing, Left, amount_at, at_limit, converted, crossed, ended}
+use Rattle.close_laws.specs.trade_cross.Crossing.{joined}
+use Rattle.close_laws.specs.trade_cross.Crossing.{left_after, left_of, map_after_rest, meeting, offer_key}
+use Rattle.close_laws.specs.trade_cross.Crossing.{seller_gives_at}
 use Rattle.close_laws.specs.trade_cross.Crossing.{seller_takes_at, step, step_by, turn, with_amount}
-use Rattle.close_laws.specs.trade_cross.Hop.{better_of, hop, is_cheaper, is_served, pool_of_pair, swap_of, swapped, with_swap}
+use Rattle.close_laws.specs.trade_cross.Hop.{better_of, hop, is_cheaper, is_served, pool_of_pair, swap_of, swapped}
+use Rattle.close_laws.specs.trade_cross.Hop.{with_swap}
 use Rattle.close_laws.specs.op_payment.declared.path_fault.PathFault.{PathFault}
 use Rattle.close_laws.specs.op_payment.declared.path_fault.PathFault.TheVariants as fault
 use Rattle.close_laws.specs.op_payment.Paths.{Carried, after_hop, and_then, by_end, carried_on, hopped, is_same_asset}

@@ -14,7 +14,8 @@ use Rattle.bucket_levels.specs.entry_map.EntryMap.{EntryMap}
 use Rattle.bucket_levels.specs.entry_map.Batch.{parts_of}
 use Rattle.close_rules.specs.entry_slots.Accounts.{account_at, account_of, account_in}
 use Rattle.close_rules.specs.entry_sums.Sums.{total}
-use Rattle.close_rules.specs.legal_rules.Books.{Kind, Subentries, Sponsoring, Sponsored, Selling, Buying, Shares, ShareLines, Uses}
+use Rattle.close_rules.specs.legal_rules.Books.{Kind, Subentries, Sponsoring, Sponsored, Selling, Buying, Shares}
+use Rattle.close_rules.specs.legal_rules.Books.{ShareLines, Uses}
 use Rattle.close_rules.specs.legal_rules.Books.{View}
 use Rattle.close_rules.specs.legal_rules.OfferIds.{offer_with}
 use Rattle.close_rules.specs.legal_rules.Supply.{held}

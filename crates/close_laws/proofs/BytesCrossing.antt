@@ -20,7 +20,8 @@ use Rattle.close_rules.specs.entry_slots.Offers.{offer_at, with_offer}
 use Rattle.close_rules.specs.reserve_rules.Reserve.{greatest_i64}
 use Rattle.close_rules.specs.offer_exchange.declared.rounding.Rounding.{Rounding}
 use Rattle.close_rules.specs.offer_exchange.declared.rounding.Rounding.TheVariants.{Normal}
-use Rattle.close_rules.specs.offer_exchange.Exchange.{Amounts, Bounds, adjusted, offered, exchanged, wheat_stays, unlimited}
+use Rattle.close_rules.specs.offer_exchange.Exchange.{Amounts, Bounds, adjusted, offered, exchanged, wheat_stays}
+use Rattle.close_rules.specs.offer_exchange.Exchange.{unlimited}
 use Rattle.close_rules.proofs.offer_exchange_proofs.Within.{exchanged_within}
 use Rattle.close_rules.specs.legal_rules.Binding.{acquiring, releasing}
 use Rattle.close_rules.specs.legal_rules.Books.{Subentries, Sponsored, View}
@@ -35,16 +36,20 @@ use Rattle.close_rules.specs.trade_cross.declared.crossed.CrossEnd.TheVariants.{
 use Rattle.close_rules.specs.trade_cross.declared.trade.Trade.{Trade}
 use Rattle.close_rules.specs.trade_cross.declared.turn.Turn.{Turn}
 use Rattle.close_rules.specs.trade_cross.declared.turn.Turn.TheVariants.{Ends, Meets}
-use Rattle.close_rules.specs.trade_cross.Crossing.{Left, seller_gives_at, seller_takes_at, amount_at, meeting, map_after_trade}
-use Rattle.close_rules.specs.trade_cross.Crossing.{with_amount, offer_key, map_after_rest, step_by, step, turn, Crossing, ended}
+use Rattle.close_rules.specs.trade_cross.Crossing.{Left, seller_gives_at, seller_takes_at, amount_at, meeting}
+use Rattle.close_rules.specs.trade_cross.Crossing.{map_after_trade}
+use Rattle.close_rules.specs.trade_cross.Crossing.{with_amount, offer_key, map_after_rest, step_by, step, turn}
+use Rattle.close_rules.specs.trade_cross.Crossing.{Crossing, ended}
 use Rattle.close_rules.specs.trade_cross.Crossing.{atom_of, left_after, joined, at_limit, crossed}
 use Rattle.close_rules.specs.trade_cross.CrossingLaws.{kept_by}
 use Rattle.close_rules.specs.trade_cross.Holdings.{most_given, most_taken, line_paid, paying}
 use Rattle.close_rules.proofs.trade_cross_proofs.Binding.{given_fits}
 use Rattle.close_rules.proofs.trade_cross_proofs.Bonds.{available_within}
 use Rattle.close_rules.proofs.trade_cross_proofs.CrossedLegal.{met}
-use Rattle.close_rules.proofs.trade_cross_proofs.StepLegal.{IsOpen, its_range, owed_then, covered_then, trade_open, release_open}
-use Rattle.close_rules.proofs.trade_cross_proofs.StepLegal.{sells_fit, account_keeps, same_given, enough, in_bounds, step_legal}
+use Rattle.close_rules.proofs.trade_cross_proofs.StepLegal.{IsOpen, its_range, owed_then, covered_then, trade_open}
+use Rattle.close_rules.proofs.trade_cross_proofs.StepLegal.{release_open}
+use Rattle.close_rules.proofs.trade_cross_proofs.StepLegal.{sells_fit, account_keeps, same_given, enough, in_bounds}
+use Rattle.close_rules.proofs.trade_cross_proofs.StepLegal.{step_legal}
 use Rattle.close_rules.specs.State.{IsSpelled}
 use Rattle.close_laws.proofs.Bytes.{AreBytes, AreBodyBytes, AreOfferBytes, with_account_bytes, with_line_bytes}
 use Rattle.close_laws.proofs.BytesAmounts.{numbers}

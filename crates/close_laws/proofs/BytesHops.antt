@@ -19,7 +19,8 @@ use Rattle.close_rules.proofs.legal_rules_proofs.Changed.{pool_entry}
 use Rattle.close_rules.specs.trade_cross.declared.trade.Trade.{Trade}
 use Rattle.close_rules.specs.trade_cross.Crossable.{IsCrossable}
 use Rattle.close_rules.specs.trade_cross.Crossing.{most_crossings, Crossing, converted, left_of}
-use Rattle.close_rules.specs.trade_cross.Hop.{is_sheep_first, pool_of_pair, with_reserves, with_swap, pool_atom, swapped, hop}
+use Rattle.close_rules.specs.trade_cross.Hop.{is_sheep_first, pool_of_pair, with_reserves, with_swap, pool_atom}
+use Rattle.close_rules.specs.trade_cross.Hop.{swapped, hop}
 use Rattle.close_rules.proofs.trade_cross_proofs.PoolsLegal.{pool_legal}
 use Rattle.close_rules.proofs.trade_cross_proofs.PoolSwaps.{DoesSwap, IsSwapping, IsEither, swaps, hop_is_either}
 use Rattle.close_laws.proofs.Bytes.{ArePoolBytes, AreBodyBytes, AreBytes}

@@ -21,7 +21,8 @@ use Rattle.close_rules.specs.sponsor_rules.declared.count.Count.TheVariants.{Spo
 use Rattle.close_rules.specs.sponsor_rules.declared.signer_place.FoundSigner.{FoundSigner}
 use Rattle.close_rules.specs.sponsor_rules.Charge.{charge_of}
 use Rattle.close_rules.specs.sponsor_rules.Counting.{with_more}
-use Rattle.close_rules.specs.sponsor_rules.Paying.{map_after_charging, map_after_releasing, map_after_exchange, with_subentry}
+use Rattle.close_rules.specs.sponsor_rules.Paying.{map_after_charging, map_after_releasing, map_after_exchange}
+use Rattle.close_rules.specs.sponsor_rules.Paying.{with_subentry}
 use Rattle.close_rules.specs.sponsor_rules.Paying.{without_subentry, with_other_payer}
 use Rattle.close_rules.specs.sponsor_rules.Payers.{is_same_account, open_sponsor, payer_other_than}
 use Rattle.close_rules.specs.sponsor_rules.Adding as adding

@@ -19,7 +19,8 @@ use Rattle.close_rules.specs.xdr_core.Leaves.{i64}
 use Rattle.bucket_levels.specs.entry_map.EntryMap.{EntryMap}
 use Rattle.close_rules.specs.entry_slots.Accounts.{account_at, account_of, account_in, with_account, with_account_of}
 use Rattle.close_rules.specs.entry_slots.Accounts.{with_account_in}
-use Rattle.close_rules.specs.entry_slots.AccountExtensions.{account_liabilities, liabilities_in, is_nothing, with_liabilities_in}
+use Rattle.close_rules.specs.entry_slots.AccountExtensions.{account_liabilities, liabilities_in, is_nothing}
+use Rattle.close_rules.specs.entry_slots.AccountExtensions.{with_liabilities_in}
 use Rattle.close_rules.specs.entry_slots.AccountExtensions.{second_in}
 use Rattle.close_rules.specs.entry_slots.EntrySponsor.{sponsor_of}
 use Rattle.close_rules.specs.entry_slots.Offers.{with_offer, with_offer_of, with_offer_in}

@@ -20,7 +20,9 @@ use Rattle.close_rules.specs.op_types.declared.account_ops.CreateAccountOp.{Crea
 use Rattle.close_rules.specs.op_types.declared.account_ops.ManageDataOp.{ManageDataOp}
 use Rattle.close_rules.specs.op_types.declared.account_ops.SetOptionsOp.{SetOptionsOp}
 use Rattle.close_rules.specs.op_types.declared.payment_ops.PaymentOp.{PaymentOp}
-use Rattle.close_rules.specs.op_types.declared.sponsor_ops.BeginSponsoringFutureReservesOp.{BeginSponsoringFutureReservesOp}
+use Rattle.close_rules.specs.op_types.declared.sponsor_ops.BeginSponsoringFutureReservesOp.{
+  BeginSponsoringFutureReservesOp,
+}
 use Rattle.close_rules.specs.op_types.declared.sponsor_ops.RevokeSponsorshipOp.{RevokeSponsorshipOp}
 use Rattle.close_rules.specs.op_types.declared.sponsor_ops.RevokeSponsorshipOp.TheVariants as revoked
 use Rattle.close_rules.specs.op_types.declared.operation.OperationBody.{OperationBody}
@@ -47,7 +49,8 @@ use Rattle.close_rules.specs.sponsor_rules.declared.context.Ctx.{Ctx}
 use Rattle.close_rules.specs.sponsor_rules.declared.signer_place.FoundSigner.{FoundSigner}
 use Rattle.close_rules.specs.sponsor_rules.Payers.{open_sponsor}
 use Rattle.close_rules.specs.sponsor_rules.SignerPlace.{found_signer}
-use Rattle.close_rules.specs.sponsor_rules.Signers.{map_after_adding_signer, map_after_removing_signer, map_after_moving_signer}
+use Rattle.close_rules.specs.sponsor_rules.Signers.{map_after_adding_signer, map_after_removing_signer}
+use Rattle.close_rules.specs.sponsor_rules.Signers.{map_after_moving_signer}
 use Rattle.close_rules.specs.sponsor_rules.Adding.{map_after_adding}
 use Rattle.close_rules.specs.sponsor_rules.Moving.{map_after_moving}
 use Rattle.close_rules.specs.op_form.Amounts.{map_after_credit, map_after_debit}

@@ -20,8 +20,10 @@ use Rattle.close_rules.specs.trade_cross.HopLaws.{crossings_in, IsHopTrade}
 use Rattle.close_rules.proofs.trade_cross_proofs.HopsKeep.{hop_keeps}
 use Rattle.close_rules.specs.op_payment.declared.path_fault.PathFault.{PathFault}
 use Rattle.close_rules.specs.op_payment.declared.path_fault.PathFault.TheVariants as fault
-use Rattle.close_rules.specs.op_payment.Paths.{Carried, set_out, and_then, by_end, hopped, after_hop, receiving, sending}
-use Rattle.close_rules.specs.op_payment.Paths.{needed_before, carried_on, is_same_asset, received_hop, sent_hop, received, sent}
+use Rattle.close_rules.specs.op_payment.Paths.{Carried, set_out, and_then, by_end, hopped, after_hop, receiving}
+use Rattle.close_rules.specs.op_payment.Paths.{sending}
+use Rattle.close_rules.specs.op_payment.Paths.{needed_before, carried_on, is_same_asset, received_hop, sent_hop}
+use Rattle.close_rules.specs.op_payment.Paths.{received, sent}
 use Rattle.close_rules.proofs.op_payment_proofs.HopsMade.{receiving_asks, sending_asks}
 use Rattle.close_laws.proofs.Bytes.{AreBytes}
 use Rattle.close_laws.proofs.BytesCrossing.{IsTold}

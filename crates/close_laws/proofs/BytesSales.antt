@@ -17,7 +17,8 @@ use Rattle.close_rules.specs.legal_rules.OneMore.{one_more, IsOwedRightly}
 use Rattle.close_rules.specs.legal_rules.Owing.{Owed, IsLegalOwing}
 use Rattle.close_rules.proofs.legal_rules_proofs.MayOwe.{one_more_is_right}
 use Rattle.close_rules.specs.trade_cross.declared.crossed.CrossEnd.{CrossEnd}
-use Rattle.close_rules.specs.trade_cross.declared.crossed.CrossEnd.TheVariants.{Converted, Partial, BadPrice, CrossSelf, TooMany}
+use Rattle.close_rules.specs.trade_cross.declared.crossed.CrossEnd.TheVariants.{Converted, Partial, BadPrice, CrossSelf}
+use Rattle.close_rules.specs.trade_cross.declared.crossed.CrossEnd.TheVariants.{TooMany}
 use Rattle.close_rules.specs.trade_cross.Crossing.{most_crossings, Crossing, converted, left_of as left_of_trade}
 use Rattle.close_rules.specs.trade_cross.Holdings.{most_given, most_taken, paying}
 use Rattle.close_rules.proofs.trade_cross_proofs.Binding.{given_fits}

@@ -20,7 +20,8 @@ use Rattle.close_rules.specs.op_types.declared.trust_results.AllowTrustResult.Th
 use Rattle.close_rules.specs.op_types.declared.trust_results.ChangeTrustResult.TheVariants as trust
 use Rattle.close_rules.specs.op_types.declared.trust_results.SetTrustLineFlagsResult.TheVariants as set
 use Rattle.close_rules.specs.xdr_entries.Basic.{change_trust_asset, trust_line_asset}
-use Rattle.close_rules.specs.xdr_tx.Operations.{operation_body, change_trust_op, allow_trust_op, set_trust_line_flags_op}
+use Rattle.close_rules.specs.xdr_tx.Operations.{operation_body, change_trust_op, allow_trust_op}
+use Rattle.close_rules.specs.xdr_tx.Operations.{set_trust_line_flags_op}
 use Rattle.bucket_levels.specs.entry_map.EntryMap.{EntryMap}
 use Rattle.close_rules.specs.entry_slots.Accounts.{account_at}
 use Rattle.close_rules.specs.entry_slots.LineExtensions.{use_count}

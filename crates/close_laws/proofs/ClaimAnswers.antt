@@ -10,9 +10,13 @@ use Rattle.close_rules.specs.op_types.declared.trust_ops.ClawbackOp.{ClawbackOp}
 use Rattle.close_rules.specs.op_types.declared.operation_result.OperationResult.TheVariants as operation
 use Rattle.close_rules.specs.op_types.declared.balance_results.ClaimClaimableBalanceResult.{ClaimClaimableBalanceResult}
 use Rattle.close_rules.specs.op_types.declared.balance_results.ClaimClaimableBalanceResult.TheVariants as claim
-use Rattle.close_rules.specs.op_types.declared.balance_results.ClawbackClaimableBalanceResult.{ClawbackClaimableBalanceResult}
+use Rattle.close_rules.specs.op_types.declared.balance_results.ClawbackClaimableBalanceResult.{
+  ClawbackClaimableBalanceResult,
+}
 use Rattle.close_rules.specs.op_types.declared.balance_results.ClawbackClaimableBalanceResult.TheVariants as claw
-use Rattle.close_rules.specs.op_types.declared.balance_results.CreateClaimableBalanceResult.{CreateClaimableBalanceResult}
+use Rattle.close_rules.specs.op_types.declared.balance_results.CreateClaimableBalanceResult.{
+  CreateClaimableBalanceResult,
+}
 use Rattle.close_rules.specs.op_types.declared.balance_results.CreateClaimableBalanceResult.TheVariants as create
 use Rattle.close_rules.specs.op_types.declared.trust_results.ClawbackResult.{ClawbackResult}
 use Rattle.close_rules.specs.op_types.declared.trust_results.ClawbackResult.TheVariants as clawback

@@ -20,7 +20,8 @@ use Rattle.close_rules.specs.xdr_core.Combinators.{constant, extension, times}
 use Rattle.close_rules.specs.xdr_core.Xdr.{list_of, extension_of}
 use Rattle.close_rules.specs.xdr_entries.Basic.{hash}
 use Rattle.close_rules.specs.xdr_header.declared.record.CloseRecord.{CloseRecord}
-use Rattle.close_rules.specs.xdr_header.Header.{stellar_value, ledger_upgrade, ledger_header_extension_v1, limits, counts}
+use Rattle.close_rules.specs.xdr_header.Header.{stellar_value, ledger_upgrade, ledger_header_extension_v1, limits}
+use Rattle.close_rules.specs.xdr_header.Header.{counts}
 use Rattle.close_rules.specs.xdr_header.Header.{ledger_header}
 use Rattle.close_rules.specs.xdr_header.Records.{close_record}
 use Rattle.close_rules.proofs.xdr_header_proofs.HeaderLaws.{ledger_upgrade_laws}
@@ -28,8 +29,10 @@ use Rattle.close_rules.specs.entry_sums.Sums.{total}
 use Rattle.close_rules.specs.legal_rules.Headers.{header_flags_in, IsHeaderInRange}
 use Rattle.close_rules.specs.legal_rules.Supply.{held}
 use Rattle.close_rules.specs.op_laws.Steps.{SettledHeld}
-use Rattle.close_rules.specs.header_chain.Upgrades.{if_whole, read_whole, upgrade_in, upgraded, upgraded_if, all_upgraded}
-use Rattle.close_rules.specs.header_chain.SkipList.{sets_first, moves_first, moves_second, moves_third, hash_at, skip_list_after}
+use Rattle.close_rules.specs.header_chain.Upgrades.{if_whole, read_whole, upgrade_in, upgraded, upgraded_if}
+use Rattle.close_rules.specs.header_chain.Upgrades.{all_upgraded}
+use Rattle.close_rules.specs.header_chain.SkipList.{sets_first, moves_first, moves_second, moves_third, hash_at}
+use Rattle.close_rules.specs.header_chain.SkipList.{skip_list_after}
 use Rattle.close_rules.specs.header_chain.SkipList.{finished}
 use Rattle.close_rules.specs.tx_apply.Laws.{SetsConserve}
 use Rattle.close_rules.specs.State.{ClosingState, IsSpelled}

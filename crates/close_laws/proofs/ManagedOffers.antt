@@ -57,7 +57,8 @@ use Rattle.close_rules.specs.op_offers.declared.fault.OfferFault.{OfferFault}
 use Rattle.close_rules.specs.op_offers.declared.fault.OfferFault.TheVariants as fault
 use Rattle.close_rules.specs.op_offers.Asked.{inverse, ask_to_sell, ask_passively, ask_to_buy, is_malformed}
 use Rattle.close_rules.specs.op_offers.Managing.{Effect, Made, Changed, Managed, Traded, Removed, of_sold, unless_some}
-use Rattle.close_rules.specs.op_offers.Managing.{unless_lines, sell_fault, buy_fault, offer_asked, with_reserve, new_asked, made}
+use Rattle.close_rules.specs.op_offers.Managing.{unless_lines, sell_fault, buy_fault, offer_asked, with_reserve}
+use Rattle.close_rules.specs.op_offers.Managing.{new_asked, made}
 use Rattle.close_rules.specs.op_offers.Managing.{old_asked, changed, managed_old, managed_at, managed}
 use Rattle.close_rules.specs.op_offers.Operations.{answer_of, code_of, fault_answer, effect_of, attempt_of_managed}
 use Rattle.close_rules.specs.op_offers.Operations.{attempt_of}

@@ -29,15 +29,18 @@ use Rattle.close_rules.specs.xdr_core.Combinators.{extension}
 use Rattle.close_rules.specs.xdr_core.Xdr.{list_of, optional, extension_of}
 use Rattle.close_rules.specs.xdr_header.declared.record.CloseRecord.{CloseRecord}
 use Rattle.close_rules.specs.xdr_entries.Basic.{account_id, signer, liabilities}
-use Rattle.close_rules.specs.xdr_entries.Entries.{account_extension_v2, account_extension_v1, account_head, account_tail}
+use Rattle.close_rules.specs.xdr_entries.Entries.{account_extension_v2, account_extension_v1, account_head}
+use Rattle.close_rules.specs.xdr_entries.Entries.{account_tail}
 use Rattle.close_rules.specs.xdr_entries.Entries.{account_entry, trust_line_entry, claimant, claimable_balance_entry}
 use Rattle.close_rules.specs.xdr_entries.Entries.{offer_entry, liquidity_pool_entry}
-use Rattle.close_rules.specs.xdr_entries.Entries.{data_entry, ledger_entry_body, ledger_entry_extension_v1, ledger_entry}
+use Rattle.close_rules.specs.xdr_entries.Entries.{data_entry, ledger_entry_body, ledger_entry_extension_v1}
+use Rattle.close_rules.specs.xdr_entries.Entries.{ledger_entry}
 use Rattle.bucket_levels.specs.entry_map.EntryMap.{EntryMap}
 use Rattle.bucket_levels.specs.entry_map.Batch.{parts_of}
 use Rattle.close_rules.specs.entry_changes.Next.{IsNextAt}
 use Rattle.close_rules.specs.entry_slots.Accounts.{account_at, account_of, account_in}
-use Rattle.close_rules.specs.entry_slots.AccountExtensions.{account_liabilities, liabilities_in, num_sponsoring, num_sponsored}
+use Rattle.close_rules.specs.entry_slots.AccountExtensions.{account_liabilities, liabilities_in, num_sponsoring}
+use Rattle.close_rules.specs.entry_slots.AccountExtensions.{num_sponsored}
 use Rattle.close_rules.specs.entry_slots.AccountExtensions.{second_in, sponsorship_in}
 use Rattle.close_rules.specs.entry_slots.LineExtensions.{use_count}
 use Rattle.close_rules.specs.entry_slots.EntrySponsor.{sponsor_in}

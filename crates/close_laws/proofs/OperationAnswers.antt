@@ -16,7 +16,9 @@ use Rattle.close_rules.specs.op_types.declared.account_ops.CreateAccountOp.{Crea
 use Rattle.close_rules.specs.op_types.declared.account_ops.ManageDataOp.{ManageDataOp}
 use Rattle.close_rules.specs.op_types.declared.account_ops.SetOptionsOp.{SetOptionsOp}
 use Rattle.close_rules.specs.op_types.declared.payment_ops.PaymentOp.{PaymentOp}
-use Rattle.close_rules.specs.op_types.declared.sponsor_ops.BeginSponsoringFutureReservesOp.{BeginSponsoringFutureReservesOp}
+use Rattle.close_rules.specs.op_types.declared.sponsor_ops.BeginSponsoringFutureReservesOp.{
+  BeginSponsoringFutureReservesOp,
+}
 use Rattle.close_rules.specs.op_types.declared.sponsor_ops.RevokeSponsorshipOp.{RevokeSponsorshipOp}
 use Rattle.close_rules.specs.op_types.declared.sponsor_ops.RevokeSponsorshipOp.TheVariants as revoked
 use Rattle.close_rules.specs.op_types.declared.operation.OperationBody.{OperationBody}
@@ -38,15 +40,19 @@ use Rattle.close_rules.specs.op_types.declared.sponsor_results.BeginSponsoringFu
   BeginSponsoringFutureReservesResult,
 }
 use Rattle.close_rules.specs.op_types.declared.sponsor_results.BeginSponsoringFutureReservesResult.TheVariants as begin
-use Rattle.close_rules.specs.op_types.declared.sponsor_results.EndSponsoringFutureReservesResult.{EndSponsoringFutureReservesResult}
+use Rattle.close_rules.specs.op_types.declared.sponsor_results.EndSponsoringFutureReservesResult.{
+  EndSponsoringFutureReservesResult,
+}
 use Rattle.close_rules.specs.op_types.declared.sponsor_results.EndSponsoringFutureReservesResult.TheVariants as end
 use Rattle.close_rules.specs.op_types.declared.sponsor_results.RevokeSponsorshipResult.{RevokeSponsorshipResult}
 use Rattle.close_rules.specs.op_types.declared.sponsor_results.RevokeSponsorshipResult.TheVariants as revoke
 use Rattle.close_rules.specs.xdr_core.Leaves.{i64}
 use Rattle.close_rules.specs.xdr_tx.Operations.{operation_body}
-use Rattle.close_rules.specs.xdr_results.Answers.{create_account_result, payment_result, set_options_result, account_merge_result}
+use Rattle.close_rules.specs.xdr_results.Answers.{create_account_result, payment_result, set_options_result}
+use Rattle.close_rules.specs.xdr_results.Answers.{account_merge_result}
 use Rattle.close_rules.specs.xdr_results.Answers.{manage_data_result, bump_sequence_result}
-use Rattle.close_rules.specs.xdr_results.Answers.{begin_sponsoring_future_reserves_result, end_sponsoring_future_reserves_result}
+use Rattle.close_rules.specs.xdr_results.Answers.{begin_sponsoring_future_reserves_result}
+use Rattle.close_rules.specs.xdr_results.Answers.{end_sponsoring_future_reserves_result}
 use Rattle.close_rules.specs.xdr_results.Answers.{revoke_sponsorship_result}
 use Rattle.close_rules.specs.xdr_results.Results.{operation_result_tr, operation_result}
 use Rattle.bucket_levels.specs.entry_map.EntryMap.{EntryMap}
@@ -58,7 +64,8 @@ use Rattle.close_rules.specs.sponsor_rules.Adding.{map_after_adding}
 use Rattle.close_rules.specs.sponsor_rules.Moving.{map_after_moving}
 use Rattle.close_rules.specs.sponsor_rules.Payers.{open_sponsor}
 use Rattle.close_rules.specs.sponsor_rules.SignerPlace.{found_signer}
-use Rattle.close_rules.specs.sponsor_rules.Signers.{map_after_adding_signer, map_after_moving_signer, map_after_removing_signer}
+use Rattle.close_rules.specs.sponsor_rules.Signers.{map_after_adding_signer, map_after_moving_signer}
+use Rattle.close_rules.specs.sponsor_rules.Signers.{map_after_removing_signer}
 use Rattle.close_rules.specs.op_form.declared.amounts.CreditFault.{CreditFault}
 use Rattle.close_rules.specs.op_form.declared.amounts.CreditFault.TheVariants as credit
 use Rattle.close_rules.specs.op_form.declared.amounts.DebitFault.{DebitFault}

@@ -4,13 +4,16 @@ use Rattle.std.specs.Prelude.{ℤ}
 use Rattle.close_rules.specs.ledger_types.declared.ids.AccountId.{AccountId}
 use Rattle.close_rules.specs.ledger_types.declared.asset.Asset.{Asset}
 use Rattle.close_rules.specs.ledger_types.declared.claim_atom.ClaimAtom.{ClaimAtom}
-use Rattle.close_rules.specs.op_types.declared.payment_results.PathPaymentStrictReceiveResult.{PathPaymentStrictReceiveResult}
-use Rattle.close_rules.specs.op_types.declared.payment_results.PathPaymentStrictReceiveResult.TheVariants as received_code
+use Rattle.close_rules.specs.op_types.declared.payment_results.PathPaymentStrictReceiveResult.{
+  PathPaymentStrictReceiveResult,
+}
+use Rattle.close_rules.specs.op_types.declared.payment_results.PathPaymentStrictReceiveResult.TheVariants as got_code
 use Rattle.close_rules.specs.op_types.declared.payment_results.PathPaymentStrictSendResult.{PathPaymentStrictSendResult}
 use Rattle.close_rules.specs.op_types.declared.payment_results.PathPaymentStrictSendResult.TheVariants as sent_code
 use Rattle.close_rules.specs.xdr_core.Leaves.{i64}
 use Rattle.close_rules.specs.xdr_core.Combinators.{list}
-use Rattle.close_rules.specs.xdr_results.Answers.{simple_payment_result, path_payment_success, path_payment_strict_receive_result}
+use Rattle.close_rules.specs.xdr_results.Answers.{simple_payment_result, path_payment_success}
+use Rattle.close_rules.specs.xdr_results.Answers.{path_payment_strict_receive_result}
 use Rattle.close_rules.specs.xdr_results.Answers.{path_payment_strict_send_result}
 use Rattle.close_rules.specs.xdr_results.Results.{operation_result_tr, operation_result}
 use Rattle.close_rules.specs.op_form.declared.amounts.CreditFault.{CreditFault}
@@ -43,34 +46,34 @@ arrived_within atoms destination last amount few told id named =
 
 -- codes behind which nothing stands
 abbrev pub IsBare : PathPaymentStrictReceiveResult → Type 0
-IsBare (received_code.Success done) = ⊥
-IsBare (received_code.NoIssuer held) = ⊥
+IsBare (got_code.Success done) = ⊥
+IsBare (got_code.NoIssuer held) = ⊥
 IsBare other = Unit {0}
 
 pub received_bare : (code : PathPaymentStrictReceiveResult) → IsBare code → IsAnswer (receiving.answer code)
 unfolding operation_result operation_result_tr path_payment_strict_receive_result
-received_bare (received_code.Success done) bare = absurd bare
-received_bare (received_code.NoIssuer held) bare = absurd bare
+received_bare (got_code.Success done) bare = absurd bare
+received_bare (got_code.NoIssuer held) bare = absurd bare
 received_bare other bare = record { within = tt }
 
 pub received_credit : (found : CreditFault) → IsAnswer (receiving.credit_result found)
-received_credit credit.NoLine = received_bare received_code.NoTrust tt
-received_credit credit.NotAuthorized = received_bare received_code.NotAuthorized tt
-received_credit credit.Full = received_bare received_code.LineFull tt
+received_credit credit.NoLine = received_bare got_code.NoTrust tt
+received_credit credit.NotAuthorized = received_bare got_code.NotAuthorized tt
+received_credit credit.Full = received_bare got_code.LineFull tt
 
 pub received_debit : (found : DebitFault) → IsAnswer (receiving.debit_result found)
-received_debit debit.NoLine = received_bare received_code.SrcNoTrust tt
-received_debit debit.NotAuthorized = received_bare received_code.SrcNotAuthorized tt
-received_debit debit.Short = received_bare received_code.Underfunded tt
+received_debit debit.NoLine = received_bare got_code.SrcNoTrust tt
+received_debit debit.NotAuthorized = received_bare got_code.SrcNotAuthorized tt
+received_debit debit.Short = received_bare got_code.Underfunded tt
 
 pub received_path : (found : PathFault) → IsAnswer (receiving.path_result found)
-received_path fault.CrossSelf = received_bare received_code.OfferCrossSelf tt
+received_path fault.CrossSelf = received_bare got_code.OfferCrossSelf tt
 received_path fault.TooMany = exceeded
-received_path fault.TooFew = received_bare received_code.TooFewOffers tt
+received_path fault.TooFew = received_bare got_code.TooFewOffers tt
 
 pub received_arrived : (atoms : List ClaimAtom) (destination : AccountId) (last : Asset) (amount : ℤ)
     → length atoms ≤ most_in_paths → All IsTold atoms → IsId destination → IsNamed last
-    → IsAnswer (receiving.answer (received_code.Success (arrived atoms destination last amount)))
+    → IsAnswer (receiving.answer (got_code.Success (arrived atoms destination last amount)))
 unfolding operation_result operation_result_tr path_payment_strict_receive_result
 received_arrived atoms destination last amount few told id named =
     record { within = arrived_within atoms destination last amount few told id named }

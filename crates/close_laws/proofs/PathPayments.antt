@@ -8,12 +8,13 @@ use Rattle.close_rules.specs.ledger_types.declared.ids.MuxedAccount.{MuxedAccoun
 use Rattle.close_rules.specs.ledger_types.declared.asset.Asset.{Asset}
 use Rattle.close_rules.specs.op_types.declared.payment_ops.PathPaymentStrictReceiveOp.{PathPaymentStrictReceiveOp}
 use Rattle.close_rules.specs.op_types.declared.payment_ops.PathPaymentStrictSendOp.{PathPaymentStrictSendOp}
-use Rattle.close_rules.specs.op_types.declared.payment_results.PathPaymentStrictReceiveResult.TheVariants as received_code
+use Rattle.close_rules.specs.op_types.declared.payment_results.PathPaymentStrictReceiveResult.TheVariants as got_code
 use Rattle.close_rules.specs.op_types.declared.payment_results.PathPaymentStrictSendResult.TheVariants as sent_code
 use Rattle.close_rules.specs.op_types.declared.operation.OperationBody.TheVariants as body
 use Rattle.close_rules.specs.xdr_core.Combinators.{list}
 use Rattle.close_rules.specs.xdr_entries.Basic as basic
-use Rattle.close_rules.specs.xdr_tx.Operations.{operation_body, path_payment_strict_receive_op, path_payment_strict_send_op}
+use Rattle.close_rules.specs.xdr_tx.Operations.{operation_body, path_payment_strict_receive_op}
+use Rattle.close_rules.specs.xdr_tx.Operations.{path_payment_strict_send_op}
 use Rattle.bucket_levels.specs.entry_map.EntryMap.{EntryMap}
 use Rattle.close_rules.specs.entry_slots.Tests.{first_fault}
 use Rattle.close_rules.specs.sponsor_rules.declared.context.Ctx.{Ctx}
@@ -124,7 +125,7 @@ module _ (ctx : Ctx) (op : PathPaymentStrictReceiveOp) (m : EntryMap) (legal : A
 
   then_given : (carried : Carried) → AreWayBytes most_received carried → IsTraded (receiving.given ctx op carried)
   then_given carried way =
-      traded_behind (receiving.cost_tests op carried.amount) _ (received_bare received_code.OverSendmax tt, tt)
+      traded_behind (receiving.cost_tests op carried.amount) _ (received_bare got_code.OverSendmax tt, tt)
       (λ enough. traded_after
       (map_after_debit ctx ctx.op_source op.send_asset (pos carried.amount) carried.entries) receiving.debit_result
       (receiving.done ctx op carried)
@@ -154,9 +155,9 @@ pub path_received : (ctx : Ctx) (op : PathPaymentStrictReceiveOp) (m : EntryMap)
     → IsSpelled operation_body (body.PathPaymentStrictReceive op) → AreWorkBytes ctx m
     → IsTraded (receiving.path_payment_strict_receive ctx op m)
 path_received ctx op m legal spelled work =
-    traded_behind (receiving.asked_tests op) _ (received_bare received_code.Malformed tt, tt)
+    traded_behind (receiving.asked_tests op) _ (received_bare got_code.Malformed tt, tt)
     (λ none. traded_behind (receiving.destination_tests op m) (receiving.taken_and_given ctx op m)
-    (received_bare received_code.NoDestination tt, tt)
+    (received_bare got_code.NoDestination tt, tt)
     (λ there. then_received ctx op m legal (received_named op spelled) work (received_low op none)))
 
 -- ---- PATH_PAYMENT_STRICT_SEND

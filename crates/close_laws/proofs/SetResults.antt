@@ -24,7 +24,8 @@ use Rattle.close_rules.specs.xdr_core.Xdr.{list_of}
 use Rattle.close_rules.specs.xdr_entries.Basic.{hash, account_id, claimable_balance_id, asset}
 use Rattle.close_rules.specs.xdr_results.Answers as answer
 use Rattle.close_rules.specs.xdr_results.Results.{operation_result_tr, operation_result, inner_transaction_outcome}
-use Rattle.close_rules.specs.xdr_results.Results.{inner_transaction_result, inner_transaction_result_pair, transaction_outcome}
+use Rattle.close_rules.specs.xdr_results.Results.{inner_transaction_result, inner_transaction_result_pair}
+use Rattle.close_rules.specs.xdr_results.Results.{transaction_outcome}
 use Rattle.close_rules.specs.xdr_results.Results.{transaction_result, transaction_result_pair, transaction_result_set}
 use Rattle.bucket_levels.specs.entry_map.EntryMap.{EntryMap}
 use Rattle.close_rules.specs.entry_slots.Accounts.{account_at}
@@ -47,7 +48,8 @@ use Rattle.close_rules.specs.tx_apply.Running.{placed, done_by, done_at, Ran, ru
 use Rattle.close_rules.specs.tx_apply.Set.{Setting, ctx_in, all_held, envelope_applied, result_pair, all_applied}
 use Rattle.close_rules.specs.tx_apply.Set.{envelopes_in_order}
 use Rattle.close_rules.specs.tx_apply.Set.{fees_taken_of}
-use Rattle.close_rules.specs.tx_apply.Signing.{Auth, Auths, source_of, auth_of, auths_of, auth_result, auth_results, are_used}
+use Rattle.close_rules.specs.tx_apply.Signing.{Auth, Auths, source_of, auth_of, auths_of, auth_result, auth_results}
+use Rattle.close_rules.specs.tx_apply.Signing.{are_used}
 use Rattle.close_rules.specs.tx_apply.Transaction as spec
 use Rattle.close_rules.proofs.tx_apply_proofs.Conserving.{all_at}
 use Rattle.close_rules.specs.Close.{setting_in}

@@ -35,7 +35,8 @@ use Rattle.close_rules.specs.legal_rules.Trades.{holder}
 use Rattle.close_rules.proofs.legal_rules_proofs.Leaving.{keyed_put}
 use Rattle.close_rules.specs.trade_cross.Cancelling.{map_after_cancelling}
 use Rattle.close_rules.specs.trade_cross.Crossing.{offer_key}
-use Rattle.close_rules.proofs.pool_shares_proofs.Beside.{IsNoAccount, account_beside, account_keyed, line_beside, line_keyed}
+use Rattle.close_rules.proofs.pool_shares_proofs.Beside.{IsNoAccount, account_beside, account_keyed, line_beside}
+use Rattle.close_rules.proofs.pool_shares_proofs.Beside.{line_keyed}
 use Rattle.close_rules.proofs.pool_shares_proofs.Beside.{removing_beside, removing_keyed}
 use Rattle.close_rules.specs.op_form.Assets.{line_asset_of}
 use Rattle.close_rules.specs.op_flags.LineFlags.{with_flags, map_after_revoking, map_after_flagging}

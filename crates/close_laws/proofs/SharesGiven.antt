@@ -31,7 +31,8 @@ use Rattle.close_rules.specs.trade_cross.Holdings.{paying}
 use Rattle.close_rules.specs.pool_shares.ShareLines.{has_no_line}
 use Rattle.close_rules.specs.pool_shares.Withdrawing.{Part, with_change, share_key, map_after_withdrawing}
 use Rattle.close_rules.specs.pool_shares.Premises.{ArePoolsSound}
-use Rattle.close_rules.proofs.pool_shares_proofs.Beside.{paying_beside, paying_keyed, pool_beside, pool_keyed, removing_beside}
+use Rattle.close_rules.proofs.pool_shares_proofs.Beside.{paying_beside, paying_keyed, pool_beside, pool_keyed}
+use Rattle.close_rules.proofs.pool_shares_proofs.Beside.{removing_beside}
 use Rattle.close_rules.proofs.pool_shares_proofs.Beside.{removing_keyed}
 use Rattle.close_rules.proofs.pool_shares_proofs.Sound.{entries_sound}
 use Rattle.close_rules.specs.op_flags.RevokedShares as revoking

@@ -9,8 +9,10 @@ use Rattle.std.specs.Int.{w32, w64, cast_unsigned}
 use Rattle.std.specs.List.{flat_map, AllByRecursion}
 use Rattle.byteorder.specs.Endian.{big_bytes}
 use Rattle.byteorder.specs.Numbers.{length-bytes_high_first}
-use Rattle.close_rules.specs.xdr_core.Leaves.{u32, u64, i32, i64, flag, flag_code, count, fixed, var, padded, padding_len}
-use Rattle.close_rules.specs.xdr_core.Combinators.{◌⨾◌, Fields, struct_of, whole, closed, marked, constant, option, list}
+use Rattle.close_rules.specs.xdr_core.Leaves.{u32, u64, i32, i64, flag, flag_code, count, fixed, var, padded}
+use Rattle.close_rules.specs.xdr_core.Leaves.{padding_len}
+use Rattle.close_rules.specs.xdr_core.Combinators.{◌⨾◌, Fields, struct_of, whole, closed, marked, constant, option}
+use Rattle.close_rules.specs.xdr_core.Combinators.{list}
 use Rattle.close_rules.specs.xdr_core.Combinators.{extension, times}
 use Rattle.close_rules.specs.xdr_core.Xdr.{Xdr, tag, optional, list_of, extension_of}
 use Rattle.close_rules.specs.State.{IsSpelled}

@@ -20,11 +20,15 @@ use Rattle.close_rules.specs.xdr_core.Leaves.{i32, i64}
 use Rattle.close_rules.specs.xdr_core.Combinators.{constant}
 use Rattle.close_rules.specs.xdr_core.Xdr.{extension_of}
 use Rattle.close_rules.specs.xdr_entries.Basic as basic
-use Rattle.close_rules.specs.xdr_entries.Entries.{line_v2_fields, trust_line_extension_v2, line_v1_fields, trust_line_extension_v1}
-use Rattle.close_rules.specs.xdr_entries.Entries.{line_fields, trust_line_entry, claimant_fields, claimant, balance_v1_fields}
-use Rattle.close_rules.specs.xdr_entries.Entries.{claimable_balance_extension_v1, balance_fields, claimable_balance_entry}
+use Rattle.close_rules.specs.xdr_entries.Entries.{line_v2_fields, trust_line_extension_v2, line_v1_fields}
+use Rattle.close_rules.specs.xdr_entries.Entries.{trust_line_extension_v1}
+use Rattle.close_rules.specs.xdr_entries.Entries.{line_fields, trust_line_entry, claimant_fields, claimant}
+use Rattle.close_rules.specs.xdr_entries.Entries.{balance_v1_fields}
+use Rattle.close_rules.specs.xdr_entries.Entries.{claimable_balance_extension_v1, balance_fields}
+use Rattle.close_rules.specs.xdr_entries.Entries.{claimable_balance_entry}
 use Rattle.close_rules.specs.valid_values.Predicates.{is_valid_stored_predicate}
-use Rattle.close_rules.specs.entry_slots.LineExtensions.{line_liabilities, line_liabilities_in, line_second_in, use_count}
+use Rattle.close_rules.specs.entry_slots.LineExtensions.{line_liabilities, line_liabilities_in, line_second_in}
+use Rattle.close_rules.specs.entry_slots.LineExtensions.{use_count}
 use Rattle.close_rules.specs.entry_slots.LineExtensions.{use_count_in}
 use Rattle.close_rules.specs.reserve_rules.Reserve.{greatest_i64}
 use Rattle.close_rules.specs.legal_rules.Ranges.{balance_flags}

@@ -15,11 +15,13 @@ use Rattle.close_rules.specs.ledger_types.declared.entry.LedgerEntryExtensionV1.
 use Rattle.close_rules.specs.xdr_core.Leaves.{i32}
 use Rattle.close_rules.specs.xdr_core.Xdr.{optional, extension_of}
 use Rattle.close_rules.specs.xdr_entries.Basic.{account_id, signer_key, signer}
-use Rattle.close_rules.specs.xdr_entries.Entries.{account_extension_v2, account_extension_v1, account_head, account_tail}
+use Rattle.close_rules.specs.xdr_entries.Entries.{account_extension_v2, account_extension_v1, account_head}
+use Rattle.close_rules.specs.xdr_entries.Entries.{account_tail}
 use Rattle.close_rules.specs.xdr_entries.Entries.{account_entry}
 use Rattle.close_rules.specs.xdr_entries.Entries.{account_v2_fields, account_v1_fields, account_fields, data_fields}
 use Rattle.close_rules.specs.xdr_entries.Entries.{entry_v1_fields}
-use Rattle.close_rules.specs.xdr_entries.Entries.{entry_fields, data_entry, ledger_entry_body, ledger_entry_extension_v1}
+use Rattle.close_rules.specs.xdr_entries.Entries.{entry_fields, data_entry, ledger_entry_body}
+use Rattle.close_rules.specs.xdr_entries.Entries.{ledger_entry_extension_v1}
 use Rattle.close_rules.specs.xdr_entries.Entries.{ledger_entry}
 use Rattle.close_rules.specs.entry_slots.AccountExtensions.{liabilities_in, second_in, sponsored_in, sponsoring_in}
 use Rattle.close_rules.specs.entry_slots.EntrySponsor.{sponsor_in}

@@ -5,8 +5,10 @@ use Rattle.close_rules.specs.xdr_core.Leaves.{u32, u64, i64, var}
 use Rattle.close_rules.specs.xdr_core.Combinators.{◌⨾◌, Fields, struct_of, whole, times, extension, constant}
 use Rattle.close_rules.specs.xdr_core.Xdr.{Xdr, list_of, extension_of}
 use Rattle.close_rules.specs.xdr_entries.Basic.{hash}
-use Rattle.close_rules.specs.xdr_header.Header.{ledger_close_value_signature, value_signature_fields, stellar_value, value_fields}
-use Rattle.close_rules.specs.xdr_header.Header.{ledger_header_extension_v1, header_v1_fields, limits, limits_fields, counts}
+use Rattle.close_rules.specs.xdr_header.Header.{ledger_close_value_signature, value_signature_fields, stellar_value}
+use Rattle.close_rules.specs.xdr_header.Header.{value_fields}
+use Rattle.close_rules.specs.xdr_header.Header.{ledger_header_extension_v1, header_v1_fields, limits, limits_fields}
+use Rattle.close_rules.specs.xdr_header.Header.{counts}
 use Rattle.close_rules.specs.xdr_header.Header.{counts_fields, ledger_header, header_fields}
 use Rattle.close_rules.specs.State.{IsSpelled}
 use Rattle.close_laws.proofs.Short as short

@@ -11,7 +11,8 @@ use Rattle.close_rules.specs.ledger_types.declared.signer.SignerKey.TheVariants 
 use Rattle.close_rules.specs.ledger_types.declared.price.Liabilities.{Liabilities}
 use Rattle.close_rules.specs.xdr_core.Combinators.{constant}
 use Rattle.close_rules.specs.xdr_core.Xdr.{optional}
-use Rattle.close_rules.specs.xdr_entries.Basic.{hash, hash_fields, account_id, account_id_fields, signer_key, signer, signer_fields}
+use Rattle.close_rules.specs.xdr_entries.Basic.{hash, hash_fields, account_id, account_id_fields, signer_key, signer}
+use Rattle.close_rules.specs.xdr_entries.Basic.{signer_fields}
 use Rattle.close_rules.specs.xdr_entries.Basic.{liabilities, liabilities_fields}
 use Rattle.close_rules.specs.reserve_rules.Reserve.{greatest_i64}
 use Rattle.close_rules.specs.State.{IsSpelled}

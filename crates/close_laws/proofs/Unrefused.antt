@@ -11,7 +11,8 @@ use Rattle.close_rules.specs.ledger_types.declared.header.LedgerHeader.{LedgerHe
 use Rattle.close_rules.specs.ledger_types.declared.header.LedgerUpgrade.{LedgerUpgrade}
 use Rattle.close_rules.specs.ledger_types.declared.header.LedgerUpgrade.TheVariants as upgrade
 use Rattle.close_rules.specs.xdr_header.declared.record.CloseRecord.{CloseRecord}
-use Rattle.close_rules.specs.header_chain.Upgrades.{upgrade_in, type_of, is_bad_value, is_bad_behind, type_before, is_bad_at}
+use Rattle.close_rules.specs.header_chain.Upgrades.{upgrade_in, type_of, is_bad_value, is_bad_behind, type_before}
+use Rattle.close_rules.specs.header_chain.Upgrades.{is_bad_at}
 use Rattle.close_rules.specs.header_chain.Upgrades.{is_out_of_profile, first_place}
 use Rattle.close_rules.specs.State.{ClosingState}
 use Rattle.close_rules.specs.Refusals.{record_fault, term_fault, upgrade_fault, set_fault}

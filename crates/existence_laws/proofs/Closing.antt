@@ -11,7 +11,8 @@ use Rattle.close_laws.specs.close_rules.declared.close_fault.CloseFault.{CloseFa
 use Rattle.close_laws.specs.close_rules.declared.close_fault.CloseFault.TheVariants as fault
 use Rattle.close_laws.specs.close_rules.State.{ClosingState, IsClosingState, max_file_total}
 use Rattle.close_laws.specs.close_rules.Refusals.{record_in, record_fault}
-use Rattle.close_laws.specs.close_rules.Close.{PreparedClose, applied_in, upgraded_header, IsClosed, IsTaken, ClosesWith, IsClose}
+use Rattle.close_laws.specs.close_rules.Close.{PreparedClose, applied_in, upgraded_header, IsClosed, IsTaken}
+use Rattle.close_laws.specs.close_rules.Close.{ClosesWith, IsClose}
 use Rattle.close_laws.specs.Legal.{IsClosable, NextIsLegal}
 use Rattle.close_laws.specs.Closes.{TakenIsClosable}
 use Rattle.replay.specs.run_outcome.Outcome.{max_record_len}

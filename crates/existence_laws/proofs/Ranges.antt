@@ -33,10 +33,12 @@ use Rattle.close_laws.specs.entry_slots.EntrySponsor.{sponsor_of}
 use Rattle.replay.specs.reserve_rules.Reserve.{greatest_i64, IsInRange, IsLineInRange}
 use Rattle.close_laws.specs.sponsor_rules.Charge.{owner_of}
 use Rattle.close_laws.specs.legal_rules.OfferLiabilities.{bound_of}
-use Rattle.close_laws.specs.legal_rules.Ranges.{has_flag, AreAccountFlags, AreSignersInRange, IsAccountInRange, IsHeldIn}
+use Rattle.close_laws.specs.legal_rules.Ranges.{has_flag, AreAccountFlags, AreSignersInRange, IsAccountInRange}
+use Rattle.close_laws.specs.legal_rules.Ranges.{IsHeldIn}
 use Rattle.close_laws.specs.legal_rules.Ranges.{AreLineFlags, IsTrustLineInRange, IsOfferInRange, IsDataInRange}
 use Rattle.close_laws.specs.legal_rules.Ranges.{balance_flags}
-use Rattle.close_laws.specs.legal_rules.Ranges.{AreClaimantsInRange, IsBalanceInRange, IsPoolInRange, IsBodyInRange, IsPaidRightly}
+use Rattle.close_laws.specs.legal_rules.Ranges.{AreClaimantsInRange, IsBalanceInRange, IsPoolInRange, IsBodyInRange}
+use Rattle.close_laws.specs.legal_rules.Ranges.{IsPaidRightly}
 use Rattle.close_laws.specs.legal_rules.Ranges.{IsEntryInRange}
 use Rattle.existence_laws.proofs.Decided.{Decided, decided_as, both, implied, opposite, below, same_number, is_true}
 use Rattle.existence_laws.proofs.Decided.{below_int, same_int, same_value, each, each_pair}

@@ -26,8 +26,10 @@ use Rattle.close_laws.specs.legal_rules.Supply.{held}
 use Rattle.close_laws.specs.legal_rules.Trades.{holder}
 use Rattle.close_laws.specs.close_rules.declared.image_fault.ImageRule.{ImageRule}
 use Rattle.close_laws.specs.close_rules.declared.image_fault.ImageRule.TheVariants as rule
-use Rattle.close_laws.specs.close_rules.EntryRules.{AreInRange, AreOwned, AreLiable, AreSubentriesCounted, AreSponsorsCounted}
-use Rattle.close_laws.specs.close_rules.EntryRules.{ArePoolsCounted, AreLumensCounted, Keeps, entry_rules, IsFirstBroken}
+use Rattle.close_laws.specs.close_rules.EntryRules.{AreInRange, AreOwned, AreLiable, AreSubentriesCounted}
+use Rattle.close_laws.specs.close_rules.EntryRules.{AreSponsorsCounted}
+use Rattle.close_laws.specs.close_rules.EntryRules.{ArePoolsCounted, AreLumensCounted, Keeps, entry_rules}
+use Rattle.close_laws.specs.close_rules.EntryRules.{IsFirstBroken}
 use Rattle.replay.specs.image_rules.declared.books.Book.{Book}
 use Rattle.replay.specs.image_rules.declared.books.Book.TheVariants as book
 use Rattle.replay.specs.image_rules.Books.{kind_of}

@@ -14,7 +14,8 @@ use Rattle.close_laws.specs.Closes.{TakenIsClosable, NextIsClosing}
 use Rattle.replay.proofs.ledger_close_proofs.Installs.{installed_state}
 use Rattle.replay.specs.run_outcome.declared.status.Status.TheVariants as status
 use Rattle.replay.specs.run_outcome.Lines.{end_line, refused_line}
-use Rattle.replay.specs.run_outcome.Outcome.{Outcome, silent, behind, max_record_len, framed, lines_of, IsStopped, IsRun}
+use Rattle.replay.specs.run_outcome.Outcome.{Outcome, silent, behind, max_record_len, framed, lines_of, IsStopped}
+use Rattle.replay.specs.run_outcome.Outcome.{IsRun}
 use Rattle.replay.proofs.Marking.{read_mark, framed_above}
 use Rattle.replay.proofs.Runs.{ended_run, prepended}
 use Rattle.existence_laws.specs.Existence.{EachClose, EachRun}

@@ -34,10 +34,12 @@ use Rattle.sponsor_rules.specs.Payers.{is_same_account}
 use Rattle.close_rules.specs.sponsor_laws.Sums.{is_there}
 use Rattle.close_rules.specs.legal_rules.EntryKeys.{is_key, for_key, for_account}
 use Rattle.close_rules.specs.legal_rules.OfferLiabilities.{bound_of}
-use Rattle.close_rules.specs.legal_rules.Reserves.{is_for, for_each, signer_sponsors_in, subentries_in, sponsored_in_entry}
+use Rattle.close_rules.specs.legal_rules.Reserves.{is_for, for_each, signer_sponsors_in, subentries_in}
+use Rattle.close_rules.specs.legal_rules.Reserves.{sponsored_in_entry}
 use Rattle.close_rules.specs.legal_rules.Needs.{account_keys, keys_in, share_keys, pool_keys, holding_keys, needed_keys}
 use Rattle.close_rules.specs.legal_rules.Trades.{holder, sells, buys}
-use Rattle.close_rules.specs.legal_rules.PoolShares.{Pools, pool_named, needed_line, shares_in, share_lines, uses_of, uses_by, uses}
+use Rattle.close_rules.specs.legal_rules.PoolShares.{Pools, pool_named, needed_line, shares_in, share_lines, uses_of}
+use Rattle.close_rules.specs.legal_rules.PoolShares.{uses_by, uses}
 use Rattle.close_rules.specs.legal_rules.Books.{View, counted}
 use Rattle.image_rules.specs.declared.books.Book.{Book}
 use Rattle.image_rules.specs.declared.books.Book.TheVariants as book

@@ -15,7 +15,8 @@ use Rattle.close_rules.specs.legal_rules.Reserves.{subentries_in, signer_sponsor
 use Rattle.close_rules.specs.legal_rules.Trades.{sells, buys}
 use Rattle.close_rules.specs.legal_rules.PoolShares.{Pools, shares_in, share_lines, uses}
 use Rattle.close_rules.specs.legal_rules.Legal.{pools_in}
-use Rattle.close_rules.specs.legal_rules.Books.{Kind, Subentries, Sponsoring, Sponsored, Selling, Buying, Shares, ShareLines, Uses}
+use Rattle.close_rules.specs.legal_rules.Books.{Kind, Subentries, Sponsoring, Sponsored, Selling, Buying, Shares}
+use Rattle.close_rules.specs.legal_rules.Books.{ShareLines, Uses}
 use Rattle.close_rules.specs.legal_rules.Books.{stated}
 use Rattle.image_rules.specs.declared.books.Book.{Book}
 use Rattle.image_rules.specs.declared.books.Book.TheVariants as book

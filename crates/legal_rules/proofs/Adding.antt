@@ -18,7 +18,8 @@ use Rattle.sponsor_laws.specs.sponsor_rules.declared.count.Count.TheVariants as 
 use Rattle.sponsor_laws.specs.sponsor_rules.Adding.{sponsored_entry, map_after_counting, map_after_adding_subentry}
 use Rattle.sponsor_laws.specs.sponsor_rules.Counting.{count_if}
 use Rattle.sponsor_laws.specs.sponsor_rules.Paying.{map_after_charging, with_subentry}
-use Rattle.sponsor_laws.specs.sponsor_rules.Payers.{open_sponsor, payer_of, payer_by, is_full, is_over, subentry_tests_at}
+use Rattle.sponsor_laws.specs.sponsor_rules.Payers.{open_sponsor, payer_of, payer_by, is_full, is_over}
+use Rattle.sponsor_laws.specs.sponsor_rules.Payers.{subentry_tests_at}
 use Rattle.sponsor_laws.proofs.Bounds.{done_by, have_passed, HavePassed}
 use Rattle.entry_sums.specs.Sums.{total}
 use Rattle.entry_sums.proofs.Lookups.{put_elsewhere}

@@ -21,7 +21,8 @@ use Rattle.hash_ids.specs.ledger_types.declared.key.LedgerKey.TheVariants as key
 use Rattle.hash_ids.specs.ledger_types.Keys.{key_of_body}
 use Rattle.entry_sums.specs.entry_map.EntryMap.{EntryMap, put}
 use Rattle.sponsor_laws.specs.entry_slots.EntrySponsor.{sponsor_of}
-use Rattle.sponsor_laws.specs.entry_slots.LineExtensions.{line_liabilities, line_liabilities_in, line_second_in, use_count_in}
+use Rattle.sponsor_laws.specs.entry_slots.LineExtensions.{line_liabilities, line_liabilities_in, line_second_in}
+use Rattle.sponsor_laws.specs.entry_slots.LineExtensions.{use_count_in}
 use Rattle.sponsor_laws.specs.entry_slots.LineExtensions.{use_count}
 use Rattle.sponsor_laws.specs.entry_slots.LineExtensions.{with_use_count, with_use_count_in, with_use_count_of}
 use Rattle.sponsor_laws.specs.entry_slots.AccountExtensions.{no_liabilities}

@@ -20,15 +20,18 @@ use Rattle.entry_sums.proofs.Lookups.{put_elsewhere, erase_elsewhere, erase_each
 use Rattle.sponsor_laws.specs.reserve_rules.Reserve.{available}
 use Rattle.sponsor_laws.specs.sponsor_rules.declared.context.Ctx.{Ctx}
 use Rattle.sponsor_laws.specs.sponsor_rules.declared.fault.AddFault.{AddFault}
-use Rattle.sponsor_laws.specs.sponsor_rules.declared.fault.AddFault.TheVariants.{TooManySubentries, TooManySponsoring, LowReserve}
+use Rattle.sponsor_laws.specs.sponsor_rules.declared.fault.AddFault.TheVariants.{TooManySubentries, TooManySponsoring}
+use Rattle.sponsor_laws.specs.sponsor_rules.declared.fault.AddFault.TheVariants.{LowReserve}
 use Rattle.sponsor_laws.specs.sponsor_rules.declared.count.Count.TheVariants as count
 use Rattle.sponsor_laws.specs.sponsor_rules.Counting.{with_more, with_less}
 use Rattle.sponsor_laws.specs.sponsor_rules.Moving.{map_with_recorded, map_with_sponsor, map_with_other_payer}
 use Rattle.sponsor_laws.specs.sponsor_rules.Moving.{map_after_moving_between}
-use Rattle.sponsor_laws.specs.sponsor_rules.Paying.{map_after_charging, map_after_releasing, map_after_exchange, with_other_payer}
+use Rattle.sponsor_laws.specs.sponsor_rules.Paying.{map_after_charging, map_after_releasing, map_after_exchange}
+use Rattle.sponsor_laws.specs.sponsor_rules.Paying.{with_other_payer}
 use Rattle.sponsor_laws.specs.sponsor_rules.Paying.{with_subentry, without_subentry}
 use Rattle.sponsor_laws.specs.sponsor_rules.Adding.{sponsored_entry, map_after_counting, map_after_adding_subentry}
-use Rattle.sponsor_laws.specs.sponsor_rules.Payers.{is_same_account, is_full, is_over, is_short, payer_of, payer_tests_at}
+use Rattle.sponsor_laws.specs.sponsor_rules.Payers.{is_same_account, is_full, is_over, is_short, payer_of}
+use Rattle.sponsor_laws.specs.sponsor_rules.Payers.{payer_tests_at}
 use Rattle.sponsor_laws.specs.sponsor_rules.Payers.{move_tests_at}
 use Rattle.sponsor_laws.specs.sponsor_rules.Payers.{subentry_tests_at, payer_by, open_sponsor}
 use Rattle.sponsor_laws.proofs.sponsor_rules_proofs.Ids.{same_account, apart_accounts}

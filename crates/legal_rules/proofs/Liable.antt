@@ -20,11 +20,14 @@ use Rattle.hash_ids.specs.ledger_types.declared.entry.LedgerEntryBody.TheVariant
 use Rattle.hash_ids.specs.ledger_types.declared.key.LedgerKey.{LedgerKey}
 use Rattle.hash_ids.specs.ledger_types.declared.key.LedgerKey.TheVariants as key
 use Rattle.entry_sums.specs.entry_map.EntryMap.{EntryMap, put}
-use Rattle.sponsor_laws.specs.entry_slots.AccountExtensions.{no_liabilities, is_nothing, liabilities_in, with_liabilities_in}
-use Rattle.sponsor_laws.specs.entry_slots.AccountExtensions.{account_liabilities, second_in, sponsored_in, sponsoring_in}
+use Rattle.sponsor_laws.specs.entry_slots.AccountExtensions.{no_liabilities, is_nothing, liabilities_in}
+use Rattle.sponsor_laws.specs.entry_slots.AccountExtensions.{with_liabilities_in}
+use Rattle.sponsor_laws.specs.entry_slots.AccountExtensions.{account_liabilities, second_in, sponsored_in}
+use Rattle.sponsor_laws.specs.entry_slots.AccountExtensions.{sponsoring_in}
 use Rattle.sponsor_laws.specs.entry_slots.AccountExtensions.{sponsorship_in}
 use Rattle.sponsor_laws.specs.entry_slots.EntrySponsor.{sponsor_of}
-use Rattle.sponsor_laws.specs.entry_slots.LineExtensions.{line_liabilities, line_liabilities_in, with_line_liabilities_in}
+use Rattle.sponsor_laws.specs.entry_slots.LineExtensions.{line_liabilities, line_liabilities_in}
+use Rattle.sponsor_laws.specs.entry_slots.LineExtensions.{with_line_liabilities_in}
 use Rattle.sponsor_laws.specs.entry_slots.LineExtensions.{line_second_in, use_count_in, use_count}
 use Rattle.sponsor_laws.specs.entry_slots.Lines.{line_in, line_of, line_at, with_line, with_line_in, with_line_of}
 use Rattle.sponsor_laws.specs.reserve_rules.Reserve.{IsInRange, IsLineInRange}

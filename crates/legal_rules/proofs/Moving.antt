@@ -23,7 +23,8 @@ use Rattle.sponsor_laws.specs.sponsor_rules.declared.context.Ctx.{Ctx}
 use Rattle.sponsor_laws.specs.sponsor_rules.Charge.{charge_of, multiplicity, multiplicity_in, owner_of, owner_in}
 use Rattle.sponsor_laws.specs.sponsor_rules.Moving.{map_with_recorded, map_with_sponsor, map_with_other_payer}
 use Rattle.sponsor_laws.specs.sponsor_rules.Moving.{map_after_moving_between}
-use Rattle.sponsor_laws.specs.sponsor_rules.Moving.{map_after_moving_owned, map_after_moving_balance, map_after_moving_by}
+use Rattle.sponsor_laws.specs.sponsor_rules.Moving.{map_after_moving_owned, map_after_moving_balance}
+use Rattle.sponsor_laws.specs.sponsor_rules.Moving.{map_after_moving_by}
 use Rattle.sponsor_laws.specs.sponsor_rules.Moving.{map_after_moving_entry, map_after_moving}
 use Rattle.sponsor_laws.specs.sponsor_rules.Paying.{map_after_exchange, with_other_payer}
 use Rattle.sponsor_laws.specs.sponsor_rules.Payers.{is_same_account, payer_other_than, move_tests_at, payer_tests_at}

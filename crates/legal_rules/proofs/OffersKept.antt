@@ -17,7 +17,8 @@ use Rattle.hash_ids.specs.ledger_types.declared.key.LedgerKey.TheVariants as key
 use Rattle.hash_ids.specs.ledger_types.Keys.{key_of_body}
 use Rattle.entry_sums.specs.entry_map.EntryMap.{EntryMap}
 use Rattle.sponsor_laws.specs.entry_slots.EntrySponsor.{sponsor_of}
-use Rattle.sponsor_laws.specs.entry_slots.Offers.{offer_in, offer_of, offer_at, with_offer, with_offer_in, with_offer_of}
+use Rattle.sponsor_laws.specs.entry_slots.Offers.{offer_in, offer_of, offer_at, with_offer, with_offer_in}
+use Rattle.sponsor_laws.specs.entry_slots.Offers.{with_offer_of}
 use Rattle.entry_sums.specs.Sums.{total, EachEntry}
 use Rattle.entry_sums.proofs.Summing.{total_none}
 use Rattle.legal_rules.specs.OfferLiabilities.{bound_of}

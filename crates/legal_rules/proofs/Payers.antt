@@ -14,7 +14,8 @@ use Rattle.sponsor_laws.specs.entry_slots.AccountExtensions.{num_sponsoring, num
 use Rattle.sponsor_laws.specs.sponsor_rules.declared.count.Count.TheVariants as count
 use Rattle.sponsor_laws.specs.sponsor_rules.Counting.{with_more, with_less}
 use Rattle.sponsor_laws.specs.sponsor_rules.Payers.{is_same_account}
-use Rattle.sponsor_laws.specs.sponsor_rules.Paying.{map_after_charging, map_after_releasing, map_after_exchange, with_more_paid}
+use Rattle.sponsor_laws.specs.sponsor_rules.Paying.{map_after_charging, map_after_releasing, map_after_exchange}
+use Rattle.sponsor_laws.specs.sponsor_rules.Paying.{with_more_paid}
 use Rattle.sponsor_laws.specs.sponsor_rules.Paying.{with_less_paid, with_subentry, without_subentry, with_other_payer}
 use Rattle.sponsor_laws.proofs.sponsor_rules_proofs.Ids.{same_account, apart_accounts}
 use Rattle.sponsor_laws.proofs.sponsor_rules_proofs.Keeping.{with_count_keeps, at_most}

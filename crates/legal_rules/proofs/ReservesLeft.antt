@@ -15,7 +15,8 @@ use Rattle.sponsor_laws.specs.sponsor_rules.Keeping.{KeepsMeans}
 use Rattle.sponsor_laws.specs.sponsor_rules.Paying.{with_subentry, without_subentry}
 use Rattle.sponsor_laws.specs.sponsor_rules.Paying.{with_other_payer}
 use Rattle.sponsor_laws.specs.sponsor_rules.Payers.{is_short}
-use Rattle.sponsor_laws.proofs.sponsor_rules_proofs.Keeping.{with_count_is, with_count_keeps, with_count_means, means_kept}
+use Rattle.sponsor_laws.proofs.sponsor_rules_proofs.Keeping.{with_count_is, with_count_keeps, with_count_means}
+use Rattle.sponsor_laws.proofs.sponsor_rules_proofs.Keeping.{means_kept}
 use Rattle.sponsor_laws.proofs.sponsor_rules_proofs.Keeping.{means_kept_twice}
 use Rattle.sponsor_laws.proofs.Accounts.{with_count-keeps}
 use Rattle.legal_rules.proofs.Multiples.{still_available, covers}

@@ -15,10 +15,12 @@ use Rattle.hash_ids.specs.ledger_types.declared.entry.LedgerEntry.{LedgerEntry}
 use Rattle.hash_ids.specs.ledger_types.declared.key.LedgerKey.{LedgerKey}
 use Rattle.hash_ids.specs.ledger_types.declared.key.LedgerKey.TheVariants as key
 use Rattle.hash_ids.specs.ledger_types.KeyOrder.{signer_key_cmp}
-use Rattle.sponsor_laws.specs.entry_slots.AccountExtensions.{account_liabilities, num_sponsoring, num_sponsored, signer_sponsor}
+use Rattle.sponsor_laws.specs.entry_slots.AccountExtensions.{account_liabilities, num_sponsoring, num_sponsored}
+use Rattle.sponsor_laws.specs.entry_slots.AccountExtensions.{signer_sponsor}
 use Rattle.sponsor_laws.specs.entry_slots.EntrySponsor.{sponsor_of}
 use Rattle.sponsor_laws.specs.sponsor_rules.declared.count.Count.TheVariants as count
-use Rattle.sponsor_laws.specs.sponsor_rules.SignerPlace.{place_for, with_sponsors, with_signer, without_signer, with_signer_sponsor}
+use Rattle.sponsor_laws.specs.sponsor_rules.SignerPlace.{place_for, with_sponsors, with_signer, without_signer}
+use Rattle.sponsor_laws.specs.sponsor_rules.SignerPlace.{with_signer_sponsor}
 use Rattle.sponsor_laws.proofs.sponsor_rules_proofs.Keeping.{counts_edited, with_sponsors_means}
 use Rattle.sponsor_laws.specs.Sums.{is_there, signer_sponsors}
 use Rattle.sponsor_laws.proofs.SignerLists.{sponsors_inserted, sponsors_removed, sponsors_set, sponsor_at_place}

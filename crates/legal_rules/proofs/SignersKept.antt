@@ -22,14 +22,18 @@ use Rattle.sponsor_laws.specs.entry_slots.Tests.{unless_first}
 use Rattle.sponsor_laws.specs.sponsor_rules.declared.context.Ctx.{Ctx}
 use Rattle.sponsor_laws.specs.sponsor_rules.declared.count.Count.TheVariants as count
 use Rattle.sponsor_laws.specs.sponsor_rules.Counting.{with_more, with_less}
-use Rattle.sponsor_laws.specs.sponsor_rules.Paying.{map_after_charging, map_after_releasing, map_after_exchange, with_more_paid}
+use Rattle.sponsor_laws.specs.sponsor_rules.Paying.{map_after_charging, map_after_releasing, map_after_exchange}
+use Rattle.sponsor_laws.specs.sponsor_rules.Paying.{with_more_paid}
 use Rattle.sponsor_laws.specs.sponsor_rules.Paying.{with_less_paid, with_subentry, without_subentry, with_other_payer}
 use Rattle.sponsor_laws.specs.sponsor_rules.Payers.{open_sponsor, payer_other_than, is_full, is_over, subentry_tests_at}
 use Rattle.sponsor_laws.specs.sponsor_rules.Payers.{payer_tests_at, move_tests_at}
-use Rattle.sponsor_laws.specs.sponsor_rules.SignerPlace.{place_of, place_for, found_at, found_signer, with_signer, without_signer}
+use Rattle.sponsor_laws.specs.sponsor_rules.SignerPlace.{place_of, place_for, found_at, found_signer, with_signer}
+use Rattle.sponsor_laws.specs.sponsor_rules.SignerPlace.{without_signer}
 use Rattle.sponsor_laws.specs.sponsor_rules.SignerPlace.{with_signer_sponsor}
-use Rattle.sponsor_laws.specs.sponsor_rules.Signers.{map_with_signer, with_counted_signer, without_counted_signer, with_moved_signer}
-use Rattle.sponsor_laws.specs.sponsor_rules.Signers.{map_without_signer, map_after_moving_signer_between, map_after_moving_found}
+use Rattle.sponsor_laws.specs.sponsor_rules.Signers.{map_with_signer, with_counted_signer, without_counted_signer}
+use Rattle.sponsor_laws.specs.sponsor_rules.Signers.{with_moved_signer}
+use Rattle.sponsor_laws.specs.sponsor_rules.Signers.{map_without_signer, map_after_moving_signer_between}
+use Rattle.sponsor_laws.specs.sponsor_rules.Signers.{map_after_moving_found}
 use Rattle.sponsor_laws.proofs.sponsor_rules_proofs.Keeping.{with_count_is}
 use Rattle.sponsor_laws.specs.Sums.{is_there, signer_sponsors}
 use Rattle.sponsor_laws.specs.Laws.{PayerStands}

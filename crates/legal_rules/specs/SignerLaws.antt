@@ -10,7 +10,8 @@ use Rattle.std.specs.Prelude.{ℕ, Some}
 use Rattle.entry_sums.specs.entry_map.EntryMap.{EntryMap}
 use Rattle.sponsor_laws.specs.entry_slots.Accounts.{account_at}
 use Rattle.sponsor_laws.specs.sponsor_rules.declared.context.Ctx.{Ctx}
-use Rattle.sponsor_laws.specs.sponsor_rules.Signers.{map_after_adding_signer, map_after_removing_signer, map_after_moving_signer}
+use Rattle.sponsor_laws.specs.sponsor_rules.Signers.{map_after_adding_signer, map_after_removing_signer}
+use Rattle.sponsor_laws.specs.sponsor_rules.Signers.{map_after_moving_signer}
 use Rattle.sponsor_laws.specs.Laws.{PayerStands}
 use Rattle.legal_rules.specs.Books.{View}
 use Rattle.legal_rules.specs.EntryLaws.{AreReservesSettled}

@@ -15,7 +15,8 @@ use Rattle.op_flags.specs.ledger_types.KeyOrder.{key_cmp}
 use Rattle.op_flags.specs.ledger_types.Prices.{IsPriced}
 use Rattle.op_flags.specs.entry_map.EntryMap.{EntryMap, erase}
 use Rattle.op_flags.specs.entry_map.EntryMap.{IsKeyed as IsOwnKeyed}
-use Rattle.op_flags.specs.entry_map.Book.{offers_of, AreApart, AreOffersSound, placed, ranked, head, is_of_pair, book_in}
+use Rattle.op_flags.specs.entry_map.Book.{offers_of, AreApart, AreOffersSound, placed, ranked, head, is_of_pair}
+use Rattle.op_flags.specs.entry_map.Book.{book_in}
 use Rattle.op_flags.proofs.entry_map_proofs.KeyMaps.{same_keys, same_itself}
 use Rattle.op_flags.proofs.entry_map_proofs.Layers.{some_is}
 use Rattle.op_flags.proofs.entry_map_proofs.Ranked.{all_ranked}

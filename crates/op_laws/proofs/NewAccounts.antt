@@ -27,7 +27,8 @@ use Rattle.op_pool.specs.reserve_rules.Reserve.{available, greatest_i64}
 use Rattle.op_flags.specs.sponsor_rules.declared.context.Ctx.{Ctx}
 use Rattle.op_flags.specs.sponsor_rules.declared.count.Count.TheVariants as count
 use Rattle.op_flags.specs.sponsor_rules.declared.fault.AddFault.TheVariants.{LowReserve}
-use Rattle.op_flags.specs.sponsor_rules.Adding.{own_tests, sponsored_account_entry, map_after_adding_account, map_after_adding}
+use Rattle.op_flags.specs.sponsor_rules.Adding.{own_tests, sponsored_account_entry, map_after_adding_account}
+use Rattle.op_flags.specs.sponsor_rules.Adding.{map_after_adding}
 use Rattle.op_flags.specs.sponsor_rules.Counting.{with_more}
 use Rattle.op_flags.specs.sponsor_rules.Paying.{map_after_charging}
 use Rattle.op_flags.specs.sponsor_rules.Payers.{is_same_account, open_sponsor, payer_tests_at}

@@ -19,7 +19,8 @@ use Rattle.op_flags.specs.ledger_types.declared.entry.LedgerEntry.{LedgerEntry}
 use Rattle.op_flags.specs.ledger_types.declared.entry.LedgerEntryBody.{LedgerEntryBody}
 use Rattle.op_flags.specs.ledger_types.declared.entry.LedgerEntryBody.TheVariants as body
 use Rattle.op_flags.specs.ledger_types.declared.key.LedgerKey.TheVariants as key
-use Rattle.op_flags.specs.valid_values.Predicates.{is_valid_below, is_valid_level, is_valid_predicate, is_valid_stored_predicate}
+use Rattle.op_flags.specs.valid_values.Predicates.{is_valid_below, is_valid_level, is_valid_predicate}
+use Rattle.op_flags.specs.valid_values.Predicates.{is_valid_stored_predicate}
 use Rattle.op_flags.specs.entry_map.EntryMap.{EntryMap}
 use Rattle.op_flags.specs.entry_slots.Balances.{balance_in, balance_of, balance_at}
 use Rattle.op_pool.specs.reserve_rules.Reserve.{greatest_i64}

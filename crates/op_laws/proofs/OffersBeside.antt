@@ -34,11 +34,13 @@ use Rattle.op_flags.proofs.legal_rules_proofs.Leaving.{no_account_changed, keyed
 use Rattle.op_flags.proofs.legal_rules_proofs.OffersKept.{offer_entry, with_offer_body, with_offer_is, IsOfferEntry}
 use Rattle.op_flags.proofs.legal_rules_proofs.Places.{kept_elsewhere}
 use Rattle.op_flags.proofs.legal_rules_proofs.ReservesLeft.{pays_less, no_subentry_means}
-use Rattle.op_flags.specs.trade_cross.Crossing.{Left, seller_gives_at, seller_takes_at, map_after_trade, offer_key, meeting}
+use Rattle.op_flags.specs.trade_cross.Crossing.{Left, seller_gives_at, seller_takes_at, map_after_trade, offer_key}
+use Rattle.op_flags.specs.trade_cross.Crossing.{meeting}
 use Rattle.op_flags.specs.trade_cross.Crossing.{amount_at, with_amount, map_after_rest, step_by, step}
 use Rattle.op_flags.specs.trade_cross.Plans.{giving_change, taking_change}
 use Rattle.op_flags.proofs.trade_cross_proofs.Altering.{AreApart, altered_opt, opt_keyed, opt_elsewhere}
-use Rattle.op_flags.proofs.trade_cross_proofs.Changing.{changed_entry, changed_keeps, bound_entry, bound_keeps, bound_altered}
+use Rattle.op_flags.proofs.trade_cross_proofs.Changing.{changed_entry, changed_keeps, bound_entry, bound_keeps}
+use Rattle.op_flags.proofs.trade_cross_proofs.Changing.{bound_altered}
 use Rattle.op_flags.proofs.trade_cross_proofs.Once.{gone_altered}
 use Rattle.op_flags.proofs.trade_cross_proofs.Passing.{IsOwnKey, holder_own}
 use Rattle.op_flags.proofs.trade_cross_proofs.StepIs.{apart}

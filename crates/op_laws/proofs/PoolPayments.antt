@@ -38,7 +38,8 @@ use Rattle.op_flags.proofs.legal_rules_proofs.Leaving.{Leaves, leaves_both, leav
 use Rattle.op_flags.proofs.legal_rules_proofs.LinesLeft.{line_legal}
 use Rattle.op_flags.proofs.legal_rules_proofs.Lows.{natural_low}
 use Rattle.op_flags.specs.trade_cross.CrossingLaws.{kept_at}
-use Rattle.op_flags.specs.trade_cross.Holdings.{at_least_nothing, is_short_of, account_has, line_has, has_at, account_gives}
+use Rattle.op_flags.specs.trade_cross.Holdings.{at_least_nothing, is_short_of, account_has, line_has, has_at}
+use Rattle.op_flags.specs.trade_cross.Holdings.{account_gives}
 use Rattle.op_flags.specs.trade_cross.Holdings.{line_gives, most_given, line_takes, most_taken, paying}
 use Rattle.op_flags.proofs.trade_cross_proofs.Left.{giving_left, taking_left}
 use Rattle.op_flags.proofs.trade_cross_proofs.Paying.{CanPay, paying_legal, within, can_give, can_take}

@@ -22,7 +22,8 @@ use Rattle.op_flags.specs.sponsor_rules.Moving.{map_after_moving_entry, map_afte
 use Rattle.op_flags.specs.sponsor_rules.Paying.{map_after_exchange, with_other_payer}
 use Rattle.op_flags.specs.sponsor_rules.Payers.{open_sponsor, payer_other_than, payer_tests_at, move_tests_at}
 use Rattle.op_flags.specs.sponsor_rules.SignerPlace.{found_signer}
-use Rattle.op_flags.specs.sponsor_rules.Signers.{with_moved_signer, map_after_moving_signer_between, map_after_moving_found}
+use Rattle.op_flags.specs.sponsor_rules.Signers.{with_moved_signer, map_after_moving_signer_between}
+use Rattle.op_flags.specs.sponsor_rules.Signers.{map_after_moving_found}
 use Rattle.op_flags.specs.sponsor_rules.Signers.{map_after_moving_signer}
 use Rattle.op_flags.proofs.sponsor_rules_proofs.Keeping.{counts_edited, with_sponsors_means}
 use Rattle.op_flags.specs.legal_rules.Owing.{nothing_owed}
@@ -38,7 +39,8 @@ use Rattle.op_sponsor.specs.RevokeSponsorship.{answer, is_malformed, entry_tests
 use Rattle.op_sponsor.specs.RevokeSponsorship.{signer_tests, signer_moved, revoke_sponsorship}
 use Rattle.op_laws.specs.Laws.{IsLawful, AreLawful}
 use Rattle.op_laws.specs.Underway.{IsUnderway}
-use Rattle.op_flags.proofs.legal_rules_proofs.ChargesLeft.{exchanged_kept, exchange_kept, payers_had, next_payer, moved_between}
+use Rattle.op_flags.proofs.legal_rules_proofs.ChargesLeft.{exchanged_kept, exchange_kept, payers_had, next_payer}
+use Rattle.op_flags.proofs.legal_rules_proofs.ChargesLeft.{moved_between}
 use Rattle.op_flags.proofs.legal_rules_proofs.ChargesLeft.{sponsor_kept}
 use Rattle.op_laws.proofs.Lawful.{lawful_still}
 use Rattle.op_flags.proofs.legal_rules_proofs.ReservesLeft.{next_edited}

@@ -16,7 +16,9 @@ use Rattle.op_flags.specs.sponsor_rules.Payers.{is_same_account, open_sponsor}
 use Rattle.op_flags.proofs.sponsor_rules_proofs.Ids.{apart_accounts}
 use Rattle.op_flags.specs.legal_rules.Sponsorships.{AreSponsorshipsSound}
 use Rattle.op_flags.specs.op_types.declared.operation_result.OperationResult.{OperationResult}
-use Rattle.op_flags.specs.op_types.declared.sponsor_ops.BeginSponsoringFutureReservesOp.{BeginSponsoringFutureReservesOp}
+use Rattle.op_flags.specs.op_types.declared.sponsor_ops.BeginSponsoringFutureReservesOp.{
+  BeginSponsoringFutureReservesOp,
+}
 use Rattle.op_flags.specs.op_types.declared.sponsor_results.BeginSponsoringFutureReservesResult.TheVariants as begin
 use Rattle.op_flags.specs.op_types.declared.sponsor_results.EndSponsoringFutureReservesResult.TheVariants as end
 use Rattle.op_flags.specs.op_form.Done.{Done}

@@ -35,7 +35,8 @@ use Rattle.op_flags.specs.sponsor_rules.Paying.{without_subentry}
 use Rattle.op_flags.specs.sponsor_rules.Removing.{map_after_discounting, map_after_removing, map_after_removing_entry}
 use Rattle.op_flags.proofs.sponsor_rules_proofs.Ids.{apart_accounts}
 use Rattle.op_flags.specs.legal_rules.EntryKeys.{is_key}
-use Rattle.op_flags.specs.legal_rules.Books.{Kind, Subentries, Sponsoring, Sponsored, Selling, Buying, Shares, ShareLines, Uses}
+use Rattle.op_flags.specs.legal_rules.Books.{Kind, Subentries, Sponsoring, Sponsored, Selling, Buying, Shares}
+use Rattle.op_flags.specs.legal_rules.Books.{ShareLines, Uses}
 use Rattle.op_flags.specs.legal_rules.Books.{View}
 use Rattle.op_flags.specs.legal_rules.Legal.{view}
 use Rattle.op_flags.specs.legal_rules.Owing.{weighed, nothing_owed, beside_reserves, IsEntryLegal}

@@ -11,7 +11,8 @@ use Rattle.op_flags.specs.trade_cross.declared.trade.Trade.{Trade}
 use Rattle.op_flags.specs.trade_cross.declared.turn.Turn.{Turn}
 use Rattle.op_flags.specs.trade_cross.declared.turn.Turn.TheVariants.{Ends, Meets}
 use Rattle.op_flags.specs.trade_cross.Crossable.{IsCrossable}
-use Rattle.op_flags.specs.trade_cross.Crossing.{Left, step, is_used_up, turn_at, Crossing, ended, at_limit, joined, left_after}
+use Rattle.op_flags.specs.trade_cross.Crossing.{Left, step, is_used_up, turn_at, Crossing, ended, at_limit, joined}
+use Rattle.op_flags.specs.trade_cross.Crossing.{left_after}
 use Rattle.op_flags.specs.trade_cross.Crossing.{with_amount, crossed}
 
 -- Where the best offer is crossed and goes, the book was that offer and then the book that is left.

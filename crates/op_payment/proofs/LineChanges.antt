@@ -25,7 +25,8 @@ use Rattle.op_payment.proofs.Shifts.{ShiftsLegal}
 use Rattle.trade_cross.specs.legal_rules.Holdings.{IsKeyed, none_more, under_key}
 use Rattle.trade_cross.proofs.legal_rules_proofs.Leaving.{Leaves, leaves_as}
 use Rattle.trade_cross.proofs.legal_rules_proofs.LinesLeft.{line_legal}
-use Rattle.trade_cross.proofs.legal_rules_proofs.LinesLeft.{line_left as line_of_any_left, line_kept as line_of_any_kept}
+use Rattle.trade_cross.proofs.legal_rules_proofs.LinesLeft.{line_left as line_of_any_left}
+use Rattle.trade_cross.proofs.legal_rules_proofs.LinesLeft.{line_kept as line_of_any_kept}
 use Rattle.trade_cross.specs.legal_rules.EntryKeys.{is_key}
 
 -- ---- a line that is changed

@@ -21,7 +21,8 @@ use Rattle.entry_slots.specs.Pools.{pool_in, pool_of, pool_at, with_pool_in, wit
 use Rattle.trade_cross.specs.entry_sums.Sums.{part}
 use Rattle.trade_cross.specs.legal_rules.Holdings.{IsKeyed, none_more}
 use Rattle.trade_cross.specs.legal_rules.PoolShares.{needed_line}
-use Rattle.trade_cross.specs.legal_rules.ShareLaws.{with_uses, map_with_uses_at, map_with_uses, with_lines, map_with_lines}
+use Rattle.trade_cross.specs.legal_rules.ShareLaws.{with_uses, map_with_uses_at, map_with_uses, with_lines}
+use Rattle.trade_cross.specs.legal_rules.ShareLaws.{map_with_lines}
 use Rattle.trade_cross.specs.legal_rules.ShareLaws.{map_with_share_lines}
 use Rattle.trade_cross.specs.legal_rules.Supply.{held, held_in}
 use Rattle.trade_cross.proofs.legal_rules_proofs.Changed.{with_pool_body, IsPoolEntry, pool_entry}

@@ -29,7 +29,8 @@ use Rattle.trade_cross.specs.legal_rules.Books.{Kind, Shares, ShareLines, Uses, 
 use Rattle.trade_cross.specs.legal_rules.EntryKeys.{for_key}
 use Rattle.trade_cross.specs.legal_rules.Legal.{view}
 use Rattle.trade_cross.specs.legal_rules.Owing.{nothing_owed, IsLegalOwing}
-use Rattle.trade_cross.specs.legal_rules.PoolShares.{pool_named, needed_line, shares_in, share_lines, uses, uses_by, uses_of}
+use Rattle.trade_cross.specs.legal_rules.PoolShares.{pool_named, needed_line, shares_in, share_lines, uses, uses_by}
+use Rattle.trade_cross.specs.legal_rules.PoolShares.{uses_of}
 use Rattle.trade_cross.specs.legal_rules.Supply.{held}
 use Rattle.trade_cross.proofs.legal_rules_proofs.Changed.{pool_entry}
 use Rattle.trade_cross.proofs.legal_rules_proofs.Covered.{minimum_not_below}

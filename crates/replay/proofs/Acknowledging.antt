@@ -8,7 +8,8 @@ use Rattle.xdr_core.specs.Place.{start_of}
 use Rattle.stored_outcome.specs.close_rules.State.{ClosingState}
 use Rattle.stored_outcome.specs.close_rules.Close.{PreparedClose, IsClose}
 use Rattle.stored_outcome.specs.run_outcome.declared.status.Status.{Status}
-use Rattle.stored_outcome.specs.run_outcome.Outcome.{Outcome, framed, frames, max_record_len, lines_of, AreClosed, IsEnd, IsFront}
+use Rattle.stored_outcome.specs.run_outcome.Outcome.{Outcome, framed, frames, max_record_len, lines_of, AreClosed}
+use Rattle.stored_outcome.specs.run_outcome.Outcome.{IsEnd, IsFront}
 use Rattle.stored_outcome.specs.run_outcome.Outcome.{IsRun}
 use Rattle.stored_outcome.specs.Behind.{IsBehind, AreAcknowledged, closed_count}
 use Rattle.stored_outcome.specs.StoredRun.{IsAnswerBehind}

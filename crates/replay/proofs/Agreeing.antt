@@ -10,7 +10,8 @@ use Rattle.stored_outcome.specs.close_rules.declared.image_fault.ImageFault.{Ima
 use Rattle.stored_outcome.specs.close_rules.State.{ClosingState}
 use Rattle.stored_outcome.specs.close_rules.Images.{IsJudged}
 use Rattle.worker_merges.proofs.close_laws_proofs.OneImage.{images_are_one}
-use Rattle.stored_outcome.specs.run_outcome.Outcome.{Outcome, IsStopped, IsEnd, IsRun, IsStarted, IsOutcomeOf, frames, max_record_len}
+use Rattle.stored_outcome.specs.run_outcome.Outcome.{Outcome, IsStopped, IsEnd, IsRun, IsStarted, IsOutcomeOf, frames}
+use Rattle.stored_outcome.specs.run_outcome.Outcome.{max_record_len}
 use Rattle.replay.specs.CommandLaws.{outcome_behind, CatchupsAgree}
 use Rattle.replay.proofs.Marking.{moved, Moved, mark_moves}
 use Rattle.replay.proofs.OneOutcome.{runs_are_one}

@@ -23,7 +23,8 @@ use Rattle.stored_outcome.specs.close_rules.declared.close_fault.CloseFault.TheV
 use Rattle.stored_outcome.specs.close_rules.State.{ClosingState}
 use Rattle.stored_outcome.specs.close_rules.Close.{PreparedClose}
 use Rattle.stored_outcome.specs.run_outcome.Statuses.{ended_line}
-use Rattle.stored_outcome.specs.run_outcome.Lines.{spaced, hash_text, success_count, tx_line, closed_line, closed_lines, end_line}
+use Rattle.stored_outcome.specs.run_outcome.Lines.{spaced, hash_text, success_count, tx_line, closed_line, closed_lines}
+use Rattle.stored_outcome.specs.run_outcome.Lines.{end_line}
 use Rattle.stored_outcome.specs.run_outcome.Lines.{kind_name, fault_text, refused_line}
 use Rattle.stored_outcome.specs.run_outcome.Outcome.{Outcome, lines_of, IsFront, IsStopped, IsEnd}
 use Rattle.stored_outcome.specs.Behind.{whole_lines, is_closed_line, closed_count}

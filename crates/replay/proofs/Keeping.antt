@@ -22,7 +22,8 @@ use Rattle.stored_outcome.specs.run_outcome.declared.status.Status.{Status}
 use Rattle.stored_outcome.specs.run_outcome.declared.status.Status.TheVariants as status
 use Rattle.stored_outcome.specs.run_outcome.Statuses.{IsCutShort}
 use Rattle.stored_outcome.specs.run_outcome.Lines.{end_line, refused_line}
-use Rattle.stored_outcome.specs.run_outcome.Outcome.{Outcome, silent, framed, max_record_len, lines_of, IsRun, IsRunFront}
+use Rattle.stored_outcome.specs.run_outcome.Outcome.{Outcome, silent, framed, max_record_len, lines_of, IsRun}
+use Rattle.stored_outcome.specs.run_outcome.Outcome.{IsRunFront}
 use Rattle.stored_outcome.specs.run_outcome.Outcome.{IsEnd}
 use Rattle.stored_outcome.specs.run_outcome.Run.{IsAnswer}
 use Rattle.outside.specs.Disk.{Image, Disk, Runs, Same, IsSafe}

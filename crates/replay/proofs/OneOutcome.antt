@@ -16,7 +16,8 @@ use Rattle.stored_outcome.specs.close_rules.declared.image_fault.ImageFault.TheV
 use Rattle.stored_outcome.specs.close_rules.State.{ClosingState}
 use Rattle.worker_merges.proofs.close_laws_proofs.OneImage.{images_are_one}
 use Rattle.stored_outcome.specs.run_outcome.declared.status.Status.{Status}
-use Rattle.stored_outcome.specs.run_outcome.Outcome.{Outcome, behind, framed, frames, max_record_len, lines_of, AreClosed, IsEnd}
+use Rattle.stored_outcome.specs.run_outcome.Outcome.{Outcome, behind, framed, frames, max_record_len, lines_of}
+use Rattle.stored_outcome.specs.run_outcome.Outcome.{AreClosed, IsEnd}
 use Rattle.stored_outcome.specs.run_outcome.Outcome.{IsRun, IsStarted, IsOutcomeOf, IsFront, IsOutputFrontOf}
 use Rattle.replay.specs.Outcomes.{RunsAreOne, OutcomesAreOne, FrontsAreOfRuns, FrontsAreOfOutcomes, OutputsAreFronts}
 use Rattle.replay.proofs.Fronts.{nothing_front, whole_front, front_more}

@@ -18,7 +18,8 @@ use Rattle.worker_merges.proofs.close_laws_proofs.OneClose.{closes_are_one}
 use Rattle.stored_outcome.specs.run_outcome.declared.status.Status.{Status}
 use Rattle.stored_outcome.specs.run_outcome.declared.status.Status.TheVariants as status
 use Rattle.stored_outcome.specs.run_outcome.Lines.{refused_line}
-use Rattle.stored_outcome.specs.run_outcome.Outcome.{Outcome, behind, framed, frames, max_record_len, lines_of, AreClosed, IsStopped}
+use Rattle.stored_outcome.specs.run_outcome.Outcome.{Outcome, behind, framed, frames, max_record_len, lines_of}
+use Rattle.stored_outcome.specs.run_outcome.Outcome.{AreClosed, IsStopped}
 use Rattle.stored_outcome.specs.run_outcome.Outcome.{IsEnd, IsRun, AreClosedAhead, IsRunFront}
 use Rattle.replay.proofs.Fronts.{front_later, nothing_front}
 use Rattle.replay.proofs.Marking.{read_mark, framed_is_read, framed_above}

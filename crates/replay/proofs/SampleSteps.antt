@@ -21,7 +21,8 @@ use Rattle.stored_outcome.specs.run_outcome.declared.status.Status.{Status}
 use Rattle.stored_outcome.specs.run_outcome.declared.status.Status.TheVariants as status
 use Rattle.stored_outcome.specs.run_outcome.Lines.{is_success, success_count, sample_line, refused_line}
 use Rattle.stored_outcome.specs.sample_ledger.Image.{first_image}
-use Rattle.stored_outcome.specs.sample_ledger.Samples.{HaveClosed, progress_behind, first_progress, first_state, sample_network}
+use Rattle.stored_outcome.specs.sample_ledger.Samples.{HaveClosed, progress_behind, first_progress, first_state}
+use Rattle.stored_outcome.specs.sample_ledger.Samples.{sample_network}
 use Rattle.stored_outcome.specs.sample_ledger.Samples.{record_bytes, FirstStatesClose, SamplesStand}
 use Rattle.replay.specs.Following.{Wrote, Refuses}
 use Rattle.replay.specs.Starting.{IsJudgedSo}

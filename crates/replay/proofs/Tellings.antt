@@ -14,7 +14,8 @@ use Rattle.stored_outcome.specs.close_rules.Images.{IsJudged}
 use Rattle.stored_outcome.specs.run_outcome.declared.status.Status.{Status}
 use Rattle.stored_outcome.specs.run_outcome.declared.status.Status.TheVariants as status
 use Rattle.stored_outcome.specs.run_outcome.Statuses.{status_line, IsCutShort}
-use Rattle.stored_outcome.specs.run_outcome.Outcome.{Outcome, IsStarted, IsOutcomeOf, IsOutcome, IsOutputFrontOf, IsOutputFront}
+use Rattle.stored_outcome.specs.run_outcome.Outcome.{Outcome, IsStarted, IsOutcomeOf, IsOutcome, IsOutputFrontOf}
+use Rattle.stored_outcome.specs.run_outcome.Outcome.{IsOutputFront}
 use Rattle.stored_outcome.specs.run_outcome.Run.{IsAnswer, AnsweredTo, DidCatchUp}
 use Rattle.replay.specs.Starting.{CaughtUp}
 use Rattle.replay.specs.Telling.{IsToldOrRefused, IsToldSo}

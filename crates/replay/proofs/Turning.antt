@@ -28,7 +28,8 @@ use Rattle.stored_outcome.specs.run_outcome.declared.status.Status.{Status}
 use Rattle.stored_outcome.specs.run_outcome.declared.status.Status.TheVariants as status
 use Rattle.stored_outcome.specs.run_outcome.Statuses.{IsCutShort, IsRecordsEnd}
 use Rattle.stored_outcome.specs.run_outcome.Lines.{end_line, refused_line}
-use Rattle.stored_outcome.specs.run_outcome.Outcome.{Outcome, silent, behind, framed, max_record_len, lines_of, IsStopped, IsEnd}
+use Rattle.stored_outcome.specs.run_outcome.Outcome.{Outcome, silent, behind, framed, max_record_len, lines_of}
+use Rattle.stored_outcome.specs.run_outcome.Outcome.{IsStopped, IsEnd}
 use Rattle.stored_outcome.specs.run_outcome.Outcome.{IsRun}
 use Rattle.stored_outcome.specs.run_outcome.Outcome.{IsFront, IsRunFront, AreWhole}
 use Rattle.stored_outcome.specs.run_outcome.Run.{IsAnswer, Answered}

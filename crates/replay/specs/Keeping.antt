@@ -9,7 +9,8 @@ use Rattle.stored_outcome.specs.run_outcome.declared.status.Status.{Status}
 use Rattle.stored_outcome.specs.run_outcome.declared.status.Status.TheVariants as status
 use Rattle.xdr_core.specs.Place.{Place}
 use Rattle.stored_outcome.specs.run_outcome.Lines.{refused_line}
-use Rattle.stored_outcome.specs.run_outcome.Outcome.{framed, max_record_len, lines_of, IsFront, IsRun, AreWhole, IsRunFront}
+use Rattle.stored_outcome.specs.run_outcome.Outcome.{framed, max_record_len, lines_of, IsFront, IsRun, AreWhole}
+use Rattle.stored_outcome.specs.run_outcome.Outcome.{IsRunFront}
 use Rattle.stored_outcome.specs.run_outcome.Run.{IsAnswer}
 use Rattle.outside.specs.Disk.{Image, Disk, Runs, Same, IsSafe}
 use Rattle.stored_outcome.specs.run_streams.SeenVolume.{SeenVolume}

@@ -4,7 +4,8 @@ use Rattle.stored_outcome.specs.run_streams.Seen.{Seen, ReceivedPrefix}
 use Rattle.xdr_core.specs.Place.{Place}
 use Rattle.stored_outcome.specs.close_rules.State.{ClosingState}
 use Rattle.stored_outcome.specs.run_outcome.declared.status.Status.{Status}
-use Rattle.stored_outcome.specs.run_outcome.Outcome.{Outcome, behind, max_record_len, frames, AreClosed, IsRun, IsOutcome}
+use Rattle.stored_outcome.specs.run_outcome.Outcome.{Outcome, behind, max_record_len, frames, AreClosed, IsRun}
+use Rattle.stored_outcome.specs.run_outcome.Outcome.{IsOutcome}
 use Rattle.stored_outcome.specs.run_outcome.Outcome.{IsFront, IsRunFront, IsOutputFront}
 use Rattle.stored_outcome.specs.run_outcome.Run.{AnsweredTo}
 

@@ -16,7 +16,8 @@ use Rattle.xdr_entries.specs.Predicates.{predicate_below, claim_predicate, level
 use Rattle.xdr_entries.specs.Predicates.{unconditional}
 use Rattle.xdr_entries.specs.Entries.{claimant, claimant_fields}
 use Rattle.value_hashes.specs.xdr_tx.Operations as form
-use Rattle.value_hashes.specs.xdr_tx.Operations.{operation_body, payment_op, manage_data_op, change_trust_op, set_options_op}
+use Rattle.value_hashes.specs.xdr_tx.Operations.{operation_body, payment_op, manage_data_op, change_trust_op}
+use Rattle.value_hashes.specs.xdr_tx.Operations.{set_options_op}
 use Rattle.value_hashes.specs.xdr_tx.Operations.{liquidity_pool_deposit_op, clawback_op, create_claimable_balance_op}
 use Rattle.value_hashes.specs.xdr_tx.Operations.{claim_claimable_balance_op, begin_sponsoring_future_reserves_op}
 use Rattle.value_hashes.specs.xdr_tx.Operations.{manage_sell_offer_op, path_payment_strict_send_op}

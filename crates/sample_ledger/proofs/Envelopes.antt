@@ -12,10 +12,13 @@ use Rattle.op_types.specs.declared.operation.OperationBody.{OperationBody}
 use Rattle.op_types.specs.declared.transaction.Memo.TheVariants as memos
 use Rattle.xdr_entries.specs.Basic.{muxed_account}
 use Rattle.value_hashes.specs.xdr_tx.Operations.{operation, operation_fields}
-use Rattle.value_hashes.specs.xdr_tx.Transactions.{decorated_signature, signature_fields, time_bounds, memo, memo_part, memo_arms}
+use Rattle.value_hashes.specs.xdr_tx.Transactions.{decorated_signature, signature_fields, time_bounds, memo, memo_part}
+use Rattle.value_hashes.specs.xdr_tx.Transactions.{memo_arms}
 use Rattle.value_hashes.specs.xdr_tx.Transactions.{memo_none, behind_source, behind_source_fields, transaction}
-use Rattle.value_hashes.specs.xdr_tx.Transactions.{transaction_fields, transaction_v1_envelope, v1_fields, transaction_envelope}
-use Rattle.value_hashes.specs.xdr_tx.Transactions.{envelope_part, envelope_arms, envelope_v1, transaction_set, set_fields}
+use Rattle.value_hashes.specs.xdr_tx.Transactions.{transaction_fields, transaction_v1_envelope, v1_fields}
+use Rattle.value_hashes.specs.xdr_tx.Transactions.{transaction_envelope}
+use Rattle.value_hashes.specs.xdr_tx.Transactions.{envelope_part, envelope_arms, envelope_v1, transaction_set}
+use Rattle.value_hashes.specs.xdr_tx.Transactions.{set_fields}
 use Rattle.xdr_header.specs.Header.{stellar_value, value_fields, ledger_close_value_signature}
 use Rattle.xdr_header.specs.Records.{close_record, record_fields}
 use Rattle.fee_rules.specs.SetHash.{hash_of_set}

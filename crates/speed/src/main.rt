@@ -1,5 +1,5 @@
-//! What the scripts in bench/ hold to a bound and the program `ledger` can't show apart: books of offers, and a store in
-//! a directory.
+//! What the scripts in bench/ hold to a bound and the program `ledger` can't show apart: books of offers, and a store
+//! in a directory.
 //!
 //!     speed book COUNT              makes a map of so many offers, a thousand of them changed; walks their book for a
 //!                                   million answers

@@ -16,8 +16,10 @@ use Rattle.ledger_types.proofs.KeyOrdering.{keys_total}
 use Rattle.reserve_rules.specs.entry_map.EntryMap.{EntryMap, put, erase}
 use Rattle.reserve_rules.proofs.entry_map_proofs.KeyMaps.{same_keys, same_itself}
 use Rattle.reserve_rules.specs.entry_slots.declared.accounts.AccountSlot.{AccountSlot}
-use Rattle.reserve_rules.specs.entry_slots.Accounts.{account_of, account_at, account_slot_by, account_slot_of, account_slot_at}
-use Rattle.reserve_rules.specs.entry_slots.Accounts.{account_of_slot, account_in, entry_of_account, with_account, with_account_in}
+use Rattle.reserve_rules.specs.entry_slots.Accounts.{account_of, account_at, account_slot_by, account_slot_of}
+use Rattle.reserve_rules.specs.entry_slots.Accounts.{account_slot_at}
+use Rattle.reserve_rules.specs.entry_slots.Accounts.{account_of_slot, account_in, entry_of_account, with_account}
+use Rattle.reserve_rules.specs.entry_slots.Accounts.{with_account_in}
 use Rattle.reserve_rules.specs.entry_slots.Accounts.{with_account_of}
 use Rattle.reserve_rules.specs.entry_slots.EntrySponsor.{with_sponsor}
 use Rattle.sponsor_rules.specs.declared.count.Count.{Count}

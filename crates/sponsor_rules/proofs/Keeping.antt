@@ -9,7 +9,8 @@ use Rattle.ledger_types.specs.declared.account.AccountEntryExtensionV1.{AccountE
 use Rattle.ledger_types.specs.declared.account.AccountEntryExtensionV2.{AccountEntryExtensionV2}
 use Rattle.sponsor_rules.specs.declared.count.Count.{Count}
 use Rattle.sponsor_rules.specs.declared.count.Count.TheVariants.{SubEntries, Sponsoring, Sponsored}
-use Rattle.reserve_rules.specs.entry_slots.AccountExtensions.{liabilities_in, second_in, sponsored_in, sponsoring_in, sponsorship_in}
+use Rattle.reserve_rules.specs.entry_slots.AccountExtensions.{liabilities_in, second_in, sponsored_in, sponsoring_in}
+use Rattle.reserve_rules.specs.entry_slots.AccountExtensions.{sponsorship_in}
 use Rattle.sponsor_rules.specs.Counting.{count_in, with_new_count, with_count, with_less}
 use Rattle.sponsor_rules.specs.Keeping.{KeepsMeans, RaisesNoCount}
 use Rattle.sponsor_rules.specs.SignerPlace.{with_sponsors, with_sponsors_in}

@@ -5,7 +5,8 @@ use Rattle.ledger_types.specs.declared.account.AccountEntry.{AccountEntry}
 use Rattle.ledger_types.specs.declared.account.AccountEntryExtensionV2.{AccountEntryExtensionV2}
 use Rattle.reserve_rules.specs.entry_map.EntryMap.{EntryMap}
 use Rattle.reserve_rules.specs.entry_slots.Accounts.{account_at}
-use Rattle.reserve_rules.specs.entry_slots.AccountExtensions.{num_sponsoring, num_sponsored, sponsorship_of, with_sponsorship}
+use Rattle.reserve_rules.specs.entry_slots.AccountExtensions.{num_sponsoring, num_sponsored, sponsorship_of}
+use Rattle.reserve_rules.specs.entry_slots.AccountExtensions.{with_sponsorship}
 use Rattle.sponsor_rules.specs.declared.count.Count.{Count}
 use Rattle.sponsor_rules.specs.declared.count.Count.TheVariants.{SubEntries, Sponsoring, Sponsored}
 

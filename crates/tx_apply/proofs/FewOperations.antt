@@ -15,7 +15,8 @@ use Rattle.op_types.specs.declared.transaction.TransactionEnvelope.{TransactionE
 use Rattle.op_types.specs.declared.transaction.TransactionEnvelope.TheVariants as envelope
 use Rattle.op_types.specs.declared.transaction.TransactionSet.{TransactionSet}
 use Rattle.value_hashes.specs.xdr_core.Leaves.{flag, count, fixed, u32, i32, i64}
-use Rattle.value_hashes.specs.xdr_core.Combinators.{◌⨾◌, Fields, struct_of, whole, closed, marked, option, list, spell_option}
+use Rattle.value_hashes.specs.xdr_core.Combinators.{◌⨾◌, Fields, struct_of, whole, closed, marked, option, list}
+use Rattle.value_hashes.specs.xdr_core.Combinators.{spell_option}
 use Rattle.value_hashes.specs.xdr_core.Xdr.{Xdr, tag, optional, list_of}
 use Rattle.xdr_tx.specs.xdr_entries.Basic.{muxed_account, hash}
 use Rattle.value_hashes.proofs.xdr_core_proofs.Numbers.{wide4}
